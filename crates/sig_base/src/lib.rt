@@ -1,0 +1,23 @@
+//! The base that every crate of SIGMA stands on: limits, fault kinds, small list types, and the sources
+//! and sinks of bytes through which the program reaches the outside.
+#![tactic(auto)]
+
+mod fault;
+mod limits;
+mod list;
+mod name;
+mod no_memory;
+mod table;
+mod text;
+
+pub use fault::FaultKind;
+pub use limits::{
+    ARRAY_CELLS_MAX, CHANGES_MAX, DOCUMENT_MAX, EDGES_MAX, EVENTS_MAX, LITERAL_MAX, NAME_MAX,
+    OPENINGS_MAX, PARAMETERS_MAX, ROWS_MAX, RUNS_MAX, STOP_MAX, TABLES_MAX, TARGETS_MAX, TEXT_MAX,
+    VARIABLES_MAX, VERTICES_MAX, WEIGHTS_MAX,
+};
+pub use list::List;
+pub use name::Name;
+pub use no_memory::{Failed, NoMemory};
+pub use table::{Carried, Row, Table};
+pub use text::Text;
