@@ -1,13 +1,20 @@
-// A library with one function.
+//! The types of a model, of a model as it is written, of tokens and of rule applications. The definitions
+//! that all contracts rest on stand in `specs/`, over plain data of their own.
 #![tactic(auto)]
 
-ghost use Rattle.std.specs.Prelude.{◌≡◌};
-ghost use Rattle.model_core.specs.Echo.{echo_of};
+mod application;
+mod expr;
+mod model;
+mod raw;
+mod token;
+mod vertex;
 
-// The `ensures` clause is the contract: what `echo` returns is `echo_of` of its argument, a definition
-// in `specs/Echo.antt`, which a caller's clause can cite too.
-pub fn echo(x: usize) -> usize
-    ensures { result ≡ echo_of x }
-{
-    x
-}
+pub use application::Application;
+pub use expr::Expr;
+pub use model::{Kind, Model, Var, Watch};
+pub use raw::{
+    RawChange, RawEdge, RawEdgeForm, RawExpr, RawForm, RawKind, RawLiteral, RawModel, RawName,
+    RawNumber, RawRow, RawSigned, RawTable, RawTarget, RawVar, RawVertex,
+};
+pub use token::{Symbol, Token, TokenKind, Word};
+pub use vertex::{Change, Edge, EdgeForm, Target, Vertex};

@@ -1,0 +1,56 @@
+-- Which plain value each value of the code stands for, wherever it lies in memory.
+use Rattle.std.specs.Prelude.{ℕ, List, map}
+use Rattle.std.specs.Option.{option_map}
+use Rattle.sig_base.specs.declared.table.Row.{Row}
+use Rattle.sig_base.specs.declared.table.Table.{Table}
+use Rattle.model_core.specs.declared.model.Model.{Model}
+use Rattle.model_core.specs.declared.model.Var.{Var}
+use Rattle.model_core.specs.declared.model.Watch.{Watch}
+use Rattle.model_core.specs.declared.model.Watch.TheVariants as watched
+use Rattle.model_core.specs.declared.vertex.Vertex.{Vertex}
+use Rattle.model_core.specs.declared.vertex.Target.{Target}
+use Rattle.model_core.specs.declared.vertex.Change.{Change}
+use Rattle.model_core.specs.declared.vertex.Change.TheVariants as changes
+use Rattle.model_core.specs.declared.vertex.Edge.{Edge}
+use Rattle.model_core.specs.declared.vertex.EdgeForm.{EdgeForm}
+use Rattle.model_core.specs.declared.vertex.EdgeForm.TheVariants as forms
+use Rattle.model_core.specs.declared.expr.Expr.{Expr}
+use Rattle.model_core.specs.declared.expr.Expr.TheVariants as exprs
+use Rattle.model_core.specs.EventGraph.{EventGraph, EventVertex, EventEdge, EdgeKind, Schedule, StateChange, Set, Location, Expression, Number, Truth, Scalar, Variable, Weighted, WeightTable, Watched, WatchedVariable, WatchedVertex}
+
+abbrev pub expression_of : Expr → Expression
+expression_of (exprs.Int n) = Number n
+expression_of (exprs.Truth b) = Truth b
+expression_of (exprs.Scalar v) = Scalar v
+
+abbrev pub location_of : Target → Location
+location_of t = record { variable = t.var; index = option_map expression_of t.index }
+
+abbrev pub change_of : Change → StateChange
+change_of (changes.Set targets values) = Set (map location_of targets) (map expression_of values)
+
+abbrev pub edge_kind_of : EdgeForm → EdgeKind
+edge_kind_of (forms.Schedule delay priority) = Schedule (expression_of delay) priority
+
+abbrev pub edge_of : Edge → EventEdge
+edge_of e = record { target = e.target; values = map expression_of e.values; condition = expression_of e.condition; kind = edge_kind_of e.form }
+
+abbrev pub vertex_of : Vertex → EventVertex
+vertex_of v = record { name = v.name; parameters = v.params; changes = map change_of v.changes; edges = map edge_of v.edges }
+
+abbrev pub variable_of : Var → Variable
+variable_of v = record { name = v.name; size = v.size; kind = v.kind; lo = v.lo; hi = v.hi; clip = v.clip; initial = v.initial }
+
+abbrev pub weighted_of : Row → Weighted
+weighted_of r = record { value = r.value; weight = r.weight }
+
+abbrev pub table_of : Table → WeightTable
+table_of t = record { name = t.name; rows = map weighted_of t.rows }
+
+abbrev pub watched_of : Watch → Watched
+watched_of (watched.Variable v) = WatchedVariable v
+watched_of (watched.Event v) = WatchedVertex v
+
+-- the event graph that a model of the code stands for
+abbrev pub graph_of : Model → EventGraph
+graph_of m = record { name = m.name; variables = map variable_of m.vars; tables = map table_of m.tables; watch = map watched_of m.watch; vertices = map vertex_of m.vertices }
