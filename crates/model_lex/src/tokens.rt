@@ -1,0 +1,15 @@
+//! The tokens of a text.
+
+ghost use Rattle.std.specs.Prelude.{◌≡◌, map, Ok};
+ghost use Rattle.model_core.specs.Lexing.{tokens_of, lexeme_of};
+
+use model_core::Token;
+use sig_base::List;
+
+/// A text and its tokens, in order.
+#[derive(Drop)]
+pub struct Tokens<'t> {
+    pub text: &'t [u8],
+    pub list: List<Token>,
+    pub ghost are_its: { ∥ tokens_of text.now ≡ Ok (map (lexeme_of text.now) list) ∥₁ },
+}

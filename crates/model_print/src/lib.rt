@@ -1,0 +1,2 @@
+//! Prints a model's canonical text.
+#![tactic(auto)]

@@ -1,0 +1,2 @@
+//! Reads a model text from its tokens.
+#![tactic(auto)]
