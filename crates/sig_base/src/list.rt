@@ -37,6 +37,14 @@ impl<T> List<T> {
         List { items }
     }
 
+    /// The items, which leave the list.
+    pub fn into_vec(self) -> Vec<T>
+        ensures { result.items ≡ self }
+    {
+        let List { items } = self;
+        items
+    }
+
     /// The items in order.
     pub fn as_slice(&self) -> &[T]
         ensures { result.now ≡ self.now }
