@@ -6,6 +6,8 @@ mod count;
 mod fault;
 mod limits;
 mod list;
+mod memory_sink;
+mod memory_source;
 mod name;
 mod no_memory;
 mod putting;
@@ -25,6 +27,8 @@ pub use limits::{
     VARIABLES_MAX, VERTICES_MAX, WEIGHTS_MAX,
 };
 pub use list::List;
+pub use memory_sink::MemorySink;
+pub use memory_source::MemorySource;
 pub use name::Name;
 pub use no_memory::{Failed, NoMemory};
 pub use putting::put;

@@ -65,7 +65,8 @@ impl<T> List<T> {
 
     /// Adds an item at the end. Where memory is refused the list stays as it was.
     pub fn push(&mut self, item: T) -> Result<(), NoMemory>
-        where T: Drop
+    where
+        T: Drop,
         ensures ok { OnOk result (self.new ≡ self.old ++ item ∷ []) }
     {
         self.items.push(item)?;

@@ -1,6 +1,5 @@
 //! The two failures that come from outside: want of memory, and a failed read or write.
 
-
 use std::alloc::{AllocError, AllocFailed};
 use thiserror::Error;
 

@@ -23,7 +23,11 @@ fn grown_length(len: usize, limit: usize) -> usize
 {
     let more = if len < FIRST_ROOM { FIRST_ROOM } else { len };
     let room = limit - len;
-    if room < more { len + (room + 1) } else { len + more }
+    if room < more {
+        len + (room + 1)
+    } else {
+        len + more
+    }
 }
 
 /// Makes room behind the bytes that were read, where there is none.
@@ -43,11 +47,7 @@ fn make_room(bytes: &mut Vec<u8>, filled: usize, limit: usize) -> Result<(), Tak
 }
 
 /// One read behind the bytes that were read.
-fn read_more<S: Source>(
-    source: &mut S,
-    bytes: &mut Vec<u8>,
-    filled: usize,
-) -> Result<usize, Failed>
+fn read_more<S: Source>(source: &mut S, bytes: &mut Vec<u8>, filled: usize) -> Result<usize, Failed>
     requires { filled < vec_len bytes.old }
     ensures len { vec_len bytes.new ≡ vec_len bytes.old }
     ensures kept { take filled bytes.new.items ≡ take filled bytes.old.items }
@@ -66,11 +66,7 @@ fn read_more<S: Source>(
 ///
 /// It reads at most one byte more than the limit, and answers `TooLong` where it has read that one.
 /// Its buffer grows by doubling.
-pub fn take_all<S: Source>(
-    alloc: Global,
-    source: &mut S,
-    limit: usize,
-) -> Result<Text, TakeError>
+pub fn take_all<S: Source>(alloc: Global, source: &mut S, limit: usize) -> Result<Text, TakeError>
     ensures all { IfOk result (λ text. IfSome (S.left source.old) (λ bytes.
         (text ≡ bytes) × (S.left source.new ≡ Some []))) }
     ensures within { IfOk result (λ text. length text ≤ limit) }
