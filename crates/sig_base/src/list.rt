@@ -21,6 +21,10 @@ impl<T> Model for List<T> {
 }
 
 impl<T> List<T> {
+    ghost use Rattle.std.specs.Borrow.{Lends, sem};
+    ghost use Rattle.sig_base.specs.contracts.list.List.{the_row};
+    ghost use Rattle.sig_base.specs.Rows.{items_row};
+
     /// A list of no items, which takes no memory.
     pub fn new(alloc: Global) -> List<T>
         ensures { result ≡ [] }
@@ -50,6 +54,14 @@ impl<T> List<T> {
         ensures { result.now ≡ self.now }
     {
         self.items.as_slice()
+    }
+
+    /// The `Vec` of the items, lent for writing.
+    pub fn as_mut_vec(&mut self) -> &mut Vec<T>
+        ensures* writes_back { sem 𝓛 (Lends (the_row T.row) (items_row T.row) self.entry result (λ v. v.items)) }
+        ensures shows { result.now.items ≡ self.old }
+    {
+        &mut self.items
     }
 
     /// How many items there are.
