@@ -48,39 +48,30 @@ impl<'t> Cursor<'t> {
     pub fn begins_word(&self, word: Word) -> bool
         ensures { result ≡ begins (is_word word) self.now }
     {
-        match self.tokens {
-            [] => false,
-            [first, ..] => match first.kind {
-                TokenKind::Word(found) => found == word,
-                _ => false,
-            },
-        }
+        matches!(self.tokens, [first, ..] if first.kind == TokenKind::Word(word))
     }
 
     /// Whether the next token is the symbol.
     pub fn begins_symbol(&self, symbol: Symbol) -> bool
         ensures { result ≡ begins (is_symbol symbol) self.now }
     {
-        match self.tokens {
-            [] => false,
-            [first, ..] => match first.kind {
-                TokenKind::Symbol(found) => found == symbol,
-                _ => false,
-            },
-        }
+        matches!(self.tokens, [first, ..] if first.kind == TokenKind::Symbol(symbol))
     }
 
     /// Whether the next token is a number.
     pub fn begins_number(&self) -> bool
         ensures { result ≡ begins is_number self.now }
     {
-        match self.tokens {
-            [] => false,
-            [first, ..] => match first.kind {
-                TokenKind::Number(_) => true,
-                _ => false,
-            },
-        }
+        matches!(
+            self.tokens,
+            [
+                Token {
+                    kind: TokenKind::Number(_),
+                    ..
+                },
+                ..
+            ]
+        )
     }
 
     /// Sees that no token is left.
@@ -98,16 +89,9 @@ impl<'t> Cursor<'t> {
         ensures { Gives (λ at. at) result self.new (word_at word self.old) }
     {
         match self.tokens {
-            [
-                Token {
-                    kind: TokenKind::Word(found),
-                    from,
-                    ..
-                },
-                rest @ ..,
-            ] if *found == word => {
+            [first, rest @ ..] if first.kind == TokenKind::Word(word) => {
                 self.tokens = rest;
-                Ok(*from)
+                Ok(first.from)
             }
             _ => Err(ParseError::Unexpected { at: self.place() }),
         }
@@ -118,16 +102,9 @@ impl<'t> Cursor<'t> {
         ensures { Gives (λ at. at) result self.new (symbol_at symbol self.old) }
     {
         match self.tokens {
-            [
-                Token {
-                    kind: TokenKind::Symbol(found),
-                    from,
-                    ..
-                },
-                rest @ ..,
-            ] if *found == symbol => {
+            [first, rest @ ..] if first.kind == TokenKind::Symbol(symbol) => {
                 self.tokens = rest;
-                Ok(*from)
+                Ok(first.from)
             }
             _ => Err(ParseError::Unexpected { at: self.place() }),
         }
@@ -137,47 +114,33 @@ impl<'t> Cursor<'t> {
     pub fn number(&mut self) -> Result<RawNumber, ParseError>
         ensures { Gives written_number result self.new (number_at self.old) }
     {
-        match self.tokens {
-            [
-                Token {
-                    kind: TokenKind::Number(value),
-                    from,
-                    ..
-                },
-                rest @ ..,
-            ] => {
-                self.tokens = rest;
-                Ok(RawNumber {
-                    value: *value,
-                    at: *from,
-                })
-            }
-            _ => Err(ParseError::Unexpected { at: self.place() }),
+        if let [first, rest @ ..] = self.tokens
+            && let TokenKind::Number(value) = first.kind
+        {
+            self.tokens = rest;
+            return Ok(RawNumber {
+                value,
+                at: first.from,
+            });
         }
+        Err(ParseError::Unexpected { at: self.place() })
     }
 
     /// Takes a name.
     pub fn name(&mut self, alloc: Global) -> Result<RawName, ParseError>
         ensures { Gives written_name result self.new (name_at self.old) }
     {
-        match self.tokens {
-            [
-                Token {
-                    kind: TokenKind::Name,
-                    from,
-                    to,
-                },
-                rest @ ..,
-            ] => {
-                let bytes = Vec::from_slice(alloc, between(self.text, *from, *to))?;
-                self.tokens = rest;
-                Ok(RawName {
-                    name: Name::from_vec(bytes),
-                    at: *from,
-                })
-            }
-            _ => Err(ParseError::Unexpected { at: self.place() }),
+        if let [first, rest @ ..] = self.tokens
+            && let TokenKind::Name = first.kind
+        {
+            let bytes = Vec::from_slice(alloc, between(self.text, first.from, first.to))?;
+            self.tokens = rest;
+            return Ok(RawName {
+                name: Name::from_vec(bytes),
+                at: first.from,
+            });
         }
+        Err(ParseError::Unexpected { at: self.place() })
     }
 }
 
