@@ -1,0 +1,7 @@
+//! The program's work: from words and bytes to bytes and a status.
+#![tactic(auto)]
+
+mod certificate;
+mod strategy;
+
+pub use strategy::{Reduced, reduce};
