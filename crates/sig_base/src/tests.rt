@@ -102,6 +102,36 @@ fn a_write_of_no_byte_fails(rt: HostRuntime) {
     assert!(rt; put(&mut sink, b"").is_ok());
 }
 
+/// A writer that knows whether it was flushed.
+#[derive(Drop)]
+struct Flushed {
+    is_flushed: bool,
+}
+
+impl Write for Flushed {
+    fn write(&mut self, buf: &[u8]) -> io::Result<usize> {
+        Ok(buf.len())
+    }
+
+    fn flush(&mut self) -> io::Result<()> {
+        self.is_flushed = true;
+        Ok(())
+    }
+}
+
+fn finish_flushes() -> bool {
+    let mut writer = Flushed { is_flushed: false };
+    let mut sink = StdSink::new(&mut writer);
+    let is_finished = sink.finish().is_ok();
+    drop(sink);
+    is_finished && writer.is_flushed
+}
+
+#[test]
+fn a_writer_is_flushed_at_the_end(rt: HostRuntime) {
+    assert!(rt; finish_flushes());
+}
+
 /// The bytes as a source in pieces, of which one call fails.
 fn source(alloc: Global, piece: usize, failing: u64) -> Result<MemorySource, Fail>
     requires { 0 < piece }
