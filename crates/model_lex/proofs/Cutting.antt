@@ -1,11 +1,12 @@
 -- The tokens so far and those of the rest of the text are the text's tokens.
 use Rattle.std.proofs.Common.{◌≡◌, ℕ, zero, suc, ◌+◌, ◌-◌, ◌<◌, ◌≤◌, List, [], ◌∷◌, ◌++◌, length, take, drop, map, sym, refl, ap, ◌∙◌, subst, arith, add-zero, append_assoc}
 use Rattle.std.specs.Prelude.{Result, Ok, Err}
-use Rattle.std.proofs.lemmas.List.{drop-drop, length-drop, map_push, append-nil, drop_all}
+use Rattle.std.proofs.lemmas.List.{drop-drop, length-drop, map_push, append-nil, drop_all, take_rest}
 use Rattle.model_core.specs.declared.token.Token.{Token}
 use Rattle.model_core.specs.declared.token.TokenKind.{TokenKind}
-use Rattle.model_core.specs.Lexing.{Lexeme, Front, Between, Longest, Neither, front, front_length, after_front, tokens_from, tokens_of, lexeme_of, lexeme_kind_of}
-use Rattle.model_lex.specs.Fronts.{front_at}
+use Rattle.model_core.specs.Lexing.{Lexeme, LexemeKind, Front, Between, Longest, Neither, front, front_length, after_front, tokens_from, tokens_of, lexeme_of, lexeme_kind_of}
+use Rattle.model_lex.specs.Fronts.{front_at, seen}
+use Rattle.model_lex.specs.declared.front.Front.{Front as CodeFront}
 use Rattle.model_lex.proofs.FrontLemmas.{Fits, front-front_at, front_at-fits}
 
 -- tokens that come before what the rest gives
@@ -59,6 +60,10 @@ front_here text at f inside is =
      ∙ ap (λ r. after_front at f (tokens_from (at + front_length f) 0 r)) (drop-drop (front_length f) at text),
      subst (Fits (drop at text)) is (front_at-fits (drop at text) some))
 
+-- what the code sees in the rest of the text
+pub seen_here : (text : List ℕ) (at : ℕ) (f : CodeFront) → seen (take (length text - at) (drop at text)) f ≡ front_at (take (length text - at) (drop at text)) → front_at (drop at text) ≡ seen (drop at text) f
+seen_here text at f is = sym (subst (λ s. seen s f ≡ front_at s) (take_rest text at) is)
+
 -- where the front is, there is room for it
 pub front_room : (text : List ℕ) (at : ℕ) (f : Front) → at < length text → front_at (drop at text) ≡ f → (0 < front_length f) × (at + front_length f ≤ length text)
 front_room text at f inside is = let fits = (front_here text at f inside is).1 in (omega arith, omega (arith, length-drop at text, fits.1))
@@ -71,11 +76,26 @@ cut_between text ts at n inside is cut =
       whole = ap (joined (map (lexeme_of text) ts)) (sym here.0) ∙ cut.whole;
     }
 
-joined_longest : (ls : List Lexeme) (l : Lexeme) (r : Result (List Lexeme) ℕ) → joined ls (after_front l.from (Longest (l.to - l.from) l.kind) r) ≡ joined (ls ++ l ∷ []) r
-joined_longest ls l r = ?
+-- a token comes after those before it
+joined_longest : (ls : List Lexeme) (at n : ℕ) (kind : LexemeKind) (r : Result (List Lexeme) ℕ) → joined ls (after_front at (Longest n kind) r) ≡ joined (ls ++ record { from = at; to = at + n; kind = kind } ∷ []) r
+joined_longest ls at n kind (Ok later) = ap Ok (sym (append_assoc ls (record { from = at; to = at + n; kind = kind } ∷ []) later))
+joined_longest ls at n kind (Err place) = refl
 
 pub cut_longest : (text : List ℕ) (ts : List Token) (at n : ℕ) (kind : TokenKind) → at < length text → front_at (drop at text) ≡ Longest n (lexeme_kind_of (take n (drop at text)) kind) → Cut text ts at → Cut text (ts ++ record { kind = kind; from = at; to = at + n } ∷ []) (at + n)
-cut_longest text ts at n kind inside is cut = ?
+cut_longest text ts at n kind inside is cut =
+    let here = front_here text at (Longest n (lexeme_kind_of (take n (drop at text)) kind)) inside is in
+    let before = map (lexeme_of text) ts in
+    let rest = rest_after text at n in
+    let width : at + n - at ≡ n = omega arith in
+    record {
+      in_text = (front_room text at (Longest n (lexeme_kind_of (take n (drop at text)) kind)) inside is).1;
+      whole =
+          ap (λ ls. joined ls rest) (map_push (lexeme_of text) ts (record { kind = kind; from = at; to = at + n }))
+          ∙ ap (λ m. joined (before ++ record { from = at; to = at + n; kind = lexeme_kind_of (take m (drop at text)) kind } ∷ []) rest) width
+          ∙ sym (joined_longest before at n (lexeme_kind_of (take n (drop at text)) kind) rest)
+          ∙ ap (joined before) (sym here.0)
+          ∙ cut.whole;
+    }
 
 -- no token begins here
 pub cut_neither : (text : List ℕ) (ts : List Token) (at : ℕ) → at < length text → front_at (drop at text) ≡ Neither → Cut text ts at → tokens_of text ≡ Err at
