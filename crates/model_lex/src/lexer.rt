@@ -26,7 +26,7 @@ pub fn tokens<'t>(alloc: Global, text: &'t [u8]) -> Result<Tokens<'t>, LexError>
 fn token_list(alloc: Global, text: &[u8]) -> Result<List<Token>, LexError>
     ensures { Gives (map (lexeme_of text.now)) result (tokens_of text.now) }
 {
-    let mut list = Vec::new(alloc);
+    let mut list = Vec::with_capacity(alloc, token_count(text))?;
     let mut at = 0;
     while at < text.len() {
         match front_of(&text[at..]) {
@@ -40,4 +40,22 @@ fn token_list(alloc: Global, text: &[u8]) -> Result<List<Token>, LexError>
         }
     }
     Ok(List::from_vec(list))
+}
+
+/// How many tokens there are up to the first byte that begins none, so that their list takes no more memory than
+/// it needs.
+fn token_count(text: &[u8]) -> usize {
+    let mut count = 0;
+    let mut at = 0;
+    while at < text.len() {
+        match front_of(&text[at..]) {
+            Front::Between(length) => at += length,
+            Front::Longest(length, _) => {
+                count += 1;
+                at += length;
+            }
+            Front::Neither => return count,
+        }
+    }
+    count
 }
