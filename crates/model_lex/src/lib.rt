@@ -5,6 +5,7 @@ mod front;
 mod lex_error;
 mod lexer;
 mod numbers;
+mod order;
 mod parse_error;
 mod runs;
 mod symbols;
@@ -13,5 +14,6 @@ mod words;
 
 pub use lex_error::LexError;
 pub use lexer::tokens;
+pub use order::tokens_stand_in_order;
 pub use parse_error::ParseError;
 pub use token_list::Tokens;
