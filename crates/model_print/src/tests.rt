@@ -1,0 +1,1 @@
+//! Models and the canonical texts that they print as.
