@@ -1,8 +1,8 @@
 -- Lemmas on the bytes that a source has left.
-use Rattle.std.proofs.Common.{◌≡◌, ℕ, ◌+◌, ◌≤◌, List, [], ◌++◌, length, take, drop, Option, Some, None, IfSome, refl, sym, ap, subst, ◌∙◌, arith, length-drop, append-nil}
+use Rattle.std.proofs.Common.{◌≡◌, ℕ, ◌+◌, List, [], ◌++◌, take, drop, Option, Some, None, IfSome, sym, ap, subst, ◌∙◌, arith, length-drop, append-nil}
 use Rattle.std.proofs.lemmas.List.{drop-drop, drop_all, take-append-drop}
 use Rattle.std.proofs.Math.Seq.{take-add}
-use Rattle.sig_base.specs.Source.{Stays, Takes, Shows, IsAtEnd}
+use Rattle.sig_base.specs.Source.{Takes, Shows, IsAtEnd}
 
 -- n more bytes were taken
 pub Takes-more : (a b c : Option (List ℕ)) (i n : ℕ) → Takes a b i → Takes b c n → Takes a c (i + n)

@@ -1,5 +1,5 @@
 -- What writes do to the bytes that a sink has taken. `None` is a sink that doesn't tell them.
-use Rattle.std.specs.Prelude.{◌≡◌, ◌++◌, ℕ, List, Option, Some, None, IfSome}
+use Rattle.std.specs.Prelude.{◌≡◌, ◌++◌, ℕ, List, Option, Some, IfSome}
 
 -- the bytes taken grew by these
 abbrev pub GrowsBy : Option (List ℕ) → Option (List ℕ) → List ℕ → Type 0

@@ -1,5 +1,5 @@
 -- What reads do to the bytes that a source has left. `None` is a source that doesn't tell them.
-use Rattle.std.specs.Prelude.{◌≡◌, ◌≤◌, ℕ, List, [], take, drop, length, Option, Some, None, IfSome}
+use Rattle.std.specs.Prelude.{◌≡◌, ◌≤◌, ℕ, List, [], take, drop, length, Option, Some, IfSome}
 
 -- bytes that are told stay as they were
 abbrev pub Stays : Option (List ℕ) → Option (List ℕ) → Type 0

@@ -15,6 +15,7 @@ mod sink;
 mod source;
 mod std_sink;
 mod std_source;
+mod steps;
 mod table;
 mod take_error;
 mod taking;
@@ -36,7 +37,11 @@ pub use sink::Sink;
 pub use source::Source;
 pub use std_sink::StdSink;
 pub use std_source::StdSource;
+pub use steps::Steps;
 pub use table::{Carried, Row, Table};
 pub use take_error::TakeError;
 pub use taking::take_all;
 pub use text::Text;
+
+#[cfg(test)]
+mod tests;

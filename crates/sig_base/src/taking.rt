@@ -88,7 +88,8 @@ pub fn take_all<S: Source>(alloc: Global, source: &mut S, limit: usize) -> Resul
     while filled <= limit {
         make_room(&mut bytes, filled, limit)?;
         let count = read_more(source, &mut bytes, filled)?;
-        if count == 0 {
+        let is_end = count == 0;
+        if is_end {
             bytes.truncate(filled);
             return Ok(Text::from_vec(bytes));
         }

@@ -1,7 +1,6 @@
-use Rattle.std.proofs.Common.{◌≡◌, take, drop, arith, rules, length-drop, sym, ap, ◌∙◌}
+use Rattle.std.proofs.Common.{arith, length-drop, ◌∙◌}
 use Rattle.std.proofs.lemmas.List.{take_rest}
-use Rattle.sig_base.specs.Sink.{GrowsBy}
-use Rattle.sig_base.proofs.SinkLemmas.{GrowsBy-none, GrowsBy-more, GrowsBy-stays, GrowsBy-whole}
+use Rattle.sig_base.proofs.SinkLemmas.{GrowsBy-more}
 use Rattle.sig_base.proofs.putting.put.Goals as goal
 
 pub loop-done-preserved : goal.loop-done-preserved

@@ -1,13 +1,13 @@
-use Rattle.std.proofs.Common.{◌≡◌, arith, take, ap, ◌∙◌}
+use Rattle.std.proofs.Common.{arith, ◌∙◌}
 use Rattle.sig_base.proofs.SourceLemmas.{Takes-more, Shows-more, all-at_end}
 use Rattle.sig_base.proofs.taking.take_all.Goals as goal
 
-pub returns-then-count-eq0-clause-all : goal.returns-then-count-eq0-clause-all
-returns-then-count-eq0-clause-all g c =
+pub returns-then-is_end-clause-all : goal.returns-then-is_end-clause-all
+returns-then-is_end-clause-all g c =
     let before = c.loop-filled.invariant in
     let read = c.in_ok-count.ensures in
     all-at_end _ _ _ c.loop-filled.filled c.in_ok-count.count c.loop-filled.bytes.items c.from_vec.result before.takes before.shows
-    (c.from_vec.ensures ∙ c.truncate.ensures.items ∙ c.read_more.ensures.kept ∙ c.in_ok-make_room.ensures.kept) (read.end c.if-count-eq0.true) read.takes
+    (cc c.in_ok-make_room.ensures.kept) (read.end c.if-is_end.true) read.takes
 
 pub loop-filled-preserved : goal.loop-filled-preserved
 loop-filled-preserved g c =

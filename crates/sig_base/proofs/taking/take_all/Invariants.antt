@@ -1,5 +1,5 @@
 -- The bytes before `filled` are those that were taken from the front.
-use Rattle.std.proofs.Common.{◌≡◌, ◌+◌, ◌-◌, ◌≤◌, take, vec_len, IfSome}
+use Rattle.std.proofs.Common.{◌≡◌, ◌+◌, ◌-◌, ◌≤◌, vec_len}
 use Rattle.sig_base.specs.Source.{Takes, Shows}
 use Rattle.sig_base.proofs.taking.take_all.Given as goal
 
