@@ -4,7 +4,7 @@ use Rattle.std.specs.Prelude.{Result, Ok, Err}
 use Rattle.std.proofs.lemmas.List.{drop-drop, length-drop, map_push, append-nil, drop_all, take_rest}
 use Rattle.model_core.specs.declared.token.Token.{Token}
 use Rattle.model_core.specs.declared.token.TokenKind.{TokenKind}
-use Rattle.model_core.specs.Lexing.{Lexeme, LexemeKind, Front, Between, Longest, Neither, front, front_length, after_front, tokens_from, tokens_of, lexeme_of, lexeme_kind_of}
+use Rattle.model_core.specs.Lexing.{Lexeme, LexemeKind, Front, Between, Longest, Neither, front_length, after_front, tokens_from, tokens_of, lexeme_of, lexeme_kind_of}
 use Rattle.model_lex.specs.Fronts.{front_at, seen}
 use Rattle.model_lex.specs.declared.front.Front.{Front as CodeFront}
 use Rattle.model_lex.proofs.FrontLemmas.{Fits, front-front_at, front_at-fits}
@@ -54,11 +54,12 @@ rest_after text at n = tokens_from (at + n) 0 (drop (at + n) text)
 
 front_here : (text : List ℕ) (at : ℕ) (f : Front) → at < length text → front_at (drop at text) ≡ f → (tokens_from at 0 (drop at text) ≡ after_front at f (rest_after text at (front_length f))) × Fits (drop at text) f
 front_here text at f inside is =
-    let some : 0 < length (drop at text) = omega (arith, length-drop at text) in
-    (tokens_from-front at (drop at text) some
-     ∙ ap (λ g. after_front at g (tokens_from (at + front_length g) 0 (drop (front_length g) (drop at text)))) is
-     ∙ ap (λ r. after_front at f (tokens_from (at + front_length f) 0 r)) (drop-drop (front_length f) at text),
-     subst (Fits (drop at text)) is (front_at-fits (drop at text) some))
+    let some : 0 < length (drop at text) = omega (arith, length-drop at text) in (
+      tokens_from-front at (drop at text) some
+          ∙ ap (λ g. after_front at g (tokens_from (at + front_length g) 0 (drop (front_length g) (drop at text)))) is
+          ∙ ap (λ r. after_front at f (tokens_from (at + front_length f) 0 r)) (drop-drop (front_length f) at text),
+      subst (Fits (drop at text)) is (front_at-fits (drop at text) some),
+    )
 
 -- what the code sees in the rest of the text
 pub seen_here : (text : List ℕ) (at : ℕ) (f : CodeFront) → seen (take (length text - at) (drop at text)) f ≡ front_at (take (length text - at) (drop at text)) → front_at (drop at text) ≡ seen (drop at text) f

@@ -59,3 +59,6 @@ fn token_count(text: &[u8]) -> usize {
     }
     count
 }
+
+#[cfg(test)]
+mod tests;
