@@ -1,1 +1,4 @@
 pub mod Simulation
+pub mod Results
+pub mod EdgesAlike
+pub mod InRange
