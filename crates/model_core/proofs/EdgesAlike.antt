@@ -1,5 +1,5 @@
 -- Models that differ in edges alone which do the same have the same runs.
-use Rattle.std.proofs.Common.{◌≡◌, ℕ, ◌^◌, ◌<◌, ◌≤◌, ℤ, Bool, true, false, cond, nat_lt, IsTrue, List, [], ◌∷◌, map, zip, slice_index_or, Option, Some, None, Result, Ok, Err, refl, ◌∙◌, ap, ap₂, subst, arith, le_trans}
+use Rattle.std.proofs.Common.{◌≡◌, ℕ, ◌^◌, ◌≤◌, ℤ, Bool, true, false, cond, nat_lt, List, [], ◌∷◌, map, zip, slice_index_or, Option, Some, None, Result, Ok, Err, refl, ◌∙◌, ap, ap₂, subst, arith, le_trans}
 use Rattle.std.proofs.lemmas.Bool.Decides.{nat_tests}
 use Rattle.model_core.specs.EventGraph.{EventGraph, EventVertex, StateChange, Watched, WatchedVariable, WatchedVertex}
 use Rattle.model_core.specs.State.{State, Place, scalar, variable_at, initial_state}
@@ -8,7 +8,7 @@ use Rattle.model_core.specs.Changes.{Drawn, store, change}
 use Rattle.model_core.specs.Pending.{Entry, TakenOff, next}
 use Rattle.model_core.specs.Edges.{treat}
 use Rattle.model_core.specs.Step.{Configuration, Fault, no_vertex, vertex_at, receive, occur, faulted_at, step}
-use Rattle.model_core.specs.Machine.{Note, Outcome, Stopped, Move, Rests, Fails, Goes, look_of}
+use Rattle.model_core.specs.Machine.{Note, Outcome, Stopped, Move, Rests, Fails, Goes}
 use Rattle.model_core.specs.Run.{Moment, Noting, leave, leave_for, stepped, comes, run, start, look}
 use Rattle.model_core.specs.Same.{SameLooks, Same, thing, VertexNamed, parameter}
 use Rattle.model_core.proofs.Results.{bind_ok, bind_same, cond_same, in_turn-keeps}
@@ -50,14 +50,14 @@ occur-alike : (g : EventGraph) (Q : State → Type 0) → Kept g Q → (seed : �
 occur-alike g Q kept seed v w alike n due s taken q =
     let time = n.entry.time in
     let same_edges : occur g seed v n s taken ≡ occur g seed (record v { edges = w.edges }) n s taken =
-      bind_same (receive g v.parameters n.entry.values s) _ _ (λ t at_receive.
-        bind_same (in_turn (change g seed time) v.changes (record { state = t; taken = taken })) _ _ (λ d at_changes.
-          let holds : Q d.state = changed g Q kept seed time v.changes (record { state = t; taken = taken }) d (received g Q kept v.parameters n.entry.values s t q at_receive) at_changes in
-          ap (λ (r : OrFault (List Entry)). r >>= λ p. Ok (record { clock = time; state = d.state; taken = d.taken; pending = p })) (alike.edges d.state holds time due n.others))) in
+    bind_same (receive g v.parameters n.entry.values s) _ _ (λ t at_receive.
+    bind_same (in_turn (change g seed time) v.changes (record { state = t; taken = taken })) _ _ (λ d at_changes.
+    let holds : Q d.state = changed g Q kept seed time v.changes (record { state = t; taken = taken }) d (received g Q kept v.parameters n.entry.values s t q at_receive) at_changes in
+    ap (λ (r : OrFault (List Entry)). r >>= λ p. Ok (record { clock = time; state = d.state; taken = d.taken; pending = p })) (alike.edges d.state holds time due n.others))) in
     let same_changes : occur g seed (record v { edges = w.edges }) n s taken ≡ occur g seed (record w { parameters = v.parameters }) n s taken =
-      ap (λ (cs : List StateChange). occur g seed (record w { parameters = v.parameters; changes = cs }) n s taken) alike.changes in
+    ap (λ (cs : List StateChange). occur g seed (record w { parameters = v.parameters; changes = cs }) n s taken) alike.changes in
     let same_parameters : occur g seed (record w { parameters = v.parameters }) n s taken ≡ occur g seed w n s taken =
-      ap (λ (ps : List ℕ). occur g seed (record w { parameters = ps }) n s taken) alike.parameters in
+    ap (λ (ps : List ℕ). occur g seed (record w { parameters = ps }) n s taken) alike.parameters in
     same_edges ∙ (same_changes ∙ same_parameters)
 
 on_time_le : (until t : ℕ) → nat_lt until t ≡ false → t ≤ until
@@ -81,7 +81,6 @@ cond-goes false rests_with end k notes m e = e
 -- ---- one graph with the vertices of another, each of which is alike
 
 module _ (g : EventGraph) (vertices : List EventVertex) (Q : State → Type 0) (kept : Kept g Q) (alike : (k : ℕ) → Alike g Q (vertex_at g k) (slice_index_or vertices k no_vertex)) (seed until : ℕ) (early : until ≤ 2 ^ 48) where
-
   comes-keeps : (m : Moment) → Q m.now.state → (o : Option TakenOff) (notes : List Note) (later : Moment) → comes g seed until m o ≡ Goes notes later → Q later.now.state
   comes-keeps m q None notes later e = cc
   comes-keeps m q (Some n) notes later e =
@@ -93,8 +92,8 @@ module _ (g : EventGraph) (vertices : List EventVertex) (Q : State → Type 0) (
   comes-alike m q None = refl
   comes-alike m q (Some n) =
       cond_same (nat_lt until n.entry.time) _ _ _ (λ on_time.
-        let due : n.entry.time ≤ 2 ^ 48 = le_trans (on_time_le until n.entry.time on_time) early in
-        ap (λ r. stepped g n.entry.vertex (leave_for g m n.entry.time) (faulted_at n.entry.time r)) (occur-alike g Q kept seed (vertex_at g n.entry.vertex) (slice_index_or vertices n.entry.vertex no_vertex) (alike n.entry.vertex) n due m.now.state m.now.taken q))
+      let due : n.entry.time ≤ 2 ^ 48 = le_trans (on_time_le until n.entry.time on_time) early in
+      ap (λ r. stepped g n.entry.vertex (leave_for g m n.entry.time) (faulted_at n.entry.time r)) (occur-alike g Q kept seed (vertex_at g n.entry.vertex) (slice_index_or vertices n.entry.vertex no_vertex) (alike n.entry.vertex) n due m.now.state m.now.taken q))
 
   -- the moments are equal, and Q holds of the state
   abbrev Level : Moment → Moment → Type 0

@@ -1,12 +1,12 @@
 -- Each change keeps a state in range.
-use Rattle.std.proofs.Common.{◌≡◌, ℕ, zero, suc, ℤ, pos, negsuc, Bool, true, false, cond, ◌&&◌, int_le, int_lt, IsTrue, List, [], ◌∷◌, replicate, slice_index_or, slice_set, zip, Result, Ok, Err, refl, sym, ◌∙◌, ap, ap₂, subst, arith}
+use Rattle.std.proofs.Common.{◌≡◌, ℕ, zero, suc, ℤ, pos, negsuc, Bool, true, false, cond, ◌&&◌, int_le, int_lt, List, [], ◌∷◌, replicate, slice_index_or, slice_set, zip, Ok, Err, refl, sym, ap₂, subst, arith}
 use Rattle.std.proofs.lemmas.Bool.Decides.{nat_tests}
 use lib.Pointwise.{pointwise}
 use Rattle.sig_base.specs.declared.fault.FaultKind.{FaultKind}
 use Rattle.sig_base.specs.Stream.{word}
 use Rattle.model_core.specs.EventGraph.{EventGraph, Variable, StateChange, Set, Draw}
 use Rattle.model_core.specs.State.{State, Place, variable_at, cells, within, in_ranges, in_range, values_of, with_cell}
-use Rattle.model_core.specs.Value.{OrFault, ◌>>=◌, each, in_turn, value, place}
+use Rattle.model_core.specs.Value.{OrFault, each, value, place}
 use Rattle.model_core.specs.Changes.{Drawn, kept, store, set_all, taken_from, picked, one_more, change}
 use Rattle.model_core.proofs.Results.{bind_ok, in_turn-keeps}
 use Rattle.model_core.proofs.EdgesAlike.{Kept}
@@ -69,9 +69,9 @@ store-in_range g (p, x) s t ok done =
     let E : Variable → List ℤ → Bool = λ v values. in_ranges (replicate (cells v) v) values in
     let F : Variable → ℤ → Bool = λ v x. within v.lo v.hi x in
     let stays : in_range g (with_cell s p y) ≡ true =
-      pointwise-set E g.variables s p.variable (slice_set values p.index y) _ [] ok (λ inside.
-        pointwise-set F (replicate (cells v) v) values p.index y v (pos 0) inside (λ old.
-          subst (λ w. F w y ≡ true) (sym (replicate-get (cells v) p.index v)) (kept-within v x y (slice_index_or values p.index (pos 0)) (subst (λ w. F w (slice_index_or values p.index (pos 0)) ≡ true) (replicate-get (cells v) p.index v) old) is_kept))) in
+    pointwise-set E g.variables s p.variable (slice_set values p.index y) _ [] ok (λ inside.
+    pointwise-set F (replicate (cells v) v) values p.index y v (pos 0) inside (λ old.
+    subst (λ w. F w y ≡ true) (sym (replicate-get (cells v) p.index v)) (kept-within v x y (slice_index_or values p.index (pos 0)) (subst (λ w. F w (slice_index_or values p.index (pos 0)) ≡ true) (replicate-get (cells v) p.index v) old) is_kept))) in
     let same : with_cell s p y ≡ t = cc in
     subst (λ u. in_range g u ≡ true) same stays
 

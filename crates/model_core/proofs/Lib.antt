@@ -2,3 +2,5 @@ pub mod Simulation
 pub mod Results
 pub mod EdgesAlike
 pub mod InRange
+pub mod SameLaws
+pub mod PruneLaw

@@ -1,5 +1,5 @@
 -- Results and faults: what a chain of steps does is known from what its parts do.
-use Rattle.std.proofs.Common.{◌≡◌, ℕ, zero, suc, Bool, true, false, cond, List, [], ◌∷◌, slice_get, Option, Some, None, Result, Ok, Err, refl, sym, ap, subst}
+use Rattle.std.proofs.Common.{◌≡◌, ℕ, zero, suc, Bool, true, false, cond, List, [], ◌∷◌, slice_get, Some, Ok, Err, refl, ap, subst}
 use Rattle.std.specs.List.{remove}
 use Rattle.model_core.specs.Value.{OrFault, ◌>>=◌, in_turn}
 

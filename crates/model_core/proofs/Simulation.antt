@@ -1,5 +1,5 @@
 -- Simulation: a machine whose moves answer those of another shows the same.
-use Rattle.std.proofs.Common.{◌≡◌, ℕ, zero, suc, ◌≤◌, Bool, true, false, List, [], ◌++◌, refl, sym, ◌∙◌, ap, subst, append_assoc, arith, IsTrue}
+use Rattle.std.proofs.Common.{◌≡◌, ℕ, zero, suc, ◌≤◌, List, [], ◌++◌, refl, sym, ◌∙◌, ap, subst, append_assoc, arith, IsTrue}
 use Rattle.std.proofs.lemmas.List.{append-nil}
 use Rattle.model_core.specs.Machine.{Note, Outcome, Going, Look, finished, Move, Rests, Fails, Goes, before, ahead, after, look_of}
 use Rattle.model_core.specs.Same.{Begins, SameLooks}
@@ -142,6 +142,6 @@ two_for_one f g R step s t r = record {
   finishes_only = λ m fin. all_found f g R step m s t r;
   shows = λ n. let (m, le, c) = all_seen f g R step n s t r in (m, le, c.shown);
   shows_only = λ m.
-    let (n, e) = all_found f g R step m s t r in
-    (n, ([], append-nil (look_of g m t).history ∙ sym (ap (λ l. l.history) e)));
+      let (n, e) = all_found f g R step m s t r in
+      (n, ([], append-nil (look_of g m t).history ∙ sym (ap (λ l. l.history) e)));
 }
