@@ -4,12 +4,12 @@ use Rattle.std.proofs.lemmas.Bool.Decides.{nat_tests}
 use Rattle.model_core.specs.EventGraph.{EventGraph, EventVertex, StateChange, Watched, WatchedVariable, WatchedVertex}
 use Rattle.model_core.specs.State.{State, Place, scalar, variable_at, initial_state}
 use Rattle.model_core.specs.Value.{OrFault, ◌>>=◌, in_turn}
-use Rattle.model_core.specs.Changes.{Drawn, store, change}
-use Rattle.model_core.specs.Pending.{Entry, TakenOff, next}
+use Rattle.model_core.specs.Changes.{Drawn, store, make_change}
+use Rattle.model_core.specs.Pending.{Entry, TakenOff, next_entry}
 use Rattle.model_core.specs.Edges.{treat}
 use Rattle.model_core.specs.Step.{Configuration, Fault, no_vertex, vertex_at, receive, occur, faulted_at, step}
 use Rattle.model_core.specs.Machine.{Note, Outcome, Stopped, Move, Rests, Fails, Goes}
-use Rattle.model_core.specs.Run.{Moment, Noting, leave, leave_for, stepped, comes, run, start, look}
+use Rattle.model_core.specs.Run.{Moment, Noting, leave, leave_for, stepped, comes, next_move, start, look}
 use Rattle.model_core.specs.Same.{SameLooks, Same, thing, VertexNamed, parameter}
 use Rattle.model_core.proofs.Results.{bind_ok, bind_same, cond_same, in_turn-keeps}
 use Rattle.model_core.proofs.Simulation.{Answers, rests, fails, goes, lock_step_same}
@@ -21,7 +21,7 @@ with_vertices g vertices = record g { vertices = vertices }
 -- a fact about states that each store keeps, and each change
 pub record Kept (g : EventGraph) (Q : State → Type 0) : Type 0 where
   pub by_store : (p : Place × ℤ) (s t : State) → Q s → store g p s ≡ Ok t → Q t
-  pub by_change : (seed clk : ℕ) (c : StateChange) (d e : Drawn) → Q d.state → change g seed clk c d ≡ Ok e → Q e.state
+  pub by_change : (seed clk : ℕ) (c : StateChange) (d e : Drawn) → Q d.state → make_change g seed clk c d ≡ Ok e → Q e.state
 
 -- in states of which Q holds, up to the last stop time, the edges of v and w do the same, and all else in them is equal
 pub record Alike (g : EventGraph) (Q : State → Type 0) (v w : EventVertex) : Type 0 where
@@ -34,13 +34,13 @@ pub record Alike (g : EventGraph) (Q : State → Type 0) (v w : EventVertex) : T
 received : (g : EventGraph) (Q : State → Type 0) → Kept g Q → (parameters : List ℕ) (values : List ℤ) (s t : State) → Q s → receive g parameters values s ≡ Ok t → Q t
 received g Q kept parameters values s t q e = in_turn-keeps Q (store g) (λ p a b. kept.by_store p a b) (zip (map scalar parameters) values) s t q e
 
-changed : (g : EventGraph) (Q : State → Type 0) → Kept g Q → (seed clk : ℕ) (changes : List StateChange) (d e : Drawn) → Q d.state → in_turn (change g seed clk) changes d ≡ Ok e → Q e.state
-changed g Q kept seed clk changes d e q done = in_turn-keeps (λ (d : Drawn). Q d.state) (change g seed clk) (λ c a b. kept.by_change seed clk c a b) changes d e q done
+changed : (g : EventGraph) (Q : State → Type 0) → Kept g Q → (seed clk : ℕ) (changes : List StateChange) (d e : Drawn) → Q d.state → in_turn (make_change g seed clk) changes d ≡ Ok e → Q e.state
+changed g Q kept seed clk changes d e q done = in_turn-keeps (λ (d : Drawn). Q d.state) (make_change g seed clk) (λ c a b. kept.by_change seed clk c a b) changes d e q done
 
 occur-keeps : (g : EventGraph) (Q : State → Type 0) → Kept g Q → (seed : ℕ) (v : EventVertex) (n : TakenOff) (s : State) (taken : List ℕ) (c : Configuration) → Q s → occur g seed v n s taken ≡ Ok c → Q c.state
 occur-keeps g Q kept seed v n s taken c q e =
     let (t, at_receive, after_receive) = bind_ok (receive g v.parameters n.entry.values s) _ c e in
-    let (d, at_changes, after_changes) = bind_ok (in_turn (change g seed n.entry.time) v.changes (record { state = t; taken = taken })) _ c after_receive in
+    let (d, at_changes, after_changes) = bind_ok (in_turn (make_change g seed n.entry.time) v.changes (record { state = t; taken = taken })) _ c after_receive in
     let (p, at_edges, at_end) = bind_ok (in_turn (treat g d.state n.entry.time) v.edges n.others) _ c after_changes in
     let holds : Q d.state = changed g Q kept seed n.entry.time v.changes (record { state = t; taken = taken }) d (received g Q kept v.parameters n.entry.values s t q at_receive) at_changes in
     let ended : d.state ≡ c.state = cc in
@@ -51,7 +51,7 @@ occur-alike g Q kept seed v w alike n due s taken q =
     let time = n.entry.time in
     let same_edges : occur g seed v n s taken ≡ occur g seed (record v { edges = w.edges }) n s taken =
     bind_same (receive g v.parameters n.entry.values s) _ _ (λ t at_receive.
-    bind_same (in_turn (change g seed time) v.changes (record { state = t; taken = taken })) _ _ (λ d at_changes.
+    bind_same (in_turn (make_change g seed time) v.changes (record { state = t; taken = taken })) _ _ (λ d at_changes.
     let holds : Q d.state = changed g Q kept seed time v.changes (record { state = t; taken = taken }) d (received g Q kept v.parameters n.entry.values s t q at_receive) at_changes in
     ap (λ (r : OrFault (List Entry)). r >>= λ p. Ok (record { clock = time; state = d.state; taken = d.taken; pending = p })) (alike.edges d.state holds time due n.others))) in
     let same_changes : occur g seed (record v { edges = w.edges }) n s taken ≡ occur g seed (record w { parameters = v.parameters }) n s taken =
@@ -104,14 +104,14 @@ module _ (g : EventGraph) (vertices : List EventVertex) (Q : State → Type 0) (
   answers-itself (Fails notes end) keeps = fails notes end
   answers-itself (Goes notes m) keeps = goes notes (refl, keeps notes m refl)
 
-  level-step : (m k : Moment) → Level m k → Answers Level (run g seed until m) (run (with_vertices g vertices) seed until k)
+  level-step : (m k : Moment) → Level m k → Answers Level (next_move g seed until m) (next_move (with_vertices g vertices) seed until k)
   level-step m k (same, q) =
-      let itself : Answers Level (run g seed until m) (run g seed until m) = answers-itself (run g seed until m) (λ notes later e. comes-keeps m q (next m.now.pending) notes later e) in
-      let other : Answers Level (run g seed until m) (run (with_vertices g vertices) seed until m) = subst (λ move. Answers Level (run g seed until m) move) (comes-alike m q (next m.now.pending)) itself in
-      subst (λ k. Answers Level (run g seed until m) (run (with_vertices g vertices) seed until k)) same other
+      let itself : Answers Level (next_move g seed until m) (next_move g seed until m) = answers-itself (next_move g seed until m) (λ notes later e. comes-keeps m q (next_entry m.now.pending) notes later e) in
+      let other : Answers Level (next_move g seed until m) (next_move (with_vertices g vertices) seed until m) = subst (λ move. Answers Level (next_move g seed until m) move) (comes-alike m q (next_entry m.now.pending)) itself in
+      subst (λ k. Answers Level (next_move g seed until m) (next_move (with_vertices g vertices) seed until k)) same other
 
   pub alike-looks : Q (initial_state g) → (starts : List ℤ) → SameLooks (λ n. look g seed starts until n) (λ n. look (with_vertices g vertices) seed starts until n)
-  alike-looks q starts = lock_step_same (run g seed until) (run (with_vertices g vertices) seed until) Level level-step (start g starts) (start g starts) (refl, q)
+  alike-looks q starts = lock_step_same (next_move g seed until) (next_move (with_vertices g vertices) seed until) Level level-step (start g starts) (start g starts) (refl, q)
 
 map-same : {A B : Type 0} (f h : A → B) → ((x : A) → f x ≡ h x) → (xs : List A) → map f xs ≡ map h xs
 map-same f h same [] = refl

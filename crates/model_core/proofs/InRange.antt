@@ -5,9 +5,9 @@ use lib.Pointwise.{pointwise}
 use Rattle.sig_base.specs.declared.fault.FaultKind.{FaultKind}
 use Rattle.sig_base.specs.Stream.{word}
 use Rattle.model_core.specs.EventGraph.{EventGraph, Variable, StateChange, Set, Draw}
-use Rattle.model_core.specs.State.{State, Place, variable_at, cells, within, in_ranges, in_range, values_of, with_cell}
-use Rattle.model_core.specs.Value.{OrFault, each, value, place}
-use Rattle.model_core.specs.Changes.{Drawn, kept, store, set_all, taken_from, picked, one_more, change}
+use Rattle.model_core.specs.State.{State, Place, variable_at, cell_count, within, in_ranges, in_range, cells_of, with_cell}
+use Rattle.model_core.specs.Value.{OrFault, each, value_of, place_of}
+use Rattle.model_core.specs.Changes.{Drawn, kept, store, set_all, taken_from, picked, one_more, make_change}
 use Rattle.model_core.proofs.Results.{bind_ok, in_turn-keeps}
 use Rattle.model_core.proofs.EdgesAlike.{Kept}
 
@@ -64,27 +64,27 @@ replicate-get (suc n) (suc k) a = replicate-get n k a
 store-in_range : (g : EventGraph) (p : Place × ℤ) (s t : State) → in_range g s ≡ true → store g p s ≡ Ok t → in_range g t ≡ true
 store-in_range g (p, x) s t ok done =
     let v = variable_at g p.variable in
-    let values = values_of s p.variable in
+    let values = cells_of s p.variable in
     let (y, is_kept, is_stored) = bind_ok (kept v x) (λ y. Ok (with_cell s p y)) t done in
-    let E : Variable → List ℤ → Bool = λ v values. in_ranges (replicate (cells v) v) values in
+    let E : Variable → List ℤ → Bool = λ v values. in_ranges (replicate (cell_count v) v) values in
     let F : Variable → ℤ → Bool = λ v x. within v.lo v.hi x in
     let stays : in_range g (with_cell s p y) ≡ true =
     pointwise-set E g.variables s p.variable (slice_set values p.index y) _ [] ok (λ inside.
-    pointwise-set F (replicate (cells v) v) values p.index y v (pos 0) inside (λ old.
-    subst (λ w. F w y ≡ true) (sym (replicate-get (cells v) p.index v)) (kept-within v x y (slice_index_or values p.index (pos 0)) (subst (λ w. F w (slice_index_or values p.index (pos 0)) ≡ true) (replicate-get (cells v) p.index v) old) is_kept))) in
+    pointwise-set F (replicate (cell_count v) v) values p.index y v (pos 0) inside (λ old.
+    subst (λ w. F w y ≡ true) (sym (replicate-get (cell_count v) p.index v)) (kept-within v x y (slice_index_or values p.index (pos 0)) (subst (λ w. F w (slice_index_or values p.index (pos 0)) ≡ true) (replicate-get (cell_count v) p.index v) old) is_kept))) in
     let same : with_cell s p y ≡ t = cc in
     subst (λ u. in_range g u ≡ true) same stays
 
-change-in_range : (g : EventGraph) (seed clk : ℕ) (c : StateChange) (d e : Drawn) → in_range g d.state ≡ true → change g seed clk c d ≡ Ok e → in_range g e.state ≡ true
+change-in_range : (g : EventGraph) (seed clk : ℕ) (c : StateChange) (d e : Drawn) → in_range g d.state ≡ true → make_change g seed clk c d ≡ Ok e → in_range g e.state ≡ true
 change-in_range g seed clk (Set targets rights) d e ok done =
     let (s, is_set, at_end) = bind_ok (set_all g clk targets rights d.state) (λ s. Ok (record d { state = s })) e done in
-    let (values, at_values, after_values) = bind_ok (each (value g d.state clk) rights) _ s is_set in
-    let (places, at_places, stored) = bind_ok (each (place g d.state clk) targets) _ s after_values in
+    let (values, at_values, after_values) = bind_ok (each (value_of g d.state clk) rights) _ s is_set in
+    let (places, at_places, stored) = bind_ok (each (place_of g d.state clk) targets) _ s after_values in
     let stays : in_range g s ≡ true = in_turn-keeps (λ (s : State). in_range g s ≡ true) (store g) (λ p a b. store-in_range g p a b) (zip places values) d.state s ok stored in
     let same : s ≡ e.state = cc in
     subst (λ u. in_range g u ≡ true) same stays
 change-in_range g seed clk (Draw target stream choice) d e ok done =
-    let (p, at_place, after_place) = bind_ok (place g d.state clk target) _ e done in
+    let (p, at_place, after_place) = bind_ok (place_of g d.state clk target) _ e done in
     let (s, stored, at_end) = bind_ok (store g (p, picked g choice (word seed stream (taken_from d.taken stream))) d.state) (λ s. Ok (record { state = s; taken = one_more d.taken stream })) e after_place in
     let same : s ≡ e.state = cc in
     subst (λ u. in_range g u ≡ true) same (store-in_range g (p, picked g choice (word seed stream (taken_from d.taken stream))) d.state s ok stored)

@@ -4,7 +4,7 @@ use Rattle.std.specs.Option.{option_and_then}
 use Rattle.std.proofs.lemmas.Option.{option_and_then_some}
 use Rattle.model_core.specs.EventGraph.{EventGraph, EventVertex, EventEdge, Expression, Number, Truth, Clock, Scalar, Cell, Negative, Not, Binary, If}
 use Rattle.model_core.specs.State.{State, in_range, initial_state}
-use Rattle.model_core.specs.Value.{OrFault, ◌>>=◌, value, is_one}
+use Rattle.model_core.specs.Value.{OrFault, ◌>>=◌, value_of, is_one}
 use Rattle.model_core.specs.Pending.{Entry}
 use Rattle.model_core.specs.Edges.{act, treat}
 use Rattle.model_core.specs.Step.{no_vertex}
@@ -24,12 +24,12 @@ with_place-beside P f (suc i) zero d itself (x ∷ xs) changed = itself x
 with_place-beside P f (suc i) (suc k) d itself (x ∷ xs) changed = with_place-beside P f i k d itself xs changed
 
 -- an edge whose condition is 0 does nothing
-treat-idle : (g : EventGraph) (s : State) (clk : ℕ) (e : EventEdge) (pending : List Entry) → value g s clk e.condition ≡ Ok (pos 0) → treat g s clk e pending ≡ Ok pending
+treat-idle : (g : EventGraph) (s : State) (clk : ℕ) (e : EventEdge) (pending : List Entry) → value_of g s clk e.condition ≡ Ok (pos 0) → treat g s clk e pending ≡ Ok pending
 treat-idle g s clk e pending zero_there = ap (λ (r : OrFault ℤ). r >>= λ c. cond (is_one c) (act g s clk e e.kind pending) (Ok pending)) zero_there
 
 -- the condition is 0 in each state of which Q holds, at each clock up to the last stop time
 abbrev Idle : EventGraph → (State → Type 0) → EventEdge → Type 0
-Idle g Q e = (s : State) → Q s → (clk : ℕ) → clk ≤ 2 ^ 48 → value g s clk e.condition ≡ Ok (pos 0)
+Idle g Q e = (s : State) → Q s → (clk : ℕ) → clk ≤ 2 ^ 48 → value_of g s clk e.condition ≡ Ok (pos 0)
 
 itself-alike : (g : EventGraph) (Q : State → Type 0) (v : EventVertex) → Alike g Q v v
 itself-alike g Q v = record { name = refl; parameters = refl; changes = refl; edges = λ s q clk early pending. refl }
@@ -47,7 +47,7 @@ pruned-Same g vertex edge Q kept q idle =
     alike-Same g (with_place (without_edge edge) vertex g.vertices) Q kept (λ k. with_place-beside (Alike g Q) (without_edge edge) vertex k no_vertex (itself-alike g Q) g.vertices (λ v there. without_edge-alike g Q v edge (λ e is_it. idle e (ap (option_and_then (λ (v : EventVertex). slice_get v.edges edge)) there ∙ is_it)))) q
 
 -- an edge whose condition is 0 in each state in range may be taken away
-pub idle_edge_may_go : (g : EventGraph) (vertex edge : ℕ) → IsTrue (in_range g (initial_state g)) → ((e : EventEdge) → edge_at g vertex edge ≡ Some e → (s : State) → IsTrue (in_range g s) → (clk : ℕ) → clk ≤ 2 ^ 48 → value g s clk e.condition ≡ Ok (pos 0)) → Same g (pruned g vertex edge)
+pub idle_edge_may_go : (g : EventGraph) (vertex edge : ℕ) → IsTrue (in_range g (initial_state g)) → ((e : EventEdge) → edge_at g vertex edge ≡ Some e → (s : State) → IsTrue (in_range g s) → (clk : ℕ) → clk ≤ 2 ^ 48 → value_of g s clk e.condition ≡ Ok (pos 0)) → Same g (pruned g vertex edge)
 idle_edge_may_go g vertex edge starts idle = pruned-Same g vertex edge (λ s. IsTrue (in_range g s)) (in_range-kept g) starts idle
 
 refuted-false : (c : Expression) → is_refuted c ≡ true → c ≡ Truth false
@@ -66,11 +66,11 @@ refuted-pruned : (g h : EventGraph) (vertex edge : ℕ) (e : EventEdge) (b : Boo
 refuted-pruned g h vertex edge e false refuted there done = cc
 refuted-pruned g h vertex edge e true refuted there done =
     let same : pruned g vertex edge ≡ h = cc in
-    let always : (x : EventEdge) → edge_at g vertex edge ≡ Some x → (s : State) → Unit {0} → (clk : ℕ) → clk ≤ 2 ^ 48 → value g s clk x.condition ≡ Ok (pos 0) =
+    let always : (x : EventEdge) → edge_at g vertex edge ≡ Some x → (s : State) → Unit {0} → (clk : ℕ) → clk ≤ 2 ^ 48 → value_of g s clk x.condition ≡ Ok (pos 0) =
     λ x is_it s q clk early.
     let it : e ≡ x = cc in
     let literal : x.condition ≡ Truth false = ap (λ (x : EventEdge). x.condition) (sym it) ∙ refuted-false e.condition refuted in
-    ap (value g s clk) literal in
+    ap (value_of g s clk) literal in
     subst (Same g) same (pruned-Same g vertex edge (λ s. Unit {0}) (record { by_store = λ p s t q e. tt; by_change = λ seed clk c d f q e. tt }) tt always)
 
 -- prune keeps the meaning

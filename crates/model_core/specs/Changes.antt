@@ -4,7 +4,7 @@ use Rattle.sig_base.specs.declared.fault.FaultKind.TheVariants as faults
 use Rattle.sig_base.specs.Stream.{word, uniform_pick, weighted_pick}
 use Rattle.model_core.specs.EventGraph.{EventGraph, Variable, Choice, Uniform, ByTable, WeightTable, StateChange, Set, Draw, Location, Expression}
 use Rattle.model_core.specs.State.{State, Place, variable_at, within, with_cell}
-use Rattle.model_core.specs.Value.{OrFault, ◌>>=◌, each, in_turn, value, place}
+use Rattle.model_core.specs.Value.{OrFault, ◌>>=◌, each, in_turn, value_of, place_of}
 
 -- a state, and how many words were taken from each stream
 pub record Drawn : Type 0 where
@@ -24,8 +24,8 @@ store g (p, x) s = kept (variable_at g p.variable) x >>= λ y. Ok (with_cell s p
 -- the stores of a `set` are made when all its right sides and then all its indexes are known
 abbrev pub set_all : EventGraph → ℕ → List Location → List Expression → State → OrFault State
 set_all g clk targets rights s = do
-  values ← each (value g s clk) rights
-  places ← each (place g s clk) targets
+  values ← each (value_of g s clk) rights
+  places ← each (place_of g s clk) targets
   in_turn (store g) (zip places values) s
 
 -- how many words were taken from a stream
@@ -46,11 +46,11 @@ picked g (ByTable t) w =
     slice_index_or (map (λ r. r.value) rows) (weighted_pick (map (λ r. r.weight) rows) w) (pos 0)
 
 -- one change, in a run with this seed
-abbrev pub change : EventGraph → ℕ → ℕ → StateChange → Drawn → OrFault Drawn
-change g seed clk (Set targets rights) d = do
+abbrev pub make_change : EventGraph → ℕ → ℕ → StateChange → Drawn → OrFault Drawn
+make_change g seed clk (Set targets rights) d = do
   s ← set_all g clk targets rights d.state
   Ok (record d { state = s })
-change g seed clk (Draw target stream choice) d = do
-  p ← place g d.state clk target
+make_change g seed clk (Draw target stream choice) d = do
+  p ← place_of g d.state clk target
   s ← store g (p, picked g choice (word seed stream (taken_from d.taken stream))) d.state
   Ok (record { state = s; taken = one_more d.taken stream })

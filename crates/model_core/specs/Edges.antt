@@ -3,17 +3,17 @@ use Rattle.std.specs.Prelude.{ℕ, ◌+◌, ℤ, pos, negsuc, cond, List, [], �
 use Rattle.sig_base.specs.declared.fault.FaultKind.TheVariants as faults
 use Rattle.model_core.specs.EventGraph.{EventGraph, EventEdge, EdgeKind, Schedule, Urgent, CancelNext, CancelEqual, CancelAll}
 use Rattle.model_core.specs.State.{State}
-use Rattle.model_core.specs.Value.{OrFault, ◌>>=◌, each, value, is_one}
+use Rattle.model_core.specs.Value.{OrFault, ◌>>=◌, each, value_of, is_one}
 use Rattle.model_core.specs.Pending.{Entry, is_of, is_with, without_next, without_all}
 
 -- a delay in ticks
-abbrev pub ticks : ℤ → OrFault ℕ
-ticks (pos n) = Ok n
-ticks (negsuc n) = Err faults.NegativeDelay
+abbrev pub delay_ticks : ℤ → OrFault ℕ
+delay_ticks (pos n) = Ok n
+delay_ticks (negsuc n) = Err faults.NegativeDelay
 
 -- the values that an edge carries
-abbrev pub carried : EventGraph → State → ℕ → EventEdge → OrFault (List ℤ)
-carried g s clk e = each (value g s clk) e.values
+abbrev pub carried_values : EventGraph → State → ℕ → EventEdge → OrFault (List ℤ)
+carried_values g s clk e = each (value_of g s clk) e.values
 
 -- the list with one more event, scheduled last
 abbrev pub scheduled : ℕ → ℕ → ℕ → List Entry → List ℤ → List Entry
@@ -23,21 +23,21 @@ scheduled time priority vertex pending values =
 -- what an edge does where its condition is true
 abbrev pub act : EventGraph → State → ℕ → EventEdge → EdgeKind → List Entry → OrFault (List Entry)
 act g s clk e (Schedule delay priority) pending = do
-  wait ← value g s clk delay
-  n ← ticks wait
-  values ← carried g s clk e
+  wait ← value_of g s clk delay
+  n ← delay_ticks wait
+  values ← carried_values g s clk e
   Ok (scheduled (clk + n) priority e.target pending values)
 act g s clk e Urgent pending = do
-  values ← carried g s clk e
+  values ← carried_values g s clk e
   Ok (scheduled clk 0 e.target pending values)
 act g s clk e CancelNext pending = Ok (without_next (is_of e.target) pending)
 act g s clk e CancelEqual pending = do
-  values ← carried g s clk e
+  values ← carried_values g s clk e
   Ok (without_next (is_with e.target values) pending)
 act g s clk e CancelAll pending = Ok (without_all (is_of e.target) pending)
 
 -- one edge: nothing where its condition is false
 abbrev pub treat : EventGraph → State → ℕ → EventEdge → List Entry → OrFault (List Entry)
 treat g s clk e pending = do
-  c ← value g s clk e.condition
+  c ← value_of g s clk e.condition
   cond (is_one c) (act g s clk e e.kind pending) (Ok pending)

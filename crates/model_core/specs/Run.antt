@@ -1,8 +1,8 @@
 -- A run of a model: its moments, what comes next at each, and the look at it.
 use Rattle.std.specs.Prelude.{ℕ, ℤ, Bool, false, cond, nat_lt, ◌==◌, List, [], ◌∷◌, ◌++◌, map, replicate, Option, Some, None, option_map, option_to_list, position, Result, Ok, Err}
 use Rattle.model_core.specs.EventGraph.{EventGraph, Watched, WatchedVariable, WatchedVertex}
-use Rattle.model_core.specs.State.{State, variable_at, values_of, initial_state, in_ranges}
-use Rattle.model_core.specs.Pending.{Entry, TakenOff, next, same_values}
+use Rattle.model_core.specs.State.{State, variable_at, cells_of, initial_state, in_ranges}
+use Rattle.model_core.specs.Pending.{Entry, TakenOff, next_entry, same_values}
 use Rattle.model_core.specs.Step.{Configuration, Fault, vertex_at, step}
 use Rattle.model_core.specs.Machine.{Note, At, On, Ended, Stopped, Faulted, Look, Move, Rests, Fails, Goes, look_of}
 use lib.Pointwise.{pointwise}
@@ -15,7 +15,7 @@ pub record Moment : Type 0 where
 -- the values of the watched variables
 abbrev pub watched_values : List Watched → State → List (List ℤ)
 watched_values [] s = []
-watched_values (WatchedVariable v ∷ watch) s = values_of s v ∷ watched_values watch s
+watched_values (WatchedVariable v ∷ watch) s = cells_of s v ∷ watched_values watch s
 watched_values (WatchedVertex v ∷ watch) s = watched_values watch s
 
 abbrev pub watches : ℕ → Watched → Bool
@@ -61,8 +61,8 @@ comes g seed until m (Some n) =
     (stepped g n.entry.vertex (leave_for g m n.entry.time) (step g seed m.now n))
 
 -- what a run with this seed and stop time does next
-abbrev pub run : EventGraph → ℕ → ℕ → Moment → Move Moment
-run g seed until m = comes g seed until m (next m.now.pending)
+abbrev pub next_move : EventGraph → ℕ → ℕ → Moment → Move Moment
+next_move g seed until m = comes g seed until m (next_entry m.now.pending)
 
 -- a run begins at clock 0 with the first vertex's event, which carries the starting values
 abbrev pub start : EventGraph → List ℤ → Moment
@@ -76,4 +76,4 @@ allowed g starts = in_ranges (map (variable_at g) (vertex_at g 0).parameters) st
 
 -- the look at a run after at most n steps
 abbrev pub look : EventGraph → ℕ → List ℤ → ℕ → ℕ → Look
-look g seed starts until n = look_of (run g seed until) n (start g starts)
+look g seed starts until n = look_of (next_move g seed until) n (start g starts)

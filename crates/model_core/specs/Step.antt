@@ -4,7 +4,7 @@ use Rattle.sig_base.specs.declared.fault.FaultKind.{FaultKind}
 use Rattle.model_core.specs.EventGraph.{EventGraph, EventVertex}
 use Rattle.model_core.specs.State.{State, scalar}
 use Rattle.model_core.specs.Value.{OrFault, ◌>>=◌, in_turn}
-use Rattle.model_core.specs.Changes.{store, change}
+use Rattle.model_core.specs.Changes.{store, make_change}
 use Rattle.model_core.specs.Pending.{Entry, TakenOff}
 use Rattle.model_core.specs.Edges.{treat}
 
@@ -35,7 +35,7 @@ receive g parameters values s = in_turn (store g) (zip (map scalar parameters) v
 abbrev pub occur : EventGraph → ℕ → EventVertex → TakenOff → State → List ℕ → OrFault Configuration
 occur g seed vertex n state taken = do
   s ← receive g vertex.parameters n.entry.values state
-  d ← in_turn (change g seed n.entry.time) vertex.changes (record { state = s; taken = taken })
+  d ← in_turn (make_change g seed n.entry.time) vertex.changes (record { state = s; taken = taken })
   p ← in_turn (treat g d.state n.entry.time) vertex.edges n.others
   Ok (record { clock = n.entry.time; state = d.state; taken = d.taken; pending = p })
 

@@ -4,7 +4,7 @@ use Rattle.std.specs.Ordering.{int_eq}
 use Rattle.sig_base.specs.declared.fault.FaultKind.{FaultKind}
 use Rattle.sig_base.specs.declared.fault.FaultKind.TheVariants as faults
 use Rattle.model_core.specs.EventGraph.{EventGraph, Expression, Number, Truth, Clock, Scalar, Cell, Negative, Not, Binary, If, Operator, Add, Subtract, Multiply, Divide, Remainder, Least, Greatest, Equal, NotEqual, Below, AtMost, Above, AtLeast, And, Or, Location}
-use Rattle.model_core.specs.State.{State, Place, scalar, variable_at, cell, within}
+use Rattle.model_core.specs.State.{State, Place, scalar, variable_at, cell_at, within}
 
 -- a result, or the fault of what is done first
 abbrev pub OrFault : Type 0 → Type 0
@@ -73,25 +73,25 @@ abbrev pub indexed : EventGraph → ℕ → ℤ → OrFault Place
 indexed g v (pos i) = cond (nat_lt i (variable_at g v).size) (Ok (record { variable = v; index = i })) (Err faults.IndexOutside)
 indexed g v (negsuc i) = Err faults.IndexOutside
 
-abbrev pub value : EventGraph → State → ℕ → Expression → OrFault ℤ
-value g s clk (Number n) = Ok n
-value g s clk (Truth b) = Ok (number_of b)
-value g s clk Clock = Ok (pos clk)
-value g s clk (Scalar v) = Ok (cell s (scalar v))
-value g s clk (Cell v e) = value g s clk e >>= indexed g v >>= λ p. Ok (cell s p)
-value g s clk (Negative e) = value g s clk e >>= λ a. exact (neg_ℤ a)
-value g s clk (Not e) = value g s clk e >>= λ a. Ok (pos 1 -ℤ a)
-value g s clk (Binary op left right) = do
-  a ← value g s clk left
-  cond (decided op a) (Ok a) (value g s clk right >>= operate op a)
-value g s clk (If test a b) = do
-  c ← value g s clk test
-  cond (is_one c) (value g s clk a) (value g s clk b)
+abbrev pub value_of : EventGraph → State → ℕ → Expression → OrFault ℤ
+value_of g s clk (Number n) = Ok n
+value_of g s clk (Truth b) = Ok (number_of b)
+value_of g s clk Clock = Ok (pos clk)
+value_of g s clk (Scalar v) = Ok (cell_at s (scalar v))
+value_of g s clk (Cell v e) = value_of g s clk e >>= indexed g v >>= λ p. Ok (cell_at s p)
+value_of g s clk (Negative e) = value_of g s clk e >>= λ a. exact (neg_ℤ a)
+value_of g s clk (Not e) = value_of g s clk e >>= λ a. Ok (pos 1 -ℤ a)
+value_of g s clk (Binary op left right) = do
+  a ← value_of g s clk left
+  cond (decided op a) (Ok a) (value_of g s clk right >>= operate op a)
+value_of g s clk (If test a b) = do
+  c ← value_of g s clk test
+  cond (is_one c) (value_of g s clk a) (value_of g s clk b)
 
 -- the place that a location names
 abbrev pub place_at : EventGraph → State → ℕ → ℕ → Option Expression → OrFault Place
 place_at g s clk v None = Ok (scalar v)
-place_at g s clk v (Some e) = value g s clk e >>= indexed g v
+place_at g s clk v (Some e) = value_of g s clk e >>= indexed g v
 
-abbrev pub place : EventGraph → State → ℕ → Location → OrFault Place
-place g s clk l = place_at g s clk l.variable l.index
+abbrev pub place_of : EventGraph → State → ℕ → Location → OrFault Place
+place_of g s clk l = place_at g s clk l.variable l.index

@@ -3,7 +3,7 @@
 ghost use Rattle.std.specs.Prelude.{◌≡◌, ℕ, ◌^◌, ◌≤◌, pos, IsTrue, List, Some, Ok};
 ghost use Rattle.model_core.specs.EventGraph.{EventGraph, EventEdge};
 ghost use Rattle.model_core.specs.State.{State, in_range, initial_state};
-ghost use Rattle.model_core.specs.Value.{value};
+ghost use Rattle.model_core.specs.Value.{value_of};
 ghost use Rattle.model_core.specs.Rules.{RuleApplication, pruned, edge_at, prune_at, Chain, Strategy};
 ghost use Rattle.model_core.specs.Same.{Same};
 
@@ -18,7 +18,7 @@ pub fn sameness_is_a_preorder()
 pub fn idle_edges_may_go()
     ensures { (g : EventGraph) (vertex edge : ℕ)
         → IsTrue (in_range g (initial_state g))
-        → ((e : EventEdge) → edge_at g vertex edge ≡ Some e → (s : State) → IsTrue (in_range g s) → (clk : ℕ) → clk ≤ 2 ^ 48 → value g s clk e.condition ≡ Ok (pos 0))
+        → ((e : EventEdge) → edge_at g vertex edge ≡ Some e → (s : State) → IsTrue (in_range g s) → (clk : ℕ) → clk ≤ 2 ^ 48 → value_of g s clk e.condition ≡ Ok (pos 0))
         → Same g (pruned g vertex edge) }
 {}
 

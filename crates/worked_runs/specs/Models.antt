@@ -2,7 +2,7 @@
 use Rattle.std.specs.Prelude.{ℕ, ℤ, pos, List, [], ◌∷◌, ◌++◌, codes}
 use Rattle.model_core.specs.EventGraph.{EventGraph, Variable, Expression, Scalar, Binary, Add, Subtract, Divide, Above, Set, StateChange, Draw, ByTable, CancelEqual, CancelAll, EventEdge, WatchedVariable, WatchedVertex}
 use Rattle.model_core.specs.State.{initial_state}
-use Rattle.model_core.specs.Value.{OrFault, value}
+use Rattle.model_core.specs.Value.{OrFault, value_of}
 use Rattle.worked_runs.specs.Building.{ranged, clipped, array, number, scalar, indexed, set, draw, edge, schedule, schedule_with, urgent, only_if, vertex, takes}
 
 -- N grows by 1 each 5 ticks
@@ -159,4 +159,4 @@ two_rows = record {
 
 -- the value of an expression at clock 0, beside a scalar I and an array A of two cells
 abbrev pub of : Expression → OrFault ℤ
-of e = value (cells []) (initial_state (cells [])) 0 e
+of e = value_of (cells []) (initial_state (cells [])) 0 e
