@@ -1,27 +1,23 @@
 -- Models that differ in edges alone which do the same have the same runs.
-use Rattle.std.proofs.Common.{◌≡◌, ℕ, ◌^◌, ◌≤◌, ℤ, Bool, true, false, cond, nat_lt, List, [], ◌∷◌, map, zip, slice_index_or, Option, Some, None, Result, Ok, Err, refl, ◌∙◌, ap, ap₂, subst, arith, le_trans}
+use Rattle.std.proofs.Common.{◌≡◌, ℕ, ◌^◌, ◌≤◌, ℤ, false, nat_lt, List, [], ◌∷◌, map, slice_index_or, Option, Some, None, Ok, refl, ◌∙◌, ap, ap₂, subst, arith, le_trans}
 use Rattle.std.proofs.lemmas.Bool.Decides.{nat_tests}
 use Rattle.model_core.specs.EventGraph.{EventGraph, EventVertex, StateChange, Watched, WatchedVariable, WatchedVertex}
-use Rattle.model_core.specs.State.{State, Place, scalar, variable_at, initial_state}
+use Rattle.model_core.specs.State.{State, variable_at, initial_state}
 use Rattle.model_core.specs.Value.{OrFault, ◌>>=◌, in_turn}
-use Rattle.model_core.specs.Changes.{Drawn, store, make_change}
+use Rattle.model_core.specs.Changes.{make_change}
 use Rattle.model_core.specs.Pending.{Entry, TakenOff, next_entry}
 use Rattle.model_core.specs.Edges.{treat}
-use Rattle.model_core.specs.Step.{Configuration, Fault, no_vertex, vertex_at, receive, occur, faulted_at, step}
-use Rattle.model_core.specs.Machine.{Note, Outcome, Stopped, Move, Rests, Fails, Goes}
-use Rattle.model_core.specs.Run.{Moment, Noting, leave, leave_for, stepped, comes, next_move, start, look}
+use Rattle.model_core.specs.Step.{no_vertex, vertex_at, receive, occur, faulted_at}
+use Rattle.model_core.specs.Machine.{Note, Move, Rests, Fails, Goes}
+use Rattle.model_core.specs.Run.{Moment, leave_for, stepped, comes, next_move, start, look}
 use Rattle.model_core.specs.Same.{SameLooks, Same, thing, VertexNamed, parameter}
-use Rattle.model_core.proofs.Results.{bind_ok, bind_same, cond_same, in_turn-keeps}
+use Rattle.model_core.proofs.Results.{bind_same, cond_same}
+use Rattle.model_core.proofs.Keeping.{Kept, received, changed, next_move-keeps}
 use Rattle.model_core.proofs.Simulation.{Answers, rests, fails, goes, lock_step_same}
 
 -- the graph with these vertices in place of its own
 abbrev pub with_vertices : EventGraph → List EventVertex → EventGraph
 with_vertices g vertices = record g { vertices = vertices }
-
--- a fact about states that each store keeps, and each change
-pub record Kept (g : EventGraph) (Q : State → Type 0) : Type 0 where
-  pub by_store : (p : Place × ℤ) (s t : State) → Q s → store g p s ≡ Ok t → Q t
-  pub by_change : (seed clk : ℕ) (c : StateChange) (d e : Drawn) → Q d.state → make_change g seed clk c d ≡ Ok e → Q e.state
 
 -- in states of which Q holds, up to the last stop time, the edges of v and w do the same, and all else in them is equal
 pub record Alike (g : EventGraph) (Q : State → Type 0) (v w : EventVertex) : Type 0 where
@@ -29,22 +25,6 @@ pub record Alike (g : EventGraph) (Q : State → Type 0) (v w : EventVertex) : T
   pub parameters : v.parameters ≡ w.parameters
   pub changes : v.changes ≡ w.changes
   pub edges : (s : State) → Q s → (clk : ℕ) → clk ≤ 2 ^ 48 → (pending : List Entry) → in_turn (treat g s clk) v.edges pending ≡ in_turn (treat g s clk) w.edges pending
-
--- the state when the changes are made
-received : (g : EventGraph) (Q : State → Type 0) → Kept g Q → (parameters : List ℕ) (values : List ℤ) (s t : State) → Q s → receive g parameters values s ≡ Ok t → Q t
-received g Q kept parameters values s t q e = in_turn-keeps Q (store g) (λ p a b. kept.by_store p a b) (zip (map scalar parameters) values) s t q e
-
-changed : (g : EventGraph) (Q : State → Type 0) → Kept g Q → (seed clk : ℕ) (changes : List StateChange) (d e : Drawn) → Q d.state → in_turn (make_change g seed clk) changes d ≡ Ok e → Q e.state
-changed g Q kept seed clk changes d e q done = in_turn-keeps (λ (d : Drawn). Q d.state) (make_change g seed clk) (λ c a b. kept.by_change seed clk c a b) changes d e q done
-
-occur-keeps : (g : EventGraph) (Q : State → Type 0) → Kept g Q → (seed : ℕ) (v : EventVertex) (n : TakenOff) (s : State) (taken : List ℕ) (c : Configuration) → Q s → occur g seed v n s taken ≡ Ok c → Q c.state
-occur-keeps g Q kept seed v n s taken c q e =
-    let (t, at_receive, after_receive) = bind_ok (receive g v.parameters n.entry.values s) _ c e in
-    let (d, at_changes, after_changes) = bind_ok (in_turn (make_change g seed n.entry.time) v.changes (record { state = t; taken = taken })) _ c after_receive in
-    let (p, at_edges, at_end) = bind_ok (in_turn (treat g d.state n.entry.time) v.edges n.others) _ c after_changes in
-    let holds : Q d.state = changed g Q kept seed n.entry.time v.changes (record { state = t; taken = taken }) d (received g Q kept v.parameters n.entry.values s t q at_receive) at_changes in
-    let ended : d.state ≡ c.state = cc in
-    subst Q ended holds
 
 occur-alike : (g : EventGraph) (Q : State → Type 0) → Kept g Q → (seed : ℕ) (v w : EventVertex) → Alike g Q v w → (n : TakenOff) → n.entry.time ≤ 2 ^ 48 → (s : State) (taken : List ℕ) → Q s → occur g seed v n s taken ≡ occur g seed w n s taken
 occur-alike g Q kept seed v w alike n due s taken q =
@@ -63,31 +43,9 @@ occur-alike g Q kept seed v w alike n due s taken q =
 on_time_le : (until t : ℕ) → nat_lt until t ≡ false → t ≤ until
 on_time_le until t e = grind (arith, nat_tests)
 
-faulted-ok : {A : Type 0} (t : ℕ) (r : OrFault A) (x : A) → faulted_at t r ≡ Ok x → r ≡ Ok x
-faulted-ok t (Ok y) x e = cc
-faulted-ok t (Err k) x e = cc
-
-stepped-goes : (g : EventGraph) (vertex : ℕ) (left : Noting) (r : Result Configuration Fault) (notes : List Note) (m : Moment) → stepped g vertex left r ≡ Goes notes m → r ≡ Ok m.now
-stepped-goes g vertex left (Ok c) notes m e =
-    let same : record { now = c; noted = left.noted } ≡ m = cc in
-    let same_now : c ≡ m.now = ap (λ (m : Moment). m.now) same in
-    cc
-stepped-goes g vertex left (Err f) notes m e = cc
-
-cond-goes : {S : Type 0} (b : Bool) (rests_with : List Note) (end : Outcome) (k : Move S) (notes : List Note) (m : S) → cond b (Rests rests_with end) k ≡ Goes notes m → k ≡ Goes notes m
-cond-goes true rests_with end k notes m e = cc
-cond-goes false rests_with end k notes m e = e
-
 -- ---- one graph with the vertices of another, each of which is alike
 
 module _ (g : EventGraph) (vertices : List EventVertex) (Q : State → Type 0) (kept : Kept g Q) (alike : (k : ℕ) → Alike g Q (vertex_at g k) (slice_index_or vertices k no_vertex)) (seed until : ℕ) (early : until ≤ 2 ^ 48) where
-  comes-keeps : (m : Moment) → Q m.now.state → (o : Option TakenOff) (notes : List Note) (later : Moment) → comes g seed until m o ≡ Goes notes later → Q later.now.state
-  comes-keeps m q None notes later e = cc
-  comes-keeps m q (Some n) notes later e =
-      let goes_on : stepped g n.entry.vertex (leave_for g m n.entry.time) (step g seed m.now n) ≡ Goes notes later = cond-goes (nat_lt until n.entry.time) (leave g m).notes Stopped _ notes later e in
-      let ok = stepped-goes g n.entry.vertex (leave_for g m n.entry.time) (step g seed m.now n) notes later goes_on in
-      occur-keeps g Q kept seed (vertex_at g n.entry.vertex) n m.now.state m.now.taken later.now q (faulted-ok n.entry.time _ later.now ok)
-
   comes-alike : (m : Moment) → Q m.now.state → (o : Option TakenOff) → comes g seed until m o ≡ comes (with_vertices g vertices) seed until m o
   comes-alike m q None = refl
   comes-alike m q (Some n) =
@@ -106,7 +64,7 @@ module _ (g : EventGraph) (vertices : List EventVertex) (Q : State → Type 0) (
 
   level-step : (m k : Moment) → Level m k → Answers Level (next_move g seed until m) (next_move (with_vertices g vertices) seed until k)
   level-step m k (same, q) =
-      let itself : Answers Level (next_move g seed until m) (next_move g seed until m) = answers-itself (next_move g seed until m) (λ notes later e. comes-keeps m q (next_entry m.now.pending) notes later e) in
+      let itself : Answers Level (next_move g seed until m) (next_move g seed until m) = answers-itself (next_move g seed until m) (next_move-keeps g Q kept seed until m q) in
       let other : Answers Level (next_move g seed until m) (next_move (with_vertices g vertices) seed until m) = subst (λ move. Answers Level (next_move g seed until m) move) (comes-alike m q (next_entry m.now.pending)) itself in
       subst (λ k. Answers Level (next_move g seed until m) (next_move (with_vertices g vertices) seed until k)) same other
 

@@ -9,7 +9,7 @@ use Rattle.model_core.specs.State.{State, Place, variable_at, cell_count, within
 use Rattle.model_core.specs.Value.{OrFault, each, value_of, place_of}
 use Rattle.model_core.specs.Changes.{Drawn, kept, store, set_all, taken_from, picked, one_more, make_change}
 use Rattle.model_core.proofs.Results.{bind_ok, in_turn-keeps}
-use Rattle.model_core.proofs.EdgesAlike.{Kept}
+use Rattle.model_core.proofs.Keeping.{Kept}
 
 and_first : (a b : Bool) → (a && b) ≡ true → a ≡ true
 and_first true b e = refl

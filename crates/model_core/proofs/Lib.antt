@@ -1,5 +1,6 @@
 pub mod Simulation
 pub mod Results
+pub mod Keeping
 pub mod EdgesAlike
 pub mod InRange
 pub mod SameLaws

@@ -11,7 +11,8 @@ use Rattle.model_core.specs.Step.{no_vertex}
 use Rattle.model_core.specs.Rules.{RuleApplication, Prune, is_refuted, place_of_vertex, from_zero, with_place, without_edge, pruned, edge_at, prune_at, applied, Chain, Strategy}
 use Rattle.model_core.specs.Same.{Same}
 use Rattle.model_core.proofs.Results.{in_turn-remove}
-use Rattle.model_core.proofs.EdgesAlike.{Kept, Alike, alike-Same}
+use Rattle.model_core.proofs.EdgesAlike.{Alike, alike-Same}
+use Rattle.model_core.proofs.Keeping.{Kept}
 use Rattle.model_core.proofs.InRange.{in_range-kept}
 use Rattle.model_core.proofs.SameLaws.{same_refl, same_trans}
 

@@ -1,9 +1,9 @@
 -- The models whose runs are worked out.
 use Rattle.std.specs.Prelude.{ℕ, ℤ, pos, List, [], ◌∷◌, ◌++◌, codes}
-use Rattle.model_core.specs.EventGraph.{EventGraph, Variable, Expression, Scalar, Binary, Add, Subtract, Divide, Above, Set, StateChange, Draw, ByTable, CancelEqual, CancelAll, EventEdge, WatchedVariable, WatchedVertex}
+use Rattle.model_core.specs.EventGraph.{EventGraph, Variable, Expression, Scalar, Binary, Add, Subtract, Divide, Above, Set, StateChange, Draw, ByTable, CancelEqual, CancelAll, EventEdge, WatchedVariable, WatchedVertex, Schedule}
 use Rattle.model_core.specs.State.{initial_state}
 use Rattle.model_core.specs.Value.{OrFault, value_of}
-use Rattle.worked_runs.specs.Building.{ranged, clipped, array, number, scalar, indexed, set, draw, edge, schedule, schedule_with, urgent, only_if, vertex, takes}
+use Rattle.worked_runs.specs.Building.{ranged, clipped, array, number, scalar, indexed, set, draw, edge, schedule, schedule_with, urgent, only_if, vertex, takes, one_over_zero}
 
 -- N grows by 1 each 5 ticks
 abbrev pub counting : Variable → EventGraph
@@ -101,6 +101,10 @@ cut cancels = record {
 abbrev pub cancel_three : EventEdge
 cancel_three = edge CancelEqual 1 (number 3 ∷ [])
 
+-- B(1 / 0) after 0 - 1 ticks
+abbrev pub late_and_bad : EventEdge
+late_and_bad = edge (Schedule (Binary Subtract (number 0) (number 1)) 5) 1 (one_over_zero ∷ [])
+
 -- each B is cancelled
 abbrev pub cancel_all : EventEdge
 cancel_all = edge CancelAll 1 []
@@ -147,6 +151,24 @@ index_and_cell = Set (scalar 0 ∷ indexed 1 (Scalar 0) ∷ []) (number 1 ∷ nu
 abbrev pub bad_index_and_value : StateChange
 bad_index_and_value = Set (indexed 1 (number 2) ∷ []) (Binary Divide (number 1) (number 0) ∷ [])
 
+-- the first event takes X and makes a change of it
+abbrev pub taking : Variable → StateChange → EventGraph
+taking x change = record {
+  name = codes "TAKES";
+  variables = x ∷ [];
+  tables = [];
+  watch = WatchedVariable 0 ∷ [];
+  vertices = takes (0 ∷ []) (vertex (codes "RUN") (change ∷ []) []) ∷ [];
+}
+
+-- X := X + X
+abbrev pub doubling : Variable → EventGraph
+doubling x = taking x (set 0 (Binary Add (Scalar 0) (Scalar 0)))
+
+-- X := X - 9
+abbrev pub lowering : Variable → EventGraph
+lowering x = taking x (set 0 (Binary Subtract (Scalar 0) (number 9)))
+
 -- X and Y are drawn from a table that gives 1 and 2 each once and 3 twice
 abbrev pub two_rows : EventGraph
 two_rows = record {
@@ -157,6 +179,6 @@ two_rows = record {
   vertices = vertex (codes "RUN") (Draw (scalar 0) 54 (ByTable 0) ∷ Draw (scalar 1) 54 (ByTable 0) ∷ []) [] ∷ [];
 }
 
--- the value of an expression at clock 0, beside a scalar I and an array A of two cells
+-- the value of an expression at clock 7, beside a scalar I and an array A of two cells
 abbrev pub of : Expression → OrFault ℤ
-of e = value_of (cells []) (initial_state (cells [])) 0 e
+of e = value_of (cells []) (initial_state (cells [])) 7 e

@@ -19,6 +19,7 @@ pub fn clock_counts()
     ensures fails_past_its_bound { look strict_clock 42 [] 1000 1000
         ≡ seen (At 0 (scalars (1 ∷ [])) ∷ At 5 (scalars (2 ∷ [])) ∷ At 10 (scalars (3 ∷ [])) ∷ [])
         (Faulted 15 faults.RangeOutside) }
+    ensures failing_takes_a_step { look strict_clock 42 [] 1000 3 ≡ seen (At 0 (scalars (1 ∷ [])) ∷ At 5 (scalars (2 ∷ [])) ∷ []) Going }
 {}
 
 /// A run at one clock may go on for ever, and shows nothing.

@@ -10,8 +10,8 @@ mod stream;
 mod values;
 
 pub use bank::bank_serves;
-pub use changes::{cells_are_set, variables_are_drawn};
+pub use changes::{cells_are_set, parameters_come_first, variables_are_drawn};
 pub use clock::{clock_counts, loop_goes_on};
 pub use order::{equal_events_are_cut, events_come_in_order};
 pub use stream::stream_gives;
-pub use values::{values_are_exact, values_are_lazy};
+pub use values::{operators_compare, values_are_exact, values_are_lazy};

@@ -2,7 +2,7 @@
 
 ghost use Rattle.std.specs.Prelude.{◌≡◌, pos, negsuc, true, false, Ok, Err, [], ◌∷◌};
 ghost use Rattle.sig_base.specs.declared.fault.FaultKind.TheVariants as faults;
-ghost use Rattle.model_core.specs.EventGraph.{Truth, Cell, Binary, If, Add, Subtract, Multiply, Divide, Remainder, Equal, And, Or};
+ghost use Rattle.model_core.specs.EventGraph.{Truth, Clock, Cell, Not, Binary, If, Add, Subtract, Multiply, Divide, Remainder, Least, Greatest, Equal, NotEqual, Below, AtMost, Above, AtLeast, And, Or};
 ghost use Rattle.worked_runs.specs.Building.{number, minus, one_over_zero, is_one_over_zero};
 ghost use Rattle.worked_runs.specs.Models.{of};
 
@@ -16,6 +16,22 @@ pub fn values_are_exact()
     ensures remainder_inside { of (Binary Remainder (Binary Subtract (minus 9223372036854775807) (number 1)) (minus 1)) ≡ Ok (pos 0) }
     ensures index_outside { of (Cell 1 (number 2)) ≡ Err faults.IndexOutside }
     ensures last_cell { of (Cell 1 (number 1)) ≡ Ok (pos 0) }
+{}
+
+/// Truth values are 1 and 0.
+pub fn operators_compare()
+    ensures equal { of (Binary Equal (number 2) (number 2)) ≡ Ok (pos 1) }
+    ensures not_equal { of (Binary NotEqual (number 2) (number 2)) ≡ Ok (pos 0) }
+    ensures below { of (Binary Below (number 2) (number 2)) ≡ Ok (pos 0) }
+    ensures below_it { of (Binary Below (minus 3) (minus 2)) ≡ Ok (pos 1) }
+    ensures at_most { of (Binary AtMost (number 2) (number 2)) ≡ Ok (pos 1) }
+    ensures above { of (Binary Above (number 2) (number 2)) ≡ Ok (pos 0) }
+    ensures above_it { of (Binary Above (minus 2) (minus 3)) ≡ Ok (pos 1) }
+    ensures at_least { of (Binary AtLeast (number 2) (number 2)) ≡ Ok (pos 1) }
+    ensures least { of (Binary Least (minus 2) (number 1)) ≡ Ok (negsuc 1) }
+    ensures greatest { of (Binary Greatest (minus 2) (number 1)) ≡ Ok (pos 1) }
+    ensures negated { of (Not (Truth true)) ≡ Ok (pos 0) }
+    ensures clock { of Clock ≡ Ok (pos 7) }
 {}
 
 /// What isn't needed isn't evaluated, and else the first fault is told.
