@@ -4,3 +4,6 @@ pub mod Reading
 pub mod Symbols
 pub mod Numerals
 pub mod Lists
+pub mod Printable
+pub mod Changes
+pub mod Edges

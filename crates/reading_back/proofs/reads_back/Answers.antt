@@ -1,6 +1,8 @@
 use Rattle.reading_back.proofs.reads_back.Goals as goal
 use Rattle.reading_back.proofs.Numerals.{IsSigned}
 use Rattle.reading_back.proofs.Lists.{SameNames}
+use Rattle.reading_back.proofs.Changes.{value_text}
+use Rattle.reading_back.proofs.Edges.{condition_part}
 
 pub returns : goal.returns
 returns c = ?
