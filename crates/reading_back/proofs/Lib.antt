@@ -7,3 +7,6 @@ pub mod Lists
 pub mod Printable
 pub mod Changes
 pub mod Edges
+pub mod Declarations
+pub mod Vertices
+pub mod Printed

@@ -3,6 +3,9 @@ use Rattle.reading_back.proofs.Numerals.{IsSigned}
 use Rattle.reading_back.proofs.Lists.{SameNames}
 use Rattle.reading_back.proofs.Changes.{value_text}
 use Rattle.reading_back.proofs.Edges.{condition_part}
+use Rattle.reading_back.proofs.Declarations.{watch_text}
+use Rattle.reading_back.proofs.Vertices.{vertex_text}
+use Rattle.reading_back.proofs.Printed.{printed}
 
 pub returns : goal.returns
 returns c = ?
