@@ -10,3 +10,5 @@ pub mod Edges
 pub mod Declarations
 pub mod Vertices
 pub mod Printed
+pub mod Lines
+pub mod CanonicalText

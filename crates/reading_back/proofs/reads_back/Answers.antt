@@ -6,6 +6,7 @@ use Rattle.reading_back.proofs.Edges.{condition_part}
 use Rattle.reading_back.proofs.Declarations.{watch_text}
 use Rattle.reading_back.proofs.Vertices.{vertex_text}
 use Rattle.reading_back.proofs.Printed.{printed}
+use Rattle.reading_back.proofs.CanonicalText.{canonical-is}
 
 pub returns : goal.returns
 returns c = ?
