@@ -12,3 +12,5 @@ pub mod Vertices
 pub mod Printed
 pub mod Lines
 pub mod CanonicalText
+pub mod Tokens
+pub mod Deriving

@@ -7,6 +7,8 @@ use Rattle.reading_back.proofs.Declarations.{watch_text}
 use Rattle.reading_back.proofs.Vertices.{vertex_text}
 use Rattle.reading_back.proofs.Printed.{printed}
 use Rattle.reading_back.proofs.CanonicalText.{canonical-is}
+use Rattle.reading_back.proofs.Tokens.{tokens_good}
+use Rattle.reading_back.proofs.Deriving.{Yields}
 
 pub returns : goal.returns
 returns c = ?
