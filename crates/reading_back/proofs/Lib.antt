@@ -14,3 +14,4 @@ pub mod Lines
 pub mod CanonicalText
 pub mod Tokens
 pub mod Deriving
+pub mod Written

@@ -9,6 +9,7 @@ use Rattle.reading_back.proofs.Printed.{printed}
 use Rattle.reading_back.proofs.CanonicalText.{canonical-is}
 use Rattle.reading_back.proofs.Tokens.{tokens_good}
 use Rattle.reading_back.proofs.Deriving.{Yields}
+use Rattle.reading_back.proofs.Written.{model_yields}
 
 pub returns : goal.returns
 returns c = ?
