@@ -15,3 +15,4 @@ pub mod CanonicalText
 pub mod Tokens
 pub mod Deriving
 pub mod Written
+pub mod Places

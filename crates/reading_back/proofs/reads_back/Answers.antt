@@ -10,6 +10,7 @@ use Rattle.reading_back.proofs.CanonicalText.{canonical-is}
 use Rattle.reading_back.proofs.Tokens.{tokens_good}
 use Rattle.reading_back.proofs.Deriving.{Yields}
 use Rattle.reading_back.proofs.Written.{model_yields}
+use Rattle.reading_back.proofs.Places.{all_from_pairs}
 
 pub returns : goal.returns
 returns c = ?
