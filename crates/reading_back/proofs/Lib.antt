@@ -16,3 +16,4 @@ pub mod Tokens
 pub mod Deriving
 pub mod Written
 pub mod Places
+pub mod Numbered
