@@ -17,3 +17,4 @@ pub mod Deriving
 pub mod Written
 pub mod Places
 pub mod Numbered
+pub mod NumberedModel

@@ -51,7 +51,7 @@ variable_numbered w v g e = variable_of_kind w w.kind v g g.kind e
 
 -- ---- values and changes
 
-number_of : (o : Option ℤ) (e : Expression) (P : Expression → Type 0) → IsLiteral o → ((n : ℕ) → n < 2 ^ 63 → P (graph.Number (pos n))) → option_map graph.Number o ≡ Some e → P e
+pub number_of : (o : Option ℤ) (e : Expression) (P : Expression → Type 0) → IsLiteral o → ((n : ℕ) → n < 2 ^ 63 → P (graph.Number (pos n))) → option_map graph.Number o ≡ Some e → P e
 number_of None e P h f q = none_some e q
 number_of (Some (pos n)) e P h f q = subst P (some_same (graph.Number (pos n)) e q) (f n h)
 number_of (Some (negsuc n)) e P h f q = absurd h

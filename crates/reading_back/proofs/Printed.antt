@@ -31,14 +31,14 @@ pub record IsModelOf (g : EventGraph) (m : WrittenModel) : Type 0 where
   pub form : IsFirstForm m
   pub numbers : numbered m ≡ Some g
 
-pairs_as : {A B : Type 0} (P Q : B → A → Type 0) → ((y : B) (x : A) → P y x → Q y x) → (ys : List B) (xs : List A) → Pairs P ys xs → Pairs Q ys xs
+pub pairs_as : {A B : Type 0} (P Q : B → A → Type 0) → ((y : B) (x : A) → P y x → Q y x) → (ys : List B) (xs : List A) → Pairs P ys xs → Pairs Q ys xs
 pairs_as P Q f [] [] h = tt
 pairs_as P Q f [] (x ∷ xs) h = absurd h
 pairs_as P Q f (y ∷ ys) [] h = absurd h
 pairs_as P Q f (y ∷ ys) (x ∷ xs) h = (f y x h.0, pairs_as P Q f ys xs h.1)
 
 -- where the names of each two are the same, so are the lists of names
-same_names : {A B : Type 0} (P : B → A → Type 0) (m : B → List ℕ) (n : A → List ℕ) → ((y : B) (x : A) → P y x → n x ≡ m y) → (ys : List B) (xs : List A) → Pairs P ys xs → map n xs ≡ map m ys
+pub same_names : {A B : Type 0} (P : B → A → Type 0) (m : B → List ℕ) (n : A → List ℕ) → ((y : B) (x : A) → P y x → n x ≡ m y) → (ys : List B) (xs : List A) → Pairs P ys xs → map n xs ≡ map m ys
 same_names P m n f [] [] h = refl
 same_names P m n f [] (x ∷ xs) h = absurd h
 same_names P m n f (y ∷ ys) [] h = absurd h

@@ -12,6 +12,7 @@ use Rattle.reading_back.proofs.Deriving.{Yields}
 use Rattle.reading_back.proofs.Written.{model_yields}
 use Rattle.reading_back.proofs.Places.{all_from_pairs}
 use Rattle.reading_back.proofs.Numbered.{change_numbered}
+use Rattle.reading_back.proofs.NumberedModel.{model_printable}
 
 pub returns : goal.returns
 returns c = ?
