@@ -18,3 +18,5 @@ pub mod Written
 pub mod Places
 pub mod Numbered
 pub mod NumberedModel
+pub mod Pruning
+pub mod Back
