@@ -27,12 +27,12 @@ vertex_is g v p =
     let edges = flat_same (PrintableEdge d) (edge_line g) (edge_text d) v.edges p.edges (edge_is g) in
     (λ i. codes "vertex " ++ v.name ++ none i ++ codes " {\n" ++ changes i ++ edges i ++ codes "}\n") ∙ vertex_shape v.name (flat_map (change_text d) v.changes) (flat_map (edge_text d) v.edges)
 
-nine : (p a q b r c s e t : List ℕ) → p ++ a ++ [] ++ q ++ (b ++ r ++ c ++ [] ++ s ++ e) ++ t ≡ p ++ (a ++ (q ++ (b ++ (r ++ (c ++ (s ++ (e ++ t)))))))
-nine p a q b r c s e t = simp (append_assoc, append-nil)
+regroup_variable : (p a q b r c s e t : List ℕ) → p ++ a ++ [] ++ q ++ (b ++ r ++ c ++ [] ++ s ++ e) ++ t ≡ p ++ (a ++ (q ++ (b ++ (r ++ (c ++ (s ++ (e ++ t)))))))
+regroup_variable p a q b r c s e t = simp (append_assoc, append-nil)
 
 variable_shape : (a b c e : List ℕ) → codes "var " ++ a ++ [] ++ codes " : " ++ (b ++ codes ".." ++ c ++ [] ++ codes " = " ++ e) ++ codes ";\n"
   ≡ codes "var" ++ ((32 ∷ a) ++ (codes " :" ++ ((32 ∷ b) ++ (codes ".." ++ (c ++ (codes " =" ++ ((32 ∷ e) ++ (codes ";\n" ++ []))))))))
-variable_shape a b c e = nine (codes "var ") a (codes " : ") b (codes "..") c (codes " = ") e (codes ";\n")
+variable_shape a b c e = regroup_variable (codes "var ") a (codes " : ") b (codes "..") c (codes " = ") e (codes ";\n")
 
 variable_is : (v : Variable) → PrintableVariable v → variable_line v ≡ variable_text v
 variable_is v p =

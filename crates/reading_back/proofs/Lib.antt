@@ -20,3 +20,4 @@ pub mod Numbered
 pub mod NumberedModel
 pub mod Pruning
 pub mod Back
+pub mod Example

@@ -47,11 +47,11 @@ value_is g (Not a) p = absurd p
 value_is g (Binary op a b) p = absurd p
 value_is g (If c a b) p = absurd p
 
-five : (p a q b r : List ℕ) → p ++ ((a ++ []) ++ []) ++ q ++ (b ++ []) ++ r ≡ p ++ (a ++ (q ++ (b ++ r)))
-five p a q b r = simp (append_assoc, append-nil)
+regroup_change : (p a q b r : List ℕ) → p ++ ((a ++ []) ++ []) ++ q ++ (b ++ []) ++ r ≡ p ++ (a ++ (q ++ (b ++ r)))
+regroup_change p a q b r = simp (append_assoc, append-nil)
 
 change_shape : (a b : List ℕ) → codes "  set " ++ ((a ++ []) ++ []) ++ codes " := " ++ (b ++ []) ++ codes ";\n" ≡ codes "  set" ++ ((32 ∷ a) ++ (codes " :=" ++ ((32 ∷ b) ++ (codes ";\n" ++ []))))
-change_shape a b = five (codes "  set ") a (codes " := ") b (codes ";\n")
+change_shape a b = regroup_change (codes "  set ") a (codes " := ") b (codes ";\n")
 
 one_change_is : (g : EventGraph) (l : Location) (e : Expression) → l.index ≡ None → PrintableValue (declared_of g) e → change_line g (Set (l ∷ []) (e ∷ [])) ≡ change_text (declared_of g) (Set (l ∷ []) (e ∷ []))
 one_change_is g l e none p =

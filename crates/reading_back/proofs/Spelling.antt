@@ -46,17 +46,17 @@ pub no_word_digit : (c : ℕ) → is_word_byte c ≡ false → is_ascii_digit c 
 no_word_digit c h = grind (arith, common_steps)
 
 -- the third of four, where the first two tests fail and the third holds; the last where all fail but the fourth
-third : (a b c : Bool) (w x y z : Front) → a ≡ false → b ≡ false → c ≡ true → (if a then w else (if b then x else (if c then y else z))) ≡ y
-third a b c w x y z p q r = rw (p, q, r)
+third_branch : (a b c : Bool) (w x y z : Front) → a ≡ false → b ≡ false → c ≡ true → (if a then w else (if b then x else (if c then y else z))) ≡ y
+third_branch a b c w x y z p q r = rw (p, q, r)
 
-fourth : (a b c d : Bool) (v w x y z : Front) → a ≡ false → b ≡ false → c ≡ false → d ≡ true → (if a then v else (if b then w else (if c then x else (if d then y else z)))) ≡ y
-fourth a b c d v w x y z p q r s = rw (p, q, r, s)
+fourth_branch : (a b c d : Bool) (v w x y z : Front) → a ≡ false → b ≡ false → c ≡ false → d ≡ true → (if a then v else (if b then w else (if c then x else (if d then y else z)))) ≡ y
+fourth_branch a b c d v w x y z p q r s = rw (p, q, r, s)
 
 pub front_word : (c : ℕ) (s : List ℕ) → is_ascii_alphabetic c ≡ true → front c s ≡ word_front (take_while is_word_byte (c ∷ s))
-front_word c s h = third (is_blank c) (c == 35) (is_ascii_alphabetic c) _ _ _ _ (letter_blank c h) (letter_hash c h) h
+front_word c s h = third_branch (is_blank c) (c == 35) (is_ascii_alphabetic c) _ _ _ _ (letter_blank c h) (letter_hash c h) h
 
 pub front_number : (c : ℕ) (s : List ℕ) → is_ascii_digit c ≡ true → front c s ≡ number_front (take_while is_ascii_digit (c ∷ s))
-front_number c s h = fourth (is_blank c) (c == 35) (is_ascii_alphabetic c) (is_ascii_digit c) _ _ _ _ _ (digit_blank c h) (digit_hash c h) (digit_letter c h) h
+front_number c s h = fourth_branch (is_blank c) (c == 35) (is_ascii_alphabetic c) (is_ascii_digit c) _ _ _ _ _ (digit_blank c h) (digit_hash c h) (digit_letter c h) h
 
 -- what passes is taken up to where the text goes on otherwise
 pub take_while-nil : (p : ℕ → Bool) (c : ℕ) (s : List ℕ) → p c ≡ false → take_while p (c ∷ s) ≡ []
