@@ -1,12 +1,10 @@
 -- What is printed of a model that was read, and of what the rules make of it, reads back.
-use Rattle.std.proofs.Common.{◌≡◌, ℕ, List, [], refl, sym, subst}
+use Rattle.std.proofs.Common.{ℕ, List, sym, subst}
 use Rattle.model_core.specs.EventGraph.{EventGraph}
-use Rattle.model_core.specs.Written.{WrittenModel}
 use Rattle.model_core.specs.Canonical.{canonical}
 use Rattle.model_core.specs.Rules.{RuleApplication, Strategy}
-use Rattle.model_core.specs.Acceptance.{KeepsRules, SpellsFirst, ReadsFirst}
-use Rattle.reading_back.proofs.Printable.{IsPrintable}
-use Rattle.reading_back.proofs.Printed.{printed, printed_reads, IsModelOf}
+use Rattle.model_core.specs.Acceptance.{SpellsFirst, ReadsFirst}
+use Rattle.reading_back.proofs.Printed.{printed_reads}
 use Rattle.reading_back.proofs.CanonicalText.{canonical-is}
 use Rattle.reading_back.proofs.NumberedModel.{model_printable}
 use Rattle.reading_back.proofs.Pruning.{Kept, strategy_kept}
@@ -19,7 +17,7 @@ kept_reads g k =
       fits = k.rules.short;
       model = reads.0;
       spells = subst (λ (t : List ℕ). SpellsFirst t reads.0) (sym (canonical-is g k.printable)) reads.1;
-      accepted = record { form = reads.2.form; numbers = reads.2.numbers; rules = k.rules }
+      accepted = record { form = reads.2.form; numbers = reads.2.numbers; rules = k.rules };
     }
 
 pub read_kept : (text : List ℕ) (g : EventGraph) → ReadsFirst text g → Kept g

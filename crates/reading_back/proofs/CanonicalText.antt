@@ -1,13 +1,11 @@
 -- The canonical text of a printable model is its text in the form in which it is read.
-use Rattle.std.proofs.Common.{◌≡◌, ℕ, suc, zero, Bool, true, false, List, [], ◌∷◌, ◌++◌, map, get_or, refl, sym, ap, ◌∙◌, subst, append-nil, append_assoc, arith}
-use Rattle.std.specs.Prelude.{ℤ, pos, negsuc, Option, Some, None, codes, decimal, slice_get}
+use Rattle.std.proofs.Common.{◌≡◌, ℕ, List, [], ◌∷◌, ◌++◌, map, refl, ap, ◌∙◌, append-nil, append_assoc}
+use Rattle.std.specs.Prelude.{codes}
 use Rattle.std.specs.Fmt.{signed_decimal}
 use Rattle.std.specs.List.{AllByRecursion, flat_map}
-use Rattle.model_core.specs.declared.model.Kind.{Kind}
 use Rattle.model_core.specs.declared.model.Kind.TheVariants as kinds
 use Rattle.model_core.specs.EventGraph.{EventVertex, Variable, Watched, WatchedVariable, WatchedVertex, EventGraph}
 use Rattle.model_core.specs.Canonical.{in_parentheses, variable_name, change_line, edge_line, vertex_lines, size_text, clip_text, kind_text, variable_line, table_line, watched_name, watch_names_line, watch_line, joined, canonical}
-use Rattle.model_core.specs.Numbering.{Declared}
 use Rattle.reading_back.proofs.Printable.{declared_of, PrintableChange, PrintableEdge, PrintableVertex, PrintableVariable, PrintableWatched, IsPrintable}
 use Rattle.reading_back.proofs.Changes.{change_text}
 use Rattle.reading_back.proofs.Edges.{edge_text}
@@ -31,7 +29,7 @@ regroup_variable : (p a q b r c s e t : List ℕ) → p ++ a ++ [] ++ q ++ (b ++
 regroup_variable p a q b r c s e t = simp (append_assoc, append-nil)
 
 variable_shape : (a b c e : List ℕ) → codes "var " ++ a ++ [] ++ codes " : " ++ (b ++ codes ".." ++ c ++ [] ++ codes " = " ++ e) ++ codes ";\n"
-  ≡ codes "var" ++ ((32 ∷ a) ++ (codes " :" ++ ((32 ∷ b) ++ (codes ".." ++ (c ++ (codes " =" ++ ((32 ∷ e) ++ (codes ";\n" ++ []))))))))
+    ≡ codes "var" ++ ((32 ∷ a) ++ (codes " :" ++ ((32 ∷ b) ++ (codes ".." ++ (c ++ (codes " =" ++ ((32 ∷ e) ++ (codes ";\n" ++ []))))))))
 variable_shape a b c e = regroup_variable (codes "var ") a (codes " : ") b (codes "..") c (codes " = ") e (codes ";\n")
 
 variable_is : (v : Variable) → PrintableVariable v → variable_line v ≡ variable_text v

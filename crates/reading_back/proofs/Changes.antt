@@ -1,20 +1,19 @@
 -- The lines of changes, as they are printed, read back.
-use Rattle.std.proofs.Common.{◌≡◌, ℕ, suc, zero, ◌^◌, ◌<◌, Bool, true, false, List, [], ◌∷◌, ◌++◌, map, get_or, refl, sym, ap, ◌∙◌, subst, append-nil, append_assoc, arith}
-use Rattle.std.specs.Prelude.{ℤ, pos, negsuc, Option, Some, None, codes, decimal}
+use Rattle.std.proofs.Common.{◌≡◌, ℕ, ◌^◌, ◌<◌, List, [], ◌∷◌, ◌++◌, refl, sym, ap, ◌∙◌, append-nil}
+use Rattle.std.specs.Prelude.{pos, negsuc, Some, None, codes, decimal}
 use Rattle.std.specs.Fmt.{signed_decimal}
-use Rattle.std.specs.List.{AllByRecursion, flat_map}
 use Rattle.std.specs.Option.{option_map}
 use Rattle.model_core.specs.declared.token.Word.TheVariants as words
 use Rattle.model_core.specs.declared.token.Symbol.TheVariants as symbols
 use Rattle.model_core.specs.EventGraph.{Expression, Number, Truth, Clock, Scalar, Cell, Negative, Not, Binary, If, Location, StateChange, Set, Draw}
 use Rattle.model_core.specs.Written as written
 use Rattle.model_core.specs.Written.{WrittenName, WrittenNumber, WrittenExpression, WrittenChange}
-use Rattle.model_core.specs.Grammar.{Grammar, word, symbol, name, number, gives, ◌>>=◌, ◌or◌}
+use Rattle.model_core.specs.Grammar.{word, symbol, name, ◌or◌}
 use Rattle.model_core.specs.FirstForm as form
 use Rattle.model_core.specs.Numbering as numbering
 use Rattle.model_core.specs.Numbering.{Declared, place_of}
 use Rattle.model_core.specs.Acceptance.{IsFirstValue, IsFirstChange}
-use Rattle.reading_back.proofs.Spelling.{Ends, IsName}
+use Rattle.reading_back.proofs.Spelling.{Ends}
 use Rattle.reading_back.proofs.Reading.{Reads, Any, Reads-then, Reads-text, Reads-gives, Reads-left, Reads-right, Reads-space, Reads-before_feed}
 use Rattle.reading_back.proofs.Symbols.{Reads-name, Reads-number, Reads-word, Reads-becomes, Reads-semicolon}
 use Rattle.reading_back.proofs.Printable.{IsPlace, name_at, PrintableValue, PrintableChange}
@@ -63,7 +62,7 @@ abbrev pub IsChangeOf : Declared → StateChange → WrittenChange → Type 0
 IsChangeOf d c w = (numbering.change d w ≡ Some c) × IsFirstChange w
 
 change_of : (d : Declared) (at : ℕ) (l : Location) (e : Expression) (n : WrittenName) (w : WrittenExpression) → l.index ≡ None → IsPlace d.variables l.variable → n.name ≡ name_at d.variables l.variable → IsValueOf d e w
-  → IsChangeOf d (Set (l ∷ []) (e ∷ [])) (written.Set at (record { at = n.at; name = n; index = None } ∷ []) (w ∷ []))
+    → IsChangeOf d (Set (l ∷ []) (e ∷ [])) (written.Set at (record { at = n.at; name = n; index = None } ∷ []) (w ∷ []))
 change_of d at l e n w none p named v =
     let place : place_of n.name d.variables ≡ Some l.variable = ap (λ x. place_of x d.variables) named ∙ p.found in
     let value : numbering.expression d w ≡ Some e = v.0 in

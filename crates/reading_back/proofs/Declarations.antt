@@ -1,27 +1,25 @@
 -- The lines of variables and the watch list, as they are printed, read back.
-use Rattle.std.proofs.Common.{◌≡◌, ℕ, suc, zero, Bool, true, false, List, [], ◌∷◌, ◌++◌, map, get_or, refl, sym, ap, ◌∙◌, subst, append-nil, append_assoc, arith}
-use Rattle.std.specs.Prelude.{ℤ, pos, negsuc, Option, Some, None, codes, decimal}
+use Rattle.std.proofs.Common.{◌≡◌, ℕ, false, List, [], ◌∷◌, ◌++◌, map, refl, sym, ap, ◌∙◌}
+use Rattle.std.specs.Prelude.{Option, Some, None, codes}
 use Rattle.std.specs.Fmt.{signed_decimal}
-use Rattle.std.specs.List.{AllByRecursion, flat_map}
+use Rattle.std.specs.List.{AllByRecursion}
 use Rattle.model_core.specs.declared.token.Word.TheVariants as words
 use Rattle.model_core.specs.declared.token.Symbol.TheVariants as symbols
-use Rattle.model_core.specs.declared.model.Kind.{Kind}
 use Rattle.model_core.specs.declared.model.Kind.TheVariants as kinds
 use Rattle.model_core.specs.EventGraph.{Variable, Watched, WatchedVariable, WatchedVertex}
-use Rattle.model_core.specs.Written as written
-use Rattle.model_core.specs.Written.{WrittenName, WrittenNumber, WrittenSigned, WrittenVariable, RangeKind, SignedLiteral}
-use Rattle.model_core.specs.Grammar.{Grammar, word, symbol, name, number, gives, ◌>>=◌, optional, list}
+use Rattle.model_core.specs.Written.{WrittenName, WrittenSigned, WrittenVariable, RangeKind, SignedLiteral}
+use Rattle.model_core.specs.Grammar.{symbol, name, optional, list}
 use Rattle.model_core.specs.FirstForm as form
 use Rattle.model_core.specs.Numbering as numbering
 use Rattle.model_core.specs.Numbering.{Declared, place_of, each, written_or, watched_or}
-use Rattle.model_core.specs.Canonical.{joined, after_commas}
+use Rattle.model_core.specs.Canonical.{joined}
 use Rattle.model_core.specs.Acceptance.{IsFirstVariable}
 use Rattle.reading_back.proofs.Spelling.{Ends, IsName}
-use Rattle.reading_back.proofs.Reading.{Reads, Any, Reads-then, Reads-text, Reads-gives, Reads-none, Reads-present, Reads-space, Reads-before_feed, Reads-weaken}
-use Rattle.reading_back.proofs.Symbols.{Reads-name, Reads-number, Reads-word, Reads-semicolon, Reads-colon, Reads-to, Reads-equal}
-use Rattle.reading_back.proofs.Numerals.{IsSigned, Reads-signed}
-use Rattle.reading_back.proofs.Lists.{Pairs, SameNames, Reads-names}
-use Rattle.reading_back.proofs.Printable.{IsPlace, name_at, PrintableVariable, PrintableWatched}
+use Rattle.reading_back.proofs.Reading.{Reads, Any, Reads-then, Reads-gives, Reads-none, Reads-present, Reads-space, Reads-before_feed, Reads-weaken}
+use Rattle.reading_back.proofs.Symbols.{Reads-name, Reads-word, Reads-semicolon, Reads-colon, Reads-to, Reads-equal}
+use Rattle.reading_back.proofs.Numerals.{Reads-signed}
+use Rattle.reading_back.proofs.Lists.{SameNames, Reads-names}
+use Rattle.reading_back.proofs.Printable.{name_at, PrintableVariable, PrintableWatched}
 
 -- ---- variables
 
@@ -37,10 +35,10 @@ abbrev written_variable : ℕ → WrittenName → WrittenSigned → WrittenSigne
 written_variable at n lo hi initial = record { at = at; name = n; size = None; kind = RangeKind lo hi false; initial = SignedLiteral initial }
 
 variable_of : (v : Variable) (at : ℕ) (n : WrittenName) (lo hi initial : WrittenSigned) → PrintableVariable v → n.name ≡ v.name → numbering.signed lo ≡ Some v.lo → numbering.signed hi ≡ Some v.hi → numbering.signed initial ≡ Some v.initial
-  → IsVariableOf v (written_variable at n lo hi initial)
+    → IsVariableOf v (written_variable at n lo hi initial)
 variable_of v at n lo hi initial p named least greatest start =
     let same : record { name = n.name; size = 0; kind = kinds.Range; lo = v.lo; hi = v.hi; clip = false; initial = v.initial } ≡ v =
-        λ i. record { name = named i; size = sym p.size i; kind = sym p.kind i; lo = v.lo; hi = v.hi; clip = sym p.clip i; initial = v.initial } in
+    λ i. record { name = named i; size = sym p.size i; kind = sym p.kind i; lo = v.lo; hi = v.hi; clip = sym p.clip i; initial = v.initial } in
     (rw (least, greatest, start) (ap Some same), (refl, refl, tt), named)
 
 pub Reads-variable : (v : Variable) → PrintableVariable v → Reads form.variable (variable_text v) Any (IsVariableOf v)
@@ -95,4 +93,4 @@ pub Reads-watch : (d : Declared) (ws : List Watched) → AllByRecursion (Printab
 Reads-watch d [] h = Reads-none form.watch Any _ refl
 Reads-watch d (w ∷ ws) h =
     Reads-present form.watch _ Any _
-        (Reads-weaken form.watch (watch_text (map (watched_text d) (w ∷ ws))) Any Any _ _ (Reads-some_watch (watched_text d w) (map (watched_text d) ws) (watched_names d (w ∷ ws) h)) (λ rest a. a) (λ ns s. watched_each d (w ∷ ws) ns h s))
+    (Reads-weaken form.watch (watch_text (map (watched_text d) (w ∷ ws))) Any Any _ _ (Reads-some_watch (watched_text d w) (map (watched_text d) ws) (watched_names d (w ∷ ws) h)) (λ rest a. a) (λ ns s. watched_each d (w ∷ ws) ns h s))

@@ -1,10 +1,10 @@
 -- What a grammar derives from tokens, part by part.
-use Rattle.std.proofs.Common.{◌≡◌, ◌⊎◌, ℕ, suc, zero, Bool, true, false, List, [], ◌∷◌, refl, sym, ap, ◌∙◌, subst, inl, inr}
+use Rattle.std.proofs.Common.{ℕ, List, [], ◌∷◌, subst, inl, inr}
 use Rattle.std.specs.Prelude.{Option, Some, None, IfSome}
 use Rattle.std.specs.List.{AllByRecursion}
 use Rattle.model_core.specs.declared.token.Word.{Word}
 use Rattle.model_core.specs.declared.token.Symbol.{Symbol}
-use Rattle.model_core.specs.Lexing.{Lexeme, NameOf, NumberOf}
+use Rattle.model_core.specs.Lexing.{Lexeme}
 use Rattle.model_core.specs.Written.{WrittenName, WrittenNumber}
 use Rattle.model_core.specs.Grammar.{Grammar, gives, ◌>>=◌, ◌or◌, optional, many, some, list, word, symbol, name, number}
 use Rattle.reading_back.proofs.Spelling.{IsName}
@@ -18,9 +18,11 @@ pub Yields-gives : {A : Type 0} (x : A) (G : A → Type 0) → G x → Yields (g
 Yields-gives x G g = record { run = λ ts v left good d. (subst GoodTokens d.1 good, subst G d.0 g) }
 
 pub Yields-then : {A B : Type 0} {p : Grammar A} {next : A → Grammar B} {G : A → Type 0} {K : B → Type 0} → Yields p G → ((x : A) → G x → Yields (next x) K) → Yields (p >>= next) K
-Yields-then first second = record { run = λ ts v left good d.
-    let f = first.run ts d.0 d.1 good d.2 in
-    (second d.0 f.1).run d.1 v left f.0 d.3 }
+Yields-then first second = record {
+  run = λ ts v left good d.
+      let f = first.run ts d.0 d.1 good d.2 in
+      (second d.0 f.1).run d.1 v left f.0 d.3;
+}
 
 pub Yields-or : {A : Type 0} {p q : Grammar A} {G : A → Type 0} → Yields p G → Yields q G → Yields (p or q) G
 Yields-or one other = record { run = λ ts v left good d. elim d [ inl h ↦ one.run ts v left good h | inr h ↦ other.run ts v left good h ] }

@@ -1,22 +1,21 @@
 -- The lines of edges, as they are printed, read back.
-use Rattle.std.proofs.Common.{◌≡◌, ℕ, suc, zero, ◌^◌, ◌<◌, Bool, true, false, List, [], ◌∷◌, ◌++◌, map, get_or, refl, sym, ap, ◌∙◌, subst, append-nil, append_assoc, arith}
-use Rattle.std.specs.Prelude.{ℤ, pos, negsuc, Option, Some, None, codes, decimal, IfSome}
-use Rattle.std.specs.List.{AllByRecursion, flat_map}
+use Rattle.std.proofs.Common.{◌≡◌, ℕ, suc, zero, ◌^◌, ◌<◌, true, false, List, [], ◌∷◌, ◌++◌, refl, sym, ap, ◌∙◌, subst, append_assoc}
+use Rattle.std.specs.Prelude.{pos, negsuc, Option, Some, None, codes, decimal, IfSome}
 use Rattle.std.specs.Option.{option_map}
 use Rattle.model_core.specs.declared.token.Word.TheVariants as words
 use Rattle.model_core.specs.declared.token.Symbol.TheVariants as symbols
 use Rattle.model_core.specs.EventGraph.{Expression, Number, Truth, Clock, Scalar, Cell, Negative, Not, Binary, If, EdgeKind, Schedule, Urgent, CancelNext, CancelEqual, CancelAll, EventEdge}
 use Rattle.model_core.specs.Written as written
 use Rattle.model_core.specs.Written.{WrittenName, WrittenNumber, WrittenExpression, WrittenEdge}
-use Rattle.model_core.specs.Grammar.{Grammar, word, symbol, name, number, gives, ◌>>=◌, optional}
+use Rattle.model_core.specs.Grammar.{word, symbol, name, optional}
 use Rattle.model_core.specs.FirstForm as form
 use Rattle.model_core.specs.Numbering as numbering
 use Rattle.model_core.specs.Numbering.{Declared, place_of, written_or}
 use Rattle.model_core.specs.Acceptance.{IsNumber, IsNever, IsFirstEdge}
-use Rattle.reading_back.proofs.Spelling.{Ends, IsName}
-use Rattle.reading_back.proofs.Reading.{Reads, Any, Reads-then, Reads-text, Reads-gives, Reads-none, Reads-present, Reads-space, Reads-before_feed, Reads-weaken}
+use Rattle.reading_back.proofs.Spelling.{Ends}
+use Rattle.reading_back.proofs.Reading.{Reads, Any, Reads-then, Reads-gives, Reads-none, Reads-present, Reads-space, Reads-before_feed}
 use Rattle.reading_back.proofs.Symbols.{Reads-name, Reads-number, Reads-word, Reads-semicolon}
-use Rattle.reading_back.proofs.Printable.{IsPlace, name_at, PrintableCondition, PrintableKind, PrintableEdge}
+use Rattle.reading_back.proofs.Printable.{name_at, PrintableCondition, PrintableKind, PrintableEdge}
 
 -- ---- the delay
 
@@ -102,7 +101,7 @@ abbrev written_edge : ℕ → WrittenName → Option WrittenExpression → Optio
 written_edge at n after condition = record { at = at; target = n; values = None; condition = condition; kind = written.Schedule after None }
 
 edge_of : (d : Declared) (e : EventEdge) (at : ℕ) (n : WrittenName) (after condition : Option WrittenExpression) → PrintableEdge d e → n.name ≡ name_at d.vertices e.target → IsDelayOf d e.kind after → IsConditionOf d e.condition condition
-  → IsEdgeOf d e (written_edge at n after condition)
+    → IsEdgeOf d e (written_edge at n after condition)
 edge_of d e at n after condition p named k c =
     let place : place_of n.name d.vertices ≡ Some e.target = ap (λ x. place_of x d.vertices) named ∙ p.0.found in
     let same : record { target = e.target; values = []; condition = e.condition; kind = e.kind } ≡ e = λ i. record { target = e.target; values = sym p.1 i; condition = e.condition; kind = e.kind } in
@@ -150,6 +149,7 @@ Reads-edge d e p =
   where
     after_delay : (c : Expression) (rest : List ℕ) → Any rest → Ends ((condition_part c ++ (codes ";\n" ++ [])) ++ rest)
     after_delay c rest h = subst (λ (t : List ℕ). Ends t) (sym (append_assoc (condition_part c) (codes ";\n" ++ []) rest)) (follows_condition c ((codes ";\n" ++ []) ++ rest) refl)
+
     after_name : (k : EdgeKind) (c : Expression) (rest : List ℕ) → Any rest → Ends ((delay_part k ++ (condition_part c ++ (codes ";\n" ++ []))) ++ rest)
     after_name k c rest h =
         subst (λ (t : List ℕ). Ends t) (sym (append_assoc (delay_part k) (condition_part c ++ (codes ";\n" ++ [])) rest)) (follows_delay k ((condition_part c ++ (codes ";\n" ++ [])) ++ rest) (after_delay c rest h))

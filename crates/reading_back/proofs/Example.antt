@@ -1,18 +1,17 @@
 -- The law speaks of something: the text of a small model with an edge that never fires reads as it, and so does what is left.
-use Rattle.std.proofs.Common.{◌≡◌, ℕ, ◌≤◌, ◌^◌, Bool, true, false, List, [], ◌∷◌, refl, sym, subst, arith}
+use Rattle.std.proofs.Common.{◌≡◌, ℕ, ◌≤◌, false, List, [], ◌∷◌, refl, sym, subst, arith}
 use Rattle.std.proofs.lemmas.Int.{ints}
-use Rattle.std.specs.Prelude.{ℤ, pos, negsuc, Option, Some, None, codes, length}
-use Rattle.std.specs.List.{IsDistinct, AllByRecursion}
+use Rattle.std.specs.Prelude.{pos, None, codes, length}
+use Rattle.std.specs.List.{IsDistinct}
 use Rattle.std.specs.Fmt.{digits}
 use Rattle.model_core.specs.declared.model.Kind.TheVariants as kinds
 use Rattle.model_core.specs.Lexing.{same_bytes}
-use Rattle.model_core.specs.EventGraph.{Number, Truth, Set, Schedule, EventEdge, EventVertex, Variable, WatchedVariable, EventGraph}
+use Rattle.model_core.specs.EventGraph.{Number, Truth, Set, Schedule, EventEdge, WatchedVariable, EventGraph}
 use Rattle.model_core.specs.Canonical.{canonical}
-use Rattle.model_core.specs.Rules.{RuleApplication, Prune, Strategy}
+use Rattle.model_core.specs.Rules.{Prune, Strategy}
 use Rattle.model_core.specs.Acceptance.{KeepsRules, ReadsFirst}
 use Rattle.reading_back.proofs.Spelling.{IsName}
-use Rattle.reading_back.proofs.Printable.{IsPlace, IsPrintable, PrintableVariable, PrintableVertex, declared_of}
-use Rattle.reading_back.proofs.Pruning.{Kept}
+use Rattle.reading_back.proofs.Printable.{IsPrintable}
 use Rattle.reading_back.proofs.Back.{kept_reads, reduced_reads}
 
 abbrev never : EventEdge
@@ -48,13 +47,16 @@ one_printable = record {
   variables = (record { name = n_name; size = refl; kind = refl; clip = refl; lo = omega arith; hi = omega arith; initial = omega arith }, tt);
   tables = refl;
   watch = (record { found = refl; name = n_name }, tt);
-  vertices = (record {
-    name = run_name;
-    parameters = refl;
-    changes = ((refl, record { found = refl; name = n_name }, omega arith), tt);
-    edges = ((record { found = refl; name = run_name }, refl, tt, (omega arith, refl)), tt)
-  }, tt);
-  some = λ e. absurd cc
+  vertices = (
+    record {
+      name = run_name;
+      parameters = refl;
+      changes = ((refl, record { found = refl; name = n_name }, omega arith), tt);
+      edges = ((record { found = refl; name = run_name }, refl, tt, (omega arith, refl)), tt);
+    },
+    tt,
+  );
+  some = λ e. absurd cc;
 }
 
 distinct : IsDistinct same_bytes (codes "N" ∷ (codes "RUN" ∷ []))
@@ -86,7 +88,7 @@ one_rules = record {
   few_variables = omega arith;
   few_vertices = omega arith;
   small_vertices = (record { changes = omega arith; edges = omega arith }, tt);
-  short = let fits : 106 ≤ 4194304 = omega arith in subst (λ n. n ≤ 4194304) (sym one_length) fits
+  short = let fits : 106 ≤ 4194304 = omega arith in subst (λ n. n ≤ 4194304) (sym one_length) fits;
 }
 
 -- the text reads as the model, the strategy prunes its one edge, and the text of what is left reads as that

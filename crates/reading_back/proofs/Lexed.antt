@@ -1,7 +1,7 @@
 -- The tokens of a text, one step at a time.
-use Rattle.std.proofs.Common.{◌≡◌, ℕ, suc, zero, ◌+◌, ◌-◌, Bool, true, false, List, [], ◌∷◌, ◌++◌, length, refl, sym, ap, ◌∙◌, subst, arith}
-use Rattle.std.specs.Prelude.{Result, Ok, Err}
-use Rattle.model_core.specs.Lexing.{Lexeme, LexemeKind, Front, Between, Longest, Neither, front, after_front, front_length, tokens_from, is_blank}
+use Rattle.std.proofs.Common.{◌≡◌, ℕ, suc, ◌+◌, ◌-◌, List, [], ◌∷◌, ◌++◌, length, refl, sym, ap, ◌∙◌, subst, arith}
+use Rattle.std.specs.Prelude.{Ok}
+use Rattle.model_core.specs.Lexing.{Lexeme, LexemeKind, Front, Longest, front, after_front, front_length, tokens_from}
 
 -- the text, which begins at this place, has these tokens
 pub Lexes : ℕ → List ℕ → List Lexeme → Type 0
@@ -19,14 +19,14 @@ tokens_from_inside at (c ∷ w) rest =
     tokens_from_inside (at + 1) w rest ∙ ap (λ k. tokens_from k 0 rest) e
 
 after_longest : (at : ℕ) (f : Front) (w rest : List ℕ) (k : LexemeKind) (ts : List Lexeme) → f ≡ Longest (suc (length w)) k → tokens_from (at + suc (length w)) 0 rest ≡ Ok ts
-  → after_front at f (tokens_from (at + 1) (front_length f - 1) (w ++ rest)) ≡ Ok (token at (at + suc (length w)) k ∷ ts)
+    → after_front at f (tokens_from (at + 1) (front_length f - 1) (w ++ rest)) ≡ Ok (token at (at + suc (length w)) k ∷ ts)
 after_longest at f w rest k ts e h =
     let n : suc (length w) - 1 ≡ length w = omega arith in
     let m : (at + 1) + length w ≡ at + suc (length w) = omega arith in
     let later : tokens_from (at + 1) (suc (length w) - 1) (w ++ rest) ≡ Ok ts =
-        ap (λ i. tokens_from (at + 1) i (w ++ rest)) n ∙ tokens_from_inside (at + 1) w rest ∙ ap (λ k. tokens_from k 0 rest) m ∙ h in
+    ap (λ i. tokens_from (at + 1) i (w ++ rest)) n ∙ tokens_from_inside (at + 1) w rest ∙ ap (λ k. tokens_from k 0 rest) m ∙ h in
     subst (λ (x : Front). after_front at x (tokens_from (at + 1) (front_length x - 1) (w ++ rest)) ≡ Ok (token at (at + suc (length w)) k ∷ ts)) (sym e)
-        (ap (after_front at (Longest (suc (length w)) k)) later)
+    (ap (after_front at (Longest (suc (length w)) k)) later)
 
 pub Lexes-nil : (at : ℕ) → Lexes at [] []
 unfolding Lexes
@@ -34,7 +34,7 @@ Lexes-nil at = refl
 
 -- a token, and what follows it
 pub Lexes-token : (at c : ℕ) (w rest : List ℕ) (k : LexemeKind) (ts : List Lexeme) → front c (w ++ rest) ≡ Longest (suc (length w)) k → Lexes (at + suc (length w)) rest ts
-  → Lexes at (c ∷ (w ++ rest)) (token at (at + suc (length w)) k ∷ ts)
+    → Lexes at (c ∷ (w ++ rest)) (token at (at + suc (length w)) k ∷ ts)
 unfolding Lexes
 Lexes-token at c w rest k ts e h = after_longest at (front c (w ++ rest)) w rest k ts e h
 

@@ -1,20 +1,13 @@
 -- The canonical text of a printable model, line by line, in the form in which it is read.
-use Rattle.std.proofs.Common.{◌≡◌, ℕ, suc, zero, Bool, true, false, List, [], ◌∷◌, ◌++◌, map, get_or, refl, sym, ap, ◌∙◌, subst, append-nil, append_assoc, arith}
-use Rattle.std.specs.Prelude.{ℤ, pos, negsuc, Option, Some, None, codes, decimal, slice_get}
-use Rattle.std.specs.Fmt.{signed_decimal}
+use Rattle.std.proofs.Common.{◌≡◌, ℕ, suc, zero, true, false, List, [], ◌∷◌, ◌++◌, map, get_or, refl, ap, ◌∙◌, append-nil, append_assoc}
+use Rattle.std.specs.Prelude.{pos, negsuc, None, codes, decimal, slice_get}
 use Rattle.std.specs.List.{AllByRecursion, flat_map}
 use Rattle.std.specs.Option.{option_map_or}
-use Rattle.model_core.specs.declared.model.Kind.{Kind}
-use Rattle.model_core.specs.declared.model.Kind.TheVariants as kinds
-use Rattle.model_core.specs.EventGraph.{Expression, Number, Truth, Clock, Scalar, Cell, Negative, Not, Binary, If, Location, StateChange, Set, Draw, EdgeKind, Schedule, Urgent, CancelNext, CancelEqual, CancelAll, EventEdge, EventVertex, Variable, Watched, WatchedVariable, WatchedVertex, EventGraph}
-use Rattle.model_core.specs.Canonical.{in_parentheses, variable_name, vertex_name, expression_text, expression_texts, index_text, change_line, delay_text, priority_text, condition_text, edge_word, timing_text, edge_line, vertex_lines, size_text, clip_text, kind_text, variable_line, table_line, watched_name, watch_names_line, watch_line, joined, canonical}
-use Rattle.model_core.specs.Numbering.{Declared}
-use Rattle.reading_back.proofs.Printable.{declared_of, name_at, IsPlace, PrintableValue, PrintableChange, PrintableCondition, PrintableKind, PrintableEdge, PrintableVertex, PrintableVariable, PrintableWatched, IsPrintable}
+use Rattle.model_core.specs.EventGraph.{Expression, Number, Truth, Clock, Scalar, Cell, Negative, Not, Binary, If, Location, StateChange, Set, Draw, EdgeKind, Schedule, Urgent, CancelNext, CancelEqual, CancelAll, EventEdge, EventVertex, Variable, EventGraph}
+use Rattle.model_core.specs.Canonical.{in_parentheses, variable_name, vertex_name, expression_text, expression_texts, index_text, change_line, priority_text, condition_text, edge_word, timing_text, edge_line}
+use Rattle.reading_back.proofs.Printable.{declared_of, name_at, PrintableValue, PrintableChange, PrintableCondition, PrintableKind, PrintableEdge}
 use Rattle.reading_back.proofs.Changes.{value_text, change_text}
 use Rattle.reading_back.proofs.Edges.{delay_part, condition_part, edge_text}
-use Rattle.reading_back.proofs.Declarations.{variable_text, watched_text, watch_text}
-use Rattle.reading_back.proofs.Vertices.{vertex_text}
-use Rattle.reading_back.proofs.Printed.{printed}
 
 -- ---- names
 

@@ -1,10 +1,10 @@
 -- Texts of several parts that a grammar derives one after another.
-use Rattle.std.proofs.Common.{◌≡◌, ℕ, suc, zero, ◌+◌, Bool, true, false, List, [], ◌∷◌, ◌++◌, length, map, refl, sym, ap, ◌∙◌, subst, arith, append-nil}
-use Rattle.std.specs.Prelude.{Option, Some, None, codes}
+use Rattle.std.proofs.Common.{◌≡◌, ℕ, List, [], ◌∷◌, ◌++◌, refl, sym, ap, subst, append-nil}
+use Rattle.std.specs.Prelude.{codes}
 use Rattle.std.specs.List.{AllByRecursion, flat_map}
 use Rattle.model_core.specs.declared.token.Symbol.TheVariants as symbols
 use Rattle.model_core.specs.Written.{WrittenName}
-use Rattle.model_core.specs.Grammar.{Grammar, gives, ◌>>=◌, many, list, symbol, name}
+use Rattle.model_core.specs.Grammar.{Grammar, ◌>>=◌, many, list, symbol, name}
 use Rattle.model_core.specs.Canonical.{joined, after_commas}
 use Rattle.reading_back.proofs.Spelling.{Ends, IsName}
 use Rattle.reading_back.proofs.Reading.{Reads, Any, Reads-then, Reads-text, Reads-gives, Reads-done, Reads-more, Reads-space}
@@ -19,7 +19,7 @@ Pairs G (y ∷ ys) (x ∷ xs) = G y x × Pairs G ys xs
 
 -- lines, each of which is read before any text
 pub Reads-lines : {A B : Type 0} (p : Grammar A) (line : B → List ℕ) (P : B → Type 0) (G : B → A → Type 0) (ys : List B)
-  → AllByRecursion P ys → ((y : B) → P y → Reads p (line y) Any (G y)) → Reads (many p) (flat_map line ys) Any (Pairs G ys)
+    → AllByRecursion P ys → ((y : B) → P y → Reads p (line y) Any (G y)) → Reads (many p) (flat_map line ys) Any (Pairs G ys)
 Reads-lines p line P G [] all each = Reads-done p Any (Pairs G []) tt
 Reads-lines p line P G (y ∷ ys) all each =
     Reads-more p (line y) (flat_map line ys) Any Any (G y) (Pairs G ys) (Pairs G (y ∷ ys)) (each y all.0) (Reads-lines p line P G ys all.1 each) (λ rest h. tt) (λ x xs g k. (g, k))
@@ -39,7 +39,7 @@ pub Reads-more_names : (ns : List (List ℕ)) → AllByRecursion IsName ns → R
 Reads-more_names [] all = Reads-done (symbol symbols.Comma >>= λ _. name) Ends (SameNames []) tt
 Reads-more_names (n ∷ ns) all =
     Reads-more (symbol symbols.Comma >>= λ _. name) (codes ", " ++ n) (after_commas ns) Ends Ends (λ w. w.name ≡ n) (SameNames ns) (SameNames (n ∷ ns))
-        (Reads-comma_name n all.0) (Reads-more_names ns all.1) (follows_commas ns) (λ x xs g k. (g, k))
+    (Reads-comma_name n all.0) (Reads-more_names ns all.1) (follows_commas ns) (λ x xs g k. (g, k))
 
 -- one name or more, with commas between them
 pub Reads-names : (n : List ℕ) (ns : List (List ℕ)) → AllByRecursion IsName (n ∷ ns) → Reads (list name) (joined (n ∷ ns)) Ends (SameNames (n ∷ ns))

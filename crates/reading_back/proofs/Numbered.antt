@@ -1,7 +1,6 @@
 -- The model that a written model of good names and numbers stands for is printable.
-use Rattle.std.proofs.Common.{◌≡◌, ℕ, suc, zero, ◌+◌, ◌^◌, ◌<◌, Bool, true, false, List, [], ◌∷◌, map, refl, sym, ap, ◌∙◌, subst, arith}
-use Rattle.std.specs.Prelude.{ℤ, pos, negsuc, Option, Some, None, IfSome}
-use Rattle.std.specs.List.{AllByRecursion}
+use Rattle.std.proofs.Common.{◌≡◌, ℕ, ◌^◌, ◌<◌, [], ◌∷◌, refl, sym, ap, ◌∙◌, subst}
+use Rattle.std.specs.Prelude.{ℤ, pos, negsuc, Option, Some, None}
 use Rattle.std.specs.Option.{option_map, option_and_then}
 use Rattle.std.proofs.lemmas.Option.{option_and_then_some}
 use Rattle.model_core.specs.declared.model.Kind.TheVariants as kinds
@@ -11,14 +10,12 @@ use Rattle.model_core.specs.Written as written
 use Rattle.model_core.specs.Written.{WrittenName, WrittenNumber, WrittenSigned, WrittenKind, WrittenLiteral, WrittenExpression, WrittenVariable, WrittenTarget, WrittenChange, WrittenEdgeKind, WrittenEdge, WrittenVertex, WrittenModel}
 use Rattle.model_core.specs.Numbering as numbering
 use Rattle.model_core.specs.Numbering.{Declared, place_of, each, written_or, watched_or, natural}
-use Rattle.model_core.specs.Acceptance.{IsVariable}
 use Rattle.reading_back.proofs.Spelling.{IsName}
 use Rattle.reading_back.proofs.Numerals.{IsSigned}
-use Rattle.reading_back.proofs.Lists.{Pairs}
 use Rattle.reading_back.proofs.Tokens.{IsLiteral}
-use Rattle.reading_back.proofs.Written.{GoodSigned, GoodVariableKind, GoodInitial, GoodVariable, GoodValue, GoodChange, GoodTicks, GoodNever, GoodEdgeKind, GoodEdge, GoodVertex}
-use Rattle.reading_back.proofs.Places.{some_same, none_some, IsPlace-from_place_of, IsSigned-from_signed, pairs_from_each, all_from_pairs}
-use Rattle.reading_back.proofs.Printable.{IsPlace, name_at, PrintableValue, PrintableChange, PrintableCondition, PrintableKind, PrintableEdge, PrintableVertex, PrintableVariable, PrintableWatched}
+use Rattle.reading_back.proofs.Written.{GoodVariableKind, GoodInitial, GoodVariable, GoodValue, GoodChange}
+use Rattle.reading_back.proofs.Places.{some_same, none_some, IsPlace-from_place_of, IsSigned-from_signed}
+use Rattle.reading_back.proofs.Printable.{IsPlace, PrintableValue, PrintableChange, PrintableVariable}
 
 -- ---- variables
 
@@ -42,8 +39,14 @@ variable_of_kind w (written.RangeKind lo hi clip) v g h e =
     option_and_then_some _ (numbering.initial w.initial) v e (λ start s e.
     let made : Variable = record { name = w.name.name; size = cells; kind = kinds.Range; lo = least; hi = greatest; clip = clip; initial = start } in
     let printable : PrintableVariable made = record {
-        name = g.name; size = no_size w.size cells g.size size; kind = refl; clip = h.2;
-        lo = IsSigned-from_signed lo least h.0 l; hi = IsSigned-from_signed hi greatest h.1 u; initial = start_signed w.initial start g.initial s } in
+      name = g.name;
+      size = no_size w.size cells g.size size;
+      kind = refl;
+      clip = h.2;
+      lo = IsSigned-from_signed lo least h.0 l;
+      hi = IsSigned-from_signed hi greatest h.1 u;
+      initial = start_signed w.initial start g.initial s;
+    } in
     subst (NumberedVariable w) (some_same made v e) (printable, refl)))))
 
 pub variable_numbered : (w : WrittenVariable) (v : Variable) → GoodVariable w → numbering.variable w ≡ Some v → NumberedVariable w v
@@ -75,7 +78,7 @@ no_index : (d : Declared) (i : Option WrittenExpression) (j : Option Expression)
 no_index d i j none e = some_same j None (sym e ∙ ap (written_or (λ w. option_map Some (numbering.expression d w)) None) none)
 
 one_change : (d : Declared) (t : WrittenTarget) (w : WrittenExpression) (c : StateChange) → IsName t.name.name → t.index ≡ None → GoodValue w
-  → option_and_then (λ ls. option_and_then (λ es. Some (graph.Set ls es)) (each (numbering.expression d) (w ∷ []))) (each (numbering.location d) (t ∷ [])) ≡ Some c → PrintableChange d c
+    → option_and_then (λ ls. option_and_then (λ es. Some (graph.Set ls es)) (each (numbering.expression d) (w ∷ []))) (each (numbering.location d) (t ∷ [])) ≡ Some c → PrintableChange d c
 one_change d t w c named none g e =
     option_and_then_some _ (each (numbering.location d) (t ∷ [])) c e (λ ls l e.
     option_and_then_some _ (each (numbering.expression d) (w ∷ [])) c e (λ es v e.

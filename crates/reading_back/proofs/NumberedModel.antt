@@ -1,8 +1,8 @@
 -- The edges, vertices and models that good written ones stand for are printable.
-use Rattle.std.proofs.Common.{◌≡◌, ℕ, suc, zero, ◌+◌, ◌^◌, ◌<◌, Bool, true, false, List, [], ◌∷◌, map, refl, sym, ap, ◌∙◌, subst, arith}
-use Rattle.std.specs.Prelude.{ℤ, pos, negsuc, Option, Some, None, Ok, IfSome}
+use Rattle.std.proofs.Common.{◌≡◌, ℕ, ◌^◌, ◌<◌, true, List, [], ◌∷◌, map, refl, sym, ap, ◌∙◌, subst, arith}
+use Rattle.std.specs.Prelude.{pos, Option, Some, None, IfSome}
 use Rattle.std.specs.List.{AllByRecursion}
-use Rattle.std.specs.Option.{option_map, option_and_then}
+use Rattle.std.specs.Option.{option_map}
 use Rattle.std.proofs.lemmas.Option.{option_and_then_some}
 use Rattle.model_core.specs.EventGraph as graph
 use Rattle.model_core.specs.EventGraph.{Variable, Expression, StateChange, EdgeKind, EventEdge, EventVertex, WeightTable, Watched, WatchedVariable, WatchedVertex, EventGraph}
@@ -13,11 +13,11 @@ use Rattle.model_core.specs.Numbering.{Declared, declared_by, place_of, each, wr
 use Rattle.model_core.specs.Acceptance.{IsVariable, ReadsFirst}
 use Rattle.reading_back.proofs.Spelling.{IsName}
 use Rattle.reading_back.proofs.Lists.{Pairs}
-use Rattle.reading_back.proofs.Tokens.{IsLiteral, tokens_good}
+use Rattle.reading_back.proofs.Tokens.{tokens_good}
 use Rattle.reading_back.proofs.Deriving.{SomeAll}
 use Rattle.reading_back.proofs.Written.{GoodVariable, GoodChange, GoodTicks, GoodNever, GoodEdgeKind, GoodEdge, GoodVertex, GoodModel, model_yields}
 use Rattle.reading_back.proofs.Places.{some_same, none_some, IsPlace-from_place_of, pairs_from_each, all_from_pairs}
-use Rattle.reading_back.proofs.Numbered.{NumberedVariable, variable_numbered, change_numbered, number_of}
+use Rattle.reading_back.proofs.Numbered.{variable_numbered, change_numbered, number_of}
 use Rattle.reading_back.proofs.Printed.{same_names}
 use Rattle.reading_back.proofs.Printable.{declared_of, PrintableChange, PrintableCondition, PrintableKind, PrintableEdge, PrintableVertex, PrintableVariable, PrintableWatched, IsPrintable}
 
@@ -74,7 +74,7 @@ edge_numbered d w e g q =
     option_and_then_some _ (numbering.edge_kind d w.kind) e q (λ kind k q.
     let made : EventEdge = record { target = target; values = values; condition = condition; kind = kind } in
     subst (PrintableEdge d) (some_same made e q)
-        (IsPlace-from_place_of w.target.name d.vertices target g.target found, no_values (each (numbering.expression d)) w.values values g.values v, condition_numbered d w.condition condition g.condition c, kind_numbered d w.kind kind g.kind k)))))
+    (IsPlace-from_place_of w.target.name d.vertices target g.target found, no_values (each (numbering.expression d)) w.values values g.values v, condition_numbered d w.condition condition g.condition c, kind_numbered d w.kind kind g.kind k)))))
 
 -- ---- vertices
 
@@ -89,9 +89,11 @@ vertex_numbered d w v g q =
     option_and_then_some _ (each (numbering.edge d) w.edges) v q (λ edges e q.
     let made : EventVertex = record { name = w.name.name; parameters = parameters; changes = changes; edges = edges } in
     let printable : PrintableVertex d made = record {
-        name = g.name; parameters = no_values (each (numbering.parameter d)) w.parameters parameters g.parameters p;
-        changes = all_from_pairs (λ y x. numbering.change d x ≡ Some y) GoodChange (PrintableChange d) (λ y x f h. change_numbered d x y h f) changes w.changes (pairs_from_each (numbering.change d) w.changes changes c) g.changes;
-        edges = all_from_pairs (λ y x. numbering.edge d x ≡ Some y) GoodEdge (PrintableEdge d) (λ y x f h. edge_numbered d x y h f) edges w.edges (pairs_from_each (numbering.edge d) w.edges edges e) g.edges } in
+      name = g.name;
+      parameters = no_values (each (numbering.parameter d)) w.parameters parameters g.parameters p;
+      changes = all_from_pairs (λ y x. numbering.change d x ≡ Some y) GoodChange (PrintableChange d) (λ y x f h. change_numbered d x y h f) changes w.changes (pairs_from_each (numbering.change d) w.changes changes c) g.changes;
+      edges = all_from_pairs (λ y x. numbering.edge d x ≡ Some y) GoodEdge (PrintableEdge d) (λ y x f h. edge_numbered d x y h f) edges w.edges (pairs_from_each (numbering.edge d) w.edges edges e) g.edges;
+    } in
     subst (NumberedVertex d w) (some_same made v q) (printable, refl))))
 
 -- ---- the watch list
@@ -102,6 +104,7 @@ watched_numbered d n w named v q = go (place_of n.name d.variables) (place_of n.
     vertex : (o : Option ℕ) → option_map WatchedVertex o ≡ Some w → PrintableWatched d w
     vertex None q = none_some w q
     vertex (Some k) q = absurd (subst IsVariable (sym (some_same (WatchedVertex k) w q)) v)
+
     go : (o p : Option ℕ) → ((k : ℕ) → o ≡ Some k → PrintableWatched d (WatchedVariable k)) → watched_or d o p ≡ Some w → PrintableWatched d w
     go None p f q = vertex p q
     go (Some k) p f q = subst (PrintableWatched d) (some_same (WatchedVariable k) w q) (f k refl)
@@ -137,17 +140,17 @@ both R G (y ∷ ys) [] p g = absurd p
 both R G (y ∷ ys) (x ∷ xs) p g = ((p.0, g.0), both R G ys xs p.1 g.1)
 
 parts : (m : WrittenModel) (g : EventGraph) (variables : List Variable) (tables : List WeightTable) (watch : List Watched) (vertices : List EventVertex) → GoodModel m → AllByRecursion IsVariable watch
-  → each numbering.variable m.variables ≡ Some variables → each numbering.table m.tables ≡ Some tables → written_or (each (numbering.watched (declared_by m))) [] m.watch ≡ Some watch → each (numbering.vertex (declared_by m)) m.vertices ≡ Some vertices
-  → IsPrintable (record { name = m.name.name; variables = variables; tables = tables; watch = watch; vertices = vertices })
+    → each numbering.variable m.variables ≡ Some variables → each numbering.table m.tables ≡ Some tables → written_or (each (numbering.watched (declared_by m))) [] m.watch ≡ Some watch → each (numbering.vertex (declared_by m)) m.vertices ≡ Some vertices
+    → IsPrintable (record { name = m.name.name; variables = variables; tables = tables; watch = watch; vertices = vertices })
 parts m g variables tables watch vertices good watches v t k w =
     let all : AllByRecursion GoodVertex m.vertices = all_of_some GoodVertex m.vertices good.vertices in
     let vs = pairs_from_each numbering.variable m.variables variables v in
     let ws = pairs_from_each (numbering.vertex (declared_by m)) m.vertices vertices w in
     let empty = each_tables m.tables tables good.tables t in
     let variable_names : map (λ (x : WrittenVariable). x.name.name) m.variables ≡ map (λ (x : Variable). x.name) variables =
-        same_names (λ y x. (numbering.variable x ≡ Some y) × GoodVariable x) (λ x. x.name) (λ x. x.name.name) (λ y x h. (variable_numbered x y h.1 h.0).1) variables m.variables (both (λ y x. numbering.variable x ≡ Some y) GoodVariable variables m.variables vs good.variables) in
+    same_names (λ y x. (numbering.variable x ≡ Some y) × GoodVariable x) (λ x. x.name) (λ x. x.name.name) (λ y x h. (variable_numbered x y h.1 h.0).1) variables m.variables (both (λ y x. numbering.variable x ≡ Some y) GoodVariable variables m.variables vs good.variables) in
     let vertex_names : map (λ (x : WrittenVertex). x.name.name) m.vertices ≡ map (λ (x : EventVertex). x.name) vertices =
-        same_names (λ y x. (numbering.vertex (declared_by m) x ≡ Some y) × GoodVertex x) (λ x. x.name) (λ x. x.name.name) (λ y x h. (vertex_numbered (declared_by m) x y h.1 h.0).1) vertices m.vertices (both (λ y x. numbering.vertex (declared_by m) x ≡ Some y) GoodVertex vertices m.vertices ws all) in
+    same_names (λ y x. (numbering.vertex (declared_by m) x ≡ Some y) × GoodVertex x) (λ x. x.name) (λ x. x.name.name) (λ y x h. (vertex_numbered (declared_by m) x y h.1 h.0).1) vertices m.vertices (both (λ y x. numbering.vertex (declared_by m) x ≡ Some y) GoodVertex vertices m.vertices ws all) in
     let table_names : map (λ (x : WrittenTable). x.name.name) m.tables ≡ [] = ap (map (λ (x : WrittenTable). x.name.name)) good.tables in
     let made : EventGraph = record { name = m.name.name; variables = variables; tables = tables; watch = watch; vertices = vertices } in
     let declared : declared_by m ≡ declared_of made = λ i. record { variables = variable_names i; tables = table_names i; vertices = vertex_names i } in
@@ -157,8 +160,8 @@ parts m g variables tables watch vertices good watches v t k w =
       tables = empty;
       watch = subst (λ (d : Declared). AllByRecursion (PrintableWatched d) watch) declared (watch_numbered (declared_by m) m.watch watch good.watch watches k);
       vertices = subst (λ (d : Declared). AllByRecursion (PrintableVertex d) vertices) declared
-        (all_from_pairs (λ y x. numbering.vertex (declared_by m) x ≡ Some y) GoodVertex (PrintableVertex (declared_by m)) (λ y x f h. (vertex_numbered (declared_by m) x y h f).0) vertices m.vertices ws all);
-      some = pairs_some (λ y x. numbering.vertex (declared_by m) x ≡ Some y) GoodVertex vertices m.vertices ws good.vertices
+          (all_from_pairs (λ y x. numbering.vertex (declared_by m) x ≡ Some y) GoodVertex (PrintableVertex (declared_by m)) (λ y x f h. (vertex_numbered (declared_by m) x y h f).0) vertices m.vertices ws all);
+      some = pairs_some (λ y x. numbering.vertex (declared_by m) x ≡ Some y) GoodVertex vertices m.vertices ws good.vertices;
     }
 
 numbered_printable : (m : WrittenModel) (g : EventGraph) → GoodModel m → AllByRecursion IsVariable g.watch → numbered m ≡ Some g → IsPrintable g

@@ -1,15 +1,12 @@
 -- Numbers with a sign, as they are printed.
-use Rattle.std.proofs.Common.{◌≡◌, ℕ, suc, zero, ◌+◌, ◌^◌, ◌<◌, Bool, true, false, List, [], ◌∷◌, ◌++◌, refl, sym, ap, ◌∙◌, subst, arith, append-nil}
-use Rattle.std.specs.Prelude.{ℤ, pos, negsuc, neg_ℤ, Option, Some, None, decimal}
+use Rattle.std.proofs.Common.{◌≡◌, ℕ, suc, ◌^◌, ◌<◌, true, false, [], ◌∷◌, ◌++◌, ap, append-nil}
+use Rattle.std.specs.Prelude.{ℤ, pos, negsuc, Some, decimal}
 use Rattle.std.specs.Fmt.{signed_decimal}
 use Rattle.std.specs.Option.{option_map}
-use Rattle.model_core.specs.declared.token.Symbol.TheVariants as symbols
-use Rattle.model_core.specs.Written.{WrittenName, WrittenNumber, WrittenSigned}
-use Rattle.model_core.specs.Grammar.{Grammar, word, symbol, name, number, gives, ◌>>=◌}
 use Rattle.model_core.specs.FirstForm as form
 use Rattle.model_core.specs.Numbering as numbering
 use Rattle.reading_back.proofs.Spelling.{Ends}
-use Rattle.reading_back.proofs.Reading.{Reads, Any, Reads-then, Reads-text, Reads-gives, Reads-left, Reads-right}
+use Rattle.reading_back.proofs.Reading.{Reads, Reads-then, Reads-text, Reads-gives, Reads-left, Reads-right}
 use Rattle.reading_back.proofs.Symbols.{Reads-number, Reads-minus}
 
 -- a number that a literal with a sign writes

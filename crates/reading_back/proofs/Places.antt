@@ -1,6 +1,6 @@
 -- What numbering gives of names and numbers that are good.
-use Rattle.std.proofs.Common.{◌≡◌, ℕ, suc, zero, ◌+◌, ◌^◌, ◌<◌, Bool, true, false, List, [], ◌∷◌, map, refl, sym, ap, ◌∙◌, subst, add-one, arith}
-use Rattle.std.specs.Prelude.{ℤ, pos, negsuc, neg_ℤ, Option, Some, None, if◌then◌else◌, nat_eq}
+use Rattle.std.proofs.Common.{◌≡◌, ℕ, suc, zero, ◌+◌, Bool, true, false, List, [], ◌∷◌, refl, sym, ap, ◌∙◌, subst, add-one}
+use Rattle.std.specs.Prelude.{ℤ, pos, negsuc, Option, Some, None, if◌then◌else◌}
 use Rattle.std.specs.List.{AllByRecursion}
 use Rattle.std.specs.Option.{option_map, option_and_then}
 use lib.Pointwise.{bytes_decides}
@@ -36,6 +36,7 @@ name_at-place_of name (n ∷ ns) k e = here (same_bytes n name) refl e (λ j f. 
         let at : j + 1 ≡ k = some_same (j + 1) k e in
         let next : suc j ≡ k = sym (add-one j) ∙ at in
         subst (λ (i : ℕ). name_at (n ∷ ns) i ≡ name) next (h j refl)
+
     here : (b : Bool) → same_bytes n name ≡ b → (if b then Some 0 else option_map (λ j. j + 1) (place_of name ns)) ≡ Some k → ((j : ℕ) → place_of name ns ≡ Some j → name_at ns j ≡ name) → name_at (n ∷ ns) k ≡ name
     here true same e h = subst (λ (i : ℕ). name_at (n ∷ ns) i ≡ name) (some_same 0 k e) (same_bytes_equal n name same)
     here false same e h = later (place_of name ns) h e
@@ -66,6 +67,7 @@ pairs_from_each {A} {B} f (x ∷ xs) ys e = first (f x) refl e (λ l i. pairs_fr
     rest : (y : B) → f x ≡ Some y → (o : Option (List B)) → ((l : List B) → o ≡ Some l → Pairs (λ y x. f x ≡ Some y) l xs) → option_and_then (λ l. Some (y ∷ l)) o ≡ Some ys → Pairs (λ y x. f x ≡ Some y) ys (x ∷ xs)
     rest y g None h e = none_some ys e
     rest y g (Some l) h e = subst (λ (m : List B). Pairs (λ y x. f x ≡ Some y) m (x ∷ xs)) (some_same (y ∷ l) ys e) (g, h l refl)
+
     first : (o : Option B) → f x ≡ o → option_and_then (λ y. option_and_then (λ l. Some (y ∷ l)) (each f xs)) o ≡ Some ys → ((l : List B) → each f xs ≡ Some l → Pairs (λ y x. f x ≡ Some y) l xs) → Pairs (λ y x. f x ≡ Some y) ys (x ∷ xs)
     first None g e h = none_some ys e
     first (Some y) g e h = rest y g (each f xs) h e

@@ -1,12 +1,10 @@
 -- What a model of the first form has: the names, numbers and shapes whose text reads back.
-use Rattle.std.proofs.Common.{◌≡◌, ℕ, suc, zero, ◌^◌, ◌<◌, Bool, true, false, List, [], ◌∷◌, map, get_or}
-use Rattle.std.specs.Prelude.{ℤ, pos, negsuc, Option, Some, None}
+use Rattle.std.proofs.Common.{◌≡◌, ℕ, ◌^◌, ◌<◌, false, List, [], ◌∷◌, map, get_or}
+use Rattle.std.specs.Prelude.{pos, negsuc, Some, None}
 use Rattle.std.specs.List.{AllByRecursion}
-use Rattle.model_core.specs.declared.model.Kind.{Kind}
 use Rattle.model_core.specs.declared.model.Kind.TheVariants as kinds
-use Rattle.model_core.specs.EventGraph.{Expression, Number, Truth, Scalar, Location, StateChange, Set, EdgeKind, Schedule, EventEdge, EventVertex, Variable, WeightTable, Watched, WatchedVariable, WatchedVertex, EventGraph}
+use Rattle.model_core.specs.EventGraph.{Expression, Number, Truth, Scalar, StateChange, Set, EdgeKind, Schedule, EventEdge, EventVertex, Variable, Watched, WatchedVariable, WatchedVertex, EventGraph}
 use Rattle.model_core.specs.Numbering.{Declared, place_of}
-use Rattle.model_core.specs.Acceptance.{KeepsRules}
 use Rattle.reading_back.proofs.Spelling.{IsName}
 use Rattle.reading_back.proofs.Numerals.{IsSigned}
 

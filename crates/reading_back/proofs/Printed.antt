@@ -1,19 +1,19 @@
 -- The whole text of a printable model reads back as that model.
-use Rattle.std.proofs.Common.{◌≡◌, ℕ, suc, zero, Bool, true, false, List, [], ◌∷◌, ◌++◌, map, get_or, refl, sym, ap, ◌∙◌, subst, append-nil, append_assoc, arith}
-use Rattle.std.specs.Prelude.{Option, Some, None, Ok, codes}
-use Rattle.std.specs.List.{AllByRecursion, flat_map}
+use Rattle.std.proofs.Common.{◌≡◌, ℕ, List, [], ◌∷◌, ◌++◌, map, refl, sym, ap, subst, append-nil}
+use Rattle.std.specs.Prelude.{Option, Some, Ok, codes}
+use Rattle.std.specs.List.{flat_map}
 use Rattle.model_core.specs.declared.token.Word.TheVariants as words
 use Rattle.model_core.specs.declared.token.Symbol.TheVariants as symbols
-use Rattle.model_core.specs.EventGraph.{EventVertex, Variable, Watched, EventGraph}
+use Rattle.model_core.specs.EventGraph.{EventVertex, Variable, EventGraph}
 use Rattle.model_core.specs.Written.{WrittenName, WrittenVariable, WrittenVertex, WrittenModel}
-use Rattle.model_core.specs.Grammar.{Grammar, word, symbol, name, gives, ◌>>=◌, many, some, optional}
+use Rattle.model_core.specs.Grammar.{word, symbol, name}
 use Rattle.model_core.specs.FirstForm as form
 use Rattle.model_core.specs.Numbering as numbering
 use Rattle.model_core.specs.Numbering.{Declared, each, declared_by, written_or, numbered}
 use Rattle.model_core.specs.Acceptance.{IsFirstVariable, IsFirstVertex, IsFirstForm, SpellsFirst}
-use Rattle.model_core.specs.Lexing.{Lexeme, tokens_of}
+use Rattle.model_core.specs.Lexing.{tokens_of}
 use Rattle.reading_back.proofs.Lexed.{Lexes-nil, tokens_from_Lexes}
-use Rattle.reading_back.proofs.Spelling.{Ends, IsName}
+use Rattle.reading_back.proofs.Spelling.{Ends}
 use Rattle.reading_back.proofs.Reading.{Reads, Any, Reads-then, Reads-gives, Reads-space, Reads-before_feed, Reads-some}
 use Rattle.reading_back.proofs.Symbols.{Reads-name, Reads-word, Reads-semicolon}
 use Rattle.reading_back.proofs.Lists.{Pairs, Reads-lines}
@@ -48,7 +48,7 @@ abbrev written_model : ℕ → WrittenName → List WrittenVariable → Option (
 written_model at n vs watch ws end_at = record { at = at; name = n; variables = vs; tables = []; watch = watch; vertices = ws; end_at = end_at }
 
 model_of : (g : EventGraph) (at : ℕ) (n : WrittenName) (vs : List WrittenVariable) (watch : Option (List WrittenName)) (ws : List WrittenVertex) (end_at : ℕ) → IsPrintable g
-  → n.name ≡ g.name → Pairs IsVariableOf g.variables vs → IsWatchOf (declared_of g) g.watch watch → Pairs (IsVertexOf (declared_of g)) g.vertices ws → IsModelOf g (written_model at n vs watch ws end_at)
+    → n.name ≡ g.name → Pairs IsVariableOf g.variables vs → IsWatchOf (declared_of g) g.watch watch → Pairs (IsVertexOf (declared_of g)) g.vertices ws → IsModelOf g (written_model at n vs watch ws end_at)
 model_of g at n vs watch ws end_at p named v k w =
     let m : WrittenModel = written_model at n vs watch ws end_at in
     let variable_names : map (λ (x : WrittenVariable). x.name.name) vs ≡ map (λ (x : Variable). x.name) g.variables = same_names IsVariableOf (λ x. x.name) (λ x. x.name.name) (λ y x h. h.2) g.variables vs v in
@@ -63,9 +63,9 @@ model_of g at n vs watch ws end_at p named v k w =
       form = record {
         variables = all_of IsVariableOf IsFirstVariable (λ y x h. h.1) g.variables vs v;
         tables = refl;
-        vertices = all_of (IsVertexOf (declared_of g)) IsFirstVertex (λ y x h. h.form) g.vertices ws w
+        vertices = all_of (IsVertexOf (declared_of g)) IsFirstVertex (λ y x h. h.form) g.vertices ws w;
       };
-      numbers = rw (variables, watches, vertices) (ap Some same)
+      numbers = rw (variables, watches, vertices) (ap Some same);
     }
 
 no_vertices : {A B : Type 0} (P : B → A → Type 0) (ys : List B) → (ys ≡ [] → ⊥) → Pairs P ys [] → ⊥

@@ -1,13 +1,12 @@
 -- A model without one of its edges is printable, keeps the rules, and has no longer text.
-use Rattle.std.proofs.Common.{◌≡◌, ℕ, suc, zero, ◌+◌, ◌≤◌, Bool, true, false, List, [], ◌∷◌, ◌++◌, map, length, refl, sym, ap, ◌∙◌, subst, arith, length-append}
-use Rattle.std.specs.Prelude.{Option, Some, None, if◌then◌else◌, codes}
+use Rattle.std.proofs.Common.{◌≡◌, ℕ, suc, zero, ◌≤◌, Bool, true, false, List, [], ◌∷◌, ◌++◌, map, length, refl, sym, ap, subst, arith, length-append}
+use Rattle.std.specs.Prelude.{Some, None, if◌then◌else◌, codes}
 use Rattle.std.specs.List.{AllByRecursion, flat_map, remove, IsDistinct}
-use Rattle.std.specs.Option.{option_map, option_and_then}
 use Rattle.std.proofs.lemmas.Option.{option_and_then_some}
 use Rattle.model_core.specs.Lexing.{same_bytes}
-use Rattle.model_core.specs.EventGraph.{EventEdge, EventVertex, Variable, WeightTable, Watched, EventGraph}
+use Rattle.model_core.specs.EventGraph.{EventVertex, Variable, WeightTable, EventGraph}
 use Rattle.model_core.specs.Canonical.{canonical}
-use Rattle.model_core.specs.Rules.{RuleApplication, Prune, is_refuted, place_of_vertex, from_zero, with_place, without_edge, pruned, edge_at, prune_at, applied, first_rule, Strategy}
+use Rattle.model_core.specs.Rules.{RuleApplication, Prune, is_refuted, place_of_vertex, from_zero, with_place, without_edge, pruned, edge_at, prune_at, applied, Strategy}
 use Rattle.model_core.specs.Numbering.{Declared}
 use Rattle.model_core.specs.Acceptance.{IsShort, declared_names, IsSmall, KeepsRules}
 use Rattle.reading_back.proofs.Printable.{declared_of, PrintableEdge, PrintableVertex, PrintableWatched, IsPrintable}
@@ -118,8 +117,8 @@ pruned_printable g v e p =
       tables = p.tables;
       watch = subst (λ (d : Declared). AllByRecursion (PrintableWatched d) g.watch) same p.watch;
       vertices = subst (λ (d : Declared). AllByRecursion (PrintableVertex d) (with_place (without_edge e) v g.vertices)) same
-        (all_with_place (PrintableVertex (declared_of g)) (without_edge e) (without_printable (declared_of g) e) v g.vertices p.vertices);
-      some = some_with_place (without_edge e) v g.vertices p.some
+          (all_with_place (PrintableVertex (declared_of g)) (without_edge e) (without_printable (declared_of g) e) v g.vertices p.vertices);
+      some = some_with_place (without_edge e) v g.vertices p.some;
     }
 
 -- the text of a model with other vertices, whose names are declared so
@@ -134,7 +133,7 @@ pruned_shorter g v e =
     let same : length (text_with g (declared_of (pruned g v e)) vs) ≡ length (text_with g d vs) = ap (λ x. length (text_with g x vs)) (declared_pruned g v e) in
     let lines : NoLonger (flat_map (vertex_text d) vs) (flat_map (vertex_text d) g.vertices) = record { at_most = lines_with_place (vertex_text d) (without_edge e) (without_shorter d e) v g.vertices } in
     let fewer : NoLonger (text_with g d vs) (text_with g d g.vertices) =
-        behind (codes "model") (behind (32 ∷ g.name) (behind (codes ";\n") (behind (flat_map variable_text g.variables) (behind (watch_text (map (watched_text d) g.watch)) (before (codes "end\n" ++ []) lines))))) in
+    behind (codes "model") (behind (32 ∷ g.name) (behind (codes ";\n") (behind (flat_map variable_text g.variables) (behind (watch_text (map (watched_text d) g.watch)) (before (codes "end\n" ++ []) lines))))) in
     subst (λ n. n ≤ length (printed g)) (sym same) fewer.at_most
 
 canonical_shorter : (g : EventGraph) (v e : ℕ) → IsPrintable g → length (canonical (pruned g v e)) ≤ length (canonical g)
@@ -161,7 +160,7 @@ pruned_rules g v e p r =
       few_variables = r.few_variables;
       few_vertices = subst (λ n. n ≤ 2000) (sym vertices) few;
       small_vertices = small;
-      short = no_more (length (canonical (pruned g v e))) (length (canonical g)) (canonical_shorter g v e p) r.short
+      short = no_more (length (canonical (pruned g v e))) (length (canonical g)) (canonical_shorter g v e p) r.short;
     }
   where
     no_more : (m n : ℕ) → m ≤ n → n ≤ 4194304 → m ≤ 4194304

@@ -1,6 +1,6 @@
 -- Texts of one token: a name, a number, a reserved word or a symbol.
-use Rattle.std.proofs.Common.{◌≡◌, ℕ, suc, zero, ◌+◌, ◌-◌, ◌^◌, ◌<◌, ◌≤◌, Bool, true, false, List, [], ◌∷◌, ◌++◌, length, map, refl, sym, ap, ◌∙◌, subst, arith, cond, get_or}
-use Rattle.std.specs.Prelude.{ℤ, pos, negsuc, Option, Some, None, ◌&&◌, if◌then◌else◌, nat_lt, decimal, codes}
+use Rattle.std.proofs.Common.{◌≡◌, ℕ, suc, zero, ◌+◌, ◌-◌, ◌^◌, ◌<◌, ◌≤◌, Bool, true, List, [], ◌∷◌, ◌++◌, length, map, refl, sym, ap, ◌∙◌, subst, arith, get_or}
+use Rattle.std.specs.Prelude.{pos, Some, None, if◌then◌else◌, nat_lt, decimal, codes}
 use Rattle.std.specs.List.{AllByRecursion, list_all}
 use Rattle.std.specs.Char.{is_ascii_digit, is_ascii_alphabetic}
 use Rattle.std.specs.Int.Digits.{digits_of, number_from_digits, AllBelowBase}
@@ -11,10 +11,9 @@ use Rattle.std.proofs.lemmas.Grind.{common_steps}
 use Rattle.model_core.specs.declared.token.Word.{Word}
 use Rattle.model_core.specs.declared.token.Symbol.{Symbol}
 use Rattle.model_core.specs.declared.token.Symbol.TheVariants as symbols
-use Rattle.model_core.specs.Lexing.{Lexeme, LexemeKind, NameOf, Reserved, NumberOf, Mark, Front, Between, Longest, Neither, front, is_word_byte, word_among, reserved_words, word_front, number_front, literal_value}
-use Rattle.model_core.specs.Written.{WrittenName, WrittenNumber}
-use Rattle.model_core.specs.Grammar.{Grammar, word, symbol, name, number}
-use Rattle.reading_back.proofs.Lexed.{Lexes, Lexes-token, token}
+use Rattle.model_core.specs.Lexing.{NameOf, Reserved, NumberOf, Mark, Longest, front, is_word_byte, word_among, reserved_words, word_front, literal_value}
+use Rattle.model_core.specs.Grammar.{word, symbol, name, number}
+use Rattle.reading_back.proofs.Lexed.{Lexes-token, token}
 use Rattle.reading_back.proofs.Spelling.{Ends, IsName, front_name, front_digits, front_word, take_while_word}
 use Rattle.reading_back.proofs.Reading.{Reads, Any}
 
@@ -22,31 +21,46 @@ use Rattle.reading_back.proofs.Reading.{Reads, Any}
 
 pub Reads-name : (n : List ℕ) → IsName n → Reads name n Ends (λ v. v.name ≡ n)
 Reads-name [] h = absurd h.begins
-Reads-name (c ∷ w) h = record { run = λ at.
-    (record { name = c ∷ w; at = at }, refl, λ rest left e lexed.
-        (token at (at + suc (length w)) (NameOf (c ∷ w)) ∷ left, Lexes-token at c w rest (NameOf (c ∷ w)) left (front_name c w rest h e) lexed, (refl, refl, refl))) }
+Reads-name (c ∷ w) h = record {
+  run = λ at. (
+    record { name = c ∷ w; at = at },
+    refl,
+    λ rest left e lexed.
+        (token at (at + suc (length w)) (NameOf (c ∷ w)) ∷ left, Lexes-token at c w rest (NameOf (c ∷ w)) left (front_name c w rest h e) lexed, (refl, refl, refl)),
+  );
+}
 
 all_from : (p : ℕ → Bool) (s : List ℕ) → list_all p s ≡ true → AllByRecursion (λ c. p c ≡ true) s
 all_from p [] h = tt
 all_from p (c ∷ s) h = let a : p c ≡ true = grind arith in let b : list_all p s ≡ true = grind arith in (a, all_from p s b)
 
 front_reserved : (c : ℕ) (w rest : List ℕ) (k : Word) → is_ascii_alphabetic c ≡ true → list_all is_word_byte (c ∷ w) ≡ true → word_among reserved_words (c ∷ w) ≡ Reserved k → Ends rest
-  → front c (w ++ rest) ≡ Longest (suc (length w)) (Reserved k)
+    → front c (w ++ rest) ≡ Longest (suc (length w)) (Reserved k)
 front_reserved c w rest k letter all is e =
     front_word c (w ++ rest) letter ∙ ap word_front (take_while_word (c ∷ w) rest (all_from is_word_byte (c ∷ w) all) e) ∙ ap (Longest (suc (length w))) is
 
 pub Reads-word : (c : ℕ) (w : List ℕ) (k : Word) → is_ascii_alphabetic c ≡ true → list_all is_word_byte (c ∷ w) ≡ true → word_among reserved_words (c ∷ w) ≡ Reserved k
-  → Reads (word k) (c ∷ w) Ends (λ _. Unit {0})
-Reads-word c w k letter all is = record { run = λ at.
-    (at, tt, λ rest left e lexed.
-        (token at (at + suc (length w)) (Reserved k) ∷ left, Lexes-token at c w rest (Reserved k) left (front_reserved c w rest k letter all is e) lexed, (refl, refl, refl))) }
+    → Reads (word k) (c ∷ w) Ends (λ _. Unit {0})
+Reads-word c w k letter all is = record {
+  run = λ at. (
+    at,
+    tt,
+    λ rest left e lexed.
+        (token at (at + suc (length w)) (Reserved k) ∷ left, Lexes-token at c w rest (Reserved k) left (front_reserved c w rest k letter all is e) lexed, (refl, refl, refl)),
+  );
+}
 
 -- ---- symbols
 
 pub Reads-symbol : (c : ℕ) (w : List ℕ) (k : Symbol) (F : List ℕ → Type 0) → ((rest : List ℕ) → F rest → front c (w ++ rest) ≡ Longest (suc (length w)) (Mark k)) → Reads (symbol k) (c ∷ w) F (λ _. Unit {0})
-Reads-symbol c w k F is = record { run = λ at.
-    (at, tt, λ rest left f lexed.
-        (token at (at + suc (length w)) (Mark k) ∷ left, Lexes-token at c w rest (Mark k) left (is rest f) lexed, (refl, refl, refl))) }
+Reads-symbol c w k F is = record {
+  run = λ at. (
+    at,
+    tt,
+    λ rest left f lexed.
+        (token at (at + suc (length w)) (Mark k) ∷ left, Lexes-token at c w rest (Mark k) left (is rest f) lexed, (refl, refl, refl)),
+  );
+}
 
 pub Reads-minus : Reads (symbol symbols.Minus) (codes "-") Any (λ _. Unit {0})
 Reads-minus = Reads-symbol 45 [] symbols.Minus Any (λ rest _. refl)
@@ -109,7 +123,7 @@ numeral_of_digits n h l =
     record {
       all = all_digits (digits_of 10 n) (all_below_base_digits_of 10 n two);
       some = some_digits (digits_of 10 n) (first_digits_of 10 n two h);
-      value = chosen (number_from_digits 10 (map (λ c. c - 48) (map (λ d. 48 + d) (digits_of 10 n)))) n back l
+      value = chosen (number_from_digits 10 (map (λ c. c - 48) (map (λ d. 48 + d) (digits_of 10 n)))) n back l;
     }
 
 numeral_zero : IsNumeral 0 (decimal 0)
@@ -124,10 +138,17 @@ numeral_decimal (suc n) l =
 
 pub Reads-numeral : (n : ℕ) (text : List ℕ) → IsNumeral n text → Reads number text Ends (λ v. v.value ≡ Some (pos n))
 Reads-numeral n [] h = absurd (h.some refl)
-Reads-numeral n (c ∷ w) h = record { run = λ at.
-    (record { value = Some (pos n); at = at }, refl, λ rest left e lexed.
-        (token at (at + suc (length w)) (NumberOf (Some (pos n))) ∷ left,
-         Lexes-token at c w rest (NumberOf (Some (pos n))) left (front_digits c w rest h.all e ∙ ap (λ v. Longest (suc (length w)) (NumberOf v)) h.value) lexed, (refl, refl, refl))) }
+Reads-numeral n (c ∷ w) h = record {
+  run = λ at. (
+    record { value = Some (pos n); at = at },
+    refl,
+    λ rest left e lexed. (
+      token at (at + suc (length w)) (NumberOf (Some (pos n))) ∷ left,
+      Lexes-token at c w rest (NumberOf (Some (pos n))) left (front_digits c w rest h.all e ∙ ap (λ v. Longest (suc (length w)) (NumberOf v)) h.value) lexed,
+      (refl, refl, refl),
+    ),
+  );
+}
 
 pub Reads-number : (n : ℕ) → n < 2 ^ 63 → Reads number (decimal n) Ends (λ v. v.value ≡ Some (pos n))
 Reads-number n l = Reads-numeral n (decimal n) (numeral_decimal n l)

@@ -1,14 +1,13 @@
 -- The tokens of any text: each name is one, and each number is below 2^63.
-use Rattle.std.proofs.Common.{◌≡◌, ◌⊎◌, ℕ, suc, zero, ◌+◌, ◌-◌, ◌^◌, ◌<◌, Bool, true, false, List, [], ◌∷◌, length, map, refl, sym, ap, ◌∙◌, subst, arith, cond, inl, inr}
+use Rattle.std.proofs.Common.{◌≡◌, ◌⊎◌, ℕ, suc, zero, ◌+◌, ◌-◌, ◌^◌, ◌<◌, Bool, true, false, List, [], ◌∷◌, length, refl, sym, subst, arith, inl, inr}
 use Rattle.std.specs.Prelude.{ℤ, pos, negsuc, Option, Some, None, Result, Ok, Err, ◌==◌, nat_lt, nat_eq, if◌then◌else◌}
 use Rattle.std.specs.List.{AllByRecursion, take_while, starts_with}
 use Rattle.std.specs.Char.{is_ascii_digit, is_ascii_alphabetic}
-use Rattle.std.specs.Int.Digits.{number_from_digits}
 use Rattle.std.proofs.lemmas.List.Sums.{take_while-cons}
 use Rattle.std.proofs.lemmas.Grind.{common_steps}
 use Rattle.model_core.specs.declared.token.Word.{Word}
 use Rattle.model_core.specs.declared.token.Symbol.{Symbol}
-use Rattle.model_core.specs.Lexing.{Lexeme, LexemeKind, NameOf, Reserved, NumberOf, Mark, Front, Between, Longest, Neither, front, front_length, after_front, tokens_from, is_blank, is_word_byte, word_among, reserved_words, word_front, number_front, literal_value, symbol_among, all_symbols, same_bytes}
+use Rattle.model_core.specs.Lexing.{Lexeme, LexemeKind, NameOf, Reserved, NumberOf, Mark, Front, Between, Longest, Neither, front, front_length, after_front, tokens_from, is_blank, is_word_byte, word_among, reserved_words, symbol_among, all_symbols, same_bytes}
 use Rattle.reading_back.proofs.Spelling.{BeginsWord, IsName, letter_word, take_while-more}
 
 -- a number below 2^63, or none
@@ -46,7 +45,7 @@ word_among_cases [] bytes = inl refl
 word_among_cases (w ∷ ws) bytes = pick (same_bytes bytes w.0) (word_among_cases ws bytes)
   where
     pick : (b : Bool) → (word_among ws bytes ≡ NameOf bytes) ⊎ ((w : Word) × (word_among ws bytes ≡ Reserved w))
-      → ((if b then Reserved w.1 else word_among ws bytes) ≡ NameOf bytes) ⊎ ((v : Word) × ((if b then Reserved w.1 else word_among ws bytes) ≡ Reserved v))
+        → ((if b then Reserved w.1 else word_among ws bytes) ≡ NameOf bytes) ⊎ ((v : Word) × ((if b then Reserved w.1 else word_among ws bytes) ≡ Reserved v))
     pick true h = inr (w.1, refl)
     pick false h = h
 
@@ -59,8 +58,9 @@ begins_taken c s h = subst BeginsWord (sym (take_while-more is_word_byte c s (ta
 
 word_good : (bytes : List ℕ) → BeginsWord bytes → AllByRecursion (λ c. is_word_byte c ≡ true) bytes → GoodKind (word_among reserved_words bytes)
 word_good bytes b a = elim (word_among_cases reserved_words bytes) [
-    inl e ↦ subst GoodKind (sym e) (record { begins = b; all = a; free = e })
-  | inr r ↦ subst GoodKind (sym r.1) tt ]
+  | inl e ↦ subst GoodKind (sym e) (record { begins = b; all = a; free = e })
+  | inr r ↦ subst GoodKind (sym r.1) tt
+]
 
 -- ---- numbers and symbols
 

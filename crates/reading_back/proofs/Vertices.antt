@@ -1,18 +1,17 @@
 -- The lines of vertices, as they are printed, read back.
-use Rattle.std.proofs.Common.{◌≡◌, ℕ, suc, zero, Bool, true, false, List, [], ◌∷◌, ◌++◌, map, get_or, refl, sym, ap, ◌∙◌, subst, append-nil, append_assoc, arith}
+use Rattle.std.proofs.Common.{◌≡◌, ℕ, List, [], ◌∷◌, ◌++◌, refl, sym, ap}
 use Rattle.std.specs.Prelude.{Option, Some, None, codes}
 use Rattle.std.specs.List.{AllByRecursion, flat_map}
 use Rattle.model_core.specs.declared.token.Word.TheVariants as words
 use Rattle.model_core.specs.declared.token.Symbol.TheVariants as symbols
-use Rattle.model_core.specs.EventGraph.{StateChange, EventEdge, EventVertex}
-use Rattle.model_core.specs.Written as written
+use Rattle.model_core.specs.EventGraph.{EventVertex}
 use Rattle.model_core.specs.Written.{WrittenName, WrittenChange, WrittenEdge, WrittenVertex}
-use Rattle.model_core.specs.Grammar.{Grammar, word, symbol, name, gives, ◌>>=◌, many}
+use Rattle.model_core.specs.Grammar.{symbol, name}
 use Rattle.model_core.specs.FirstForm as form
 use Rattle.model_core.specs.Numbering as numbering
 use Rattle.model_core.specs.Numbering.{Declared, each}
 use Rattle.model_core.specs.Acceptance.{IsFirstChange, IsFirstEdge, IsFirstVertex}
-use Rattle.reading_back.proofs.Spelling.{Ends, IsName}
+use Rattle.reading_back.proofs.Spelling.{Ends}
 use Rattle.reading_back.proofs.Reading.{Reads, Any, Reads-then, Reads-gives, Reads-space, Reads-before_feed}
 use Rattle.reading_back.proofs.Symbols.{Reads-name, Reads-word, Reads-open, Reads-close}
 use Rattle.reading_back.proofs.Lists.{Pairs, Reads-lines}
@@ -46,7 +45,7 @@ abbrev written_vertex : ℕ → WrittenName → List WrittenChange → List Writ
 written_vertex at n cs es = record { at = at; name = n; parameters = None; changes = cs; edges = es }
 
 vertex_of : (d : Declared) (v : EventVertex) (at : ℕ) (n : WrittenName) (cs : List WrittenChange) (es : List WrittenEdge) → PrintableVertex d v → n.name ≡ v.name → Pairs (IsChangeOf d) v.changes cs → Pairs (IsEdgeOf d) v.edges es
-  → IsVertexOf d v (written_vertex at n cs es)
+    → IsVertexOf d v (written_vertex at n cs es)
 vertex_of d v at n cs es p named c e =
     let changes : each (numbering.change d) cs ≡ Some v.changes = each_of (numbering.change d) IsFirstChange v.changes cs c in
     let edges : each (numbering.edge d) es ≡ Some v.edges = each_of (numbering.edge d) IsFirstEdge v.edges es e in
@@ -54,7 +53,7 @@ vertex_of d v at n cs es p named c e =
     record {
       numbers = rw (changes, edges) (ap Some same);
       form = record { parameters = refl; changes = all_of (IsChangeOf d) IsFirstChange (λ y x h. h.1) v.changes cs c; edges = all_of (IsEdgeOf d) IsFirstEdge (λ y x h. h.1) v.edges es e };
-      name = named
+      name = named;
     }
 
 pub Reads-vertex : (d : Declared) (v : EventVertex) → PrintableVertex d v → Reads form.vertex (vertex_text d v) Any (IsVertexOf d v)

@@ -1,10 +1,10 @@
 -- What a text of the first form spells: its names are names, and its numbers are below 2^63.
-use Rattle.std.proofs.Common.{◌≡◌, ℕ, Bool, true, false, List, [], ◌∷◌, refl}
-use Rattle.std.specs.Prelude.{Option, Some, None, IfSome}
+use Rattle.std.proofs.Common.{◌≡◌, true, false, [], ◌∷◌, refl}
+use Rattle.std.specs.Prelude.{None, IfSome}
 use Rattle.std.specs.List.{AllByRecursion}
 use Rattle.model_core.specs.declared.token.Word.TheVariants as words
 use Rattle.model_core.specs.declared.token.Symbol.TheVariants as symbols
-use Rattle.model_core.specs.Written.{WrittenName, WrittenNumber, WrittenSigned, WrittenKind, RangeKind, TruthKind, WrittenLiteral, SignedLiteral, TruthLiteral, WrittenExpression, Number, Truth, Scalar, WrittenVariable, WrittenTarget, WrittenChange, Set, WrittenEdgeKind, Schedule, WrittenEdge, WrittenVertex, WrittenModel}
+use Rattle.model_core.specs.Written.{WrittenName, WrittenSigned, WrittenKind, RangeKind, TruthKind, WrittenLiteral, SignedLiteral, TruthLiteral, WrittenExpression, Number, Truth, Scalar, WrittenVariable, WrittenChange, Set, WrittenEdgeKind, Schedule, WrittenEdge, WrittenVertex, WrittenModel}
 use Rattle.model_core.specs.FirstForm as form
 use Rattle.reading_back.proofs.Spelling.{IsName}
 use Rattle.reading_back.proofs.Tokens.{IsLiteral}
@@ -32,7 +32,7 @@ pub record GoodVariable (w : WrittenVariable) : Type 0 where
 signed_yields : Yields form.signed GoodSigned
 signed_yields =
     Yields-or (Yields-then (Yields-symbol symbols.Minus) (λ at _. Yields-then Yields-number (λ n g. Yields-gives (record { at = at; negative = true; number = n }) GoodSigned g)))
-        (Yields-then Yields-number (λ n g. Yields-gives (record { at = n.at; negative = false; number = n }) GoodSigned g))
+    (Yields-then Yields-number (λ n g. Yields-gives (record { at = n.at; negative = false; number = n }) GoodSigned g))
 
 variable_yields : Yields form.variable GoodVariable
 variable_yields =

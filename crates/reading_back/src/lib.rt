@@ -9,9 +9,6 @@ ghost use Rattle.model_core.specs.Acceptance.{ReadsFirst};
 
 /// What the canonical strategy makes of a model that was read is printed so that it reads back as that model.
 pub fn reads_back()
-    ensures {
-        (text : List ℕ) (g : EventGraph) (applications : List RuleApplication) (reduced : EventGraph)
-        → ReadsFirst text g → Strategy g applications reduced → ReadsFirst (canonical reduced) reduced
-    }
-{
-}
+    ensures { (text : List ℕ) (g : EventGraph) (applications : List RuleApplication) (reduced : EventGraph)
+        → ReadsFirst text g → Strategy g applications reduced → ReadsFirst (canonical reduced) reduced }
+{}
