@@ -1,0 +1,4 @@
+pub mod Fronts
+pub mod LexemeSets
+pub mod Lexemes
+pub mod TokenOrder

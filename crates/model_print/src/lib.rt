@@ -1,2 +1,14 @@
 //! Prints a model's canonical text.
 #![tactic(auto)]
+
+mod declarations;
+mod expressions;
+mod model;
+mod names;
+mod numbers;
+mod vertices;
+
+pub use model::print;
+
+#[cfg(test)]
+mod tests;

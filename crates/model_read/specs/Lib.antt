@@ -1,0 +1,3 @@
+pub mod Lexemes
+pub mod Reader
+pub mod Rules

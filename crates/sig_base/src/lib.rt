@@ -2,12 +2,23 @@
 //! and sinks of bytes through which the program reaches the outside.
 #![tactic(auto)]
 
+mod count;
 mod fault;
 mod limits;
 mod list;
+mod memory_sink;
+mod memory_source;
 mod name;
 mod no_memory;
+mod putting;
+mod sink;
+mod source;
+mod std_sink;
+mod std_source;
+mod steps;
 mod table;
+mod take_error;
+mod taking;
 mod text;
 
 pub use fault::FaultKind;
@@ -17,7 +28,20 @@ pub use limits::{
     VARIABLES_MAX, VERTICES_MAX, WEIGHTS_MAX,
 };
 pub use list::List;
+pub use memory_sink::MemorySink;
+pub use memory_source::MemorySource;
 pub use name::Name;
 pub use no_memory::{Failed, NoMemory};
+pub use putting::put;
+pub use sink::Sink;
+pub use source::Source;
+pub use std_sink::StdSink;
+pub use std_source::StdSource;
+pub use steps::Steps;
 pub use table::{Carried, Row, Table};
+pub use take_error::TakeError;
+pub use taking::take_all;
 pub use text::Text;
+
+#[cfg(test)]
+mod tests;

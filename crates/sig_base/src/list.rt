@@ -1,6 +1,6 @@
 //! A list of values.
 
-ghost use Rattle.std.specs.Prelude.{◌≡◌, [], ◌∷◌, ◌++◌, length, OnOk, IfOk, IsOk};
+ghost use Rattle.std.specs.Prelude.{◌≡◌, [], ◌∷◌, ◌++◌, length, OnOk, OnErr};
 
 use crate::no_memory::NoMemory;
 use std::alloc::Global;
@@ -21,6 +21,10 @@ impl<T> Model for List<T> {
 }
 
 impl<T> List<T> {
+    ghost use Rattle.std.specs.Borrow.{Lends, sem};
+    ghost use Rattle.sig_base.specs.contracts.list.List.{the_row};
+    ghost use Rattle.sig_base.specs.Rows.{items_row};
+
     /// A list of no items, which takes no memory.
     pub fn new(alloc: Global) -> List<T>
         ensures { result ≡ [] }
@@ -37,11 +41,27 @@ impl<T> List<T> {
         List { items }
     }
 
+    /// The items, which leave the list.
+    pub fn into_vec(self) -> Vec<T>
+        ensures { result.items ≡ self }
+    {
+        let List { items } = self;
+        items
+    }
+
     /// The items in order.
     pub fn as_slice(&self) -> &[T]
         ensures { result.now ≡ self.now }
     {
         self.items.as_slice()
+    }
+
+    /// The `Vec` of the items, lent for writing.
+    pub fn as_mut_vec(&mut self) -> &mut Vec<T>
+        ensures* writes_back { sem 𝓛 (Lends (the_row T.row) (items_row T.row) self.entry result (λ v. v.items)) }
+        ensures shows { result.now.items ≡ self.old }
+    {
+        &mut self.items
     }
 
     /// How many items there are.
@@ -56,6 +76,7 @@ impl<T> List<T> {
     where
         T: Drop,
         ensures ok { OnOk result (self.new ≡ self.old ++ item ∷ []) }
+        ensures err { OnErr result (self.new ≡ self.old) }
     {
         self.items.push(item)?;
         Ok(())

@@ -19,6 +19,10 @@ impl Model for Name {
 }
 
 impl Name {
+    ghost use Rattle.std.specs.Borrow.{Lends, sem};
+    ghost use Rattle.sig_base.specs.contracts.name.Name.{the_row};
+    ghost use Rattle.sig_base.specs.Rows.{bytes_row};
+
     /// The name of the bytes.
     pub fn from_vec(bytes: Vec<u8>) -> Name
         ensures { result ≡ bytes.items }
@@ -31,5 +35,13 @@ impl Name {
         ensures { result.now ≡ self.now }
     {
         self.bytes.as_slice()
+    }
+
+    /// The `Vec` of the bytes, lent for writing.
+    pub fn as_mut_vec(&mut self) -> &mut Vec<u8>
+        ensures* writes_back { sem 𝓛 (Lends the_row bytes_row self.entry result (λ v. v.items)) }
+        ensures shows { result.now.items ≡ self.old }
+    {
+        &mut self.bytes
     }
 }

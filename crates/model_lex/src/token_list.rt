@@ -1,7 +1,8 @@
-//! The tokens of a text.
+//! A text with its tokens.
 
 ghost use Rattle.std.specs.Prelude.{◌≡◌, map, Ok};
 ghost use Rattle.model_core.specs.Lexing.{tokens_of, lexeme_of};
+ghost use Rattle.model_lex.specs.LexemeSets.{lexemes-prop};
 
 use model_core::Token;
 use sig_base::List;
@@ -11,5 +12,6 @@ use sig_base::List;
 pub struct Tokens<'t> {
     pub text: &'t [u8],
     pub list: List<Token>,
-    pub ghost are_its: { ∥ tokens_of text.now ≡ Ok (map (lexeme_of text.now) list) ∥₁ },
+    pub ghost are_its: { tokens_of text.now ≡ Ok (map (lexeme_of text.now) list) }
+        by { lexemes-prop (tokens_of text.now) (Ok (map (lexeme_of text.now) list)) },
 }

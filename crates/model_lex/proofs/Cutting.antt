@@ -1,0 +1,107 @@
+-- The tokens so far and those of the rest of the text are the text's tokens.
+use Rattle.std.proofs.Common.{◌≡◌, ℕ, zero, suc, ◌+◌, ◌-◌, ◌<◌, ◌≤◌, List, [], ◌∷◌, ◌++◌, length, take, drop, map, sym, refl, ap, ◌∙◌, subst, arith, add-zero, append_assoc}
+use Rattle.std.specs.Prelude.{Result, Ok, Err}
+use Rattle.std.proofs.lemmas.List.{drop-drop, length-drop, map_push, append-nil, drop_all, take_rest}
+use Rattle.model_core.specs.declared.token.Token.{Token}
+use Rattle.model_core.specs.declared.token.TokenKind.{TokenKind}
+use Rattle.model_core.specs.Lexing.{Lexeme, LexemeKind, Front, Between, Longest, Neither, front, front_length, after_front, tokens_from, tokens_of, lexeme_of, lexeme_kind_of}
+use Rattle.model_lex.specs.Fronts.{front_at, seen}
+use Rattle.model_lex.specs.declared.front.Front.{Front as CodeFront}
+use Rattle.model_lex.proofs.FrontLemmas.{Fits, front-front_at, front_at-fits}
+
+-- tokens that come before what the rest gives
+abbrev pub joined : List Lexeme → Result (List Lexeme) ℕ → Result (List Lexeme) ℕ
+joined before (Ok later) = Ok (before ++ later)
+joined before (Err at) = Err at
+
+-- what belongs to what began before is passed over
+tokens_from-inside : (at inside : ℕ) (s : List ℕ) → tokens_from at inside s ≡ tokens_from (at + inside) 0 (drop inside s)
+tokens_from-inside at zero s = ap (λ a. tokens_from a 0 s) (sym (add-zero at))
+tokens_from-inside at (suc n) [] = refl
+tokens_from-inside at (suc n) (c ∷ s) =
+    let same : at + 1 + n ≡ at + suc n = omega arith in
+    tokens_from-inside (at + 1) n s ∙ ap (λ a. tokens_from a 0 (drop n s)) same
+
+after_byte : (at n c : ℕ) (s : List ℕ) → 1 ≤ n → tokens_from (at + 1) (n - 1) s ≡ tokens_from (at + n) 0 (drop n (c ∷ s))
+after_byte at zero c s some = absurd (omega arith)
+after_byte at (suc n) c s some =
+    let one_less : suc n - 1 ≡ n = omega arith in
+    let same : at + 1 + n ≡ at + suc n = omega arith in
+    ap (λ k. tokens_from (at + 1) k s) one_less ∙ tokens_from-inside (at + 1) n s ∙ ap (λ a. tokens_from a 0 (drop n s)) same
+
+-- the front is taken off, and the rest gives the later tokens
+tokens_from-front : (at : ℕ) (s : List ℕ) → 0 < length s → tokens_from at 0 s ≡ after_front at (front_at s) (tokens_from (at + front_length (front_at s)) 0 (drop (front_length (front_at s)) s))
+tokens_from-front at [] some = absurd (omega arith)
+tokens_from-front at (c ∷ s) some =
+    ap (λ f. after_front at f (tokens_from (at + 1) (front_length f - 1) s)) (front-front_at c s)
+    ∙ ap (after_front at (front_at (c ∷ s))) (after_byte at (front_length (front_at (c ∷ s))) c s (front_at-fits (c ∷ s) some).0)
+
+-- up to this place the text is cut into these tokens
+pub record Cut (text : List ℕ) (ts : List Token) (at : ℕ) : Type 0 where
+  pub in_text : at ≤ length text
+  pub whole : joined (map (lexeme_of text) ts) (tokens_from at 0 (drop at text)) ≡ tokens_of text
+
+-- nothing is cut at first
+pub cut_none : (text : List ℕ) → Cut text [] 0
+cut_none text = record { in_text = omega arith; whole = joined_none (tokens_from 0 0 text) } where
+  joined_none : (r : Result (List Lexeme) ℕ) → joined [] r ≡ r
+  joined_none (Ok later) = refl
+  joined_none (Err at) = refl
+
+-- the front at a place, and what is left behind it
+abbrev rest_after : List ℕ → ℕ → ℕ → Result (List Lexeme) ℕ
+rest_after text at n = tokens_from (at + n) 0 (drop (at + n) text)
+
+front_here : (text : List ℕ) (at : ℕ) (f : Front) → at < length text → front_at (drop at text) ≡ f → (tokens_from at 0 (drop at text) ≡ after_front at f (rest_after text at (front_length f))) × Fits (drop at text) f
+front_here text at f inside is =
+    let some : 0 < length (drop at text) = omega (arith, length-drop at text) in
+    (tokens_from-front at (drop at text) some
+     ∙ ap (λ g. after_front at g (tokens_from (at + front_length g) 0 (drop (front_length g) (drop at text)))) is
+     ∙ ap (λ r. after_front at f (tokens_from (at + front_length f) 0 r)) (drop-drop (front_length f) at text),
+     subst (Fits (drop at text)) is (front_at-fits (drop at text) some))
+
+-- what the code sees in the rest of the text
+pub seen_here : (text : List ℕ) (at : ℕ) (f : CodeFront) → seen (take (length text - at) (drop at text)) f ≡ front_at (take (length text - at) (drop at text)) → front_at (drop at text) ≡ seen (drop at text) f
+seen_here text at f is = sym (subst (λ s. seen s f ≡ front_at s) (take_rest text at) is)
+
+-- where the front is, there is room for it
+pub front_room : (text : List ℕ) (at : ℕ) (f : Front) → at < length text → front_at (drop at text) ≡ f → (0 < front_length f) × (at + front_length f ≤ length text)
+front_room text at f inside is = let fits = (front_here text at f inside is).1 in (omega arith, omega (arith, length-drop at text, fits.1))
+
+pub cut_between : (text : List ℕ) (ts : List Token) (at n : ℕ) → at < length text → front_at (drop at text) ≡ Between n → Cut text ts at → Cut text ts (at + n)
+cut_between text ts at n inside is cut =
+    let here = front_here text at (Between n) inside is in
+    record {
+      in_text = (front_room text at (Between n) inside is).1;
+      whole = ap (joined (map (lexeme_of text) ts)) (sym here.0) ∙ cut.whole;
+    }
+
+-- a token comes after those before it
+joined_longest : (ls : List Lexeme) (at n : ℕ) (kind : LexemeKind) (r : Result (List Lexeme) ℕ) → joined ls (after_front at (Longest n kind) r) ≡ joined (ls ++ record { from = at; to = at + n; kind = kind } ∷ []) r
+joined_longest ls at n kind (Ok later) = ap Ok (sym (append_assoc ls (record { from = at; to = at + n; kind = kind } ∷ []) later))
+joined_longest ls at n kind (Err place) = refl
+
+pub cut_longest : (text : List ℕ) (ts : List Token) (at n : ℕ) (kind : TokenKind) → at < length text → front_at (drop at text) ≡ Longest n (lexeme_kind_of (take n (drop at text)) kind) → Cut text ts at → Cut text (ts ++ record { kind = kind; from = at; to = at + n } ∷ []) (at + n)
+cut_longest text ts at n kind inside is cut =
+    let here = front_here text at (Longest n (lexeme_kind_of (take n (drop at text)) kind)) inside is in
+    let before = map (lexeme_of text) ts in
+    let rest = rest_after text at n in
+    let width : at + n - at ≡ n = omega arith in
+    record {
+      in_text = (front_room text at (Longest n (lexeme_kind_of (take n (drop at text)) kind)) inside is).1;
+      whole =
+          ap (λ ls. joined ls rest) (map_push (lexeme_of text) ts (record { kind = kind; from = at; to = at + n }))
+          ∙ ap (λ m. joined (before ++ record { from = at; to = at + n; kind = lexeme_kind_of (take m (drop at text)) kind } ∷ []) rest) width
+          ∙ sym (joined_longest before at n (lexeme_kind_of (take n (drop at text)) kind) rest)
+          ∙ ap (joined before) (sym here.0)
+          ∙ cut.whole;
+    }
+
+-- no token begins here
+pub cut_neither : (text : List ℕ) (ts : List Token) (at : ℕ) → at < length text → front_at (drop at text) ≡ Neither → Cut text ts at → tokens_of text ≡ Err at
+cut_neither text ts at inside is cut = sym cut.whole ∙ ap (joined (map (lexeme_of text) ts)) (front_here text at Neither inside is).0
+
+-- nothing is left
+pub cut_all : (text : List ℕ) (ts : List Token) (at : ℕ) → length text ≤ at → Cut text ts at → tokens_of text ≡ Ok (map (lexeme_of text) ts)
+cut_all text ts at past cut =
+    sym cut.whole ∙ ap (λ s. joined (map (lexeme_of text) ts) (tokens_from at 0 s)) (drop_all at text past) ∙ ap Ok (append-nil (map (lexeme_of text) ts))

@@ -1,0 +1,5 @@
+pub mod Cutting
+pub mod Digits
+pub mod FrontLemmas
+pub mod Places
+pub mod ReservedWords

@@ -1,0 +1,8 @@
+use Rattle.std.proofs.Common.{◌≡◌, ◌+◌, drop}
+use Rattle.std.specs.List.{prefix_len}
+use Rattle.std.specs.Char.{is_ascii_digit}
+use Rattle.model_lex.proofs.runs.digits_length.Given as goal
+
+-- what the run has so far, and what it has of the rest
+abbrev pub invariant-loop-place : goal.invariant-loop-place
+invariant-loop-place l = l.place + prefix_len is_ascii_digit (drop l.place l.bytes) ≡ prefix_len is_ascii_digit l.bytes

@@ -1,0 +1,27 @@
+//! The value that digits write.
+
+ghost use Rattle.std.specs.Prelude.{◌≡◌};
+ghost use Rattle.std.specs.List.{AllPass};
+ghost use Rattle.std.specs.Char.{is_ascii_digit};
+ghost use Rattle.model_core.specs.Lexing.{literal_value};
+
+/// The first number that is no literal.
+const BEYOND: u64 = 9_223_372_036_854_775_808;
+
+/// The number that the digits write in decimal, or `None` above 2^63 - 1.
+pub(crate) fn literal_value(digits: &[u8]) -> Option<i64>
+    requires { AllPass is_ascii_digit digits.now }
+    ensures { result ≡ literal_value digits.now }
+{
+    let mut value: u64 = 0;
+    for digit in digits {
+        value = value
+            .checked_mul(10)?
+            .checked_add(u64::from(*digit - b'0'))?;
+    }
+    if value < BEYOND {
+        Some(value as i64)
+    } else {
+        None
+    }
+}

@@ -1,0 +1,56 @@
+//! How far a run of bytes of one kind goes.
+
+ghost use Rattle.std.specs.Prelude.{◌≡◌};
+ghost use Rattle.std.specs.List.{prefix_len};
+ghost use Rattle.std.specs.Char.{is_ascii_digit};
+ghost use Rattle.model_core.specs.Lexing.{is_blank, is_word_byte, is_comment_byte};
+
+/// Whether the byte is a space, a tab, a carriage return or a line feed.
+pub(crate) fn is_blank(byte: u8) -> bool
+    ensures { result ≡ is_blank byte }
+{
+    byte == b' ' || byte == b'\t' || byte == b'\r' || byte == b'\n'
+}
+
+/// Whether a word goes on with the byte.
+pub(crate) fn is_word_byte(byte: u8) -> bool
+    ensures { result ≡ is_word_byte byte }
+{
+    byte.is_ascii_alphabetic() || byte.is_ascii_digit() || byte == b'_'
+}
+
+/// How many bytes of a word the bytes begin with.
+pub(crate) fn word_length(bytes: &[u8]) -> usize
+    ensures { result ≡ prefix_len is_word_byte bytes.now }
+{
+    for (place, byte) in bytes.iter().enumerate() {
+        if !is_word_byte(*byte) {
+            return place;
+        }
+    }
+    bytes.len()
+}
+
+/// How many digits the bytes begin with.
+pub(crate) fn digits_length(bytes: &[u8]) -> usize
+    ensures { result ≡ prefix_len is_ascii_digit bytes.now }
+{
+    for (place, byte) in bytes.iter().enumerate() {
+        if !byte.is_ascii_digit() {
+            return place;
+        }
+    }
+    bytes.len()
+}
+
+/// How many bytes there are before the first line feed, or in all where there is none.
+pub(crate) fn comment_length(bytes: &[u8]) -> usize
+    ensures { result ≡ prefix_len is_comment_byte bytes.now }
+{
+    for (place, byte) in bytes.iter().enumerate() {
+        if *byte == b'\n' {
+            return place;
+        }
+    }
+    bytes.len()
+}

@@ -1,0 +1,7 @@
+use Rattle.std.proofs.Common.{◌≡◌, ◌++◌, map, take}
+use Rattle.model_core.specs.Canonical.{after_commas, expression_text}
+use Rattle.model_core.specs.Views.{graph_of, expression_of}
+use Rattle.model_print.proofs.expressions.put_expressions.Given as goal
+
+abbrev pub invariant-loop-expr : goal.invariant-loop-expr
+invariant-loop-expr l = l.out.items ≡ l.initial.out.items ++ after_commas (map (expression_text (graph_of l.model)) (map expression_of (take l.expr-index l.rest)))

@@ -1,0 +1,7 @@
+use Rattle.std.proofs.Common.{◌≡◌, ◌++◌, map, take}
+use Rattle.model_core.specs.Canonical.{after_commas, location_text}
+use Rattle.model_core.specs.Views.{graph_of, location_of}
+use Rattle.model_print.proofs.vertices.put_targets.Given as goal
+
+abbrev pub invariant-loop-target : goal.invariant-loop-target
+invariant-loop-target l = l.out.items ≡ l.initial.out.items ++ after_commas (map (location_text (graph_of l.model)) (map location_of (take l.target-index l.rest)))

@@ -1,0 +1,7 @@
+use Rattle.std.proofs.Common.{◌≡◌, ◌++◌, map, take}
+use Rattle.model_core.specs.Canonical.{after_commas, variable_name}
+use Rattle.model_core.specs.Views.{graph_of}
+use Rattle.model_print.proofs.vertices.put_variable_names.Given as goal
+
+abbrev pub invariant-loop-var : goal.invariant-loop-var
+invariant-loop-var l = l.out.items ≡ l.initial.out.items ++ after_commas (map (variable_name (graph_of l.model)) (take l.var-index l.rest))

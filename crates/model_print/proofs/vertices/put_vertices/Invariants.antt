@@ -1,0 +1,8 @@
+use Rattle.std.proofs.Common.{◌≡◌, ◌++◌, map, take}
+use Rattle.std.specs.List.{flat_map}
+use Rattle.model_core.specs.Canonical.{vertex_lines}
+use Rattle.model_core.specs.Views.{graph_of, vertex_of}
+use Rattle.model_print.proofs.vertices.put_vertices.Given as goal
+
+abbrev pub invariant-loop-vertex : goal.invariant-loop-vertex
+invariant-loop-vertex l = l.out.items ≡ l.initial.out.items ++ flat_map (vertex_lines (graph_of l.model)) (map vertex_of (take l.vertex-index l.vertices))

@@ -1,0 +1,186 @@
+//! The lines of a vertex: its changes and its edges.
+
+ghost use Rattle.std.specs.Prelude.{◌≡◌, ◌++◌, OnOk, map, option_map};
+ghost use Rattle.std.specs.List.{flat_map};
+ghost use Rattle.model_core.specs.Canonical.{index_text, location_text, change_line, delay_text, priority_text, condition_text, edge_line, vertex_lines, variable_name, joined, in_parentheses};
+ghost use Rattle.model_core.specs.Views.{graph_of, expression_of, location_of, change_of, edge_of, vertex_of};
+
+use crate::expressions::{put_expression, put_expressions, put_passed};
+use crate::names::{put_variable_name, put_vertex_name};
+use crate::numbers::put_number;
+use model_core::{Change, Edge, EdgeForm, Expr, Model, Target, Vertex};
+use sig_base::NoMemory;
+
+/// The priority that an edge has where none is written.
+const PLAIN_PRIORITY: u8 = 5;
+
+/// Adds an index in brackets, or nothing where there is none.
+fn put_index(out: &mut Vec<u8>, model: &Model, index: &Option<Expr>) -> Result<(), NoMemory>
+    ensures { OnOk result (out.new.items ≡ out.old.items ++ index_text (graph_of model.now) (option_map expression_of index.now)) }
+{
+    if let Some(index) = index {
+        out.extend_from_slice(b"[")?;
+        put_expression(out, model, index)?;
+        out.extend_from_slice(b"]")?;
+    }
+    Ok(())
+}
+
+/// Adds a variable or a cell that takes a value.
+fn put_target(out: &mut Vec<u8>, model: &Model, target: &Target) -> Result<(), NoMemory>
+    ensures { OnOk result (out.new.items ≡ out.old.items ++ location_text (graph_of model.now) (location_of target.now)) }
+{
+    put_variable_name(out, model, target.var)?;
+    put_index(out, model, &target.index)
+}
+
+/// Adds targets, with a comma and a space between two.
+fn put_targets(out: &mut Vec<u8>, model: &Model, targets: &[Target]) -> Result<(), NoMemory>
+    ensures { OnOk result (out.new.items ≡ out.old.items ++ joined (map (location_text (graph_of model.now)) (map location_of targets.now))) }
+{
+    if let [first, rest @ ..] = targets {
+        put_target(out, model, first)?;
+        for target in rest {
+            out.extend_from_slice(b", ")?;
+            put_target(out, model, target)?;
+        }
+    }
+    Ok(())
+}
+
+/// Adds the line of a change.
+fn put_change(out: &mut Vec<u8>, model: &Model, change: &Change) -> Result<(), NoMemory>
+    ensures { OnOk result (out.new.items ≡ out.old.items ++ change_line (graph_of model.now) (change_of change.now)) }
+{
+    match change {
+        Change::Set { targets, values } => {
+            out.extend_from_slice(b"  set ")?;
+            put_targets(out, model, targets.as_slice())?;
+            out.extend_from_slice(b" := ")?;
+            put_expressions(out, model, values.as_slice())?;
+            out.extend_from_slice(b";\n")?;
+        }
+    }
+    Ok(())
+}
+
+/// Adds a delay, or nothing where it is the number 0.
+fn put_delay(out: &mut Vec<u8>, model: &Model, delay: &Expr) -> Result<(), NoMemory>
+    ensures { OnOk result (out.new.items ≡ out.old.items ++ delay_text (graph_of model.now) (expression_of delay.now)) }
+{
+    if let Expr::Int(0) = delay {
+        return Ok(());
+    }
+    out.extend_from_slice(b" after ")?;
+    put_expression(out, model, delay)
+}
+
+/// Adds a priority, or nothing where it is the plain one.
+fn put_priority(out: &mut Vec<u8>, priority: u8) -> Result<(), NoMemory>
+    ensures { OnOk result (out.new.items ≡ out.old.items ++ priority_text priority) }
+{
+    if priority != PLAIN_PRIORITY {
+        out.extend_from_slice(b" priority ")?;
+        put_number(out, u64::from(priority))?;
+    }
+    Ok(())
+}
+
+/// Adds a condition, or nothing where it is the word `true`.
+fn put_condition(out: &mut Vec<u8>, model: &Model, condition: &Expr) -> Result<(), NoMemory>
+    ensures { OnOk result (out.new.items ≡ out.old.items ++ condition_text (graph_of model.now) (expression_of condition.now)) }
+{
+    if let Expr::Truth(true) = condition {
+        return Ok(());
+    }
+    out.extend_from_slice(b" when ")?;
+    put_expression(out, model, condition)
+}
+
+/// Adds the line of an edge.
+fn put_edge(out: &mut Vec<u8>, model: &Model, edge: &Edge) -> Result<(), NoMemory>
+    ensures { OnOk result (out.new.items ≡ out.old.items ++ edge_line (graph_of model.now) (edge_of edge.now)) }
+{
+    match &edge.form {
+        EdgeForm::Schedule { delay, priority } => {
+            out.extend_from_slice(b"  schedule ")?;
+            put_vertex_name(out, model, edge.target)?;
+            put_passed(out, model, edge.values.as_slice())?;
+            put_delay(out, model, delay)?;
+            put_priority(out, *priority)?;
+        }
+    }
+    put_condition(out, model, &edge.condition)?;
+    out.extend_from_slice(b";\n")?;
+    Ok(())
+}
+
+/// Adds the names of variables, with a comma and a space between two.
+fn put_variable_names(out: &mut Vec<u8>, model: &Model, vars: &[usize]) -> Result<(), NoMemory>
+    ensures { OnOk result (out.new.items ≡ out.old.items ++ joined (map (variable_name (graph_of model.now)) vars.now)) }
+{
+    if let [first, rest @ ..] = vars {
+        put_variable_name(out, model, *first)?;
+        for var in rest {
+            out.extend_from_slice(b", ")?;
+            put_variable_name(out, model, *var)?;
+        }
+    }
+    Ok(())
+}
+
+/// Adds the parameters of a vertex in parentheses, or nothing where it has none.
+fn put_parameters(out: &mut Vec<u8>, model: &Model, params: &[usize]) -> Result<(), NoMemory>
+    ensures { OnOk result (out.new.items ≡ out.old.items ++ in_parentheses (map (variable_name (graph_of model.now)) params.now)) }
+{
+    if !params.is_empty() {
+        out.extend_from_slice(b"(")?;
+        put_variable_names(out, model, params)?;
+        out.extend_from_slice(b")")?;
+    }
+    Ok(())
+}
+
+/// Adds the lines of changes.
+fn put_changes(out: &mut Vec<u8>, model: &Model, changes: &[Change]) -> Result<(), NoMemory>
+    ensures { OnOk result (out.new.items ≡ out.old.items ++ flat_map (change_line (graph_of model.now)) (map change_of changes.now)) }
+{
+    for change in changes {
+        put_change(out, model, change)?;
+    }
+    Ok(())
+}
+
+/// Adds the lines of edges.
+fn put_edges(out: &mut Vec<u8>, model: &Model, edges: &[Edge]) -> Result<(), NoMemory>
+    ensures { OnOk result (out.new.items ≡ out.old.items ++ flat_map (edge_line (graph_of model.now)) (map edge_of edges.now)) }
+{
+    for edge in edges {
+        put_edge(out, model, edge)?;
+    }
+    Ok(())
+}
+
+/// Adds the lines of a vertex.
+fn put_vertex(out: &mut Vec<u8>, model: &Model, vertex: &Vertex) -> Result<(), NoMemory>
+    ensures { OnOk result (out.new.items ≡ out.old.items ++ vertex_lines (graph_of model.now) (vertex_of vertex.now)) }
+{
+    out.extend_from_slice(b"vertex ")?;
+    out.extend_from_slice(vertex.name.as_slice())?;
+    put_parameters(out, model, vertex.params.as_slice())?;
+    out.extend_from_slice(b" {\n")?;
+    put_changes(out, model, vertex.changes.as_slice())?;
+    put_edges(out, model, vertex.edges.as_slice())?;
+    out.extend_from_slice(b"}\n")?;
+    Ok(())
+}
+
+/// Adds the lines of vertices.
+pub fn put_vertices(out: &mut Vec<u8>, model: &Model, vertices: &[Vertex]) -> Result<(), NoMemory>
+    ensures { OnOk result (out.new.items ≡ out.old.items ++ flat_map (vertex_lines (graph_of model.now)) (map vertex_of vertices.now)) }
+{
+    for vertex in vertices {
+        put_vertex(out, model, vertex)?;
+    }
+    Ok(())
+}

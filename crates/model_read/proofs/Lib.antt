@@ -1,0 +1,5 @@
+pub mod Decides
+pub mod FirstFormDecides
+pub mod Loop
+pub mod Parts
+pub mod Whole

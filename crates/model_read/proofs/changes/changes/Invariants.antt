@@ -1,0 +1,11 @@
+use Rattle.std.proofs.Common.{map, ◌≡◌, length}
+use Rattle.model_core.specs.WrittenViews.{written_change}
+use Rattle.model_read.specs.Rules.{changes_at}
+use Rattle.model_read.proofs.Loop.{with_front}
+use Rattle.model_read.proofs.changes.changes.Given as goal
+
+abbrev pub invariant-loop-alloc : goal.invariant-loop-alloc
+invariant-loop-alloc l = with_front (map written_change l.changes.items) (changes_at l.cursor) ≡ changes_at l.fn.cursor
+
+abbrev pub decreases-loop-alloc : goal.decreases-loop-alloc
+decreases-loop-alloc l = length l.cursor

@@ -1,0 +1,83 @@
+//! Writing to one of std's writers.
+
+ghost use Rattle.std.specs.Prelude.{◌≡◌, ◌<◌, ◌≤◌, false, length, IfOk, OnOk, OnErr};
+ghost use Rattle.sig_base.specs.Faults.{HasRisen};
+ghost use Rattle.sig_base.specs.Source.{Stays};
+ghost use Rattle.sig_base.specs.Sink.{GrowsBy};
+
+use crate::count::one_more;
+use crate::no_memory::Failed;
+use crate::sink::Sink;
+use crate::std_source::TRIES;
+use std::io::{ErrorKind, Write};
+
+/// A writer of std as a sink.
+///
+/// A call that is interrupted is tried at most 100 times in all. Every other error, the hundredth
+/// interruption and a write of no byte are `Failed`. `finish` is the writer's flush. What was
+/// written is told where the writer tells it: a writer over memory does, and a terminal, a pipe or
+/// a file doesn't.
+#[derive(Drop)]
+pub struct StdSink<W> {
+    inner: W,
+    faults: u64,
+    settled: bool,
+}
+
+impl<W: Write> StdSink<W> {
+    /// The sink that writes to the writer.
+    pub fn new(inner: W) -> StdSink<W>
+        ensures written { ⟦<StdSink<W> as Sink>⟧.written result ≡ W.contents inner }
+        ensures faults { ⟦<StdSink<W> as Sink>⟧.faults result ≡ 0 }
+        ensures settled { ⟦<StdSink<W> as Sink>⟧.settled result ≡ false }
+    {
+        StdSink {
+            inner,
+            faults: 0,
+            settled: false,
+        }
+    }
+}
+
+impl<W: Write> Sink for StdSink<W> {
+    ghost written = { λ s. W.contents s.inner };
+
+    ghost faults = { λ s. s.faults };
+
+    ghost settled = { λ s. s.settled };
+
+    fn write(&mut self, piece: &[u8]) -> Result<usize, Failed> {
+        self.settled = false;
+        for _ in 0..TRIES {
+            match self.inner.write(piece) {
+                Ok(0) => break,
+                Ok(count) => return Ok(count),
+                Err(error) => {
+                    if error.kind() != ErrorKind::Interrupted {
+                        break;
+                    }
+                }
+            }
+        }
+        self.faults = one_more(self.faults);
+        Err(Failed)
+    }
+
+    fn finish(&mut self) -> Result<(), Failed> {
+        for _ in 0..TRIES {
+            match self.inner.flush() {
+                Ok(()) => {
+                    self.settled = true;
+                    return Ok(());
+                }
+                Err(error) => {
+                    if error.kind() != ErrorKind::Interrupted {
+                        break;
+                    }
+                }
+            }
+        }
+        self.faults = one_more(self.faults);
+        Err(Failed)
+    }
+}

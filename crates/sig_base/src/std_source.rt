@@ -1,0 +1,55 @@
+//! Reading from one of std's readers.
+
+ghost use Rattle.std.specs.Prelude.{◌≡◌, ◌<◌, ◌≤◌, length, IfOk, OnOk, OnErr};
+ghost use Rattle.sig_base.specs.Faults.{HasRisen};
+ghost use Rattle.sig_base.specs.Source.{Stays, Takes, Shows, IsAtEnd};
+
+use crate::count::one_more;
+use crate::no_memory::Failed;
+use crate::source::Source;
+use std::io::{ErrorKind, Read};
+
+/// How often a call that is interrupted is tried in all.
+pub(crate) const TRIES: u32 = 100;
+
+/// A reader of std as a source.
+///
+/// A call that is interrupted is tried at most 100 times in all. Every other error, and the
+/// hundredth interruption, is `Failed`. What is left is told where the reader tells it: a reader
+/// over memory does, and a terminal, a pipe or a file doesn't.
+#[derive(Drop)]
+pub struct StdSource<R> {
+    inner: R,
+    faults: u64,
+}
+
+impl<R: Read> StdSource<R> {
+    /// The source of what the reader has left.
+    pub fn new(inner: R) -> StdSource<R>
+        ensures left { ⟦<StdSource<R> as Source>⟧.left result ≡ R.remaining inner }
+        ensures faults { ⟦<StdSource<R> as Source>⟧.faults result ≡ 0 }
+    {
+        StdSource { inner, faults: 0 }
+    }
+}
+
+impl<R: Read> Source for StdSource<R> {
+    ghost left = { λ s. R.remaining s.inner };
+
+    ghost faults = { λ s. s.faults };
+
+    fn read(&mut self, into: &mut [u8]) -> Result<usize, Failed> {
+        for _ in 0..TRIES {
+            match self.inner.read(into) {
+                Ok(count) => return Ok(count),
+                Err(error) => {
+                    if error.kind() != ErrorKind::Interrupted {
+                        break;
+                    }
+                }
+            }
+        }
+        self.faults = one_more(self.faults);
+        Err(Failed)
+    }
+}

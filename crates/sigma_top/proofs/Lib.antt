@@ -1,0 +1,4 @@
+pub mod Lists
+pub mod SweepIsStrategy
+pub mod Reading
+pub mod Telling

@@ -1,0 +1,5 @@
+pub mod Sweep
+pub mod Words
+pub mod Ending
+pub mod Answer
+pub mod Outside
