@@ -39,10 +39,10 @@ Reads-scalar_value d k p =
 
 pub Reads-value : (d : Declared) (e : Expression) → PrintableValue d e → Reads (form.number_expression or form.scalar_expression) (value_text d e) Ends (IsValueOf d e)
 Reads-value d (Number (pos n)) l =
-    Reads-left form.number_expression form.scalar_expression (decimal n) Ends _ (Reads-text form.number_expression (decimal n ++ []) (decimal n) Ends _ (append-nil (decimal n)) (Reads-number_value d n l))
+    Reads-left form.scalar_expression (Reads-text (append-nil (decimal n)) (Reads-number_value d n l))
 Reads-value d (Number (negsuc n)) l = absurd l
 Reads-value d (Scalar k) p =
-    Reads-right form.number_expression form.scalar_expression (name_at d.variables k) Ends _ (Reads-text form.scalar_expression (name_at d.variables k ++ []) (name_at d.variables k) Ends _ (append-nil (name_at d.variables k)) (Reads-scalar_value d k p))
+    Reads-right form.number_expression (Reads-text (append-nil (name_at d.variables k)) (Reads-scalar_value d k p))
 Reads-value d (Truth b) p = absurd p
 Reads-value d Clock p = absurd p
 Reads-value d (Cell k i) p = absurd p
@@ -71,11 +71,11 @@ change_of d at l e n w none p named v =
 
 one_change : (d : Declared) (l : Location) (e : Expression) → l.index ≡ None → IsPlace d.variables l.variable → PrintableValue d e → Reads form.change (change_text d (Set (l ∷ []) (e ∷ []))) Any (IsChangeOf d (Set (l ∷ []) (e ∷ [])))
 one_change d l e none p v =
-    Reads-then (Reads-space (word words.Set) (codes " set") Ends _ (Reads-space (word words.Set) (codes "set") Ends _ (Reads-word 115 (codes "et") words.Set refl refl refl))) (λ rest h. refl) (λ at _.
-    Reads-then (Reads-space name (name_at d.variables l.variable) Ends _ (Reads-name (name_at d.variables l.variable) p.name)) (λ rest h. refl) (λ n named.
-    Reads-then (Reads-space (symbol symbols.Becomes) (codes ":=") Any _ Reads-becomes) (λ rest h. tt) (λ _ _.
-    Reads-then (Reads-space (form.number_expression or form.scalar_expression) (value_text d e) Ends _ (Reads-value d e v)) (λ rest h. refl) (λ w is.
-    Reads-then (Reads-before_feed (symbol symbols.Semicolon) (codes ";") Any _ (λ rest. tt) Reads-semicolon) (λ rest h. tt) (λ _ _.
+    Reads-then (Reads-space (Reads-space (Reads-word 115 (codes "et") words.Set refl refl refl))) (λ rest h. refl) (λ at _.
+    Reads-then (Reads-space (Reads-name (name_at d.variables l.variable) p.name)) (λ rest h. refl) (λ n named.
+    Reads-then (Reads-space Reads-becomes) (λ rest h. tt) (λ _ _.
+    Reads-then (Reads-space (Reads-value d e v)) (λ rest h. refl) (λ w is.
+    Reads-then (Reads-before_feed (λ rest. tt) Reads-semicolon) (λ rest h. tt) (λ _ _.
     Reads-gives (written.Set at (record { at = n.at; name = n; index = None } ∷ []) (w ∷ [])) Any (IsChangeOf d (Set (l ∷ []) (e ∷ []))) (change_of d at l e n w none p named is))))))
 
 pub Reads-change : (d : Declared) (c : StateChange) → PrintableChange d c → Reads form.change (change_text d c) Any (IsChangeOf d c)

@@ -44,14 +44,14 @@ variable_of v at n lo hi initial p named least greatest start =
 pub Reads-variable : (v : Variable) → PrintableVariable v → Reads form.variable (variable_text v) Any (IsVariableOf v)
 Reads-variable v p =
     Reads-then (Reads-word 118 (codes "ar") words.Var refl refl refl) (λ rest h. refl) (λ at _.
-    Reads-then (Reads-space name v.name Ends _ (Reads-name v.name p.name)) (λ rest h. refl) (λ n named.
-    Reads-then (Reads-space (symbol symbols.Colon) (codes ":") _ _ Reads-colon) (λ rest h. (_, refl)) (λ _ _.
-    Reads-then (Reads-space form.signed (signed_decimal v.lo) Ends _ (Reads-signed v.lo p.lo)) (λ rest h. refl) (λ lo least.
+    Reads-then (Reads-space (Reads-name v.name p.name)) (λ rest h. refl) (λ n named.
+    Reads-then (Reads-space Reads-colon) (λ rest h. (_, refl)) (λ _ _.
+    Reads-then (Reads-space (Reads-signed v.lo p.lo)) (λ rest h. refl) (λ lo least.
     Reads-then Reads-to (λ rest h. tt) (λ _ _.
     Reads-then (Reads-signed v.hi p.hi) (λ rest h. refl) (λ hi greatest.
-    Reads-then (Reads-space (symbol symbols.Equal) (codes "=") Any _ Reads-equal) (λ rest h. tt) (λ _ _.
-    Reads-then (Reads-space form.signed (signed_decimal v.initial) Ends _ (Reads-signed v.initial p.initial)) (λ rest h. refl) (λ initial start.
-    Reads-then (Reads-before_feed (symbol symbols.Semicolon) (codes ";") Any _ (λ rest. tt) Reads-semicolon) (λ rest h. tt) (λ _ _.
+    Reads-then (Reads-space Reads-equal) (λ rest h. tt) (λ _ _.
+    Reads-then (Reads-space (Reads-signed v.initial p.initial)) (λ rest h. refl) (λ initial start.
+    Reads-then (Reads-before_feed (λ rest. tt) Reads-semicolon) (λ rest h. tt) (λ _ _.
     Reads-gives (written_variable at n lo hi initial) Any (IsVariableOf v) (variable_of v at n lo hi initial p named least greatest start))))))))))
 
 -- ---- the watch list
@@ -85,12 +85,12 @@ IsWatchOf d ws names = written_or (each (numbering.watched d)) [] names ≡ Some
 Reads-some_watch : (n : List ℕ) (ns : List (List ℕ)) → AllByRecursion IsName (n ∷ ns) → Reads form.watch (watch_text (n ∷ ns)) Any (SameNames (n ∷ ns))
 Reads-some_watch n ns all =
     Reads-then (Reads-word 119 (codes "atch") words.Watch refl refl refl) (λ rest h. refl) (λ _ _.
-    Reads-then (Reads-space (list name) (joined (n ∷ ns)) Ends _ (Reads-names n ns all)) (λ rest h. refl) (λ names same.
-    Reads-then (Reads-before_feed (symbol symbols.Semicolon) (codes ";") Any _ (λ rest. tt) Reads-semicolon) (λ rest h. tt) (λ _ _.
+    Reads-then (Reads-space (Reads-names n ns all)) (λ rest h. refl) (λ names same.
+    Reads-then (Reads-before_feed (λ rest. tt) Reads-semicolon) (λ rest h. tt) (λ _ _.
     Reads-gives names Any (SameNames (n ∷ ns)) same)))
 
 pub Reads-watch : (d : Declared) (ws : List Watched) → AllByRecursion (PrintableWatched d) ws → Reads (optional form.watch) (watch_text (map (watched_text d) ws)) Any (IsWatchOf d ws)
 Reads-watch d [] h = Reads-none form.watch Any _ refl
 Reads-watch d (w ∷ ws) h =
-    Reads-present form.watch _ Any _
-    (Reads-weaken form.watch (watch_text (map (watched_text d) (w ∷ ws))) Any Any _ _ (Reads-some_watch (watched_text d w) (map (watched_text d) ws) (watched_names d (w ∷ ws) h)) (λ rest a. a) (λ ns s. watched_each d (w ∷ ws) ns h s))
+    Reads-present
+    (Reads-weaken (Reads-some_watch (watched_text d w) (map (watched_text d) ws) (watched_names d (w ∷ ws) h)) (λ rest a. a) (λ ns s. watched_each d (w ∷ ws) ns h s))

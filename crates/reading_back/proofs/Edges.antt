@@ -38,13 +38,13 @@ kind_of d n p w five e = rw (e, five)
 
 Reads-delay : (d : Declared) (n p : ℕ) → n < 2 ^ 63 → p ≡ 5 → Reads form.delay (codes " after" ++ ((32 ∷ (decimal n ++ [])) ++ [])) Ends (λ w. IsDelayOf d (Schedule (Number (pos n)) p) (Some w))
 Reads-delay d n p l five =
-    Reads-then (Reads-space (word words.After) (codes "after") Ends _ (Reads-word 97 (codes "fter") words.After refl refl refl)) (λ rest h. refl) (λ at _.
-    Reads-then (Reads-space form.number_expression (decimal n ++ []) Ends _ (Reads-ticks d n l)) (λ rest h. h) (λ w is.
+    Reads-then (Reads-space (Reads-word 97 (codes "fter") words.After refl refl refl)) (λ rest h. refl) (λ at _.
+    Reads-then (Reads-space (Reads-ticks d n l)) (λ rest h. h) (λ w is.
     Reads-gives w Ends (λ w. IsDelayOf d (Schedule (Number (pos n)) p) (Some w)) (kind_of d n p w five is.0, is.1)))
 
 pub Reads-delays : (d : Declared) (k : EdgeKind) → PrintableKind k → Reads (optional form.delay) (delay_part k) Ends (IsDelayOf d k)
 Reads-delays d (Schedule (Number (pos zero)) p) h = Reads-none form.delay Ends _ (ap (λ q. Some (Schedule (Number (pos 0)) q)) (sym h.1), tt)
-Reads-delays d (Schedule (Number (pos (suc n))) p) h = Reads-present form.delay _ Ends _ (Reads-delay d (suc n) p h.0 h.1)
+Reads-delays d (Schedule (Number (pos (suc n))) p) h = Reads-present (Reads-delay d (suc n) p h.0 h.1)
 Reads-delays d (Schedule (Number (negsuc n)) p) h = absurd h
 Reads-delays d (Schedule (Truth b) p) h = absurd h
 Reads-delays d (Schedule Clock p) h = absurd h
@@ -72,13 +72,13 @@ IsConditionOf d e w = (written_or (numbering.expression d) (Truth true) w ≡ So
 
 Reads-never : (d : Declared) → Reads form.never (codes " when" ++ (codes " false" ++ [])) Ends (λ w. IsConditionOf d (Truth false) (Some w))
 Reads-never d =
-    Reads-then (Reads-space (word words.When) (codes "when") Ends _ (Reads-word 119 (codes "hen") words.When refl refl refl)) (λ rest h. refl) (λ _ _.
-    Reads-then (Reads-space (word words.False) (codes "false") Ends _ (Reads-word 102 (codes "alse") words.False refl refl refl)) (λ rest h. h) (λ at _.
+    Reads-then (Reads-space (Reads-word 119 (codes "hen") words.When refl refl refl)) (λ rest h. refl) (λ _ _.
+    Reads-then (Reads-space (Reads-word 102 (codes "alse") words.False refl refl refl)) (λ rest h. h) (λ at _.
     Reads-gives (written.Truth at false) Ends (λ w. IsConditionOf d (Truth false) (Some w)) (refl, refl)))
 
 pub Reads-condition : (d : Declared) (e : Expression) → PrintableCondition e → Reads (optional form.never) (condition_part e) Ends (IsConditionOf d e)
 Reads-condition d (Truth true) h = Reads-none form.never Ends _ (refl, tt)
-Reads-condition d (Truth false) h = Reads-present form.never _ Ends _ (Reads-never d)
+Reads-condition d (Truth false) h = Reads-present (Reads-never d)
 Reads-condition d (Number n) h = absurd h
 Reads-condition d Clock h = absurd h
 Reads-condition d (Scalar k) h = absurd h
@@ -140,11 +140,11 @@ follows_delay CancelAll rest h = h
 
 pub Reads-edge : (d : Declared) (e : EventEdge) → PrintableEdge d e → Reads form.edge (edge_text d e) Any (IsEdgeOf d e)
 Reads-edge d e p =
-    Reads-then (Reads-space (word words.Schedule) (codes " schedule") Ends _ (Reads-space (word words.Schedule) (codes "schedule") Ends _ (Reads-word 115 (codes "chedule") words.Schedule refl refl refl))) (λ rest h. refl) (λ at _.
-    Reads-then (Reads-space name (name_at d.vertices e.target) Ends _ (Reads-name (name_at d.vertices e.target) p.0.name)) (after_name e.kind e.condition) (λ n named.
+    Reads-then (Reads-space (Reads-space (Reads-word 115 (codes "chedule") words.Schedule refl refl refl))) (λ rest h. refl) (λ at _.
+    Reads-then (Reads-space (Reads-name (name_at d.vertices e.target) p.0.name)) (after_name e.kind e.condition) (λ n named.
     Reads-then (Reads-delays d e.kind p.3) (after_delay e.condition) (λ after is_delay.
     Reads-then (Reads-condition d e.condition p.2) (λ rest h. refl) (λ condition is_condition.
-    Reads-then (Reads-before_feed (symbol symbols.Semicolon) (codes ";") Any _ (λ rest. tt) Reads-semicolon) (λ rest h. tt) (λ _ _.
+    Reads-then (Reads-before_feed (λ rest. tt) Reads-semicolon) (λ rest h. tt) (λ _ _.
     Reads-gives (written_edge at n after condition) Any (IsEdgeOf d e) (edge_of d e at n after condition p named is_delay is_condition))))))
   where
     after_delay : (c : Expression) (rest : List ℕ) → Any rest → Ends ((condition_part c ++ (codes ";\n" ++ [])) ++ rest)

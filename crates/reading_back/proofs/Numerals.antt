@@ -27,7 +27,7 @@ Reads-negative n l =
 
 pub Reads-signed : (z : ℤ) → IsSigned z → Reads form.signed (signed_decimal z) Ends (λ v. numbering.signed v ≡ Some z)
 Reads-signed (pos n) l =
-    Reads-right form.negative_signed form.plain_signed (decimal n) Ends _ (Reads-text form.plain_signed (decimal n ++ []) (decimal n) Ends _ (append-nil (decimal n)) (Reads-plain n l))
+    Reads-right form.negative_signed (Reads-text (append-nil (decimal n)) (Reads-plain n l))
 Reads-signed (negsuc n) l =
     let e : 45 ∷ (decimal (suc n) ++ []) ≡ 45 ∷ decimal (suc n) = ap (λ t. 45 ∷ t) (append-nil (decimal (suc n))) in
-    Reads-left form.negative_signed form.plain_signed (45 ∷ decimal (suc n)) Ends _ (Reads-text form.negative_signed (45 ∷ (decimal (suc n) ++ [])) (45 ∷ decimal (suc n)) Ends _ e (Reads-negative n l))
+    Reads-left form.plain_signed (Reads-text e (Reads-negative n l))

@@ -75,12 +75,12 @@ no_vertices P (y ∷ ys) e h = h
 pub Reads-model : (g : EventGraph) → IsPrintable g → Reads form.text (printed g) Any (IsModelOf g)
 Reads-model g p =
     Reads-then (Reads-word 109 (codes "odel") words.Model refl refl refl) (λ rest h. refl) (λ at _.
-    Reads-then (Reads-space name g.name Ends _ (Reads-name g.name p.name)) (λ rest h. refl) (λ n named.
-    Reads-then (Reads-before_feed (symbol symbols.Semicolon) (codes ";") Any _ (λ rest. tt) Reads-semicolon) (λ rest h. tt) (λ _ _.
+    Reads-then (Reads-space (Reads-name g.name p.name)) (λ rest h. refl) (λ n named.
+    Reads-then (Reads-before_feed (λ rest. tt) Reads-semicolon) (λ rest h. tt) (λ _ _.
     Reads-then (Reads-lines form.variable variable_text PrintableVariable IsVariableOf g.variables p.variables Reads-variable) (λ rest h. tt) (λ vs v.
     Reads-then (Reads-watch (declared_of g) g.watch p.watch) (λ rest h. tt) (λ watch k.
-    Reads-then (Reads-some form.vertex _ Any _ (no_vertices (IsVertexOf (declared_of g)) g.vertices p.some) (Reads-lines form.vertex (vertex_text (declared_of g)) (PrintableVertex (declared_of g)) (IsVertexOf (declared_of g)) g.vertices p.vertices (Reads-vertex (declared_of g)))) (λ rest h. tt) (λ ws w.
-    Reads-then (Reads-before_feed (word words.End) (codes "end") Ends _ (λ rest. refl) (Reads-word 101 (codes "nd") words.End refl refl refl)) (λ rest h. tt) (λ end_at _.
+    Reads-then (Reads-some (no_vertices (IsVertexOf (declared_of g)) g.vertices p.some) (Reads-lines form.vertex (vertex_text (declared_of g)) (PrintableVertex (declared_of g)) (IsVertexOf (declared_of g)) g.vertices p.vertices (Reads-vertex (declared_of g)))) (λ rest h. tt) (λ ws w.
+    Reads-then (Reads-before_feed (λ rest. refl) (Reads-word 101 (codes "nd") words.End refl refl refl)) (λ rest h. tt) (λ end_at _.
     Reads-gives (written_model at n vs watch ws end_at) Any (IsModelOf g) (model_of g at n vs watch ws end_at p named v k w))))))))
 
 -- the text spells a written model of the first form that stands for the model

@@ -16,9 +16,10 @@ Any rest = Unit {0}
 pub Reads-gives : {A : Type 0} (x : A) (F : List ℕ → Type 0) (G : A → Type 0) → G x → Reads (gives x) [] F G
 Reads-gives x F G g = record { run = λ at. (x, g, λ rest left f h. (left, Lexes-at (at + 0) at rest left (omega arith) h, (refl, refl))) }
 
-pub Reads-bind : {A B : Type 0} (p : Grammar A) (next : A → Grammar B) (a b : List ℕ) (F H : List ℕ → Type 0) (G : A → Type 0) (K : B → Type 0)
-    → Reads p a F G → ((x : A) → G x → Reads (next x) b H K) → ((rest : List ℕ) → H rest → F (b ++ rest)) → Reads (p >>= next) (a ++ b) H K
-Reads-bind p next a b F H G K first second follows = record {
+-- one part and then the next
+pub Reads-then : {A B : Type 0} {p : Grammar A} {next : A → Grammar B} {a b : List ℕ} {F H : List ℕ → Type 0} {G : A → Type 0} {K : B → Type 0}
+    → Reads p a F G → ((rest : List ℕ) → H rest → F (b ++ rest)) → ((x : A) → G x → Reads (next x) b H K) → Reads (p >>= next) (a ++ b) H K
+Reads-then {a = a} {b = b} first follows second = record {
   run = λ at.
       let f = first.run at in
       let s = (second f.0 f.1).run (at + length a) in (
@@ -31,18 +32,18 @@ Reads-bind p next a b F H G K first second follows = record {
       );
 }
 
-pub Reads-weaken : {A : Type 0} (p : Grammar A) (a : List ℕ) (F H : List ℕ → Type 0) (G K : A → Type 0)
+pub Reads-weaken : {A : Type 0} {p : Grammar A} {a : List ℕ} {F H : List ℕ → Type 0} {G K : A → Type 0}
     → Reads p a F G → ((rest : List ℕ) → H rest → F rest) → ((x : A) → G x → K x) → Reads p a H K
-Reads-weaken p a F H G K first narrows widens = record {
+Reads-weaken first narrows widens = record {
   run = λ at.
       let f = first.run at in (f.0, widens f.0 f.1, λ rest left h lexed. f.2 rest left (narrows rest h) lexed);
 }
 
-pub Reads-text : {A : Type 0} (p : Grammar A) (s t : List ℕ) (F : List ℕ → Type 0) (G : A → Type 0) → s ≡ t → Reads p s F G → Reads p t F G
-Reads-text p s t F G e h = subst (λ (x : List ℕ). Reads p x F G) e h
+pub Reads-text : {A : Type 0} {p : Grammar A} {s t : List ℕ} {F : List ℕ → Type 0} {G : A → Type 0} → s ≡ t → Reads p s F G → Reads p t F G
+Reads-text {p = p} {F = F} {G = G} e h = subst (λ (x : List ℕ). Reads p x F G) e h
 
-pub Reads-space : {A : Type 0} (p : Grammar A) (a : List ℕ) (F : List ℕ → Type 0) (G : A → Type 0) → Reads p a F G → Reads p (32 ∷ a) F G
-Reads-space p a F G first = record {
+pub Reads-space : {A : Type 0} {p : Grammar A} {a : List ℕ} {F : List ℕ → Type 0} {G : A → Type 0} → Reads p a F G → Reads p (32 ∷ a) F G
+Reads-space {a = a} first = record {
   run = λ at.
       let f = first.run (at + 1) in (
         f.0,
@@ -54,9 +55,9 @@ Reads-space p a F G first = record {
 }
 
 -- a blank behind
-pub Reads-before_space : {A : Type 0} (p : Grammar A) (a : List ℕ) (F : List ℕ → Type 0) (G : A → Type 0)
+pub Reads-before_space : {A : Type 0} {p : Grammar A} {a : List ℕ} {F : List ℕ → Type 0} {G : A → Type 0}
     → ((rest : List ℕ) → F (32 ∷ rest)) → Reads p a F G → Reads p (a ++ 32 ∷ []) Any G
-Reads-before_space p a F G allowed first = record {
+Reads-before_space {a = a} allowed first = record {
   run = λ at.
       let f = first.run at in (
         f.0,
@@ -68,9 +69,9 @@ Reads-before_space p a F G allowed first = record {
       );
 }
 
-pub Reads-before_feed : {A : Type 0} (p : Grammar A) (a : List ℕ) (F : List ℕ → Type 0) (G : A → Type 0)
+pub Reads-before_feed : {A : Type 0} {p : Grammar A} {a : List ℕ} {F : List ℕ → Type 0} {G : A → Type 0}
     → ((rest : List ℕ) → F (10 ∷ rest)) → Reads p a F G → Reads p (a ++ 10 ∷ []) Any G
-Reads-before_feed p a F G allowed first = record {
+Reads-before_feed {a = a} allowed first = record {
   run = λ at.
       let f = first.run at in (
         f.0,
@@ -84,15 +85,15 @@ Reads-before_feed p a F G allowed first = record {
 
 -- ---- one of two, and what may be missing
 
-pub Reads-left : {A : Type 0} (p q : Grammar A) (a : List ℕ) (F : List ℕ → Type 0) (G : A → Type 0) → Reads p a F G → Reads (p or q) a F G
-Reads-left p q a F G first = record {
+pub Reads-left : {A : Type 0} {p : Grammar A} (q : Grammar A) {a : List ℕ} {F : List ℕ → Type 0} {G : A → Type 0} → Reads p a F G → Reads (p or q) a F G
+Reads-left q first = record {
   run = λ at.
       let f = first.run at in
       (f.0, f.1, λ rest left h lexed. let done = f.2 rest left h lexed in (done.0, done.1, inl done.2));
 }
 
-pub Reads-right : {A : Type 0} (p q : Grammar A) (a : List ℕ) (F : List ℕ → Type 0) (G : A → Type 0) → Reads q a F G → Reads (p or q) a F G
-Reads-right p q a F G first = record {
+pub Reads-right : {A : Type 0} (p : Grammar A) {q : Grammar A} {a : List ℕ} {F : List ℕ → Type 0} {G : A → Type 0} → Reads q a F G → Reads (p or q) a F G
+Reads-right p first = record {
   run = λ at.
       let f = first.run at in
       (f.0, f.1, λ rest left h lexed. let done = f.2 rest left h lexed in (done.0, done.1, inr done.2));
@@ -101,17 +102,17 @@ Reads-right p q a F G first = record {
 pub Reads-none : {A : Type 0} (p : Grammar A) (F : List ℕ → Type 0) (G : Option A → Type 0) → G None → Reads (optional p) [] F G
 Reads-none p F G g = record { run = λ at. (None, g, λ rest left f h. (left, Lexes-at (at + 0) at rest left (omega arith) h, refl)) }
 
-pub Reads-present : {A : Type 0} (p : Grammar A) (a : List ℕ) (F : List ℕ → Type 0) (G : Option A → Type 0) → Reads p a F (λ x. G (Some x)) → Reads (optional p) a F G
-Reads-present p a F G first = record { run = λ at. let f = first.run at in (Some f.0, f.1, f.2) }
+pub Reads-present : {A : Type 0} {p : Grammar A} {a : List ℕ} {F : List ℕ → Type 0} {G : Option A → Type 0} → Reads p a F (λ x. G (Some x)) → Reads (optional p) a F G
+Reads-present first = record { run = λ at. let f = first.run at in (Some f.0, f.1, f.2) }
 
 -- ---- any number
 
 pub Reads-done : {A : Type 0} (p : Grammar A) (F : List ℕ → Type 0) (G : List A → Type 0) → G [] → Reads (many p) [] F G
 Reads-done p F G g = record { run = λ at. ([], g, λ rest left f h. (left, Lexes-at (at + 0) at rest left (omega arith) h, refl)) }
 
-pub Reads-more : {A : Type 0} (p : Grammar A) (a b : List ℕ) (F H : List ℕ → Type 0) (G : A → Type 0) (K L : List A → Type 0)
+pub Reads-more : {A : Type 0} {p : Grammar A} {a b : List ℕ} {F H : List ℕ → Type 0} {G : A → Type 0} {K L : List A → Type 0}
     → Reads p a F G → Reads (many p) b H K → ((rest : List ℕ) → H rest → F (b ++ rest)) → ((x : A) (xs : List A) → G x → K xs → L (x ∷ xs)) → Reads (many p) (a ++ b) H L
-Reads-more p a b F H G K L first second follows joins = record {
+Reads-more {a = a} {b = b} first second follows joins = record {
   run = λ at.
       let f = first.run at in
       let s = second.run (at + length a) in (
@@ -128,15 +129,9 @@ some_of : {A : Type 0} (p : Grammar A) (ts left : List Lexeme) (vs : List A) (G 
 some_of p ts left [] G g empty h = absurd (empty g)
 some_of p ts left (x ∷ xs) G g empty h = h
 
-pub Reads-some : {A : Type 0} (p : Grammar A) (a : List ℕ) (F : List ℕ → Type 0) (G : List A → Type 0) → (G [] → ⊥) → Reads (many p) a F G → Reads (some p) a F G
-Reads-some p a F G empty first = record {
+pub Reads-some : {A : Type 0} {p : Grammar A} {a : List ℕ} {F : List ℕ → Type 0} {G : List A → Type 0} → (G [] → ⊥) → Reads (many p) a F G → Reads (some p) a F G
+Reads-some {p = p} {G = G} empty first = record {
   run = λ at.
       let f = first.run at in
       (f.0, f.1, λ rest left h lexed. let done = f.2 rest left h lexed in (done.0, done.1, some_of p done.0 left f.0 G f.1 empty done.2));
 }
-
--- ---- the same with what antt can find left out
-
-pub Reads-then : {A B : Type 0} {p : Grammar A} {next : A → Grammar B} {a b : List ℕ} {F H : List ℕ → Type 0} {G : A → Type 0} {K : B → Type 0}
-    → Reads p a F G → ((rest : List ℕ) → H rest → F (b ++ rest)) → ((x : A) → G x → Reads (next x) b H K) → Reads (p >>= next) (a ++ b) H K
-Reads-then {p = p} {next = next} {a = a} {b = b} {F = F} {H = H} {G = G} {K = K} first follows second = Reads-bind p next a b F H G K first second follows

@@ -59,9 +59,9 @@ vertex_of d v at n cs es p named c e =
 pub Reads-vertex : (d : Declared) (v : EventVertex) → PrintableVertex d v → Reads form.vertex (vertex_text d v) Any (IsVertexOf d v)
 Reads-vertex d v p =
     Reads-then (Reads-word 118 (codes "ertex") words.Vertex refl refl refl) (λ rest h. refl) (λ at _.
-    Reads-then (Reads-space name v.name Ends _ (Reads-name v.name p.name)) (λ rest h. refl) (λ n named.
-    Reads-then (Reads-space (symbol symbols.OpenBrace) (codes "{\n") Any _ (Reads-before_feed (symbol symbols.OpenBrace) (codes "{") Any _ (λ rest. tt) Reads-open)) (λ rest h. tt) (λ _ _.
+    Reads-then (Reads-space (Reads-name v.name p.name)) (λ rest h. refl) (λ n named.
+    Reads-then (Reads-space (Reads-before_feed (λ rest. tt) Reads-open)) (λ rest h. tt) (λ _ _.
     Reads-then (Reads-lines form.change (change_text d) (PrintableChange d) (IsChangeOf d) v.changes p.changes (Reads-change d)) (λ rest h. tt) (λ cs c.
     Reads-then (Reads-lines form.edge (edge_text d) (PrintableEdge d) (IsEdgeOf d) v.edges p.edges (Reads-edge d)) (λ rest h. tt) (λ es e.
-    Reads-then (Reads-before_feed (symbol symbols.CloseBrace) (codes "}") Any _ (λ rest. tt) Reads-close) (λ rest h. tt) (λ _ _.
+    Reads-then (Reads-before_feed (λ rest. tt) Reads-close) (λ rest h. tt) (λ _ _.
     Reads-gives (written_vertex at n cs es) Any (IsVertexOf d v) (vertex_of d v at n cs es p named c e)))))))
