@@ -1,14 +1,13 @@
 -- The lines of changes, as they are printed, read back.
 use Rattle.std.proofs.Common.{◌≡◌, ℕ, ◌^◌, ◌<◌, List, [], ◌∷◌, ◌++◌, refl, sym, ap, ◌∙◌, append-nil}
-use Rattle.std.specs.Prelude.{pos, negsuc, Some, None, codes, decimal}
+use Rattle.std.specs.Prelude.{pos, Some, None, codes, decimal}
 use Rattle.std.specs.Fmt.{signed_decimal}
 use Rattle.std.specs.Option.{option_map}
 use Rattle.model_core.specs.declared.token.Word.TheVariants as words
-use Rattle.model_core.specs.declared.token.Symbol.TheVariants as symbols
-use Rattle.model_core.specs.EventGraph.{Expression, Number, Truth, Clock, Scalar, Cell, Negative, Not, Binary, If, Location, StateChange, Set, Draw}
+use Rattle.model_core.specs.EventGraph.{Expression, Number, Scalar, Location, StateChange, Set}
 use Rattle.model_core.specs.Written as written
 use Rattle.model_core.specs.Written.{WrittenName, WrittenNumber, WrittenExpression, WrittenChange}
-use Rattle.model_core.specs.Grammar.{word, symbol, name, ◌or◌}
+use Rattle.model_core.specs.Grammar.{◌or◌}
 use Rattle.model_core.specs.FirstForm as form
 use Rattle.model_core.specs.Numbering as numbering
 use Rattle.model_core.specs.Numbering.{Declared, place_of}
@@ -40,16 +39,9 @@ Reads-scalar_value d k p =
 pub Reads-value : (d : Declared) (e : Expression) → PrintableValue d e → Reads (form.number_expression or form.scalar_expression) (value_text d e) Ends (IsValueOf d e)
 Reads-value d (Number (pos n)) l =
     Reads-left form.scalar_expression (Reads-text (append-nil (decimal n)) (Reads-number_value d n l))
-Reads-value d (Number (negsuc n)) l = absurd l
 Reads-value d (Scalar k) p =
     Reads-right form.number_expression (Reads-text (append-nil (name_at d.variables k)) (Reads-scalar_value d k p))
-Reads-value d (Truth b) p = absurd p
-Reads-value d Clock p = absurd p
-Reads-value d (Cell k i) p = absurd p
-Reads-value d (Negative a) p = absurd p
-Reads-value d (Not a) p = absurd p
-Reads-value d (Binary op a b) p = absurd p
-Reads-value d (If c a b) p = absurd p
+Reads-value d _ p = absurd p
 
 -- ---- the line
 
@@ -79,9 +71,5 @@ one_change d l e none p v =
     Reads-gives (written.Set at (record { at = n.at; name = n; index = None } ∷ []) (w ∷ [])) Any (IsChangeOf d (Set (l ∷ []) (e ∷ []))) (change_of d at l e n w none p named is))))))
 
 pub Reads-change : (d : Declared) (c : StateChange) → PrintableChange d c → Reads form.change (change_text d c) Any (IsChangeOf d c)
-Reads-change d (Set [] es) p = absurd p
-Reads-change d (Set (l ∷ []) []) p = absurd p
 Reads-change d (Set (l ∷ []) (e ∷ [])) p = one_change d l e p.0 p.1 p.2
-Reads-change d (Set (l ∷ []) (e ∷ (f ∷ es))) p = absurd p
-Reads-change d (Set (l ∷ (m ∷ ls)) es) p = absurd p
-Reads-change d (Draw l n c) p = absurd p
+Reads-change d _ p = absurd p

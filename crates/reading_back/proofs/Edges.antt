@@ -1,13 +1,12 @@
 -- The lines of edges, as they are printed, read back.
 use Rattle.std.proofs.Common.{◌≡◌, ℕ, suc, zero, ◌^◌, ◌<◌, true, false, List, [], ◌∷◌, ◌++◌, refl, sym, ap, ◌∙◌, subst, append_assoc}
-use Rattle.std.specs.Prelude.{pos, negsuc, Option, Some, None, codes, decimal, IfSome}
+use Rattle.std.specs.Prelude.{pos, Option, Some, None, codes, decimal, IfSome}
 use Rattle.std.specs.Option.{option_map}
 use Rattle.model_core.specs.declared.token.Word.TheVariants as words
-use Rattle.model_core.specs.declared.token.Symbol.TheVariants as symbols
-use Rattle.model_core.specs.EventGraph.{Expression, Number, Truth, Clock, Scalar, Cell, Negative, Not, Binary, If, EdgeKind, Schedule, Urgent, CancelNext, CancelEqual, CancelAll, EventEdge}
+use Rattle.model_core.specs.EventGraph.{Expression, Number, Truth, EdgeKind, Schedule, EventEdge}
 use Rattle.model_core.specs.Written as written
 use Rattle.model_core.specs.Written.{WrittenName, WrittenNumber, WrittenExpression, WrittenEdge}
-use Rattle.model_core.specs.Grammar.{word, symbol, name, optional}
+use Rattle.model_core.specs.Grammar.{optional}
 use Rattle.model_core.specs.FirstForm as form
 use Rattle.model_core.specs.Numbering as numbering
 use Rattle.model_core.specs.Numbering.{Declared, place_of, written_or}
@@ -45,19 +44,7 @@ Reads-delay d n p l five =
 pub Reads-delays : (d : Declared) (k : EdgeKind) → PrintableKind k → Reads (optional form.delay) (delay_part k) Ends (IsDelayOf d k)
 Reads-delays d (Schedule (Number (pos zero)) p) h = Reads-none form.delay Ends _ (ap (λ q. Some (Schedule (Number (pos 0)) q)) (sym h.1), tt)
 Reads-delays d (Schedule (Number (pos (suc n))) p) h = Reads-present (Reads-delay d (suc n) p h.0 h.1)
-Reads-delays d (Schedule (Number (negsuc n)) p) h = absurd h
-Reads-delays d (Schedule (Truth b) p) h = absurd h
-Reads-delays d (Schedule Clock p) h = absurd h
-Reads-delays d (Schedule (Scalar k) p) h = absurd h
-Reads-delays d (Schedule (Cell k i) p) h = absurd h
-Reads-delays d (Schedule (Negative a) p) h = absurd h
-Reads-delays d (Schedule (Not a) p) h = absurd h
-Reads-delays d (Schedule (Binary op a b) p) h = absurd h
-Reads-delays d (Schedule (If c a b) p) h = absurd h
-Reads-delays d Urgent h = absurd h
-Reads-delays d CancelNext h = absurd h
-Reads-delays d CancelEqual h = absurd h
-Reads-delays d CancelAll h = absurd h
+Reads-delays d _ h = absurd h
 
 -- ---- the condition
 
@@ -79,14 +66,7 @@ Reads-never d =
 pub Reads-condition : (d : Declared) (e : Expression) → PrintableCondition e → Reads (optional form.never) (condition_part e) Ends (IsConditionOf d e)
 Reads-condition d (Truth true) h = Reads-none form.never Ends _ (refl, tt)
 Reads-condition d (Truth false) h = Reads-present (Reads-never d)
-Reads-condition d (Number n) h = absurd h
-Reads-condition d Clock h = absurd h
-Reads-condition d (Scalar k) h = absurd h
-Reads-condition d (Cell k i) h = absurd h
-Reads-condition d (Negative a) h = absurd h
-Reads-condition d (Not a) h = absurd h
-Reads-condition d (Binary op a b) h = absurd h
-Reads-condition d (If c a b) h = absurd h
+Reads-condition d _ h = absurd h
 
 -- ---- the line
 
@@ -110,33 +90,12 @@ edge_of d e at n after condition p named k c =
     (rw (place, condition_is, kind_is) (ap Some same), (refl, c.1, k.1))
 
 follows_condition : (e : Expression) (rest : List ℕ) → Ends rest → Ends (condition_part e ++ rest)
-follows_condition (Truth true) rest h = h
 follows_condition (Truth false) rest h = refl
-follows_condition (Number n) rest h = h
-follows_condition Clock rest h = h
-follows_condition (Scalar k) rest h = h
-follows_condition (Cell k i) rest h = h
-follows_condition (Negative a) rest h = h
-follows_condition (Not a) rest h = h
-follows_condition (Binary op a b) rest h = h
-follows_condition (If c a b) rest h = h
+follows_condition _ rest h = h
 
 follows_delay : (k : EdgeKind) (rest : List ℕ) → Ends rest → Ends (delay_part k ++ rest)
-follows_delay (Schedule (Number (pos zero)) p) rest h = h
 follows_delay (Schedule (Number (pos (suc n))) p) rest h = refl
-follows_delay (Schedule (Number (negsuc n)) p) rest h = h
-follows_delay (Schedule (Truth b) p) rest h = h
-follows_delay (Schedule Clock p) rest h = h
-follows_delay (Schedule (Scalar k) p) rest h = h
-follows_delay (Schedule (Cell k i) p) rest h = h
-follows_delay (Schedule (Negative a) p) rest h = h
-follows_delay (Schedule (Not a) p) rest h = h
-follows_delay (Schedule (Binary op a b) p) rest h = h
-follows_delay (Schedule (If c a b) p) rest h = h
-follows_delay Urgent rest h = h
-follows_delay CancelNext rest h = h
-follows_delay CancelEqual rest h = h
-follows_delay CancelAll rest h = h
+follows_delay _ rest h = h
 
 pub Reads-edge : (d : Declared) (e : EventEdge) → PrintableEdge d e → Reads form.edge (edge_text d e) Any (IsEdgeOf d e)
 Reads-edge d e p =

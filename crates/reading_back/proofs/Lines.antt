@@ -1,9 +1,9 @@
 -- The canonical text of a printable model, line by line, in the form in which it is read.
 use Rattle.std.proofs.Common.{◌≡◌, ℕ, suc, zero, true, false, List, [], ◌∷◌, ◌++◌, map, get_or, refl, ap, ◌∙◌, append-nil, append_assoc}
-use Rattle.std.specs.Prelude.{pos, negsuc, None, codes, decimal, slice_get}
+use Rattle.std.specs.Prelude.{pos, None, codes, decimal, slice_get}
 use Rattle.std.specs.List.{AllByRecursion, flat_map}
 use Rattle.std.specs.Option.{option_map_or}
-use Rattle.model_core.specs.EventGraph.{Expression, Number, Truth, Clock, Scalar, Cell, Negative, Not, Binary, If, Location, StateChange, Set, Draw, EdgeKind, Schedule, Urgent, CancelNext, CancelEqual, CancelAll, EventEdge, EventVertex, Variable, EventGraph}
+use Rattle.model_core.specs.EventGraph.{Expression, Number, Truth, Scalar, Location, StateChange, Set, EdgeKind, Schedule, EventEdge, EventVertex, Variable, EventGraph}
 use Rattle.model_core.specs.Canonical.{in_parentheses, variable_name, vertex_name, expression_text, expression_texts, index_text, change_line, priority_text, condition_text, edge_word, timing_text, edge_line}
 use Rattle.reading_back.proofs.Printable.{declared_of, name_at, PrintableValue, PrintableChange, PrintableCondition, PrintableKind, PrintableEdge}
 use Rattle.reading_back.proofs.Changes.{value_text, change_text}
@@ -30,15 +30,8 @@ flat_same P f h (y ∷ ys) all each = λ i. each y all.0 i ++ flat_same P f h ys
 
 value_is : (g : EventGraph) (e : Expression) → PrintableValue (declared_of g) e → expression_text g e ≡ value_text (declared_of g) e
 value_is g (Number (pos n)) p = refl
-value_is g (Number (negsuc n)) p = absurd p
 value_is g (Scalar k) p = variable_name-is g k
-value_is g (Truth b) p = absurd p
-value_is g Clock p = absurd p
-value_is g (Cell k i) p = absurd p
-value_is g (Negative a) p = absurd p
-value_is g (Not a) p = absurd p
-value_is g (Binary op a b) p = absurd p
-value_is g (If c a b) p = absurd p
+value_is g _ p = absurd p
 
 regroup_change : (p a q b r : List ℕ) → p ++ ((a ++ []) ++ []) ++ q ++ (b ++ []) ++ r ≡ p ++ (a ++ (q ++ (b ++ r)))
 regroup_change p a q b r = simp (append_assoc, append-nil)
@@ -54,12 +47,8 @@ one_change_is g l e none p =
     (λ i. codes "  set " ++ ((named i ++ index i) ++ []) ++ codes " := " ++ (value i ++ []) ++ codes ";\n") ∙ change_shape (name_at (declared_of g).variables l.variable) (value_text (declared_of g) e)
 
 pub change_is : (g : EventGraph) (c : StateChange) → PrintableChange (declared_of g) c → change_line g c ≡ change_text (declared_of g) c
-change_is g (Set [] es) p = absurd p
-change_is g (Set (l ∷ []) []) p = absurd p
 change_is g (Set (l ∷ []) (e ∷ [])) p = one_change_is g l e p.0 p.2
-change_is g (Set (l ∷ []) (e ∷ (f ∷ es))) p = absurd p
-change_is g (Set (l ∷ (m ∷ ls)) es) p = absurd p
-change_is g (Draw l n c) p = absurd p
+change_is g _ p = absurd p
 
 -- ---- edges
 
@@ -69,38 +58,16 @@ delay_shape a b e = rw e (simp append-nil)
 timing_is : (g : EventGraph) (k : EdgeKind) → PrintableKind k → timing_text g k ≡ delay_part k
 timing_is g (Schedule (Number (pos zero)) p) h = ap priority_text h.1
 timing_is g (Schedule (Number (pos (suc n))) p) h = delay_shape (decimal (suc n)) (priority_text p) (ap priority_text h.1)
-timing_is g (Schedule (Number (negsuc n)) p) h = absurd h
-timing_is g (Schedule (Truth b) p) h = absurd h
-timing_is g (Schedule Clock p) h = absurd h
-timing_is g (Schedule (Scalar k) p) h = absurd h
-timing_is g (Schedule (Cell k i) p) h = absurd h
-timing_is g (Schedule (Negative a) p) h = absurd h
-timing_is g (Schedule (Not a) p) h = absurd h
-timing_is g (Schedule (Binary op a b) p) h = absurd h
-timing_is g (Schedule (If c a b) p) h = absurd h
-timing_is g Urgent h = absurd h
-timing_is g CancelNext h = absurd h
-timing_is g CancelEqual h = absurd h
-timing_is g CancelAll h = absurd h
+timing_is g _ h = absurd h
 
 word_is : (k : EdgeKind) → PrintableKind k → edge_word k ≡ codes "  schedule "
 word_is (Schedule e p) h = refl
-word_is Urgent h = absurd h
-word_is CancelNext h = absurd h
-word_is CancelEqual h = absurd h
-word_is CancelAll h = absurd h
+word_is _ h = absurd h
 
 condition_is : (g : EventGraph) (e : Expression) → PrintableCondition e → condition_text g e ≡ condition_part e
 condition_is g (Truth true) h = refl
 condition_is g (Truth false) h = refl
-condition_is g (Number n) h = absurd h
-condition_is g Clock h = absurd h
-condition_is g (Scalar k) h = absurd h
-condition_is g (Cell k i) h = absurd h
-condition_is g (Negative a) h = absurd h
-condition_is g (Not a) h = absurd h
-condition_is g (Binary op a b) h = absurd h
-condition_is g (If c a b) h = absurd h
+condition_is g _ h = absurd h
 
 edge_shape : (a b c : List ℕ) → codes "  schedule " ++ a ++ [] ++ b ++ c ++ codes ";\n" ≡ codes "  schedule" ++ ((32 ∷ a) ++ (b ++ (c ++ (codes ";\n" ++ []))))
 edge_shape a b c = simp (append_assoc, append-nil)

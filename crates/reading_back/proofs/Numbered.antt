@@ -66,13 +66,7 @@ scalar_of d (Some k) e f q = subst (PrintableValue d) (some_same (graph.Scalar k
 value_numbered : (d : Declared) (w : WrittenExpression) (e : Expression) → GoodValue w → numbering.expression d w ≡ Some e → PrintableValue d e
 value_numbered d (written.Number at n) e g q = number_of n.value e (PrintableValue d) g (λ n l. l) q
 value_numbered d (written.Scalar at n) e g q = scalar_of d (place_of n.name d.variables) e (λ k p. IsPlace-from_place_of n.name d.variables k g p) q
-value_numbered d (written.Truth at b) e g q = absurd g
-value_numbered d (written.Clock at) e g q = absurd g
-value_numbered d (written.Cell at n i) e g q = absurd g
-value_numbered d (written.Negative at a) e g q = absurd g
-value_numbered d (written.Not at a) e g q = absurd g
-value_numbered d (written.Binary at op a b) e g q = absurd g
-value_numbered d (written.If at c a b) e g q = absurd g
+value_numbered d _ e g q = absurd g
 
 no_index : (d : Declared) (i : Option WrittenExpression) (j : Option Expression) → i ≡ None → written_or (λ w. option_map Some (numbering.expression d w)) None i ≡ Some j → j ≡ None
 no_index d i j none e = some_same j None (sym e ∙ ap (written_or (λ w. option_map Some (numbering.expression d w)) None) none)
@@ -93,9 +87,5 @@ one_change d t w c named none g e =
     subst (PrintableChange d) whole (no_index d t.index index none indexed, IsPlace-from_place_of t.name.name d.variables variable named found, value_numbered d w value g is)))))))
 
 pub change_numbered : (d : Declared) (w : WrittenChange) (c : StateChange) → GoodChange w → numbering.change d w ≡ Some c → PrintableChange d c
-change_numbered d (written.Set at [] es) c g e = absurd g
-change_numbered d (written.Set at (t ∷ []) []) c g e = absurd g
 change_numbered d (written.Set at (t ∷ []) (w ∷ [])) c g e = one_change d t w c g.0 g.1 g.2 e
-change_numbered d (written.Set at (t ∷ []) (w ∷ (x ∷ ws))) c g e = absurd g
-change_numbered d (written.Set at (t ∷ (u ∷ ts)) es) c g e = absurd g
-change_numbered d (written.Draw at t n from) c g e = absurd g
+change_numbered d _ c g e = absurd g

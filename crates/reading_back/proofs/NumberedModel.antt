@@ -25,14 +25,7 @@ use Rattle.reading_back.proofs.Printable.{declared_of, PrintableChange, Printabl
 
 ticks_numbered : (d : Declared) (w : WrittenExpression) (e : Expression) → GoodTicks w → numbering.expression d w ≡ Some e → PrintableKind (graph.Schedule e 5)
 ticks_numbered d (written.Number at n) e g q = number_of n.value e (λ e. PrintableKind (graph.Schedule e 5)) g (λ n l. (l, refl)) q
-ticks_numbered d (written.Scalar at n) e g q = absurd g
-ticks_numbered d (written.Truth at b) e g q = absurd g
-ticks_numbered d (written.Clock at) e g q = absurd g
-ticks_numbered d (written.Cell at n i) e g q = absurd g
-ticks_numbered d (written.Negative at a) e g q = absurd g
-ticks_numbered d (written.Not at a) e g q = absurd g
-ticks_numbered d (written.Binary at op a b) e g q = absurd g
-ticks_numbered d (written.If at c a b) e g q = absurd g
+ticks_numbered d _ e g q = absurd g
 
 delay_numbered : (d : Declared) (o : Option WrittenExpression) (e : Expression) → IfSome o GoodTicks → written_or (numbering.expression d) (graph.Number (pos 0)) o ≡ Some e → PrintableKind (graph.Schedule e 5)
 delay_numbered d None e g q = let small : 0 < 2 ^ 63 = omega arith in subst (λ (x : Expression). PrintableKind (graph.Schedule x 5)) (some_same (graph.Number (pos 0)) e q) (small, refl)
@@ -42,22 +35,11 @@ kind_numbered : (d : Declared) (w : WrittenEdgeKind) (k : EdgeKind) → GoodEdge
 kind_numbered d (written.Schedule after None) k g q =
     option_and_then_some _ (written_or (numbering.expression d) (graph.Number (pos 0)) after) k q (λ e is q.
     subst PrintableKind (some_same (graph.Schedule e 5) k q) (delay_numbered d after e g is))
-kind_numbered d (written.Schedule after (Some p)) k g q = absurd g
-kind_numbered d written.Urgent k g q = absurd g
-kind_numbered d written.CancelNext k g q = absurd g
-kind_numbered d written.CancelEqual k g q = absurd g
-kind_numbered d written.CancelAll k g q = absurd g
+kind_numbered d _ k g q = absurd g
 
 never_numbered : (d : Declared) (w : WrittenExpression) (e : Expression) → GoodNever w → numbering.expression d w ≡ Some e → PrintableCondition e
 never_numbered d (written.Truth at b) e g q = subst PrintableCondition (some_same (graph.Truth b) e q) tt
-never_numbered d (written.Number at n) e g q = absurd g
-never_numbered d (written.Scalar at n) e g q = absurd g
-never_numbered d (written.Clock at) e g q = absurd g
-never_numbered d (written.Cell at n i) e g q = absurd g
-never_numbered d (written.Negative at a) e g q = absurd g
-never_numbered d (written.Not at a) e g q = absurd g
-never_numbered d (written.Binary at op a b) e g q = absurd g
-never_numbered d (written.If at c a b) e g q = absurd g
+never_numbered d _ e g q = absurd g
 
 condition_numbered : (d : Declared) (o : Option WrittenExpression) (e : Expression) → IfSome o GoodNever → written_or (numbering.expression d) (graph.Truth true) o ≡ Some e → PrintableCondition e
 condition_numbered d None e g q = subst PrintableCondition (some_same (graph.Truth true) e q) tt
