@@ -1,10 +1,10 @@
 -- The tokens so far and those of the rest of the text are the text's tokens.
 use Rattle.std.proofs.Common.{◌≡◌, ℕ, zero, suc, ◌+◌, ◌-◌, ◌<◌, ◌≤◌, List, [], ◌∷◌, ◌++◌, length, take, drop, map, sym, refl, ap, ◌∙◌, subst, arith, add-zero, append_assoc}
 use Rattle.std.specs.Prelude.{Result, Ok, Err}
-use Rattle.std.proofs.lemmas.List.{drop-drop, length-drop, map_push, append-nil, drop_all, take_rest}
+use Rattle.std.proofs.lemmas.List.{drop-drop, length-drop, map_push, take_rest}
 use Rattle.model_core.specs.declared.token.Token.{Token}
 use Rattle.model_core.specs.declared.token.TokenKind.{TokenKind}
-use Rattle.model_core.specs.Lexing.{Lexeme, LexemeKind, Front, Between, Longest, Neither, front_length, after_front, tokens_from, tokens_of, lexeme_of, lexeme_kind_of}
+use Rattle.model_core.specs.Lexing.{Lexeme, LexemeKind, Front, Between, Longest, front_length, after_front, tokens_from, tokens_of, lexeme_of, lexeme_kind_of}
 use Rattle.model_lex.specs.Fronts.{front_at, seen}
 use Rattle.model_lex.specs.declared.front.Front.{Front as CodeFront}
 use Rattle.model_lex.proofs.FrontLemmas.{Fits, front-front_at, front_at-fits}
@@ -40,13 +40,6 @@ tokens_from-front at (c ∷ s) some =
 pub record Cut (text : List ℕ) (ts : List Token) (at : ℕ) : Type 0 where
   pub in_text : at ≤ length text
   pub whole : joined (map (lexeme_of text) ts) (tokens_from at 0 (drop at text)) ≡ tokens_of text
-
--- nothing is cut at first
-pub cut_none : (text : List ℕ) → Cut text [] 0
-cut_none text = record { in_text = omega arith; whole = joined_none (tokens_from 0 0 text) } where
-  joined_none : (r : Result (List Lexeme) ℕ) → joined [] r ≡ r
-  joined_none (Ok later) = refl
-  joined_none (Err at) = refl
 
 -- the front at a place, and what is left behind it
 abbrev rest_after : List ℕ → ℕ → ℕ → Result (List Lexeme) ℕ
@@ -97,12 +90,3 @@ cut_longest text ts at n kind inside is cut =
           ∙ ap (joined before) (sym here.0)
           ∙ cut.whole;
     }
-
--- no token begins here
-pub cut_neither : (text : List ℕ) (ts : List Token) (at : ℕ) → at < length text → front_at (drop at text) ≡ Neither → Cut text ts at → tokens_of text ≡ Err at
-cut_neither text ts at inside is cut = sym cut.whole ∙ ap (joined (map (lexeme_of text) ts)) (front_here text at Neither inside is).0
-
--- nothing is left
-pub cut_all : (text : List ℕ) (ts : List Token) (at : ℕ) → length text ≤ at → Cut text ts at → tokens_of text ≡ Ok (map (lexeme_of text) ts)
-cut_all text ts at past cut =
-    sym cut.whole ∙ ap (λ s. joined (map (lexeme_of text) ts) (tokens_from at 0 s)) (drop_all at text past) ∙ ap Ok (append-nil (map (lexeme_of text) ts))
