@@ -1,3 +1,3 @@
-pub mod Lexemes
+pub mod InText
 pub mod Reader
 pub mod Rules

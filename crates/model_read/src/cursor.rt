@@ -1,6 +1,6 @@
 //! What is left to read of a text's tokens.
 
-ghost use Rattle.std.specs.Prelude.{◌≡◌, [], map, slice_range};
+ghost use Rattle.std.specs.Prelude.{◌≡◌, [], map};
 ghost use Rattle.model_core.specs.WrittenViews.{written_name, written_number};
 ghost use Rattle.model_read.specs.Reader.{Gives, begins, is_word, is_symbol, is_number, word_at, symbol_at, name_at, number_at, ended};
 
@@ -24,13 +24,19 @@ impl<'t> Model for Cursor<'t> {
     ghost Value = { List Lexeme };
 
     ghost view = { λ c. map (lexeme_of c.text.now) c.tokens.now };
+
+    ghost use Rattle.model_read.specs.InText.{AreInText};
+
+    ghost invariant = { λ c. AreInText c.text.now c.tokens.now };
 }
 
 impl<'t> Cursor<'t> {
     ghost use Rattle.model_core.specs.Lexing.{lexeme_of};
+    ghost use Rattle.model_read.specs.InText.{AreInText};
 
     /// The tokens, all of which are left to read.
     pub fn new(text: &'t [u8], tokens: &'t [Token]) -> Cursor<'t>
+        requires { AreInText text.now tokens.now }
         ensures { result ≡ map (lexeme_of text.now) tokens.now }
     {
         Cursor { text, tokens }
@@ -133,7 +139,7 @@ impl<'t> Cursor<'t> {
         if let [first, rest @ ..] = self.tokens
             && let TokenKind::Name = first.kind
         {
-            let bytes = Vec::from_slice(alloc, between(self.text, first.from, first.to))?;
+            let bytes = Vec::from_slice(alloc, &self.text[first.from..first.to])?;
             self.tokens = rest;
             return Ok(RawName {
                 name: Name::from_vec(bytes),
@@ -142,13 +148,4 @@ impl<'t> Cursor<'t> {
         }
         Err(ParseError::Unexpected { at: self.place() })
     }
-}
-
-/// The bytes from one place up to another, as far as the text goes.
-fn between(text: &[u8], from: usize, to: usize) -> &[u8]
-    ensures { result.now ≡ slice_range text.now from to }
-{
-    let to = to.min(text.len());
-    let from = from.min(to);
-    &text[from..to]
 }

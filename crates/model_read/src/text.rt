@@ -4,7 +4,7 @@ ghost use Rattle.std.specs.Prelude.{◌≡◌, ◌≢◌, ℕ, [], IfOk};
 ghost use Rattle.model_core.specs.Written.{WrittenModel};
 ghost use Rattle.model_core.specs.WrittenViews.{written_model};
 ghost use Rattle.model_core.specs.FirstForm.{text};
-ghost use Rattle.model_read.specs.Lexemes.{lexemes};
+ghost use Rattle.model_lex.specs.Lexemes.{lexemes};
 ghost use Rattle.model_read.specs.Reader.{Gives, all_at};
 ghost use Rattle.model_read.specs.Rules.{text_at};
 
@@ -12,7 +12,7 @@ use crate::cursor::Cursor;
 use crate::declarations::{variables, watch};
 use crate::vertices::vertices;
 use model_core::{RawModel, Symbol, Word};
-use model_lex::{ParseError, Tokens};
+use model_lex::{ParseError, Tokens, tokens_stand_in_order};
 use sig_base::List;
 use std::alloc::Global;
 
@@ -59,6 +59,7 @@ pub fn parse(alloc: Global, tokens: &Tokens<'_>) -> Result<RawModel, ParseError>
         → (w : WrittenModel) → text (lexemes tokens.now) w [] → ⊥ }
     ensures never_deep { (at : ℕ) → result ≢ Err (ParseError.TooDeep at) }
 {
+    tokens_stand_in_order();
     let mut cursor = Cursor::new(tokens.text, tokens.list.as_slice());
     all(alloc, &mut cursor)
 }
