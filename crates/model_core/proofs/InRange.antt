@@ -1,15 +1,17 @@
 -- Each change keeps a state in range.
-use Rattle.std.proofs.Common.{◌≡◌, ℕ, zero, suc, ℤ, pos, negsuc, Bool, true, false, cond, ◌&&◌, int_le, int_lt, List, [], ◌∷◌, replicate, slice_index_or, slice_set, zip, Ok, Err, refl, sym, ap₂, subst, arith}
+use Rattle.std.proofs.Common.{◌≡◌, ℕ, zero, suc, ℤ, pos, negsuc, Bool, true, false, cond, ◌&&◌, int_le, int_lt, List, [], ◌∷◌, replicate, slice_index_or, slice_set, zip, Ok, Err, refl, sym, ap₂, subst, arith, All, IsTrue, map}
 use Rattle.std.proofs.lemmas.Bool.Decides.{nat_tests}
 use lib.Pointwise.{pointwise}
 use Rattle.sig_base.specs.declared.fault.FaultKind.{FaultKind}
 use Rattle.sig_base.specs.Stream.{word}
 use Rattle.model_core.specs.EventGraph.{EventGraph, Variable, StateChange, Set, Draw}
-use Rattle.model_core.specs.State.{State, Place, variable_at, cell_count, within, in_ranges, in_range, cells_of, with_cell}
+use Rattle.model_core.specs.State.{State, Place, variable_at, cell_count, within, in_ranges, in_range, initial_state, cells_of, with_cell}
 use Rattle.model_core.specs.Value.{OrFault, each, value_of, place_of}
 use Rattle.model_core.specs.Changes.{Drawn, kept, store, set_all, taken_from, picked, one_more, make_change}
+use Rattle.model_core.specs.Machine.{Note, Goes}
+use Rattle.model_core.specs.Run.{Moment, next_move}
 use Rattle.model_core.proofs.Results.{bind_ok, in_turn-keeps}
-use Rattle.model_core.proofs.Keeping.{Kept}
+use Rattle.model_core.proofs.Keeping.{Kept, next_move-keeps}
 
 and_first : (a b : Bool) → (a && b) ≡ true → a ≡ true
 and_first true b e = refl
@@ -91,3 +93,18 @@ change-in_range g seed clk (Draw target stream choice) d e ok done =
 
 pub in_range-kept : (g : EventGraph) → Kept g (λ s. in_range g s ≡ true)
 in_range-kept g = record { by_store = store-in_range g; by_change = change-in_range g }
+
+pub runs_keep_range : (g : EventGraph) (seed until : ℕ) (m later : Moment) (notes : List Note) → IsTrue (in_range g m.now.state) → next_move g seed until m ≡ Goes notes later → IsTrue (in_range g later.now.state)
+runs_keep_range g seed until m later notes inside e = next_move-keeps g (λ s. in_range g s ≡ true) (in_range-kept g) seed until m inside notes later e
+
+in_ranges-replicate : (v : Variable) (x : ℤ) (n : ℕ) → within v.lo v.hi x ≡ true → in_ranges (replicate n v) (replicate n x) ≡ true
+in_ranges-replicate v x zero inside = refl
+in_ranges-replicate v x (suc n) inside = ap₂ (λ a b. a && b) inside (in_ranges-replicate v x n inside)
+
+begin_in_range : (vs : List Variable) → All (λ v. IsTrue (within v.lo v.hi v.initial)) vs → pointwise (λ (v : Variable) (values : List ℤ). in_ranges (replicate (cell_count v) v) values) vs (map (λ v. replicate (cell_count v) v.initial) vs) ≡ true
+begin_in_range [] inside = refl
+begin_in_range (v ∷ vs) inside =
+    ap₂ (λ a b. a && b) (in_ranges-replicate v v.initial (cell_count v) (inside 0 v (omega arith))) (begin_in_range vs (λ k d below. inside (suc k) d (omega arith)))
+
+pub starts_in_range : (g : EventGraph) → All (λ v. IsTrue (within v.lo v.hi v.initial)) g.variables → IsTrue (in_range g (initial_state g))
+starts_in_range g inside = begin_in_range g.variables inside

@@ -7,6 +7,7 @@ mod expr;
 mod model;
 mod raw;
 mod sameness;
+mod staying;
 mod token;
 mod vertex;
 
@@ -18,5 +19,6 @@ pub use raw::{
     RawNumber, RawRow, RawSigned, RawTable, RawTarget, RawVar, RawVertex,
 };
 pub use sameness::{idle_edges_may_go, reductions_keep_the_meaning, sameness_is_a_preorder};
+pub use staying::runs_stay_in_range;
 pub use token::{Symbol, Token, TokenKind, Word};
 pub use vertex::{Change, Edge, EdgeForm, Target, Vertex};

@@ -1,7 +1,7 @@
 -- Words for writing down event graphs, and what is seen of their runs.
 use Rattle.std.specs.Prelude.{ℕ, ℤ, pos, true, false, List, [], ◌∷◌, map, Some, None}
 use Rattle.model_core.specs.declared.model.Kind.TheVariants as kinds
-use Rattle.model_core.specs.EventGraph.{Variable, Location, Expression, Number, Negative, Binary, Divide, Equal, Truth, StateChange, Set, Draw, Uniform, EventEdge, EdgeKind, Schedule, Urgent, EventVertex}
+use Rattle.model_core.specs.EventGraph.{Variable, Location, Expression, Number, Scalar, Negative, Binary, Add, Subtract, Divide, Above, Equal, Truth, StateChange, Set, Draw, Uniform, EventEdge, EdgeKind, Schedule, Urgent, EventVertex}
 use Rattle.model_core.specs.Machine.{Note, Outcome, Look}
 
 -- a range variable lo..hi that is a scalar, and begins with this value
@@ -61,6 +61,17 @@ scalars values = map (λ x. pos x ∷ []) values
 -- what is seen: these notes, and how the run stands
 abbrev pub seen : List Note → Outcome → Look
 seen notes outcome = record { history = notes; outcome = outcome }
+
+-- the variable and 1
+abbrev pub plus_one : ℕ → Expression
+plus_one v = Binary Add (Scalar v) (number 1)
+
+abbrev pub minus_one : ℕ → Expression
+minus_one v = Binary Subtract (Scalar v) (number 1)
+
+-- the variable is above 0
+abbrev pub positive : ℕ → Expression
+positive v = Binary Above (Scalar v) (number 0)
 
 abbrev pub minus : ℕ → Expression
 minus n = Negative (number n)

@@ -1,9 +1,9 @@
 -- The models whose runs are worked out.
 use Rattle.std.specs.Prelude.{ℕ, ℤ, pos, List, [], ◌∷◌, ◌++◌, codes}
-use Rattle.model_core.specs.EventGraph.{EventGraph, Variable, Expression, Scalar, Binary, Add, Subtract, Divide, Above, Set, StateChange, Draw, ByTable, CancelEqual, CancelAll, EventEdge, WatchedVariable, WatchedVertex, Schedule}
+use Rattle.model_core.specs.EventGraph.{EventGraph, Variable, Expression, Scalar, Binary, Add, Subtract, Divide, Set, StateChange, Draw, ByTable, CancelEqual, CancelAll, EventEdge, EventVertex, WatchedVariable, WatchedVertex, Schedule}
 use Rattle.model_core.specs.State.{initial_state}
 use Rattle.model_core.specs.Value.{OrFault, value_of}
-use Rattle.worked_runs.specs.Building.{ranged, clipped, array, number, scalar, indexed, set, draw, edge, schedule, schedule_with, urgent, only_if, vertex, takes, one_over_zero}
+use Rattle.worked_runs.specs.Building.{ranged, clipped, array, number, scalar, indexed, set, draw, edge, schedule, schedule_with, urgent, only_if, vertex, takes, plus_one, minus_one, positive, one_over_zero}
 
 -- N grows by 1 each 5 ticks
 abbrev pub counting : Variable → EventGraph
@@ -14,7 +14,7 @@ counting n = record {
   watch = WatchedVariable 0 ∷ [];
   vertices =
       vertex (codes "RUN")
-      (set 0 (Binary Add (Scalar 0) (number 1)) ∷ [])
+      (set 0 (plus_one 0) ∷ [])
       (schedule 0 (number 5) ∷ []) ∷
       [];
 }
@@ -27,7 +27,26 @@ clock = counting (clipped (ranged (codes "N") 0 3 0))
 abbrev pub strict_clock : EventGraph
 strict_clock = counting (ranged (codes "N") 0 3 0)
 
--- a bank: customers enter after gaps of 1 to 6 ticks, and each of the idle tellers serves one in 7 ticks
+abbrev pub bank_run : EventVertex
+bank_run = takes (1 ∷ []) (vertex (codes "RUN") [] (urgent 1 ∷ []))
+
+abbrev pub bank_enter : EventVertex
+bank_enter =
+    vertex (codes "ENTER")
+    (Set (scalar 0 ∷ scalar 3 ∷ []) (plus_one 0 ∷ plus_one 3 ∷ []) ∷ draw 2 54 1 6 ∷ [])
+    (schedule 1 (Scalar 2) ∷ only_if (positive 1) (urgent 2) ∷ [])
+
+abbrev pub bank_start : EventVertex
+bank_start =
+    vertex (codes "START")
+    (Set (scalar 0 ∷ scalar 1 ∷ []) (minus_one 0 ∷ minus_one 1 ∷ []) ∷ [])
+    (schedule 3 (number 7) ∷ [])
+
+abbrev pub bank_leave : EventVertex
+bank_leave = vertex (codes "LEAVE") (set 1 (plus_one 1) ∷ []) (only_if (positive 0) (urgent 2) ∷ [])
+
+-- A bank: customers enter after gaps of 1 to 6 ticks, and each idle teller serves one in 7 ticks. The variables are
+-- QUEUE, IDLE, GAP and SEEN, and the vertices RUN, ENTER, START and LEAVE, by their places from 0.
 abbrev pub bank : EventGraph
 bank = record {
   name = codes "BANK";
@@ -39,20 +58,7 @@ bank = record {
       [];
   tables = [];
   watch = WatchedVariable 0 ∷ WatchedVariable 1 ∷ [];
-  vertices =
-      takes (1 ∷ []) (vertex (codes "RUN") [] (urgent 1 ∷ [])) ∷
-      vertex (codes "ENTER")
-      (Set (scalar 0 ∷ scalar 3 ∷ []) (Binary Add (Scalar 0) (number 1) ∷ Binary Add (Scalar 3) (number 1) ∷ []) ∷
-      draw 2 54 1 6 ∷ [])
-      (schedule 1 (Scalar 2) ∷
-      only_if (Binary Above (Scalar 1) (number 0)) (urgent 2) ∷ []) ∷
-      vertex (codes "START")
-      (Set (scalar 0 ∷ scalar 1 ∷ []) (Binary Subtract (Scalar 0) (number 1) ∷ Binary Subtract (Scalar 1) (number 1) ∷ []) ∷ [])
-      (schedule 3 (number 7) ∷ []) ∷
-      vertex (codes "LEAVE")
-      (set 1 (Binary Add (Scalar 1) (number 1)) ∷ [])
-      (only_if (Binary Above (Scalar 0) (number 0)) (urgent 2) ∷ []) ∷
-      [];
+  vertices = bank_run ∷ bank_enter ∷ bank_start ∷ bank_leave ∷ [];
 }
 
 -- A and B follow one another at clock 0 for ever
