@@ -6,6 +6,8 @@ mod application;
 mod expr;
 mod model;
 mod raw;
+mod sameness;
+mod staying;
 mod token;
 mod vertex;
 
@@ -16,5 +18,7 @@ pub use raw::{
     RawChange, RawEdge, RawEdgeForm, RawExpr, RawForm, RawKind, RawLiteral, RawModel, RawName,
     RawNumber, RawRow, RawSigned, RawTable, RawTarget, RawVar, RawVertex,
 };
+pub use sameness::{idle_edges_may_go, reductions_keep_the_meaning, sameness_is_a_preorder};
+pub use staying::runs_stay_in_range;
 pub use token::{Symbol, Token, TokenKind, Word};
 pub use vertex::{Change, Edge, EdgeForm, Target, Vertex};

@@ -1,10 +1,10 @@
 -- The tokens so far and those of the rest of the text are the text's tokens.
 use Rattle.std.proofs.Common.{◌≡◌, ℕ, zero, suc, ◌+◌, ◌-◌, ◌<◌, ◌≤◌, List, [], ◌∷◌, ◌++◌, length, take, drop, map, sym, refl, ap, ◌∙◌, subst, arith, add-zero, append_assoc}
 use Rattle.std.specs.Prelude.{Result, Ok, Err}
-use Rattle.std.proofs.lemmas.List.{drop-drop, length-drop, map_push, append-nil, drop_all, take_rest}
+use Rattle.std.proofs.lemmas.List.{drop-drop, length-drop, map_push, take_rest}
 use Rattle.model_core.specs.declared.token.Token.{Token}
 use Rattle.model_core.specs.declared.token.TokenKind.{TokenKind}
-use Rattle.model_core.specs.Lexing.{Lexeme, LexemeKind, Front, Between, Longest, Neither, front, front_length, after_front, tokens_from, tokens_of, lexeme_of, lexeme_kind_of}
+use Rattle.model_core.specs.Lexing.{Lexeme, LexemeKind, Front, Between, Longest, front_length, after_front, tokens_from, tokens_of, lexeme_of, lexeme_kind_of}
 use Rattle.model_lex.specs.Fronts.{front_at, seen}
 use Rattle.model_lex.specs.declared.front.Front.{Front as CodeFront}
 use Rattle.model_lex.proofs.FrontLemmas.{Fits, front-front_at, front_at-fits}
@@ -41,24 +41,18 @@ pub record Cut (text : List ℕ) (ts : List Token) (at : ℕ) : Type 0 where
   pub in_text : at ≤ length text
   pub whole : joined (map (lexeme_of text) ts) (tokens_from at 0 (drop at text)) ≡ tokens_of text
 
--- nothing is cut at first
-pub cut_none : (text : List ℕ) → Cut text [] 0
-cut_none text = record { in_text = omega arith; whole = joined_none (tokens_from 0 0 text) } where
-  joined_none : (r : Result (List Lexeme) ℕ) → joined [] r ≡ r
-  joined_none (Ok later) = refl
-  joined_none (Err at) = refl
-
 -- the front at a place, and what is left behind it
 abbrev rest_after : List ℕ → ℕ → ℕ → Result (List Lexeme) ℕ
 rest_after text at n = tokens_from (at + n) 0 (drop (at + n) text)
 
 front_here : (text : List ℕ) (at : ℕ) (f : Front) → at < length text → front_at (drop at text) ≡ f → (tokens_from at 0 (drop at text) ≡ after_front at f (rest_after text at (front_length f))) × Fits (drop at text) f
 front_here text at f inside is =
-    let some : 0 < length (drop at text) = omega (arith, length-drop at text) in
-    (tokens_from-front at (drop at text) some
-     ∙ ap (λ g. after_front at g (tokens_from (at + front_length g) 0 (drop (front_length g) (drop at text)))) is
-     ∙ ap (λ r. after_front at f (tokens_from (at + front_length f) 0 r)) (drop-drop (front_length f) at text),
-     subst (Fits (drop at text)) is (front_at-fits (drop at text) some))
+    let some : 0 < length (drop at text) = omega (arith, length-drop at text) in (
+      tokens_from-front at (drop at text) some
+          ∙ ap (λ g. after_front at g (tokens_from (at + front_length g) 0 (drop (front_length g) (drop at text)))) is
+          ∙ ap (λ r. after_front at f (tokens_from (at + front_length f) 0 r)) (drop-drop (front_length f) at text),
+      subst (Fits (drop at text)) is (front_at-fits (drop at text) some),
+    )
 
 -- what the code sees in the rest of the text
 pub seen_here : (text : List ℕ) (at : ℕ) (f : CodeFront) → seen (take (length text - at) (drop at text)) f ≡ front_at (take (length text - at) (drop at text)) → front_at (drop at text) ≡ seen (drop at text) f
@@ -96,12 +90,3 @@ cut_longest text ts at n kind inside is cut =
           ∙ ap (joined before) (sym here.0)
           ∙ cut.whole;
     }
-
--- no token begins here
-pub cut_neither : (text : List ℕ) (ts : List Token) (at : ℕ) → at < length text → front_at (drop at text) ≡ Neither → Cut text ts at → tokens_of text ≡ Err at
-cut_neither text ts at inside is cut = sym cut.whole ∙ ap (joined (map (lexeme_of text) ts)) (front_here text at Neither inside is).0
-
--- nothing is left
-pub cut_all : (text : List ℕ) (ts : List Token) (at : ℕ) → length text ≤ at → Cut text ts at → tokens_of text ≡ Ok (map (lexeme_of text) ts)
-cut_all text ts at past cut =
-    sym cut.whole ∙ ap (λ s. joined (map (lexeme_of text) ts) (tokens_from at 0 s)) (drop_all at text past) ∙ ap Ok (append-nil (map (lexeme_of text) ts))

@@ -1,6 +1,6 @@
 -- What bytes begin with, and how long it is.
-use Rattle.std.proofs.Common.{◌≡◌, ℕ, ◌+◌, ◌-◌, ◌<◌, ◌≤◌, Bool, true, false, cond, ◌&&◌, List, [], ◌∷◌, ◌++◌, length, take, drop, sym, refl, ap, ◌∙◌, subst, arith, slice_index, get_or}
-use Rattle.std.specs.Prelude.{◌==◌, ◌||◌, nat_eq, nat_lt}
+use Rattle.std.proofs.Common.{◌≡◌, ℕ, ◌<◌, ◌≤◌, Bool, true, false, cond, ◌&&◌, List, [], ◌∷◌, length, drop, refl, ap, ◌∙◌, arith, slice_index}
+use Rattle.std.specs.Prelude.{◌==◌, nat_eq, nat_lt}
 use Rattle.std.specs.List.{prefix_len, take_while, starts_with, list_all}
 use Rattle.std.specs.Char.{is_ascii_digit, is_ascii_alphabetic}
 use Rattle.std.proofs.lemmas.List.{length-take-le}
@@ -10,7 +10,7 @@ use Rattle.std.proofs.lemmas.Slice.Eq.{starts_is}
 use Rattle.std.proofs.lemmas.Bool.{false≢true}
 use Rattle.std.proofs.lemmas.Bool.Decides.{Decides-eqb, nat_tests}
 use Rattle.model_core.specs.declared.token.Symbol.{Symbol}
-use Rattle.model_core.specs.Lexing.{LexemeKind, Mark, NumberOf, Front, Between, Longest, Neither, front, front_length, is_blank, is_word_byte, is_comment_byte, reserved_words, all_symbols, word_among, symbol_among, literal_value}
+use Rattle.model_core.specs.Lexing.{Mark, NumberOf, Front, Between, Longest, front, front_length, is_blank, is_word_byte, is_comment_byte, reserved_words, all_symbols, word_among, symbol_among, literal_value}
 use Rattle.model_lex.specs.Fronts.{front_at}
 
 length-take_while : (p : ℕ → Bool) (xs : List ℕ) → length (take_while p xs) ≡ prefix_len p xs

@@ -1,9 +1,9 @@
 -- The tokens of a text stand in it in order.
-use Rattle.std.proofs.Common.{◌≡◌, ℕ, zero, suc, ◌+◌, ◌-◌, ◌<◌, ◌≤◌, List, [], ◌∷◌, length, get_or, map, sym, refl, ap, ◌∙◌, subst, arith}
+use Rattle.std.proofs.Common.{◌≡◌, ℕ, zero, suc, ◌+◌, ◌-◌, ◌<◌, ◌≤◌, List, [], ◌∷◌, length, get_or, map, sym, refl, subst, arith}
 use Rattle.std.specs.Prelude.{Result, Ok, Err}
 use Rattle.std.proofs.lemmas.List.{length-map, get_or-map}
 use Rattle.model_core.specs.declared.token.Token.{Token}
-use Rattle.model_core.specs.Lexing.{Lexeme, LexemeKind, Front, Between, Longest, Neither, front, front_length, after_front, tokens_from, tokens_of, lexeme_of}
+use Rattle.model_core.specs.Lexing.{Lexeme, Front, Between, Longest, Neither, front, front_length, after_front, tokens_from, tokens_of, lexeme_of}
 use Rattle.model_lex.specs.TokenOrder.{StandInOrder}
 use Rattle.model_lex.proofs.FrontLemmas.{Fits, front-front_at, front_at-fits}
 
@@ -48,9 +48,9 @@ from_in_order at zero (c ∷ s) ls inside_in is =
     let room : front_length (front c s) ≤ length s + 1 = omega (arith, fits.1) in
     at_equal at (at + 0) ls (at + suc (length s)) (at + suc (length s)) (omega arith) refl
     (front_in_order at (at + suc (length s)) (front c s) (tokens_from (at + 1) (front_length (front c s) - 1) s) some
-     (λ ls is. at_equal (at + 1 + (front_length (front c s) - 1)) (at + front_length (front c s)) ls (at + 1 + length s) (at + suc (length s)) (omega arith) (omega arith)
-      (from_in_order (at + 1) (front_length (front c s) - 1) s ls (omega arith) is))
-     ls is)
+    (λ ls is. at_equal (at + 1 + (front_length (front c s) - 1)) (at + front_length (front c s)) ls (at + 1 + length s) (at + suc (length s)) (omega arith) (omega arith)
+    (from_in_order (at + 1) (front_length (front c s) - 1) s ls (omega arith) is))
+    ls is)
 
 pub tokens_of-in_order : (text : List ℕ) (ls : List Lexeme) → tokens_of text ≡ Ok ls → StandInOrder 0 ls (length text)
 tokens_of-in_order text ls is =

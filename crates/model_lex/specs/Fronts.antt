@@ -1,8 +1,8 @@
 -- What the code's values stand for, and the front of a text as the code looks for it.
-use Rattle.std.specs.Prelude.{◌≡◌, ℕ, Bool, ◌==◌, if◌then◌else◌, List, [], ◌∷◌, length, take, filter, slice_index, Option, Some, None, Result, Ok, Err}
+use Rattle.std.specs.Prelude.{◌≡◌, ℕ, ◌==◌, if◌then◌else◌, List, length, take, filter, slice_index, Option, Some, None, Result, Ok, Err}
 use Rattle.std.specs.List.{prefix_len}
 use Rattle.std.specs.Char.{is_ascii_digit, is_ascii_alphabetic}
-use Rattle.model_core.specs.Lexing.{LexemeKind, Mark, NumberOf, Front, Between, Longest, Neither, lexeme_kind_of, is_blank, is_word_byte, is_comment_byte, reserved_words, all_symbols, word_among, symbol_among, literal_value}
+use Rattle.model_core.specs.Lexing.{Mark, NumberOf, Front, Between, Longest, Neither, lexeme_kind_of, is_blank, is_word_byte, is_comment_byte, reserved_words, all_symbols, word_among, symbol_among, literal_value}
 use Rattle.model_core.specs.declared.token.Word.{Word}
 use Rattle.model_core.specs.declared.token.Symbol.{Symbol}
 use Rattle.model_lex.specs.declared.front.Front.{Front as CodeFront}
@@ -21,16 +21,19 @@ abbrev pub symbol_front : ℕ → Option Symbol → Front → Front
 symbol_front n (Some s) otherwise = Longest n (Mark s)
 symbol_front n None otherwise = otherwise
 
+-- the symbols of so many bytes
 abbrev pub symbols_of_length : ℕ → List (List ℕ × Symbol)
 symbols_of_length n = filter (λ s. length s.0 == n) all_symbols
 
+-- the reserved words that begin with this byte
 abbrev pub words_with_first : ℕ → List (List ℕ × Word)
 words_with_first c = filter (λ w. slice_index w.0 0 == c) reserved_words
 
--- the token of so many bytes that begins with a letter, and with a digit
+-- the word of so many bytes
 abbrev pub word_at : ℕ → List ℕ → Front
 word_at n bytes = Longest n (word_among reserved_words (take n bytes))
 
+-- the number of so many digits
 abbrev pub number_at : ℕ → List ℕ → Front
 number_at n bytes = Longest n (NumberOf (literal_value (take n bytes)))
 

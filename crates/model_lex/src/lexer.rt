@@ -1,6 +1,6 @@
 //! Cuts a text into its tokens.
 
-ghost use Rattle.std.specs.Prelude.{◌≡◌, ℕ, map, Ok, Err, IfOk};
+ghost use Rattle.std.specs.Prelude.{◌≡◌, ℕ, [], ◌∷◌, ◌++◌, map, Ok, Err, IfOk, OnOk};
 ghost use Rattle.model_core.specs.Lexing.{tokens_of, lexeme_of};
 ghost use Rattle.model_lex.specs.Fronts.{Gives};
 ghost use Rattle.model_lex.specs.Lexemes.{lexemes};
@@ -9,7 +9,7 @@ use crate::front::{Front, front_of};
 use crate::lex_error::LexError;
 use crate::token_list::Tokens;
 use model_core::Token;
-use sig_base::List;
+use sig_base::{List, NoMemory};
 use std::alloc::Global;
 
 /// The tokens of the text, the longest one each time. `BadByte` comes exactly where some byte outside a comment
@@ -26,14 +26,14 @@ pub fn tokens<'t>(alloc: Global, text: &'t [u8]) -> Result<Tokens<'t>, LexError>
 fn token_list(alloc: Global, text: &[u8]) -> Result<List<Token>, LexError>
     ensures { Gives (map (lexeme_of text.now)) result (tokens_of text.now) }
 {
-    let mut list = Vec::with_capacity(alloc, token_count(text))?;
+    let mut list = Vec::new(alloc);
     let mut at = 0;
     while at < text.len() {
         match front_of(&text[at..]) {
             Front::Between(length) => at += length,
             Front::Longest(length, kind) => {
                 let to = at + length;
-                list.push(Token { kind, from: at, to })?;
+                push_token(&mut list, Token { kind, from: at, to }, text.len() - at)?;
                 at = to;
             }
             Front::Neither => return Err(LexError::BadByte { at }),
@@ -42,20 +42,20 @@ fn token_list(alloc: Global, text: &[u8]) -> Result<List<Token>, LexError>
     Ok(List::from_vec(list))
 }
 
-/// How many tokens there are up to the first byte that begins none, so that their list takes no more memory than
-/// it needs.
-fn token_count(text: &[u8]) -> usize {
-    let mut count = 0;
-    let mut at = 0;
-    while at < text.len() {
-        match front_of(&text[at..]) {
-            Front::Between(length) => at += length,
-            Front::Longest(length, _) => {
-                count += 1;
-                at += length;
-            }
-            Front::Neither => return count,
-        }
+/// How many tokens a list has room for at first.
+const FIRST_ROOM: usize = 64;
+
+/// Adds a token, at which `left` bytes of the text are left. A full list gets room for as many tokens more as it has,
+/// but for no more than there are bytes left, since each token takes one at least.
+fn push_token(list: &mut Vec<Token>, token: Token, left: usize) -> Result<(), NoMemory>
+    ensures { OnOk result (list.new.items ≡ list.old.items ++ token ∷ []) }
+{
+    if list.len() == list.capacity() {
+        list.reserve_exact(list.len().max(FIRST_ROOM).min(left))?;
     }
-    count
+    list.push(token)?;
+    Ok(())
 }
+
+#[cfg(test)]
+mod tests;

@@ -11,5 +11,4 @@ pub fn tokens_stand_in_order()
     ensures in_order { (text : List ℕ) (ls : List Lexeme) → tokens_of text ≡ Ok ls → StandInOrder 0 ls (length text) }
     // So a reader may take the bytes of any token out of the text.
     ensures in_text { (t : Tokens) → All (λ k. (k.from < k.to) × (k.to ≤ length t.text.now)) t.list }
-{
-}
+{}

@@ -12,6 +12,5 @@ use sig_base::List;
 pub struct Tokens<'t> {
     pub text: &'t [u8],
     pub list: List<Token>,
-    pub ghost are_its: { tokens_of text.now ≡ Ok (map (lexeme_of text.now) list) }
-        by { lexemes-prop (tokens_of text.now) (Ok (map (lexeme_of text.now) list)) },
+    pub ghost are_its: { tokens_of text.now ≡ Ok (map (lexeme_of text.now) list) } by { lexemes-prop (tokens_of text.now) (Ok (map (lexeme_of text.now) list)) },
 }

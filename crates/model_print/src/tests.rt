@@ -32,7 +32,7 @@ vertex RUN {
 end
 ";
 
-// Places that name nothing.
+// Each place names nothing.
 const LOST: &[u8] = b"model LOST;
 watch , ;
 vertex RUN() {
@@ -41,6 +41,10 @@ vertex RUN() {
 }
 end
 ";
+
+fn list<T: Drop, const N: usize>(alloc: Global, items: [T; N]) -> Result<List<T>, NoMemory> {
+    Ok(List::from_vec(Vec::from_array(alloc, items)?))
+}
 
 fn name(alloc: Global, text: &[u8]) -> Result<Name, NoMemory> {
     Ok(Name::from_vec(Vec::from_slice(alloc, text)?))
@@ -58,92 +62,74 @@ fn var(name: Name, size: usize, kind: Kind, bounds: (i64, i64), initial: i64) ->
     }
 }
 
+fn place(var: usize) -> Target {
+    Target { var, index: None }
+}
+
+fn set<const N: usize>(
+    alloc: Global,
+    targets: [Target; N],
+    values: [Expr; N],
+) -> Result<Change, NoMemory> {
+    let targets = list(alloc, targets)?;
+    let values = list(alloc, values)?;
+    Ok(Change::Set { targets, values })
+}
+
+fn edge(target: usize, values: List<Expr>, condition: Expr, delay: Expr, priority: u8) -> Edge {
+    let form = EdgeForm::Schedule { delay, priority };
+    Edge {
+        target,
+        values,
+        condition,
+        form,
+    }
+}
+
 fn desk_vars(alloc: Global) -> Result<List<Var>, NoMemory> {
     let mut n = var(name(alloc, b"N")?, 0, Kind::Range, (-3, 7), -1);
     n.clip = true;
-    let mut vars = List::new(alloc);
-    vars.push(n)?;
-    vars.push(var(name(alloc, b"OPEN")?, 0, Kind::Truth, (0, 1), 1))?;
-    vars.push(var(name(alloc, b"SHUT")?, 0, Kind::Truth, (0, 1), 0))?;
-    vars.push(var(
+    let open = var(name(alloc, b"OPEN")?, 0, Kind::Truth, (0, 1), 1);
+    let shut = var(name(alloc, b"SHUT")?, 0, Kind::Truth, (0, 1), 0);
+    let cells = var(
         name(alloc, b"CELLS")?,
         4,
         Kind::Range,
         (i64::MIN, i64::MAX),
         0,
-    ))?;
-    Ok(vars)
+    );
+    list(alloc, [n, open, shut, cells])
 }
 
-fn desk_tables(alloc: Global) -> Result<List<Table>, NoMemory> {
-    let mut rows = List::new(alloc);
-    rows.push(Row {
+fn gap(alloc: Global) -> Result<Table, NoMemory> {
+    let often = Row {
         value: -1,
         weight: 2,
-    })?;
-    rows.push(Row {
+    };
+    let seldom = Row {
         value: 30,
         weight: 4_294_967_296,
-    })?;
-    let mut tables = List::new(alloc);
-    tables.push(Table {
-        name: name(alloc, b"GAP")?,
-        rows,
-    })?;
-    Ok(tables)
-}
-
-fn set(alloc: Global, var: usize, index: Option<Expr>, value: Expr) -> Result<Change, NoMemory> {
-    let mut targets = List::new(alloc);
-    targets.push(Target { var, index })?;
-    let mut values = List::new(alloc);
-    values.push(value)?;
-    Ok(Change::Set { targets, values })
-}
-
-fn plain_edge(alloc: Global, target: usize) -> Edge {
-    Edge {
-        target,
-        values: List::new(alloc),
-        condition: Expr::Truth(true),
-        form: EdgeForm::Schedule {
-            delay: Expr::Int(0),
-            priority: 5,
-        },
-    }
+    };
+    let name = name(alloc, b"GAP")?;
+    let rows = list(alloc, [often, seldom])?;
+    Ok(Table { name, rows })
 }
 
 fn come(alloc: Global) -> Result<Vertex, NoMemory> {
-    let mut targets = List::new(alloc);
-    targets.push(Target {
-        var: 0,
-        index: None,
-    })?;
-    targets.push(Target {
-        var: 1,
-        index: None,
-    })?;
-    let mut values = List::new(alloc);
-    values.push(Expr::Int(12))?;
-    values.push(Expr::Truth(false))?;
-    let mut changes = List::new(alloc);
-    changes.push(Change::Set { targets, values })?;
-    let mut passed = List::new(alloc);
-    passed.push(Expr::Scalar(3))?;
-    passed.push(Expr::Int(3))?;
-    let mut edges = List::new(alloc);
-    edges.push(plain_edge(alloc, 0))?;
-    edges.push(Edge {
-        target: 1,
-        values: passed,
-        condition: Expr::Scalar(1),
-        form: EdgeForm::Schedule {
-            delay: Expr::Int(7),
-            priority: 3,
-        },
-    })?;
+    let no_values = List::new(alloc);
+    let at_once = edge(0, no_values, Expr::Truth(true), Expr::Int(0), 5);
+    let passed = list(alloc, [Expr::Scalar(3), Expr::Int(3)])?;
+    let later = edge(1, passed, Expr::Scalar(1), Expr::Int(7), 3);
+    let both = set(
+        alloc,
+        [place(0), place(1)],
+        [Expr::Int(12), Expr::Truth(false)],
+    )?;
+    let name = name(alloc, b"COME")?;
+    let changes = list(alloc, [both])?;
+    let edges = list(alloc, [at_once, later])?;
     Ok(Vertex {
-        name: name(alloc, b"COME")?,
+        name,
         params: List::new(alloc),
         changes,
         edges,
@@ -151,24 +137,19 @@ fn come(alloc: Global) -> Result<Vertex, NoMemory> {
 }
 
 fn serve(alloc: Global) -> Result<Vertex, NoMemory> {
-    let mut params = List::new(alloc);
-    params.push(0)?;
-    params.push(1)?;
-    let mut changes = List::new(alloc);
-    changes.push(set(alloc, 3, Some(Expr::Int(2)), Expr::Scalar(0))?)?;
-    changes.push(set(alloc, 2, None, Expr::Truth(true))?)?;
-    let mut edges = List::new(alloc);
-    edges.push(Edge {
-        target: 0,
-        values: List::new(alloc),
-        condition: Expr::Truth(false),
-        form: EdgeForm::Schedule {
-            delay: Expr::Scalar(0),
-            priority: 5,
-        },
-    })?;
+    let cell = Target {
+        var: 3,
+        index: Some(Expr::Int(2)),
+    };
+    let stored = set(alloc, [cell], [Expr::Scalar(0)])?;
+    let shut = set(alloc, [place(2)], [Expr::Truth(true)])?;
+    let never = edge(0, List::new(alloc), Expr::Truth(false), Expr::Scalar(0), 5);
+    let name = name(alloc, b"SERVE")?;
+    let params = list(alloc, [0, 1])?;
+    let changes = list(alloc, [stored, shut])?;
+    let edges = list(alloc, [never])?;
     Ok(Vertex {
-        name: name(alloc, b"SERVE")?,
+        name,
         params,
         changes,
         edges,
@@ -176,76 +157,63 @@ fn serve(alloc: Global) -> Result<Vertex, NoMemory> {
 }
 
 fn desk(alloc: Global) -> Result<Model, NoMemory> {
-    let mut watch = List::new(alloc);
-    watch.push(Watch::Variable { var: 0 })?;
-    watch.push(Watch::Event { vertex: 1 })?;
-    watch.push(Watch::Variable { var: 1 })?;
-    let mut vertices = List::new(alloc);
-    vertices.push(come(alloc)?)?;
-    vertices.push(serve(alloc)?)?;
+    let name = name(alloc, b"DESK")?;
+    let vars = desk_vars(alloc)?;
+    let tables = list(alloc, [gap(alloc)?])?;
+    let watched = [
+        Watch::Variable { var: 0 },
+        Watch::Event { vertex: 1 },
+        Watch::Variable { var: 1 },
+    ];
+    let watch = list(alloc, watched)?;
+    let come = come(alloc)?;
+    let vertices = list(alloc, [come, serve(alloc)?])?;
     Ok(Model {
-        name: name(alloc, b"DESK")?,
-        vars: desk_vars(alloc)?,
-        tables: desk_tables(alloc)?,
+        name,
+        vars,
+        tables,
         watch,
         vertices,
     })
 }
 
-fn one_vertex(
-    alloc: Global,
-    title: &[u8],
-    watch: List<Watch>,
-    vertex: Vertex,
-) -> Result<Model, NoMemory> {
-    let mut vertices = List::new(alloc);
-    vertices.push(vertex)?;
-    Ok(Model {
-        name: name(alloc, title)?,
+fn of_one_vertex(name: Name, watch: List<Watch>, vertices: List<Vertex>, alloc: Global) -> Model {
+    Model {
+        name,
         vars: List::new(alloc),
         tables: List::new(alloc),
         watch,
         vertices,
-    })
+    }
 }
 
 fn least(alloc: Global) -> Result<Model, NoMemory> {
-    let vertex = Vertex {
+    let run = Vertex {
         name: name(alloc, b"RUN")?,
         params: List::new(alloc),
         changes: List::new(alloc),
         edges: List::new(alloc),
     };
-    one_vertex(alloc, b"ONE", List::new(alloc), vertex)
+    let vertices = list(alloc, [run])?;
+    let title = name(alloc, b"ONE")?;
+    Ok(of_one_vertex(title, List::new(alloc), vertices, alloc))
 }
 
 fn lost(alloc: Global) -> Result<Model, NoMemory> {
-    let mut params = List::new(alloc);
-    params.push(0)?;
-    let mut changes = List::new(alloc);
-    changes.push(set(alloc, 0, None, Expr::Scalar(0))?)?;
-    let mut passed = List::new(alloc);
-    passed.push(Expr::Scalar(1))?;
-    let mut edges = List::new(alloc);
-    edges.push(Edge {
-        target: 1,
-        values: passed,
-        condition: Expr::Scalar(7),
-        form: EdgeForm::Schedule {
-            delay: Expr::Int(0),
-            priority: 0,
-        },
-    })?;
-    let vertex = Vertex {
+    let passed = list(alloc, [Expr::Scalar(1)])?;
+    let nowhere = edge(1, passed, Expr::Scalar(7), Expr::Int(0), 0);
+    let nothing = set(alloc, [place(0)], [Expr::Scalar(0)])?;
+    let run = Vertex {
         name: name(alloc, b"RUN")?,
-        params,
-        changes,
-        edges,
+        params: list(alloc, [0])?,
+        changes: list(alloc, [nothing])?,
+        edges: list(alloc, [nowhere])?,
     };
-    let mut watch = List::new(alloc);
-    watch.push(Watch::Variable { var: 0 })?;
-    watch.push(Watch::Event { vertex: 1 })?;
-    one_vertex(alloc, b"LOST", watch, vertex)
+    let vertices = list(alloc, [run])?;
+    let watched = [Watch::Variable { var: 0 }, Watch::Event { vertex: 1 }];
+    let watch = list(alloc, watched)?;
+    let title = name(alloc, b"LOST")?;
+    Ok(of_one_vertex(title, watch, vertices, alloc))
 }
 
 #[test]

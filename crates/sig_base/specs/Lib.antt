@@ -3,3 +3,4 @@ pub mod Source
 pub mod Sink
 pub mod Memory
 pub mod Rows
+pub mod Stream

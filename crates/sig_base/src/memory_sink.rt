@@ -2,9 +2,6 @@
 
 ghost use Rattle.std.specs.Prelude.{◌≡◌, ◌<◌, ◌≤◌, ◌+◌, ◌-◌, ◌↔◌, ◌⊎◌, false, true, [], ◌++◌, vec_len, vec_capacity, min, take, length, Contains, IsErr, IfOk, OnOk, OnErr};
 ghost use Rattle.sig_base.specs.Faults.{HasRisen, last_count};
-ghost use Rattle.sig_base.specs.Memory.{Store};
-ghost use Rattle.sig_base.specs.Source.{Stays};
-ghost use Rattle.sig_base.specs.Sink.{GrowsBy};
 
 use crate::count::one_more;
 use crate::list::List;

@@ -1,9 +1,7 @@
 //! A source over memory, with calls that fail as a test wants.
 
-ghost use Rattle.std.specs.Prelude.{◌≡◌, ◌<◌, ◌≤◌, ◌+◌, ◌↔◌, [], min, take, drop, length, Contains, IsErr, IfOk, OnOk, OnErr};
+ghost use Rattle.std.specs.Prelude.{◌≡◌, ◌<◌, ◌+◌, ◌↔◌, [], min, take, drop, length, Contains, IsErr, IfOk, OnErr};
 ghost use Rattle.sig_base.specs.Faults.{HasRisen, last_count};
-ghost use Rattle.sig_base.specs.Memory.{Supply};
-ghost use Rattle.sig_base.specs.Source.{Stays, Takes, Shows, IsAtEnd};
 
 use crate::count::one_more;
 use crate::list::List;

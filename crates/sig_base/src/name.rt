@@ -1,6 +1,6 @@
 //! The name of a model, a variable, a table or a vertex.
 
-ghost use Rattle.std.specs.Prelude.{◌≡◌, ℕ, length};
+ghost use Rattle.std.specs.Prelude.{◌≡◌};
 
 use std::marker::Model;
 

@@ -1,9 +1,6 @@
 //! Writing to one of std's writers.
 
-ghost use Rattle.std.specs.Prelude.{◌≡◌, ◌<◌, ◌≤◌, false, length, IfOk, OnOk, OnErr};
-ghost use Rattle.sig_base.specs.Faults.{HasRisen};
-ghost use Rattle.sig_base.specs.Source.{Stays};
-ghost use Rattle.sig_base.specs.Sink.{GrowsBy};
+ghost use Rattle.std.specs.Prelude.{◌≡◌, false};
 
 use crate::count::one_more;
 use crate::no_memory::Failed;

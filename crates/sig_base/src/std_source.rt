@@ -1,8 +1,6 @@
 //! Reading from one of std's readers.
 
-ghost use Rattle.std.specs.Prelude.{◌≡◌, ◌<◌, ◌≤◌, length, IfOk, OnOk, OnErr};
-ghost use Rattle.sig_base.specs.Faults.{HasRisen};
-ghost use Rattle.sig_base.specs.Source.{Stays, Takes, Shows, IsAtEnd};
+ghost use Rattle.std.specs.Prelude.{◌≡◌};
 
 use crate::count::one_more;
 use crate::no_memory::Failed;

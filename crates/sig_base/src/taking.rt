@@ -1,6 +1,6 @@
 //! Reading all that a source has, up to a limit.
 
-ghost use Rattle.std.specs.Prelude.{◌≡◌, ◌≢◌, ◌<◌, ◌≤◌, ◌+◌, ◌-◌, ◌^◌, ◌↔◌, ℕ, List, [], Some, length, take, drop, vec_len, IfSome, IfOk, OnOk, OnErr, IfErr, IsErrOf};
+ghost use Rattle.std.specs.Prelude.{◌≡◌, ◌≢◌, ◌<◌, ◌≤◌, ◌+◌, ◌^◌, ◌↔◌, ℕ, [], Some, length, take, drop, vec_len, IfSome, IfOk, OnOk, OnErr, IfErr, IsErrOf};
 ghost use Rattle.sig_base.specs.Faults.{HasRisen};
 ghost use Rattle.sig_base.specs.Source.{Stays, Takes, Shows, IsAtEnd};
 

@@ -1,9 +1,10 @@
 //! Sources and sinks over real readers and writers, and over memory that fails at chosen calls.
 
-ghost use Rattle.std.specs.Prelude.{◌<◌};
+ghost use Rattle.std.specs.Prelude.{◌≡◌, ◌<◌, ◌++◌, [], ◌∷◌, Some, IfOk, OnOk};
 
 use super::{
-    List, MemorySink, MemorySource, Sink, StdSink, StdSource, TakeError, Text, put, take_all,
+    Failed, List, MemorySink, MemorySource, NoMemory, Sink, StdSink, StdSource, TakeError, Text,
+    put, take_all,
 };
 use std::alloc::Global;
 use std::io;
@@ -193,6 +194,45 @@ fn a_long_source_is_taken_whole(rt: HostRuntime) -> Result<(), Fail> {
     let text = take_all(rt.alloc(), &mut source, 200_000)?;
     assert_eq!(rt; text.as_slice().len(), 200_000);
     assert!(rt; source.calls() <= 60);
+    Ok(())
+}
+
+/// The bytes, through a reader of std.
+fn through_reader(alloc: Global, bytes: &[u8]) -> Result<Text, TakeError>
+    ensures { IfOk result (λ text. text ≡ bytes.now) }
+{
+    let mut source = StdSource::new(bytes);
+    take_all(alloc, &mut source, usize::MAX)
+}
+
+/// The bytes, through a writer of std.
+fn through_writer(sink: &mut StdSink<Vec<u8>>, bytes: &[u8]) -> Result<(), Failed>
+    ensures { OnOk result (⟦<StdSink<Vec<u8>> as Sink>⟧.written sink.old ≡ Some []
+        → ⟦<StdSink<Vec<u8>> as Sink>⟧.written sink.new ≡ Some bytes.now) }
+{
+    put(sink, bytes)
+}
+
+/// The bytes, through a source over memory.
+fn through_source(alloc: Global, content: Text, piece: usize) -> Result<Text, TakeError>
+    requires { 0 < piece }
+    ensures { IfOk result (λ text. text ≡ content) }
+{
+    let mut source = MemorySource::new(content, piece, List::new(alloc));
+    take_all(alloc, &mut source, usize::MAX)
+}
+
+/// A sink over memory that took the bytes.
+fn through_sink(sink: &mut MemorySink, bytes: &[u8]) -> Result<(), Failed>
+    ensures { OnOk result (sink.new.written ≡ sink.old.written ++ bytes.now) }
+{
+    put(sink, bytes)
+}
+
+fn push_lent(text: &mut Text, byte: u8) -> Result<(), NoMemory>
+    ensures { OnOk result (text.new ≡ text.old ++ byte ∷ []) }
+{
+    text.as_mut_vec().push(byte)?;
     Ok(())
 }
 

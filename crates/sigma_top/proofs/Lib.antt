@@ -2,3 +2,4 @@ pub mod Lists
 pub mod SweepIsStrategy
 pub mod Reading
 pub mod Telling
+pub mod Answering

@@ -1,19 +1,36 @@
 //! From the text of a model to what is written for it.
 
 ghost use Rattle.std.specs.Prelude.{◌≡◌, ◌≤◌, length, IfOk, IsErrOf};
+ghost use Rattle.model_core.specs.Acceptance.{ReadsFirst};
+ghost use Rattle.model_core.specs.Views.{graph_of};
 ghost use Rattle.sigma_top.specs.Answer.{Reduces, ReadsAsNone};
-ghost use Rattle.sigma_top.specs.declared.answer.AnswerError.TheVariants.{NoMemory as OutOfMemory};
 
-use sig_base::{NoMemory, Text};
+use crate::answer_error::AnswerError;
+use crate::certificate::put_certificate;
+use crate::spelling::spelled;
+use crate::strategy::reduce;
+use first_form::{FirstFormError, check};
+use model_core::{Model, reductions_keep_the_meaning};
+use model_print::print;
+use model_read::one_reading;
+use reading_back::reads_back;
+use sig_base::Text;
 use std::alloc::Global;
 
-/// Why a text has no answer.
-#[derive(Clone, Copy, Debug, PartialEq, Eq)]
-pub enum AnswerError {
-    /// The text reads, in the first form, as no model.
-    NotFirstForm,
-    /// Memory was refused.
-    NoMemory,
+/// The model that the text reads as.
+fn model_of(alloc: Global, text: &[u8]) -> Result<Model, AnswerError>
+    requires { length text.now ≤ 4194304 }
+    ensures ok { IfOk result (λ model. ReadsFirst text.now (graph_of model)) }
+    ensures refused { IsErrOf result AnswerError.NotFirstForm → ReadsAsNone text.now }
+{
+    // By this law a text spells one model at most.
+    one_reading();
+    let raw = spelled(alloc, text)?;
+    match check(alloc, raw) {
+        Ok(model) => Ok(model),
+        Err(FirstFormError::NotFirstForm) => Err(AnswerError::NotFirstForm),
+        Err(FirstFormError::NoMemory) => Err(AnswerError::NoMemory),
+    }
 }
 
 /// The canonical text of the reduced model, and then the certificate.
@@ -22,5 +39,12 @@ pub fn reduced_text(alloc: Global, text: &[u8]) -> Result<Text, AnswerError>
     ensures ok { IfOk result (λ out. Reduces text.now out) }
     ensures refused { IsErrOf result AnswerError.NotFirstForm → ReadsAsNone text.now }
 {
-    Err(AnswerError::NoMemory)
+    // By these laws what is written reads back as the reduced model, which means the same.
+    reads_back();
+    reductions_keep_the_meaning();
+    let model = model_of(alloc, text)?;
+    let reduced = reduce(alloc, model)?;
+    let mut out = print(alloc, &reduced.model)?;
+    put_certificate(out.as_mut_vec(), reduced.applications.as_slice())?;
+    Ok(out)
 }

@@ -1,24 +1,22 @@
 //! The text of a certificate.
 
-ghost use Rattle.std.specs.Prelude.{◌≡◌, ◌++◌, map, OnOk, IfOk};
+ghost use Rattle.std.specs.Prelude.{◌≡◌, ◌++◌, map, OnOk};
 ghost use Rattle.model_core.specs.Certificate.{application_of, application_line, certificate};
 
 use itoa::Buffer;
 use model_core::Application;
-use sig_base::{List, NoMemory, Text};
-use std::alloc::Global;
+use sig_base::NoMemory;
 
-/// The certificate: a line for each application, in order.
-pub fn print_certificate(alloc: Global, applications: &List<Application>) -> Result<Text, NoMemory>
-    ensures { IfOk result (λ t. t ≡ certificate (map application_of applications.now)) }
+/// Adds the certificate: a line for each application, in order.
+pub fn put_certificate(out: &mut Vec<u8>, applications: &[Application]) -> Result<(), NoMemory>
+    ensures { OnOk result (out.new.items ≡ out.old.items ++ certificate (map application_of applications.now)) }
 {
-    let mut out = Vec::new(alloc);
     out.extend_from_slice(b"certificate\n")?;
-    for application in applications.as_slice() {
-        put_application(&mut out, application)?;
+    for application in applications {
+        put_application(out, application)?;
     }
     out.extend_from_slice(b"end\n")?;
-    Ok(Text::from_vec(out))
+    Ok(())
 }
 
 /// Adds the line of one application.

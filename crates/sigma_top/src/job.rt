@@ -9,7 +9,8 @@ ghost use Rattle.sigma_top.specs.Words.{is_reduce};
 ghost use Rattle.sigma_top.specs.Ending.{error_line, status_of, TellsStatus, refusal_line};
 ghost use Rattle.sigma_top.specs.Outside.{ReadThrough};
 
-use crate::answer::{AnswerError, reduced_text};
+use crate::answer::reduced_text;
+use crate::answer_error::AnswerError;
 use crate::status::{Status, Stop};
 use crate::words::is_reduce;
 use sig_base::{Sink, Source, TEXT_MAX, TakeError, Text, put, take_all};

@@ -1,5 +1,3 @@
-use Rattle.std.proofs.Common.{take}
-use Rattle.std.specs.List.{AllPass}
 use Rattle.std.specs.Char.{is_ascii_digit}
 use Rattle.model_lex.proofs.Digits.{AllPass-prefix}
 use Rattle.model_lex.proofs.front.front_of.Goals as goal

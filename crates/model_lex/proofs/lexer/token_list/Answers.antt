@@ -37,5 +37,5 @@ loop-at-smaller c = let room = room_longest (goal.at.loop-at-smaller c).In-Longe
 -- the token is pushed
 pub loop-at-preserved : goal.loop-at-preserved
 loop-at-preserved c =
-    subst (λ ts. Cut c.args.text.now ts (c.loop-at.at + c.in-Longest.length)) (sym c.in_ok-push-in-Longest.ensures.items)
+    subst (λ ts. Cut c.args.text.now ts (c.loop-at.at + c.in-Longest.length)) (sym c.in_ok-push_token-in-Longest.ensures)
     (cut_longest c.args.text.now c.loop-at.list.items c.loop-at.at c.in-Longest.length c.in-Longest.kind c.loop-at-test.true (longest_here (goal.at.loop-at-preserved c).In-Longest) c.loop-at.invariant)

@@ -1,0 +1,87 @@
+-- Words for writing down event graphs, and what is seen of their runs.
+use Rattle.std.specs.Prelude.{ℕ, ℤ, pos, true, false, List, [], ◌∷◌, map, Some, None}
+use Rattle.model_core.specs.declared.model.Kind.TheVariants as kinds
+use Rattle.model_core.specs.EventGraph.{Variable, Location, Expression, Number, Scalar, Negative, Binary, Add, Subtract, Divide, Above, Equal, Truth, StateChange, Set, Draw, Uniform, EventEdge, EdgeKind, Schedule, Urgent, EventVertex}
+use Rattle.model_core.specs.Machine.{Note, Outcome, Look}
+
+-- a range variable lo..hi that is a scalar, and begins with this value
+abbrev pub ranged : List ℕ → ℕ → ℕ → ℕ → Variable
+ranged name lo hi initial = record { name = name; size = 0; kind = kinds.Range; lo = pos lo; hi = pos hi; clip = false; initial = pos initial }
+
+-- a store outside the range takes the nearest bound
+abbrev pub clipped : Variable → Variable
+clipped v = record v { clip = true }
+
+-- an array of so many of these
+abbrev pub array : ℕ → Variable → Variable
+array size v = record v { size = size }
+
+abbrev pub number : ℕ → Expression
+number n = Number (pos n)
+
+abbrev pub scalar : ℕ → Location
+scalar v = record { variable = v; index = None }
+
+-- a cell of an array
+abbrev pub indexed : ℕ → Expression → Location
+indexed v e = record { variable = v; index = Some e }
+
+abbrev pub set : ℕ → Expression → StateChange
+set v e = Set (scalar v ∷ []) (e ∷ [])
+
+abbrev pub draw : ℕ → ℕ → ℕ → ℕ → StateChange
+draw v stream lo hi = Draw (scalar v) stream (Uniform (pos lo) (pos hi))
+
+abbrev pub edge : EdgeKind → ℕ → List Expression → EventEdge
+edge kind vertex values = record { target = vertex; values = values; condition = Truth true; kind = kind }
+
+abbrev pub schedule : ℕ → Expression → EventEdge
+schedule vertex delay = edge (Schedule delay 5) vertex []
+
+abbrev pub schedule_with : ℕ → ℕ → ℕ → EventEdge
+schedule_with vertex carried delay = edge (Schedule (number delay) 5) vertex (number carried ∷ [])
+
+abbrev pub urgent : ℕ → EventEdge
+urgent vertex = edge Urgent vertex []
+
+-- the edge under a condition
+abbrev pub only_if : Expression → EventEdge → EventEdge
+only_if condition e = record e { condition = condition }
+
+abbrev pub vertex : List ℕ → List StateChange → List EventEdge → EventVertex
+vertex name changes edges = record { name = name; parameters = []; changes = changes; edges = edges }
+
+abbrev pub takes : List ℕ → EventVertex → EventVertex
+takes parameters v = record v { parameters = parameters }
+
+-- the values of watched scalars
+abbrev pub scalars : List ℕ → List (List ℤ)
+scalars values = map (λ x. pos x ∷ []) values
+
+-- what is seen: these notes, and how the run stands
+abbrev pub seen : List Note → Outcome → Look
+seen notes outcome = record { history = notes; outcome = outcome }
+
+-- the variable and 1
+abbrev pub plus_one : ℕ → Expression
+plus_one v = Binary Add (Scalar v) (number 1)
+
+abbrev pub minus_one : ℕ → Expression
+minus_one v = Binary Subtract (Scalar v) (number 1)
+
+-- the variable is above 0
+abbrev pub positive : ℕ → Expression
+positive v = Binary Above (Scalar v) (number 0)
+
+abbrev pub minus : ℕ → Expression
+minus n = Negative (number n)
+
+abbrev pub one_over_zero : Expression
+one_over_zero = Binary Divide (number 1) (number 0)
+
+abbrev pub is_one_over_zero : Expression
+is_one_over_zero = Binary Equal one_over_zero (number 1)
+
+-- how many words were taken before each of the first six
+abbrev pub first_six : List ℕ
+first_six = 0 ∷ 1 ∷ 2 ∷ 3 ∷ 4 ∷ 5 ∷ []

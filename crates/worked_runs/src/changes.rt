@@ -1,0 +1,33 @@
+//! What changes do: stores on the state before, and draws.
+
+ghost use Rattle.std.specs.Prelude.{◌≡◌, pos, [], ◌∷◌, codes};
+ghost use Rattle.sig_base.specs.declared.fault.FaultKind.TheVariants as faults;
+ghost use Rattle.model_core.specs.Machine.{At, Ended, Faulted};
+ghost use Rattle.model_core.specs.Run.{look};
+ghost use Rattle.worked_runs.specs.Building.{ranged, clipped, scalars, seen};
+ghost use Rattle.worked_runs.specs.Models.{two_draws, two_rows, cells, index_and_cell, bad_index_and_value, doubling, lowering};
+
+/// Each draw takes the next word of its own stream.
+#[tactic(auto, unfolding(rand_pcg::specs::Lcg::state_after))]
+pub fn variables_are_drawn()
+    ensures second_of_one_stream { look (two_draws 54) 42 [] 100 1000 ≡ seen (At 0 (scalars (3 ∷ [])) ∷ []) (Ended 0) }
+    ensures first_of_another_stream { look (two_draws 53) 42 [] 100 1000 ≡ seen (At 0 (scalars (4 ∷ [])) ∷ []) (Ended 0) }
+    ensures by_weights { look two_rows 42 [] 100 1000 ≡ seen (At 0 (scalars (3 ∷ 2 ∷ [])) ∷ []) (Ended 0) }
+{}
+
+/// Carried values are stored before the changes are made, and a store under `clip` takes the nearest bound.
+pub fn parameters_come_first()
+    ensures changes_see_them { look (doubling (ranged (codes "X") 0 9 0)) 42 (pos 4 ∷ []) 100 1000
+        ≡ seen (At 0 (scalars (8 ∷ [])) ∷ []) (Ended 0) }
+    ensures clipped_from_above { look (doubling (clipped (ranged (codes "X") 1 6 1))) 42 (pos 4 ∷ []) 100 1000
+        ≡ seen (At 0 (scalars (6 ∷ [])) ∷ []) (Ended 0) }
+    ensures clipped_from_below { look (lowering (clipped (ranged (codes "X") 1 6 1))) 42 (pos 4 ∷ []) 100 1000
+        ≡ seen (At 0 (scalars (1 ∷ [])) ∷ []) (Ended 0) }
+{}
+
+/// Right sides come first, then indexes, both on the state before, and then the stores.
+pub fn cells_are_set()
+    ensures index_on_the_state_before { look (cells (index_and_cell ∷ [])) 42 [] 100 1000
+        ≡ seen (At 0 ((pos 1 ∷ []) ∷ (pos 7 ∷ pos 0 ∷ []) ∷ []) ∷ []) (Ended 0) }
+    ensures values_before_indexes { look (cells (bad_index_and_value ∷ [])) 42 [] 100 1000 ≡ seen [] (Faulted 0 faults.DivisionByZero) }
+{}

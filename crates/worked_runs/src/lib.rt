@@ -1,0 +1,17 @@
+//! Runs of small models, worked out: what is seen of each follows from the definition of a run by computing.
+//! The clauses are theorems. The functions that carry them do nothing.
+#![tactic(auto)]
+
+mod bank;
+mod changes;
+mod clock;
+mod order;
+mod stream;
+mod values;
+
+pub use bank::bank_serves;
+pub use changes::{cells_are_set, parameters_come_first, variables_are_drawn};
+pub use clock::{clock_counts, loop_goes_on};
+pub use order::{equal_events_are_cut, events_come_in_order};
+pub use stream::stream_gives;
+pub use values::{operators_compare, values_are_exact, values_are_lazy};

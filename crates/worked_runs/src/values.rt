@@ -1,0 +1,46 @@
+//! Values of expressions, exact inside the signed numbers of 64 bits.
+
+ghost use Rattle.std.specs.Prelude.{◌≡◌, pos, negsuc, true, false, Ok, Err, [], ◌∷◌};
+ghost use Rattle.sig_base.specs.declared.fault.FaultKind.TheVariants as faults;
+ghost use Rattle.model_core.specs.EventGraph.{Truth, Clock, Cell, Not, Binary, If, Add, Subtract, Multiply, Divide, Remainder, Least, Greatest, Equal, NotEqual, Below, AtMost, Above, AtLeast, And, Or};
+ghost use Rattle.worked_runs.specs.Building.{number, minus, one_over_zero, is_one_over_zero};
+ghost use Rattle.worked_runs.specs.Models.{of};
+
+/// Results outside the numbers of 64 bits are faults, and so are quotients by 0 and indexes outside.
+pub fn values_are_exact()
+    ensures product_outside { of (Binary Multiply (number 4611686018427387904) (number 2)) ≡ Err faults.Overflow }
+    ensures quotient_towards_zero { of (Binary Divide (minus 7) (number 2)) ≡ Ok (negsuc 2) }
+    ensures remainder_of_it { of (Binary Remainder (minus 7) (number 2)) ≡ Ok (negsuc 0) }
+    ensures quotient_by_zero { of one_over_zero ≡ Err faults.DivisionByZero }
+    ensures quotient_outside { of (Binary Divide (Binary Subtract (minus 9223372036854775807) (number 1)) (minus 1)) ≡ Err faults.Overflow }
+    ensures remainder_inside { of (Binary Remainder (Binary Subtract (minus 9223372036854775807) (number 1)) (minus 1)) ≡ Ok (pos 0) }
+    ensures index_outside { of (Cell 1 (number 2)) ≡ Err faults.IndexOutside }
+    ensures last_cell { of (Cell 1 (number 1)) ≡ Ok (pos 0) }
+{}
+
+/// Truth values are 1 and 0.
+pub fn operators_compare()
+    ensures equal { of (Binary Equal (number 2) (number 2)) ≡ Ok (pos 1) }
+    ensures not_equal { of (Binary NotEqual (number 2) (number 2)) ≡ Ok (pos 0) }
+    ensures below { of (Binary Below (number 2) (number 2)) ≡ Ok (pos 0) }
+    ensures below_it { of (Binary Below (minus 3) (minus 2)) ≡ Ok (pos 1) }
+    ensures at_most { of (Binary AtMost (number 2) (number 2)) ≡ Ok (pos 1) }
+    ensures above { of (Binary Above (number 2) (number 2)) ≡ Ok (pos 0) }
+    ensures above_it { of (Binary Above (minus 2) (minus 3)) ≡ Ok (pos 1) }
+    ensures at_least { of (Binary AtLeast (number 2) (number 2)) ≡ Ok (pos 1) }
+    ensures least { of (Binary Least (minus 2) (number 1)) ≡ Ok (negsuc 1) }
+    ensures greatest { of (Binary Greatest (minus 2) (number 1)) ≡ Ok (pos 1) }
+    ensures negated { of (Not (Truth true)) ≡ Ok (pos 0) }
+    ensures clock { of Clock ≡ Ok (pos 7) }
+{}
+
+/// What isn't needed isn't evaluated, and else the first fault is told.
+pub fn values_are_lazy()
+    ensures if_true { of (If (Truth true) (number 1) one_over_zero) ≡ Ok (pos 1) }
+    ensures if_false { of (If (Truth false) one_over_zero (number 1)) ≡ Ok (pos 1) }
+    ensures or_true { of (Binary Or (Truth true) is_one_over_zero) ≡ Ok (pos 1) }
+    ensures or_false { of (Binary Or (Truth false) is_one_over_zero) ≡ Err faults.DivisionByZero }
+    ensures and_false { of (Binary And (Truth false) is_one_over_zero) ≡ Ok (pos 0) }
+    ensures and_true { of (Binary And (Truth true) (Truth false)) ≡ Ok (pos 0) }
+    ensures left_first { of (Binary Add (Cell 1 (number 2)) one_over_zero) ≡ Err faults.IndexOutside }
+{}
