@@ -5,19 +5,26 @@ use sig_base::{List, MemorySink, MemorySource, NoMemory, TEXT_MAX, Text};
 use std::alloc::Global;
 use std::test::*;
 
-const ONE: &[u8] = b"model ONE;\nvar N : 0..9 = 0;\nwatch N;\nvertex RUN {\n  set N := 4;\n  schedule RUN after 5 when false;\n}\nend\n";
+const ONE: &[u8] =
+    b"model ONE;\nvar N : 0..9 = 0;\nwatch N;\nvertex RUN {\n  set N := 4;\n  schedule RUN after 5 when false;\n}\nend\n";
 
-const ONE_WRITTEN: &[u8] = b"model ONE;\nvar N : 0..9 = 0;\nwatch N;\nvertex RUN {\n  set N := 4;\n}\nend\ncertificate\nprune RUN 1\nend\n";
+const ONE_WRITTEN: &[u8] =
+    b"model ONE;\nvar N : 0..9 = 0;\nwatch N;\nvertex RUN {\n  set N := 4;\n}\nend\ncertificate\nprune RUN 1\nend\n";
 
-const TWO: &[u8] = b"model ONE;\nvar N : 0..9 = 0;\nwatch N;\nvertex RUN {\n  set N := 4;\n  schedule RUN after 5 when false;\n  schedule RUN after 7 when false;\n}\nend\n";
+const TWO: &[u8] =
+    b"model ONE;\nvar N : 0..9 = 0;\nwatch N;\nvertex RUN {\n  set N := 4;\n  schedule RUN after 5 when false;\n  schedule RUN after 7 when false;\n}\nend\n";
 
-const TWO_WRITTEN: &[u8] = b"model ONE;\nvar N : 0..9 = 0;\nwatch N;\nvertex RUN {\n  set N := 4;\n}\nend\ncertificate\nprune RUN 1\nprune RUN 1\nend\n";
+const TWO_WRITTEN: &[u8] =
+    b"model ONE;\nvar N : 0..9 = 0;\nwatch N;\nvertex RUN {\n  set N := 4;\n}\nend\ncertificate\nprune RUN 1\nprune RUN 1\nend\n";
 
-const LASTING: &[u8] = b"model ONE;\nvar N : 0..9 = 0;\nwatch N;\nvertex RUN {\n  set N := 4;\n  schedule RUN after 5;\n}\nend\n";
+const LASTING: &[u8] =
+    b"model ONE;\nvar N : 0..9 = 0;\nwatch N;\nvertex RUN {\n  set N := 4;\n  schedule RUN after 5;\n}\nend\n";
 
-const LASTING_WRITTEN: &[u8] = b"model ONE;\nvar N : 0..9 = 0;\nwatch N;\nvertex RUN {\n  set N := 4;\n  schedule RUN after 5;\n}\nend\ncertificate\nend\n";
+const LASTING_WRITTEN: &[u8] =
+    b"model ONE;\nvar N : 0..9 = 0;\nwatch N;\nvertex RUN {\n  set N := 4;\n  schedule RUN after 5;\n}\nend\ncertificate\nend\n";
 
-const CLIPPED: &[u8] = b"model ONE;\nvar N : 0..9 clip = 0;\nwatch N;\nvertex RUN {\n  set N := 4;\n  schedule RUN after 5 when false;\n}\nend\n";
+const CLIPPED: &[u8] =
+    b"model ONE;\nvar N : 0..9 clip = 0;\nwatch N;\nvertex RUN {\n  set N := 4;\n  schedule RUN after 5 when false;\n}\nend\n";
 
 const NOT_FIRST_FORM: &[u8] = b"sigma: not of the first form\n";
 
@@ -92,8 +99,18 @@ fn models_are_reduced_or_refused(rt: HostRuntime) -> Result<(), Fail> {
         (TWO, Status::Done, TWO_WRITTEN, b"".as_slice()),
         (LASTING, Status::Done, LASTING_WRITTEN, b"".as_slice()),
         (CLIPPED, Status::Refused, b"".as_slice(), NOT_FIRST_FORM),
-        (b"".as_slice(), Status::Refused, b"".as_slice(), NOT_FIRST_FORM),
-        (b"\xff\x00".as_slice(), Status::Refused, b"".as_slice(), NOT_FIRST_FORM),
+        (
+            b"".as_slice(),
+            Status::Refused,
+            b"".as_slice(),
+            NOT_FIRST_FORM,
+        ),
+        (
+            b"\xff\x00".as_slice(),
+            Status::Refused,
+            b"".as_slice(),
+            NOT_FIRST_FORM,
+        ),
     ] {
         let answered = reduced(rt.alloc(), text, SOUND)?;
         assert_eq!(rt; answered.status, status);
@@ -119,7 +136,10 @@ fn other_words_are_usage(rt: HostRuntime) -> Result<(), Fail> {
         assert_eq!(rt; answered.status.number(), 2);
         assert_eq!(rt; answered.input.calls(), 0);
         assert_eq!(rt; answered.output.calls(), 0);
-        assert_eq!(rt; answered.errors.written(), b"sigma: bad command line\n".as_slice());
+        assert_eq!(rt;
+            answered.errors.written(),
+            b"sigma: bad command line\n".as_slice()
+        );
     }
     Ok(())
 }
@@ -139,7 +159,11 @@ fn a_text_that_is_cut_is_refused(rt: HostRuntime) -> Result<(), Fail> {
 fn a_text_ends_at_its_limit(rt: HostRuntime) -> Result<(), Fail> {
     for (length, status, errors) in [
         (TEXT_MAX, Status::Done, b"".as_slice()),
-        (TEXT_MAX + 1, Status::Refused, b"sigma: text too long\n".as_slice()),
+        (
+            TEXT_MAX + 1,
+            Status::Refused,
+            b"sigma: text too long\n".as_slice(),
+        ),
     ] {
         let mut text = Vec::from_slice(rt.alloc(), ONE)?;
         text.resize(length, b' ')?;
@@ -155,14 +179,27 @@ fn a_failed_read_is_the_last(rt: HostRuntime) -> Result<(), Fail> {
     // Pieces of 7 bytes, and a last read that finds the end.
     let reads = ONE.len() as u64 / 7 + 2;
     for call in 1..reads + 1 {
-        let failing = Failing { read: call, ..SOUND };
+        let failing = Failing {
+            read: call,
+            ..SOUND
+        };
         let answered = reduced(rt.alloc(), ONE, failing)?;
         assert_eq!(rt; answered.status, Status::ReadFault, "at read {call}");
         assert_eq!(rt; answered.input.calls(), call);
         assert_eq!(rt; answered.output.calls(), 0);
-        assert_eq!(rt; answered.errors.written(), b"sigma: cannot read\n".as_slice());
+        assert_eq!(rt;
+            answered.errors.written(),
+            b"sigma: cannot read\n".as_slice()
+        );
     }
-    let answered = reduced(rt.alloc(), ONE, Failing { read: reads + 1, ..SOUND })?;
+    let answered = reduced(
+        rt.alloc(),
+        ONE,
+        Failing {
+            read: reads + 1,
+            ..SOUND
+        },
+    )?;
     assert_eq!(rt; answered.status, Status::Done);
     Ok(())
 }
@@ -172,15 +209,28 @@ fn a_failed_write_is_the_last(rt: HostRuntime) -> Result<(), Fail> {
     // One byte a write, and the call that finishes the output.
     let writes = ONE_WRITTEN.len() as u64 + 1;
     for call in 1..writes + 1 {
-        let failing = Failing { write: call, ..SOUND };
+        let failing = Failing {
+            write: call,
+            ..SOUND
+        };
         let answered = reduced(rt.alloc(), ONE, failing)?;
         let written = (call - 1) as usize;
         assert_eq!(rt; answered.status, Status::WriteFault, "at write {call}");
         assert_eq!(rt; answered.output.calls(), call);
         assert_eq!(rt; answered.output.written(), &ONE_WRITTEN[..written]);
-        assert_eq!(rt; answered.errors.written(), b"sigma: cannot write\n".as_slice());
+        assert_eq!(rt;
+            answered.errors.written(),
+            b"sigma: cannot write\n".as_slice()
+        );
     }
-    let answered = reduced(rt.alloc(), ONE, Failing { write: writes + 1, ..SOUND })?;
+    let answered = reduced(
+        rt.alloc(),
+        ONE,
+        Failing {
+            write: writes + 1,
+            ..SOUND
+        },
+    )?;
     assert_eq!(rt; answered.status, Status::Done);
     Ok(())
 }

@@ -25,9 +25,9 @@ returns-clause-ok c =
       reads = reads;
       strategy = strategy;
       written =
-        c.in_ok-put_certificate.ensures
-        ∙ ap (λ before. before ++ certificate (map application_of c.as_slice.result.now)) (c.as_mut_vec.ensures.shows ∙ c.in_ok-out.ensures)
-        ∙ ap (λ xs. canonical (graph_of c.in_ok-reduced.reduced.model) ++ certificate (map application_of xs)) c.as_slice.ensures;
+          c.in_ok-put_certificate.ensures
+          ∙ ap (λ before. before ++ certificate (map application_of c.as_slice.result.now)) (c.as_mut_vec.ensures.shows ∙ c.in_ok-out.ensures)
+          ∙ ap (λ xs. canonical (graph_of c.in_ok-reduced.reduced.model) ++ certificate (map application_of xs)) c.as_slice.ensures;
       reads_back = c.reads_back.ensures _ _ _ _ reads strategy;
       same = c.reductions_keep_the_meaning.ensures.strategy _ _ _ strategy;
     }
