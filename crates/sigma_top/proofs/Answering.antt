@@ -17,9 +17,7 @@ distinct_behind same (x ∷ front) back distinct = distinct_behind same front ba
 -- the vertices of an accepted model have names of their own
 pub vertices_distinct : (text : List ℕ) (g : EventGraph) → ReadsFirst text g → IsDistinct same_bytes (names_of g)
 vertices_distinct text g reads =
-    let tables = map (λ (t : WeightTable). t.name) g.tables in
-    distinct_behind same_bytes tables (names_of g)
-    (distinct_behind same_bytes (map (λ (v : Variable). v.name) g.variables) (tables ++ names_of g) reads.accepted.rules.declared_once)
+    distinct_behind same_bytes (map (λ (v : Variable). v.name) g.variables ++ map (λ (t : WeightTable). t.name) g.tables) (names_of g) reads.accepted.rules.declared_once
 
 -- a text has one list of tokens
 same_tokens : (text : List ℕ) (a b : List Lexeme) → tokens_of text ≡ Ok a → tokens_of text ≡ Ok b → a ≡ b
@@ -37,3 +35,8 @@ unaccepted_none text m one spells refused g reads =
 -- a text that spells no model reads as none
 pub unspelled_none : (text : List ℕ) → ((m : WrittenModel) → SpellsFirst text m → ⊥) → ReadsAsNone text
 unspelled_none text none g reads = none reads.model reads.spells
+
+-- tokens that spell no model are those of a text that spells none
+pub tokens_spell_none : (text : List ℕ) (tokens : List Lexeme) → tokens_of text ≡ Ok tokens → ((m : WrittenModel) → first_form.text tokens m [] → ⊥) → (m : WrittenModel) → SpellsFirst text m → ⊥
+tokens_spell_none text tokens lexed none m spells =
+    none m (subst (λ (t : List Lexeme). first_form.text t m []) (same_tokens text spells.0 tokens spells.1 lexed) spells.2)

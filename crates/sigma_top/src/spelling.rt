@@ -24,7 +24,8 @@ pub fn spelled(alloc: Global, text: &[u8]) -> Result<RawModel, AnswerError>
     };
     match parse(alloc, &tokens) {
         Ok(raw) => Ok(raw),
+        Err(ParseError::Unexpected { at: _ }) => Err(AnswerError::NotFirstForm),
+        Err(ParseError::TooDeep { at: _ }) => Err(AnswerError::NotFirstForm),
         Err(ParseError::NoMemory) => Err(AnswerError::NoMemory),
-        Err(_) => Err(AnswerError::NotFirstForm),
     }
 }

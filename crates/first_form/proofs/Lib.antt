@@ -1,0 +1,10 @@
+pub mod Places
+pub mod Steps
+pub mod Options
+pub mod Distinct
+pub mod Parts
+pub mod Variables
+pub mod Vertices
+pub mod Declarations
+pub mod Chains
+pub mod Whole
