@@ -15,6 +15,7 @@ use Rattle.model_lex.specs.declared.parse_error.ParseError.TheVariants as errors
 abbrev pub Reading : Type 0 → Type 0
 Reading A = Option (A × List Lexeme)
 
+-- what is taken of any tokens
 abbrev pub Reader : Type 0 → Type 0
 Reader A = List Lexeme → Reading A
 
@@ -32,31 +33,32 @@ infixl 10 ◌>>=◌
 abbrev pub ◌>>=◌ : {A B : Type 0} → Reader A → (A → Reader B) → Reader B
 (p >>= next) tokens = and_then next (p tokens)
 
--- What a call returned, seen by view, is what the reader took, and it left the tokens that the reader left, unless memory
--- ran out.
+-- the error of a call comes where nothing was taken, or where memory ran out
 abbrev pub Fails : {B : Type 0} → ParseError → Reading B → Type 0
 Fails (errors.Unexpected at) reading = reading ≡ None
 Fails (errors.TooDeep at) reading = ⊥
 Fails errors.NoMemory reading = Unit {0}
 
+-- What a call returned, seen by view, is what was taken, and the call left the same tokens, unless memory ran out.
 abbrev pub Gives : {A B : Type 0} → (A → B) → Result A ParseError → List Lexeme → Reading B → Type 0
 Gives view (Ok x) left reading = reading ≡ Some (view x, left)
 Gives view (Err e) left reading = Fails e reading
 
--- tests of a token
-
+-- whether a token is the reserved word
 abbrev pub is_word : Word → LexemeKind → Bool
 is_word w (NameOf bytes) = false
 is_word w (Reserved v) = sameb word_type v w
 is_word w (NumberOf value) = false
 is_word w (Mark s) = false
 
+-- whether a token is the symbol
 abbrev pub is_symbol : Symbol → LexemeKind → Bool
 is_symbol s (NameOf bytes) = false
 is_symbol s (Reserved v) = false
 is_symbol s (NumberOf value) = false
 is_symbol s (Mark m) = sameb symbol_type m s
 
+-- whether a token is a number
 abbrev pub is_number : LexemeKind → Bool
 is_number (NameOf bytes) = false
 is_number (Reserved v) = false
@@ -81,22 +83,26 @@ word_at w tokens = place_at (is_word w) tokens
 abbrev pub symbol_at : Symbol → Reader ℕ
 symbol_at s tokens = place_at (is_symbol s) tokens
 
+-- the name that a token of this kind at this place is
 abbrev pub name_of_kind : LexemeKind → ℕ → Reader WrittenName
 name_of_kind (NameOf bytes) at left = Some (record { name = bytes; at = at }, left)
 name_of_kind (Reserved v) at left = None
 name_of_kind (NumberOf value) at left = None
 name_of_kind (Mark s) at left = None
 
+-- a name
 abbrev pub name_at : Reader WrittenName
 name_at [] = None
 name_at (t ∷ tokens) = name_of_kind t.kind t.from tokens
 
+-- the number that a token of this kind at this place is
 abbrev pub number_of_kind : LexemeKind → ℕ → Reader WrittenNumber
 number_of_kind (NameOf bytes) at left = None
 number_of_kind (Reserved v) at left = None
 number_of_kind (NumberOf value) at left = Some (record { value = value; at = at }, left)
 number_of_kind (Mark s) at left = None
 
+-- a number
 abbrev pub number_at : Reader WrittenNumber
 number_at [] = None
 number_at (t ∷ tokens) = number_of_kind t.kind t.from tokens

@@ -1,4 +1,5 @@
--- A reader for each rule of the grammar of the first form. The first token tells which part comes.
+-- A reader for each rule of the grammar of the first form: `variable_at` takes what the rule `variable` derives, and so on.
+-- The first token tells which part comes.
 use Rattle.std.specs.Prelude.{true, false, List, [], ◌∷◌, None}
 use Rattle.model_core.specs.declared.token.Word.TheVariants as words
 use Rattle.model_core.specs.declared.token.Symbol.TheVariants as symbols
@@ -32,14 +33,17 @@ variable_at = do
   _ ← symbol_at symbols.Semicolon
   takes_none (record { at = at; name = called; size = None; kind = RangeKind lo hi false; initial = SignedLiteral initial })
 
+-- all variables
 unfoldable pub variables_at : Reader (List WrittenVariable)
 variables_at = repeated_at (is_word words.Var) variable_at
 
+-- a comma and the name after it
 unfoldable pub next_name_at : Reader WrittenName
 next_name_at = do
   _ ← symbol_at symbols.Comma
   name_at
 
+-- one or more names, separated by commas
 unfoldable pub names_at : Reader (List WrittenName)
 names_at = do
   first ← name_at
@@ -63,6 +67,7 @@ scalar_expression_at = do
   called ← name_at
   takes_none (Scalar called.at called)
 
+-- a number or the name of a variable
 unfoldable pub expression_at : Reader WrittenExpression
 expression_at = either_at is_number number_expression_at scalar_expression_at
 
@@ -75,6 +80,7 @@ change_at = do
   _ ← symbol_at symbols.Semicolon
   takes_none (Set at (record { at = target.at; name = target; index = None } ∷ []) (value ∷ []))
 
+-- all changes of a vertex
 unfoldable pub changes_at : Reader (List WrittenChange)
 changes_at = repeated_at (is_word words.Set) change_at
 
@@ -99,6 +105,7 @@ edge_at = do
   _ ← symbol_at symbols.Semicolon
   takes_none (record { at = at; target = target; values = None; condition = condition; kind = Schedule after None })
 
+-- all edges of a vertex
 unfoldable pub edges_at : Reader (List WrittenEdge)
 edges_at = repeated_at (is_word words.Schedule) edge_at
 
@@ -112,6 +119,7 @@ vertex_at = do
   _ ← symbol_at symbols.CloseBrace
   takes_none (record { at = at; name = called; parameters = None; changes = changes; edges = edges })
 
+-- one or more vertices
 unfoldable pub vertices_at : Reader (List WrittenVertex)
 vertices_at = do
   first ← vertex_at
