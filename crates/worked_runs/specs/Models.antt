@@ -61,6 +61,24 @@ bank = record {
   vertices = bank_run ∷ bank_enter ∷ bank_start ∷ bank_leave ∷ [];
 }
 
+-- the changes and edges of a customer who enters a bank that doesn't count those it has seen
+abbrev pub entering : List ℕ → EventVertex
+entering name = vertex name (set 0 (plus_one 0) ∷ draw 2 54 1 6 ∷ []) (schedule 1 (Scalar 2) ∷ only_if (positive 1) (urgent 2) ∷ [])
+
+-- the bank whose first event lets the first customer in, and which doesn't count those it has seen
+abbrev pub smaller_bank : EventGraph
+smaller_bank = record {
+  name = codes "BANK";
+  variables =
+      ranged (codes "QUEUE") 0 1000000 0 ∷
+      ranged (codes "IDLE") 0 2 0 ∷
+      ranged (codes "GAP") 1 6 1 ∷
+      [];
+  tables = [];
+  watch = WatchedVariable 0 ∷ WatchedVariable 1 ∷ [];
+  vertices = takes (1 ∷ []) (entering (codes "RUN")) ∷ entering (codes "ENTER") ∷ bank_start ∷ bank_leave ∷ [];
+}
+
 -- A and B follow one another at clock 0 for ever
 abbrev pub loop : EventGraph
 loop = record {
