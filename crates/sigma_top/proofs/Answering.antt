@@ -1,11 +1,11 @@
 -- From what each part of the answer says to the answer.
-use Rattle.std.proofs.Common.{◌≡◌, ℕ, Bool, List, [], ◌∷◌, ◌++◌, map, Ok, refl, sym, ◌∙◌, subst}
+use Rattle.std.proofs.Common.{◌≡◌, ℕ, Bool, List, [], ◌∷◌, ◌++◌, map, Ok, subst}
 use Rattle.std.specs.List.{IsDistinct}
-use Rattle.model_core.specs.EventGraph.{EventGraph, EventVertex, Variable, WeightTable}
+use Rattle.model_core.specs.EventGraph.{EventGraph, Variable, WeightTable}
 use Rattle.model_core.specs.Lexing.{Lexeme, tokens_of, same_bytes}
 use Rattle.model_core.specs.Written.{WrittenModel}
 use Rattle.model_core.specs.FirstForm as first_form
-use Rattle.model_core.specs.Acceptance.{SpellsFirst, AcceptedFirst, ReadsFirst, declared_names}
+use Rattle.model_core.specs.Acceptance.{SpellsFirst, AcceptedFirst, ReadsFirst}
 use Rattle.sigma_top.specs.Answer.{ReadsAsNone}
 use Rattle.sigma_top.specs.Sweep.{names_of}
 

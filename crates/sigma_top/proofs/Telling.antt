@@ -1,15 +1,11 @@
 -- From why a job isn't done to what is known of its status and its line.
-use Rattle.std.proofs.Common.{◌≡◌, ℕ, ◌≤◌, ◌<◌, Bool, true, false, cond, ltb, List, length, Option, Some, None, sym, refl, ap, inl, inr, arith}
+use Rattle.std.proofs.Common.{◌≡◌, ℕ, ◌≤◌, ◌<◌, List, length, Option, Some, None, refl, arith}
 use Rattle.std.specs.Prelude.{IfSome}
-use Rattle.std.proofs.lemmas.Bool.{le-ltb, lt-ltb}
-use Rattle.model_core.specs.Acceptance.{ReadsFirst}
-use Rattle.model_core.specs.EventGraph.{EventGraph}
-use Rattle.sigma_top.specs.declared.status.Status.{Status}
 use Rattle.sigma_top.specs.declared.status.Status.TheVariants as statuses
 use Rattle.sigma_top.specs.declared.status.Stop.{Stop}
 use Rattle.sigma_top.specs.declared.status.Stop.TheVariants as stops
 use Rattle.sigma_top.specs.Answer.{ReadsAsNone}
-use Rattle.sigma_top.specs.Ending.{status_of, error_line, TellsStatus, refusal_line}
+use Rattle.sigma_top.specs.Ending.{status_of}
 
 -- a text over the limit reads as no model
 too_long_none : (limit : ℕ) (text : List ℕ) → limit ≡ 4194304 → limit < length text → ReadsAsNone text

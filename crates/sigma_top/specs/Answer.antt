@@ -1,5 +1,5 @@
 -- What the program answers to the text of a model.
-use Rattle.std.specs.Prelude.{◌≡◌, ℕ, ◌≤◌, List, ◌++◌, length}
+use Rattle.std.specs.Prelude.{◌≡◌, ℕ, List, ◌++◌}
 use Rattle.model_core.specs.EventGraph.{EventGraph}
 use Rattle.model_core.specs.Acceptance.{ReadsFirst}
 use Rattle.model_core.specs.Canonical.{canonical}
