@@ -4,7 +4,7 @@ ghost use Rattle.std.specs.Prelude.{◌≡◌, ◌≢◌, ◌≤◌, ◌<◌, �
 ghost use Rattle.std.specs.String.{string_bytes};
 ghost use Rattle.sig_base.specs.Faults.{HasRisen};
 ghost use Rattle.sig_base.specs.Sink.{GrowsBy};
-ghost use Rattle.sigma_top.specs.Answer.{Reduces, ReadsAsNone};
+ghost use Rattle.sigma_top.specs.Answer.{Reduces, ReadsAsNone, AnsweredBy};
 ghost use Rattle.sigma_top.specs.Words.{is_reduce};
 ghost use Rattle.sigma_top.specs.Ending.{error_line, status_of, TellsStatus, refusal_line};
 ghost use Rattle.sigma_top.specs.Outside.{ReadThrough};
@@ -134,6 +134,8 @@ pub fn sigma<S: Source, K: Sink, E: Sink>(
         × (n : ℕ) × (n ≤ length out) × GrowsBy (K.written output.old) (K.written output.new) (take n out)) }
 
     ensures refused { result ≡ Status.Refused → IfSome (S.left input.old) ReadsAsNone }
+    ensures answered { result ≢ Status.Usage → result ≢ Status.ReadFault → result ≢ Status.WriteFault → result ≢ Status.NoMemory
+        → IfSome (S.left input.old) (AnsweredBy result (K.written output.old) (K.written output.new)) }
     ensures through { result ≢ Status.Usage → result ≢ Status.ReadFault → result ≢ Status.NoMemory
         → ReadThrough (S.left input.old) (S.left input.new) }
 

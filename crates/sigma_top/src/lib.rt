@@ -3,6 +3,7 @@
 
 mod answer;
 mod answer_error;
+mod answer_law;
 mod certificate;
 mod job;
 mod spelling;
@@ -10,6 +11,7 @@ mod status;
 mod strategy;
 mod words;
 
+pub use answer_law::answers_are_determined;
 pub use job::sigma;
 pub use status::Status;
 
