@@ -14,35 +14,27 @@ fn words(rt: &HostRuntime) -> io::Result<Vec<String>> {
     Ok(words)
 }
 
-fn main(rt: HostRuntime) -> ExitCode {
-    let mut errors = StdSink::new(rt.stderr());
-    match words(&rt) {
-        Ok(words) => {
-            let mut input = StdSource::new(rt.stdin());
-            let mut output = StdSink::new(rt.stdout());
-            let status = sigma(
-                rt.alloc(),
-                words.as_slice(),
-                &mut input,
-                &mut output,
-                &mut errors,
-            );
-            ExitCode::from(status.number())
-        }
-        Err(error) => {
-            let no_memory = error.kind() == ErrorKind::OutOfMemory;
-            let line: &[u8] = if no_memory {
-                b"sigma: out of memory\n"
-            } else {
-                b"sigma: bad command line\n"
-            };
-            let status = if no_memory {
-                Status::NoMemory
-            } else {
-                Status::Usage
-            };
-            let _ = put(&mut errors, line);
-            ExitCode::from(status.number())
-        }
+/// The status where the words can't be had, and the line that tells it: memory was refused, or a word
+/// isn't UTF-8.
+fn without_words(error: ErrorKind) -> (Status, &'static [u8]) {
+    if error == ErrorKind::OutOfMemory {
+        (Status::NoMemory, b"sigma: out of memory\n")
+    } else {
+        (Status::Usage, b"sigma: bad command line\n")
     }
+}
+
+fn main(rt: HostRuntime) -> ExitCode {
+    let mut input = StdSource::new(rt.stdin());
+    let mut output = StdSink::new(rt.stdout());
+    let mut errors = StdSink::new(rt.stderr());
+    let status = match words(&rt) {
+        Ok(words) => sigma(rt.alloc(), &words, &mut input, &mut output, &mut errors),
+        Err(error) => {
+            let (status, line) = without_words(error.kind());
+            let _ = put(&mut errors, line);
+            status
+        }
+    };
+    ExitCode::from(status.number())
 }
