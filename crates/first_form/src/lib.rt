@@ -14,6 +14,3 @@ mod watch;
 
 pub use checking::check;
 pub use error::FirstFormError;
-
-#[cfg(test)]
-mod tests;

@@ -9,6 +9,3 @@ mod numbers;
 mod vertices;
 
 pub use model::print;
-
-#[cfg(test)]
-mod tests;

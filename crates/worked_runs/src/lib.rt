@@ -7,6 +7,7 @@ mod changes;
 mod clock;
 mod order;
 mod stream;
+mod texts;
 mod values;
 
 pub use bank::bank_serves;
@@ -14,4 +15,5 @@ pub use changes::{cells_are_set, parameters_come_first, variables_are_drawn};
 pub use clock::{clock_counts, loop_goes_on};
 pub use order::{equal_events_are_cut, events_come_in_order};
 pub use stream::stream_gives;
+pub use texts::{models_have_texts, operands_stand_in_parentheses};
 pub use values::{operators_compare, values_are_exact, values_are_lazy};
