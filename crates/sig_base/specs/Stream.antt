@@ -1,5 +1,5 @@
 -- Random streams: the words that PCG32 gives, and the two picks that a draw makes from a word.
-use Rattle.std.specs.Prelude.{ℕ, zero, suc, ◌+◌, ◌-◌, ◌*◌, ◌/◌, ◌^◌, ℤ, pos, ◌+ℤ◌, ◌-ℤ◌, nat_abs, cond, nat_lt, List, [], ◌∷◌, sum}
+use Rattle.std.specs.Prelude.{ℕ, suc, ◌-◌, ◌*◌, ◌/◌, ◌^◌, ℤ, pos, ◌+ℤ◌, ◌-ℤ◌, nat_abs, cond, nat_lt, List, [], ◌∷◌, sum}
 use Rattle.rand_pcg.specs.Lcg.{Lcg, started, increment_of, advance}
 use Rattle.rand_pcg.specs.Pcg.{multiplier_64, pcg32}
 

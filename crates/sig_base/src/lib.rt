@@ -42,6 +42,3 @@ pub use table::{Carried, Row, Table};
 pub use take_error::TakeError;
 pub use taking::take_all;
 pub use text::Text;
-
-#[cfg(test)]
-mod tests;

@@ -45,26 +45,3 @@ impl<L: Ledger> Steps<L> {
         self.book.add(&mut self.share, 1);
     }
 }
-
-#[cfg(test)]
-mod tests {
-    use super::*;
-    use std::marker::Brand;
-    use std::mem::size_of;
-
-    fn two_steps<L: Ledger>(blank: Blank) -> usize
-        requires name { blank.name ≡ L.name }
-        requires parts { blank.parts ≡ L.parts }
-        requires some { 0 < blank.parts }
-    {
-        let mut steps: Steps<L> = Steps::begin(blank);
-        steps.tick();
-        steps.tick();
-        size_of::<Steps<L>>()
-    }
-
-    #[test]
-    fn it_holds_nothing(rt: HostRuntime) {
-        assert_eq!(rt; two_steps::<Brand>(Blank::new(1)), 0);
-    }
-}

@@ -1,5 +1,7 @@
-use Rattle.std.proofs.Common.{arith, length-drop, ◌∙◌}
-use Rattle.std.proofs.lemmas.List.{take_rest}
+-- One piece more is taken, and at the end all are.
+use Rattle.std.proofs.Common.{arith, length-drop, ◌∙◌, subst}
+use Rattle.std.proofs.lemmas.List.{take_all, take_rest}
+use Rattle.sig_base.specs.Sink.{GrowsBy}
 use Rattle.sig_base.proofs.SinkLemmas.{GrowsBy-more}
 use Rattle.sig_base.proofs.putting.put.Goals as goal
 
@@ -15,3 +17,9 @@ loop-done-preserved g c =
       unchanged = λ h. absurd (omega (arith, wrote.some));
       unsettled = λ _. wrote.unsettled;
     }
+
+pub returns-clause-all : goal.returns-clause-all
+returns-clause-all g c = subst (GrowsBy _ _) (take_all c.loop-done.done c.args.bytes.now (omega arith)) c.loop-done.invariant.grown
+
+pub returns-clause-unsettled : goal.returns-clause-unsettled
+returns-clause-unsettled g c = λ some. c.loop-done.invariant.unsettled (omega arith)

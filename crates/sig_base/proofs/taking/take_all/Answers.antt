@@ -1,5 +1,6 @@
-use Rattle.std.proofs.Common.{arith, ◌∙◌}
-use Rattle.sig_base.proofs.SourceLemmas.{Takes-more, Shows-more, all-at_end}
+-- One read more, and the two ends: nothing was left, or one byte more than the limit was read.
+use Rattle.std.proofs.Common.{arith, refl, ◌∙◌}
+use Rattle.sig_base.proofs.SourceLemmas.{Takes-more, Shows-more, all-at_end, past_limit}
 use Rattle.sig_base.proofs.taking.take_all.Goals as goal
 
 pub returns-then-is_end-clause-all : goal.returns-then-is_end-clause-all
@@ -20,3 +21,9 @@ loop-filled-preserved g c =
       shows = Shows-more _ _ c.loop-filled.filled c.in_ok-count.count c.loop-filled.bytes.items _ before.takes before.shows (c.read_more.ensures.kept ∙ c.in_ok-make_room.ensures.kept) read.shows;
       steady = read.steady ∙ before.steady;
     }
+
+pub returns-clause-too_long : goal.returns-clause-too_long
+returns-clause-too_long g c = λ _. past_limit _ _ c.loop-filled.filled c.args.limit (omega arith) c.loop-filled.invariant.takes
+
+pub returns-clause-taken : goal.returns-clause-taken
+returns-clause-taken g c = (c.loop-filled.filled, omega arith, c.loop-filled.invariant.takes, ((λ _. omega arith), λ _. refl))

@@ -1,5 +1,0 @@
--- The counter's ledger is the blank's.
-use Rattle.sig_base.proofs.steps.tests.it_holds_nothing.Given as goal
-
-abbrev pub ghosts-two_steps : goal.ghosts-two_steps
-ghosts-two_steps g a = record { name = a.blank.name; parts = a.blank.parts }
