@@ -1,3 +1,4 @@
 pub mod Building
 pub mod Models
 pub mod Texts
+pub mod Tokens

@@ -8,6 +8,7 @@ mod clock;
 mod order;
 mod stream;
 mod texts;
+mod tokens;
 mod values;
 
 pub use bank::bank_serves;
@@ -16,4 +17,8 @@ pub use clock::{clock_counts, loop_goes_on};
 pub use order::{equal_events_are_cut, events_come_in_order};
 pub use stream::stream_gives;
 pub use texts::{models_have_texts, operands_stand_in_parentheses};
+pub use tokens::{
+    bad_bytes_have_places, blanks_and_comments_are_no_tokens, longest_tokens_are_taken,
+    numbers_have_a_limit,
+};
 pub use values::{operators_compare, values_are_exact, values_are_lazy};
