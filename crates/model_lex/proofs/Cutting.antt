@@ -1,10 +1,10 @@
 -- The tokens so far and those of the rest of the text are the text's tokens.
 use Rattle.std.proofs.Common.{◌≡◌, ℕ, zero, suc, ◌+◌, ◌-◌, ◌<◌, ◌≤◌, List, [], ◌∷◌, ◌++◌, length, take, drop, map, sym, refl, ap, ◌∙◌, subst, arith, add-zero, append_assoc}
 use Rattle.std.specs.Prelude.{Result, Ok, Err}
-use Rattle.std.proofs.lemmas.List.{drop-drop, length-drop, map_push, take_rest}
+use Rattle.std.proofs.lemmas.List.{append-nil, at_drop_all, drop-drop, length-drop, map_push, take_rest}
 use Rattle.model_core.specs.declared.token.Token.{Token}
 use Rattle.model_core.specs.declared.token.TokenKind.{TokenKind}
-use Rattle.model_core.specs.Lexing.{Lexeme, LexemeKind, Front, Between, Longest, front_length, after_front, tokens_from, tokens_of, lexeme_of, lexeme_kind_of}
+use Rattle.model_core.specs.Lexing.{Lexeme, LexemeKind, Front, Between, Longest, Neither, front_length, after_front, tokens_from, tokens_of, lexeme_of, lexeme_kind_of}
 use Rattle.model_lex.specs.Fronts.{front_at, seen}
 use Rattle.model_lex.specs.declared.front.Front.{Front as CodeFront}
 use Rattle.model_lex.proofs.FrontLemmas.{Fits, front-front_at, front_at-fits}
@@ -69,6 +69,15 @@ cut_between text ts at n inside is cut =
       in_text = (front_room text at (Between n) inside is).1;
       whole = ap (joined (map (lexeme_of text) ts)) (sym here.0) ∙ cut.whole;
     }
+
+-- a byte that begins no token ends the cutting
+pub cut_neither : (text : List ℕ) (ts : List Token) (at : ℕ) → at < length text → front_at (drop at text) ≡ Neither → Cut text ts at → tokens_of text ≡ Err at
+cut_neither text ts at inside is cut = sym cut.whole ∙ ap (joined (map (lexeme_of text) ts)) (front_here text at Neither inside is).0
+
+-- where the text ends, the tokens are all of its tokens
+pub cut_all : (text : List ℕ) (ts : List Token) (at : ℕ) → length text ≤ at → Cut text ts at → tokens_of text ≡ Ok (map (lexeme_of text) ts)
+cut_all text ts at past cut =
+    sym cut.whole ∙ at_drop_all (λ s. joined (map (lexeme_of text) ts) (tokens_from at 0 s)) text at past ∙ ap Ok (append-nil (map (lexeme_of text) ts))
 
 -- a token comes after those before it
 joined_longest : (ls : List Lexeme) (at n : ℕ) (kind : LexemeKind) (r : Result (List Lexeme) ℕ) → joined ls (after_front at (Longest n kind) r) ≡ joined (ls ++ record { from = at; to = at + n; kind = kind } ∷ []) r

@@ -1,5 +1,5 @@
 -- What bytes begin with, and how long it is.
-use Rattle.std.proofs.Common.{◌≡◌, ℕ, ◌<◌, ◌≤◌, Bool, true, false, cond, ◌&&◌, List, [], ◌∷◌, length, drop, refl, ap, ◌∙◌, arith, slice_index}
+use Rattle.std.proofs.Common.{◌≡◌, ℕ, ◌<◌, ◌≤◌, Bool, true, false, cond, ◌&&◌, List, [], ◌∷◌, length, take, drop, refl, ap, ◌∙◌, arith, slice_index}
 use Rattle.std.specs.Prelude.{◌==◌, nat_eq, nat_lt}
 use Rattle.std.specs.List.{prefix_len, take_while, starts_with, list_all}
 use Rattle.std.specs.Char.{is_ascii_digit, is_ascii_alphabetic}
@@ -49,6 +49,14 @@ prefix_len-first : (p : ℕ → Bool) (c : ℕ) (s : List ℕ) → p c ≡ true 
 prefix_len-first p c s passes =
     let le = prefix_len-le-length p (c ∷ s) in
     (rw passes (omega arith), le)
+
+-- a word has a byte
+pub word_begins : (bytes : List ℕ) → 0 < length bytes → is_ascii_alphabetic (slice_index bytes 0) ≡ true → 0 < length (take (prefix_len is_word_byte bytes) bytes)
+word_begins [] some letter = absurd (omega arith)
+word_begins (c ∷ s) some letter =
+    let run = prefix_len-first is_word_byte c s (rw letter refl) in
+    let same = length-take-le (prefix_len is_word_byte (c ∷ s)) (c ∷ s) run.1 in
+    omega arith
 
 -- each of these symbols has a byte
 abbrev each_has_byte : List (List ℕ × Symbol) → Bool

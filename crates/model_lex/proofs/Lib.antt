@@ -3,3 +3,4 @@ pub mod Digits
 pub mod FrontLemmas
 pub mod Places
 pub mod ReservedWords
+pub mod SymbolsAmong

@@ -56,6 +56,3 @@ fn push_token(list: &mut Vec<Token>, token: Token, left: usize) -> Result<(), No
     list.push(token)?;
     Ok(())
 }
-
-#[cfg(test)]
-mod tests;

@@ -2,7 +2,7 @@ use Rattle.std.proofs.Common.{◌≡◌, ◌<◌, ◌+◌, ◌≤◌, length, ta
 use Rattle.model_core.specs.Lexing.{Between, Longest, lexeme_kind_of}
 use Rattle.model_lex.specs.Fronts.{front_at}
 use Rattle.model_lex.specs.declared.front.Front.TheVariants as code
-use Rattle.model_lex.proofs.Cutting.{Cut, seen_here, front_room, cut_between, cut_longest}
+use Rattle.model_lex.proofs.Cutting.{Cut, seen_here, front_room, cut_between, cut_neither, cut_all, cut_longest}
 use Rattle.model_lex.proofs.lexer.token_list.Goals as goal
 use Rattle.model_lex.proofs.lexer.token_list.Goals.{In-Between, In-Longest}
 
@@ -39,3 +39,10 @@ pub loop-at-preserved : goal.loop-at-preserved
 loop-at-preserved c =
     subst (λ ts. Cut c.args.text.now ts (c.loop-at.at + c.in-Longest.length)) (sym c.in_ok-push_token-in-Longest.ensures)
     (cut_longest c.args.text.now c.loop-at.list.items c.loop-at.at c.in-Longest.length c.in-Longest.kind c.loop-at-test.true (longest_here (goal.at.loop-at-preserved c).In-Longest) c.loop-at.invariant)
+
+pub returns-in-Neither : goal.returns-in-Neither
+returns-in-Neither c =
+    cut_neither c.args.text.now c.loop-at.list.items c.loop-at.at c.loop-at-test.true (seen_here c.args.text.now c.loop-at.at code.Neither c.in-Neither.ensures) c.loop-at.invariant
+
+pub returns : goal.returns
+returns c = rw c.from_vec.ensures (cut_all c.args.text.now c.loop-at.list.items c.loop-at.at c.loop-at-test.false c.loop-at.invariant)
