@@ -6,6 +6,7 @@ ghost use Rattle.std.specs.List.{flat_map};
 ghost use Rattle.model_core.specs.Canonical.{size_text, clip_text, initial_truth, kind_text, variable_line, row_text, table_line, watched_name, watch_names_line, joined};
 ghost use Rattle.model_core.specs.Views.{graph_of, variable_of, weighted_of, table_of, watched_of};
 
+use crate::bytes::{put_bytes, put_comma};
 use crate::expressions::put_truth;
 use crate::names::{put_variable_name, put_vertex_name};
 use crate::numbers::{put_number, put_signed};
@@ -16,12 +17,12 @@ use sig_base::{NoMemory, Row, Table};
 fn put_size(out: &mut Vec<u8>, size: usize) -> Result<(), NoMemory>
     ensures { OnOk result (out.new.items ≡ out.old.items ++ size_text size) }
 {
-    if size > 0 {
-        out.extend_from_slice(b"[")?;
-        put_number(out, size as u64)?;
-        out.extend_from_slice(b"]")?;
+    if size == 0 {
+        return Ok(());
     }
-    Ok(())
+    put_bytes(out, b"[")?;
+    put_number(out, size as u64)?;
+    put_bytes(out, b"]")
 }
 
 /// Adds the word `clip` where stores take the nearest bound.
@@ -29,9 +30,10 @@ fn put_clip(out: &mut Vec<u8>, clip: bool) -> Result<(), NoMemory>
     ensures { OnOk result (out.new.items ≡ out.old.items ++ clip_text clip) }
 {
     if clip {
-        out.extend_from_slice(b" clip")?;
+        put_bytes(out, b" clip")
+    } else {
+        Ok(())
     }
-    Ok(())
 }
 
 /// Adds the range of a variable.
@@ -39,7 +41,7 @@ fn put_range(out: &mut Vec<u8>, var: &Var) -> Result<(), NoMemory>
     ensures { OnOk result (out.new.items ≡ out.old.items ++ (signed_decimal var.now.lo ++ codes ".." ++ signed_decimal var.now.hi ++ clip_text var.now.clip)) }
 {
     put_signed(out, var.lo)?;
-    out.extend_from_slice(b"..")?;
+    put_bytes(out, b"..")?;
     put_signed(out, var.hi)?;
     put_clip(out, var.clip)
 }
@@ -57,12 +59,12 @@ fn put_kind(out: &mut Vec<u8>, var: &Var) -> Result<(), NoMemory>
 {
     match var.kind {
         Kind::Truth => {
-            out.extend_from_slice(b"bool = ")?;
+            put_bytes(out, b"bool = ")?;
             put_initial_truth(out, var.initial)
         }
         Kind::Range => {
             put_range(out, var)?;
-            out.extend_from_slice(b" = ")?;
+            put_bytes(out, b" = ")?;
             put_signed(out, var.initial)
         }
     }
@@ -72,13 +74,12 @@ fn put_kind(out: &mut Vec<u8>, var: &Var) -> Result<(), NoMemory>
 fn put_variable(out: &mut Vec<u8>, var: &Var) -> Result<(), NoMemory>
     ensures { OnOk result (out.new.items ≡ out.old.items ++ variable_line (variable_of var.now)) }
 {
-    out.extend_from_slice(b"var ")?;
-    out.extend_from_slice(var.name.as_slice())?;
+    put_bytes(out, b"var ")?;
+    put_bytes(out, var.name.as_slice())?;
     put_size(out, var.size)?;
-    out.extend_from_slice(b" : ")?;
+    put_bytes(out, b" : ")?;
     put_kind(out, var)?;
-    out.extend_from_slice(b";\n")?;
-    Ok(())
+    put_bytes(out, b";\n")
 }
 
 /// Adds the lines of variables.
@@ -96,10 +97,9 @@ fn put_row(out: &mut Vec<u8>, row: Row) -> Result<(), NoMemory>
     ensures { OnOk result (out.new.items ≡ out.old.items ++ row_text (weighted_of row)) }
 {
     put_signed(out, row.value)?;
-    out.extend_from_slice(b" : ")?;
+    put_bytes(out, b" : ")?;
     put_number(out, row.weight)?;
-    out.extend_from_slice(b"; ")?;
-    Ok(())
+    put_bytes(out, b"; ")
 }
 
 /// Adds the rows of a table.
@@ -116,12 +116,11 @@ fn put_rows(out: &mut Vec<u8>, rows: &[Row]) -> Result<(), NoMemory>
 fn put_table(out: &mut Vec<u8>, table: &Table) -> Result<(), NoMemory>
     ensures { OnOk result (out.new.items ≡ out.old.items ++ table_line (table_of table.now)) }
 {
-    out.extend_from_slice(b"table ")?;
-    out.extend_from_slice(table.name.as_slice())?;
-    out.extend_from_slice(b" { ")?;
+    put_bytes(out, b"table ")?;
+    put_bytes(out, table.name.as_slice())?;
+    put_bytes(out, b" { ")?;
     put_rows(out, table.rows.as_slice())?;
-    out.extend_from_slice(b"}\n")?;
-    Ok(())
+    put_bytes(out, b"}\n")
 }
 
 /// Adds the lines of tables.
@@ -148,12 +147,13 @@ fn put_watched(out: &mut Vec<u8>, model: &Model, watch: Watch) -> Result<(), NoM
 fn put_watched_names(out: &mut Vec<u8>, model: &Model, watch: &[Watch]) -> Result<(), NoMemory>
     ensures { OnOk result (out.new.items ≡ out.old.items ++ joined (map (watched_name (graph_of model.now)) (map watched_of watch.now))) }
 {
-    if let [first, rest @ ..] = watch {
-        put_watched(out, model, *first)?;
-        for next in rest {
-            out.extend_from_slice(b", ")?;
-            put_watched(out, model, *next)?;
-        }
+    let [first, rest @ ..] = watch else {
+        return Ok(());
+    };
+    put_watched(out, model, *first)?;
+    for next in rest {
+        put_comma(out)?;
+        put_watched(out, model, *next)?;
     }
     Ok(())
 }
@@ -162,10 +162,10 @@ fn put_watched_names(out: &mut Vec<u8>, model: &Model, watch: &[Watch]) -> Resul
 pub fn put_watch(out: &mut Vec<u8>, model: &Model, watch: &[Watch]) -> Result<(), NoMemory>
     ensures { OnOk result (out.new.items ≡ out.old.items ++ watch_names_line (map (watched_name (graph_of model.now)) (map watched_of watch.now))) }
 {
-    if !watch.is_empty() {
-        out.extend_from_slice(b"watch ")?;
-        put_watched_names(out, model, watch)?;
-        out.extend_from_slice(b";\n")?;
+    if watch.is_empty() {
+        return Ok(());
     }
-    Ok(())
+    put_bytes(out, b"watch ")?;
+    put_watched_names(out, model, watch)?;
+    put_bytes(out, b";\n")
 }

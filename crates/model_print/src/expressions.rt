@@ -4,6 +4,7 @@ ghost use Rattle.std.specs.Prelude.{◌≡◌, ◌++◌, OnOk, map};
 ghost use Rattle.model_core.specs.Canonical.{truth_text, expression_text, expression_texts, joined, in_parentheses};
 ghost use Rattle.model_core.specs.Views.{graph_of, expression_of};
 
+use crate::bytes::{put_bytes, put_comma};
 use crate::names::put_variable_name;
 use crate::numbers::put_signed;
 use model_core::{Expr, Model};
@@ -14,11 +15,10 @@ pub fn put_truth(out: &mut Vec<u8>, truth: bool) -> Result<(), NoMemory>
     ensures { OnOk result (out.new.items ≡ out.old.items ++ truth_text truth) }
 {
     if truth {
-        out.extend_from_slice(b"true")?;
+        put_bytes(out, b"true")
     } else {
-        out.extend_from_slice(b"false")?;
+        put_bytes(out, b"false")
     }
-    Ok(())
 }
 
 /// Adds an expression.
@@ -36,12 +36,13 @@ pub fn put_expression(out: &mut Vec<u8>, model: &Model, expr: &Expr) -> Result<(
 pub fn put_expressions(out: &mut Vec<u8>, model: &Model, exprs: &[Expr]) -> Result<(), NoMemory>
     ensures { OnOk result (out.new.items ≡ out.old.items ++ joined (expression_texts (graph_of model.now) (map expression_of exprs.now))) }
 {
-    if let [first, rest @ ..] = exprs {
-        put_expression(out, model, first)?;
-        for expr in rest {
-            out.extend_from_slice(b", ")?;
-            put_expression(out, model, expr)?;
-        }
+    let [first, rest @ ..] = exprs else {
+        return Ok(());
+    };
+    put_expression(out, model, first)?;
+    for expr in rest {
+        put_comma(out)?;
+        put_expression(out, model, expr)?;
     }
     Ok(())
 }
@@ -50,10 +51,10 @@ pub fn put_expressions(out: &mut Vec<u8>, model: &Model, exprs: &[Expr]) -> Resu
 pub fn put_passed(out: &mut Vec<u8>, model: &Model, values: &[Expr]) -> Result<(), NoMemory>
     ensures { OnOk result (out.new.items ≡ out.old.items ++ in_parentheses (expression_texts (graph_of model.now) (map expression_of values.now))) }
 {
-    if !values.is_empty() {
-        out.extend_from_slice(b"(")?;
-        put_expressions(out, model, values)?;
-        out.extend_from_slice(b")")?;
+    if values.is_empty() {
+        return Ok(());
     }
-    Ok(())
+    put_bytes(out, b"(")?;
+    put_expressions(out, model, values)?;
+    put_bytes(out, b")")
 }

@@ -1,6 +1,7 @@
 //! Prints a model's canonical text.
 #![tactic(auto)]
 
+mod bytes;
 mod declarations;
 mod expressions;
 mod model;

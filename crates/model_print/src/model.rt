@@ -4,6 +4,7 @@ ghost use Rattle.std.specs.Prelude.{◌≡◌, IfOk};
 ghost use Rattle.model_core.specs.Canonical.{canonical};
 ghost use Rattle.model_core.specs.Views.{graph_of};
 
+use crate::bytes::put_bytes;
 use crate::declarations::{put_tables, put_variables, put_watch};
 use crate::vertices::put_vertices;
 use model_core::Model;
@@ -17,13 +18,13 @@ pub fn print(alloc: Global, model: &Model) -> Result<Text, NoMemory>
     ensures { IfOk result (λ t. t ≡ canonical (graph_of model.now)) }
 {
     let mut out = Vec::new(alloc);
-    out.extend_from_slice(b"model ")?;
-    out.extend_from_slice(model.name.as_slice())?;
-    out.extend_from_slice(b";\n")?;
+    put_bytes(&mut out, b"model ")?;
+    put_bytes(&mut out, model.name.as_slice())?;
+    put_bytes(&mut out, b";\n")?;
     put_variables(&mut out, model.vars.as_slice())?;
     put_tables(&mut out, model.tables.as_slice())?;
     put_watch(&mut out, model, model.watch.as_slice())?;
     put_vertices(&mut out, model, model.vertices.as_slice())?;
-    out.extend_from_slice(b"end\n")?;
+    put_bytes(&mut out, b"end\n")?;
     Ok(Text::from_vec(out))
 }

@@ -4,6 +4,7 @@ ghost use Rattle.std.specs.Prelude.{◌≡◌, ◌++◌, OnOk};
 ghost use Rattle.model_core.specs.Canonical.{variable_name, vertex_name};
 ghost use Rattle.model_core.specs.Views.{graph_of};
 
+use crate::bytes::put_bytes;
 use model_core::Model;
 use sig_base::NoMemory;
 
@@ -11,18 +12,18 @@ use sig_base::NoMemory;
 pub fn put_variable_name(out: &mut Vec<u8>, model: &Model, var: usize) -> Result<(), NoMemory>
     ensures { OnOk result (out.new.items ≡ out.old.items ++ variable_name (graph_of model.now) var) }
 {
-    if let Some(variable) = model.vars.as_slice().get(var) {
-        out.extend_from_slice(variable.name.as_slice())?;
+    match model.vars.as_slice().get(var) {
+        Some(variable) => put_bytes(out, variable.name.as_slice()),
+        None => Ok(()),
     }
-    Ok(())
 }
 
 /// Adds the name of the vertex at a place.
 pub fn put_vertex_name(out: &mut Vec<u8>, model: &Model, vertex: usize) -> Result<(), NoMemory>
     ensures { OnOk result (out.new.items ≡ out.old.items ++ vertex_name (graph_of model.now) vertex) }
 {
-    if let Some(found) = model.vertices.as_slice().get(vertex) {
-        out.extend_from_slice(found.name.as_slice())?;
+    match model.vertices.as_slice().get(vertex) {
+        Some(found) => put_bytes(out, found.name.as_slice()),
+        None => Ok(()),
     }
-    Ok(())
 }

@@ -5,6 +5,7 @@ ghost use Rattle.std.specs.List.{flat_map};
 ghost use Rattle.model_core.specs.Canonical.{index_text, location_text, change_line, delay_text, priority_text, condition_text, edge_line, vertex_lines, variable_name, joined, in_parentheses};
 ghost use Rattle.model_core.specs.Views.{graph_of, expression_of, location_of, change_of, edge_of, vertex_of};
 
+use crate::bytes::{put_bytes, put_comma};
 use crate::expressions::{put_expression, put_expressions, put_passed};
 use crate::names::{put_variable_name, put_vertex_name};
 use crate::numbers::put_number;
@@ -18,12 +19,12 @@ const PLAIN_PRIORITY: u8 = 5;
 fn put_index(out: &mut Vec<u8>, model: &Model, index: &Option<Expr>) -> Result<(), NoMemory>
     ensures { OnOk result (out.new.items ≡ out.old.items ++ index_text (graph_of model.now) (option_map expression_of index.now)) }
 {
-    if let Some(index) = index {
-        out.extend_from_slice(b"[")?;
-        put_expression(out, model, index)?;
-        out.extend_from_slice(b"]")?;
-    }
-    Ok(())
+    let Some(index) = index else {
+        return Ok(());
+    };
+    put_bytes(out, b"[")?;
+    put_expression(out, model, index)?;
+    put_bytes(out, b"]")
 }
 
 /// Adds a variable or a cell that takes a value.
@@ -38,12 +39,13 @@ fn put_target(out: &mut Vec<u8>, model: &Model, target: &Target) -> Result<(), N
 fn put_targets(out: &mut Vec<u8>, model: &Model, targets: &[Target]) -> Result<(), NoMemory>
     ensures { OnOk result (out.new.items ≡ out.old.items ++ joined (map (location_text (graph_of model.now)) (map location_of targets.now))) }
 {
-    if let [first, rest @ ..] = targets {
-        put_target(out, model, first)?;
-        for target in rest {
-            out.extend_from_slice(b", ")?;
-            put_target(out, model, target)?;
-        }
+    let [first, rest @ ..] = targets else {
+        return Ok(());
+    };
+    put_target(out, model, first)?;
+    for target in rest {
+        put_comma(out)?;
+        put_target(out, model, target)?;
     }
     Ok(())
 }
@@ -54,14 +56,13 @@ fn put_change(out: &mut Vec<u8>, model: &Model, change: &Change) -> Result<(), N
 {
     match change {
         Change::Set { targets, values } => {
-            out.extend_from_slice(b"  set ")?;
+            put_bytes(out, b"  set ")?;
             put_targets(out, model, targets.as_slice())?;
-            out.extend_from_slice(b" := ")?;
+            put_bytes(out, b" := ")?;
             put_expressions(out, model, values.as_slice())?;
-            out.extend_from_slice(b";\n")?;
+            put_bytes(out, b";\n")
         }
     }
-    Ok(())
 }
 
 /// Adds a delay, or nothing where it is the number 0.
@@ -71,7 +72,7 @@ fn put_delay(out: &mut Vec<u8>, model: &Model, delay: &Expr) -> Result<(), NoMem
     if let Expr::Int(0) = delay {
         return Ok(());
     }
-    out.extend_from_slice(b" after ")?;
+    put_bytes(out, b" after ")?;
     put_expression(out, model, delay)
 }
 
@@ -79,11 +80,11 @@ fn put_delay(out: &mut Vec<u8>, model: &Model, delay: &Expr) -> Result<(), NoMem
 fn put_priority(out: &mut Vec<u8>, priority: u8) -> Result<(), NoMemory>
     ensures { OnOk result (out.new.items ≡ out.old.items ++ priority_text priority) }
 {
-    if priority != PLAIN_PRIORITY {
-        out.extend_from_slice(b" priority ")?;
-        put_number(out, u64::from(priority))?;
+    if priority == PLAIN_PRIORITY {
+        return Ok(());
     }
-    Ok(())
+    put_bytes(out, b" priority ")?;
+    put_number(out, u64::from(priority))
 }
 
 /// Adds a condition, or nothing where it is the word `true`.
@@ -93,7 +94,7 @@ fn put_condition(out: &mut Vec<u8>, model: &Model, condition: &Expr) -> Result<(
     if let Expr::Truth(true) = condition {
         return Ok(());
     }
-    out.extend_from_slice(b" when ")?;
+    put_bytes(out, b" when ")?;
     put_expression(out, model, condition)
 }
 
@@ -103,7 +104,7 @@ fn put_edge(out: &mut Vec<u8>, model: &Model, edge: &Edge) -> Result<(), NoMemor
 {
     match &edge.form {
         EdgeForm::Schedule { delay, priority } => {
-            out.extend_from_slice(b"  schedule ")?;
+            put_bytes(out, b"  schedule ")?;
             put_vertex_name(out, model, edge.target)?;
             put_passed(out, model, edge.values.as_slice())?;
             put_delay(out, model, delay)?;
@@ -111,20 +112,20 @@ fn put_edge(out: &mut Vec<u8>, model: &Model, edge: &Edge) -> Result<(), NoMemor
         }
     }
     put_condition(out, model, &edge.condition)?;
-    out.extend_from_slice(b";\n")?;
-    Ok(())
+    put_bytes(out, b";\n")
 }
 
 /// Adds the names of variables, with a comma and a space between two.
 fn put_variable_names(out: &mut Vec<u8>, model: &Model, vars: &[usize]) -> Result<(), NoMemory>
     ensures { OnOk result (out.new.items ≡ out.old.items ++ joined (map (variable_name (graph_of model.now)) vars.now)) }
 {
-    if let [first, rest @ ..] = vars {
-        put_variable_name(out, model, *first)?;
-        for var in rest {
-            out.extend_from_slice(b", ")?;
-            put_variable_name(out, model, *var)?;
-        }
+    let [first, rest @ ..] = vars else {
+        return Ok(());
+    };
+    put_variable_name(out, model, *first)?;
+    for var in rest {
+        put_comma(out)?;
+        put_variable_name(out, model, *var)?;
     }
     Ok(())
 }
@@ -133,12 +134,12 @@ fn put_variable_names(out: &mut Vec<u8>, model: &Model, vars: &[usize]) -> Resul
 fn put_parameters(out: &mut Vec<u8>, model: &Model, params: &[usize]) -> Result<(), NoMemory>
     ensures { OnOk result (out.new.items ≡ out.old.items ++ in_parentheses (map (variable_name (graph_of model.now)) params.now)) }
 {
-    if !params.is_empty() {
-        out.extend_from_slice(b"(")?;
-        put_variable_names(out, model, params)?;
-        out.extend_from_slice(b")")?;
+    if params.is_empty() {
+        return Ok(());
     }
-    Ok(())
+    put_bytes(out, b"(")?;
+    put_variable_names(out, model, params)?;
+    put_bytes(out, b")")
 }
 
 /// Adds the lines of changes.
@@ -165,14 +166,13 @@ fn put_edges(out: &mut Vec<u8>, model: &Model, edges: &[Edge]) -> Result<(), NoM
 fn put_vertex(out: &mut Vec<u8>, model: &Model, vertex: &Vertex) -> Result<(), NoMemory>
     ensures { OnOk result (out.new.items ≡ out.old.items ++ vertex_lines (graph_of model.now) (vertex_of vertex.now)) }
 {
-    out.extend_from_slice(b"vertex ")?;
-    out.extend_from_slice(vertex.name.as_slice())?;
+    put_bytes(out, b"vertex ")?;
+    put_bytes(out, vertex.name.as_slice())?;
     put_parameters(out, model, vertex.params.as_slice())?;
-    out.extend_from_slice(b" {\n")?;
+    put_bytes(out, b" {\n")?;
     put_changes(out, model, vertex.changes.as_slice())?;
     put_edges(out, model, vertex.edges.as_slice())?;
-    out.extend_from_slice(b"}\n")?;
-    Ok(())
+    put_bytes(out, b"}\n")
 }
 
 /// Adds the lines of vertices.

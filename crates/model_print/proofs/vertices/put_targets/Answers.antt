@@ -1,0 +1,9 @@
+-- the invariant after one element more
+use Rattle.std.proofs.lemmas.List.{map_more}
+use Rattle.model_core.specs.Canonical.{location_text}
+use Rattle.model_core.specs.Views.{graph_of, location_of}
+use Rattle.model_print.proofs.Loops.{one_more_behind_comma}
+use Rattle.model_print.proofs.vertices.put_targets.Goals as goal
+
+pub loop-target-preserved : goal.loop-target-preserved
+loop-target-preserved c = one_more_behind_comma (location_text (graph_of c.args.model.now)) _ _ _ _ _ _ _ (map_more location_of _ c.loop-target.target-index _ c.loop-target-test.true) c.in_ok-put_comma.ensures c.in_ok-put_target-2.ensures c.loop-target.invariant
