@@ -1,5 +1,6 @@
 pub mod Decides
 pub mod FirstFormDecides
+pub mod FirstToken
 pub mod Loop
 pub mod Parts
 pub mod Whole

@@ -7,7 +7,7 @@ ghost use Rattle.model_read.specs.Rules.{change_at, changes_at};
 
 use crate::cursor::Cursor;
 use crate::expression::expression;
-use crate::lists::{one, packed};
+use crate::lists::packed;
 use model_core::{RawChange, RawTarget, Symbol, Word};
 use model_lex::ParseError;
 use sig_base::List;
@@ -23,7 +23,7 @@ fn change(alloc: Global, cursor: &mut Cursor<'_>) -> Result<RawChange, ParseErro
     cursor.symbol(Symbol::Becomes)?;
     let value = expression(alloc, cursor)?;
     cursor.symbol(Symbol::Semicolon)?;
-    let targets = one(
+    let targets = List::of_one(
         alloc,
         RawTarget {
             at: name.at,
@@ -31,7 +31,7 @@ fn change(alloc: Global, cursor: &mut Cursor<'_>) -> Result<RawChange, ParseErro
             index: None,
         },
     )?;
-    let values = one(alloc, value)?;
+    let values = List::of_one(alloc, value)?;
     Ok(RawChange::Set {
         at,
         targets,

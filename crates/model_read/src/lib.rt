@@ -23,6 +23,3 @@ pub use text::parse;
 pub fn one_reading()
     ensures { (tokens : List Lexeme) (a b : WrittenModel) → text tokens a [] → text tokens b [] → a ≡ b }
 {}
-
-#[cfg(test)]
-mod tests;

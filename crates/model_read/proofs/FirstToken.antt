@@ -1,0 +1,32 @@
+-- The first token of those that are left, and the others.
+use Rattle.std.proofs.Common.{◌≡◌, ℕ, suc, ◌-◌, ◌≤◌, List, [], ◌∷◌, length, get_or, map, take, drop, Some, None, refl, sym, ap, subst, arith}
+use Rattle.std.specs.Prelude.{slice_range}
+use Rattle.std.proofs.lemmas.List.{take_rest}
+use Rattle.model_core.specs.declared.token.Token.{Token}
+use Rattle.model_core.specs.declared.token.TokenKind.TheVariants as kinds
+use Rattle.model_core.specs.Lexing.{Lexeme, lexeme_of}
+use Rattle.model_read.specs.InText.{AreInText}
+use Rattle.model_read.specs.Reader.{name_at, ended}
+
+-- what the other tokens stand for
+abbrev pub others : List ℕ → List Token → List Lexeme
+others text tokens = map (lexeme_of text) (take (length tokens - 1) (drop 1 tokens))
+
+tail_in_text : (text : List ℕ) (tokens : List Token) → AreInText text tokens → AreInText text (drop 1 tokens)
+tail_in_text text [] inside k d k_in = absurd (omega arith)
+tail_in_text text (t ∷ tokens) inside k d k_in = inside (suc k) d (omega arith)
+
+pub others_in_text : (text : List ℕ) (tokens : List Token) → AreInText text tokens → AreInText text (take (length tokens - 1) (drop 1 tokens))
+others_in_text text tokens inside = subst (AreInText text) (sym (take_rest tokens 1)) (tail_in_text text tokens inside)
+
+pub first_and_others : (text : List ℕ) (tokens : List Token) (d : Token) → 1 ≤ length tokens → map (lexeme_of text) tokens ≡ lexeme_of text (get_or tokens 0 d) ∷ others text tokens
+first_and_others text [] d some = absurd (omega arith)
+first_and_others text (t ∷ tokens) d some = ap (λ rest. lexeme_of text t ∷ map (lexeme_of text) rest) (sym (take_rest (t ∷ tokens) 1))
+
+pub name_at-first : (text : List ℕ) (tokens : List Token) (d : Token) (bytes : List ℕ) → 1 ≤ length tokens → (get_or tokens 0 d).kind ≡ kinds.Name → bytes ≡ slice_range text (get_or tokens 0 d).from (get_or tokens 0 d).to
+    → name_at (map (lexeme_of text) tokens) ≡ Some (record { name = bytes; at = (get_or tokens 0 d).from }, others text tokens)
+name_at-first text tokens d bytes some kind are = rw (first_and_others text tokens d some, kind, are) refl
+
+pub ended-first : {A : Type 0} (text : List ℕ) (tokens : List Token) (x : A) → 1 ≤ length tokens → ended x (map (lexeme_of text) tokens) ≡ None
+ended-first text [] x some = absurd (omega arith)
+ended-first text (t ∷ tokens) x some = refl
