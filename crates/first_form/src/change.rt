@@ -1,6 +1,5 @@
 //! Changes: one variable takes one value.
 
-ghost use Rattle.std.specs.Prelude.{◌≡◌, IfOk, [], ◌∷◌};
 ghost use Rattle.model_core.specs.Views.{change_of};
 ghost use Rattle.model_core.specs.WrittenViews.{written_target, written_expression, written_change};
 ghost use Rattle.first_form.specs.Gives.{Gives};
@@ -10,17 +9,8 @@ use crate::error::FirstFormError;
 use crate::names::Names;
 use crate::value::value;
 use model_core::{Change, RawChange, RawExpr, RawTarget, Target};
-use sig_base::{List, NoMemory};
+use sig_base::List;
 use std::alloc::Global;
-
-/// A list of one item, with room for no more.
-fn list_of_one<T: Drop>(alloc: Global, item: T) -> Result<List<T>, NoMemory>
-    ensures { IfOk result (λ items. items ≡ item ∷ []) }
-{
-    let mut items = Vec::with_capacity(alloc, 1)?;
-    items.push(item)?;
-    Ok(List::from_vec(items))
-}
 
 fn set_one(
     alloc: Global,
@@ -39,8 +29,8 @@ fn set_one(
     let Some(new) = value(variables, raw) else {
         return Err(FirstFormError::NotFirstForm);
     };
-    let targets = list_of_one(alloc, Target { var, index: None })?;
-    let values = list_of_one(alloc, new)?;
+    let targets = List::of_one(alloc, Target { var, index: None })?;
+    let values = List::of_one(alloc, new)?;
     Ok(Change::Set { targets, values })
 }
 

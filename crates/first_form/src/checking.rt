@@ -1,12 +1,13 @@
 //! The check of a whole model.
 
-ghost use Rattle.std.specs.Prelude.{◌≡◌, IfOk, Err};
+ghost use Rattle.std.specs.Prelude.{◌≡◌, IfOk, Err, [], length, nat_le};
 ghost use Rattle.model_core.specs.EventGraph.{EventGraph};
 ghost use Rattle.model_core.specs.Views.{graph_of};
 ghost use Rattle.model_core.specs.WrittenViews.{written_model};
 ghost use Rattle.model_core.specs.Acceptance.{AcceptedFirst};
+ghost use Rattle.model_core.specs.Canonical.{canonical};
 ghost use Rattle.first_form.specs.Gives.{Gives};
-ghost use Rattle.first_form.specs.Accepting.{fits_limits, accepted_among, accepted_parts, accepted};
+ghost use Rattle.first_form.specs.Accepting.{fits_limits, variable_names, vertex_names, accepted_among, accepted_parts, accepted};
 
 use crate::error::FirstFormError;
 use crate::names::Names;
@@ -15,7 +16,7 @@ use crate::vertex::{vertex_names_of, vertices_of};
 use crate::watch::watch_of;
 use model_core::{Model, RawModel};
 use model_print::print;
-use sig_base::{List, NAME_MAX, TEXT_MAX, VARIABLES_MAX, VERTICES_MAX};
+use sig_base::{List, NAME_MAX, NoMemory, TEXT_MAX, VARIABLES_MAX, VERTICES_MAX};
 use std::alloc::Global;
 
 /// Whether the name is short, the variables and vertices are few, and there are no tables.
@@ -50,6 +51,25 @@ fn model_among(
     })
 }
 
+/// The names of the variables, where each is short and declared once.
+fn variable_names_in(alloc: Global, raw: &RawModel) -> Result<Names, FirstFormError>
+    ensures { Gives (λ names. names) result (variable_names [] (written_model raw.now).variables) }
+{
+    let none = Names::new(alloc);
+    variable_names_of(alloc, &none, raw.vars.as_slice())
+}
+
+/// The names of the vertices, where each is short, declared once, and no variable's.
+fn vertex_names_in(
+    alloc: Global,
+    variable_names: &Names,
+    raw: &RawModel,
+) -> Result<Names, FirstFormError>
+    ensures { Gives (λ names. names) result (vertex_names variable_names.now (written_model raw.now).vertices) }
+{
+    vertex_names_of(alloc, variable_names, raw.vertices.as_slice())
+}
+
 /// The model, where it keeps every rule but that on the length of its canonical text.
 fn model_of(alloc: Global, raw: RawModel) -> Result<Model, FirstFormError>
     ensures { Gives graph_of result (accepted_parts (written_model raw)) }
@@ -57,10 +77,16 @@ fn model_of(alloc: Global, raw: RawModel) -> Result<Model, FirstFormError>
     if !is_within_limits(&raw) {
         return Err(FirstFormError::NotFirstForm);
     }
-    let none = Names::new(alloc);
-    let variable_names = variable_names_of(alloc, &none, raw.vars.as_slice())?;
-    let vertex_names = vertex_names_of(alloc, &variable_names, raw.vertices.as_slice())?;
+    let variable_names = variable_names_in(alloc, &raw)?;
+    let vertex_names = vertex_names_in(alloc, &variable_names, &raw)?;
     model_among(alloc, &variable_names, &vertex_names, raw)
+}
+
+/// Whether the canonical text has at most 4 MiB.
+fn is_short_in_print(alloc: Global, model: &Model) -> Result<bool, NoMemory>
+    ensures { IfOk result (λ short. short ≡ nat_le (length (canonical (graph_of model.now))) 4194304) }
+{
+    Ok(print(alloc, model)?.as_slice().len() <= TEXT_MAX)
 }
 
 /// The model, where it is of the first form and keeps every rule.
@@ -68,10 +94,11 @@ fn accepted_model(alloc: Global, raw: RawModel) -> Result<Model, FirstFormError>
     ensures { Gives graph_of result (accepted (written_model raw)) }
 {
     let model = model_of(alloc, raw)?;
-    if print(alloc, &model)?.as_slice().len() > TEXT_MAX {
-        return Err(FirstFormError::NotFirstForm);
+    if is_short_in_print(alloc, &model)? {
+        Ok(model)
+    } else {
+        Err(FirstFormError::NotFirstForm)
     }
-    Ok(model)
 }
 
 /// The model that is written, where it is of the first form and keeps every static rule.
