@@ -1,5 +1,5 @@
 -- A text has one answer.
-use Rattle.std.proofs.Common.{◌≡◌, ℕ, List, [], ◌∷◌, ◌++◌, Option, Some, None, Ok, refl, sym, ap, ◌∙◌, subst}
+use Rattle.std.proofs.Common.{◌≡◌, ℕ, List, [], ◌∷◌, ◌++◌, Option, Some, None, refl, sym, ap, ◌∙◌, subst}
 use Rattle.model_core.specs.EventGraph.{EventGraph}
 use Rattle.model_core.specs.Lexing.{Lexeme}
 use Rattle.model_core.specs.Written.{WrittenModel}
@@ -11,7 +11,7 @@ use Rattle.model_core.specs.Rules.{RuleApplication, first_rule, applied, Strateg
 use Rattle.model_core.specs.Certificate.{certificate}
 use Rattle.sigma_top.specs.declared.status.Status.{Status}
 use Rattle.sigma_top.specs.declared.status.Status.TheVariants as statuses
-use Rattle.sigma_top.specs.Answer.{Reduces, ReadsAsNone, Answer, AnswersWith, Answers}
+use Rattle.sigma_top.specs.Answer.{Reduces, Answer, AnswersWith, Answers}
 use Rattle.sigma_top.proofs.Answering.{same_tokens}
 
 -- what the strategy makes of a model: the applications and the model reached

@@ -1,6 +1,6 @@
 //! From the text of a model to what is written for it.
 
-ghost use Rattle.std.specs.Prelude.{◌≡◌, ◌≤◌, length, IfOk, IsErrOf};
+ghost use Rattle.std.specs.Prelude.{◌≤◌, length, IfOk, IsErrOf};
 ghost use Rattle.model_core.specs.Acceptance.{ReadsFirst};
 ghost use Rattle.model_core.specs.Views.{graph_of};
 ghost use Rattle.sigma_top.specs.Answer.{Reduces, ReadsAsNone};

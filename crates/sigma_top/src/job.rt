@@ -1,12 +1,12 @@
 //! The top call: from the words, the input and the outputs to a status.
 
-ghost use Rattle.std.specs.Prelude.{◌≡◌, ◌≢◌, ◌≤◌, ◌<◌, ◌+◌, ◌↔◌, ◌⊎◌, ℕ, List, Some, true, false, map, length, take, drop, IfSome, IfOk, IfErr, OnOk, OnErr, IsErrOf, IsOk};
+ghost use Rattle.std.specs.Prelude.{◌≡◌, ◌≢◌, ◌≤◌, ◌<◌, ◌↔◌, ◌⊎◌, ℕ, List, true, false, map, length, take, IfSome, IfOk, IfErr, OnOk, OnErr, IsErrOf};
 ghost use Rattle.std.specs.String.{string_bytes};
 ghost use Rattle.sig_base.specs.Faults.{HasRisen};
 ghost use Rattle.sig_base.specs.Sink.{GrowsBy};
 ghost use Rattle.sigma_top.specs.Answer.{Reduces, ReadsAsNone, AnsweredBy};
 ghost use Rattle.sigma_top.specs.Words.{is_reduce};
-ghost use Rattle.sigma_top.specs.Ending.{error_line, status_of, TellsStatus, refusal_line};
+ghost use Rattle.sigma_top.specs.Ending.{error_line, TellsStatus, refusal_line};
 ghost use Rattle.sigma_top.specs.Outside.{ReadThrough};
 
 use crate::answer::reduced_text;

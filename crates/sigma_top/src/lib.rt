@@ -14,6 +14,3 @@ mod words;
 pub use answer_law::answers_are_determined;
 pub use job::sigma;
 pub use status::Status;
-
-#[cfg(test)]
-mod tests;
