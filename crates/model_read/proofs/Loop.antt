@@ -77,3 +77,26 @@ pub is_done : {V A : Type 0} (view : V → A) (test : LexemeKind → Bool) (p : 
 unfolding repeated_at
 is_done view test p items tokens total stops so_far =
     sym so_far ∙ ap (with_front (map view items)) (done_within test p (length tokens) tokens stops) ∙ ap (λ xs. Some (xs, tokens)) (append-nil (map view items))
+
+-- ---- a loop that reads the part first, and then looks whether one more comes
+
+-- a part, and then others, each of which begins where the test passes
+abbrev pub one_and_others : {A : Type 0} → (LexemeKind → Bool) → Reader A → Reader A → Reader (List A)
+one_and_others test p q tokens = and_then (λ x left. and_then (λ xs. takes_none (x ∷ xs)) (repeated_at test q left)) (p tokens)
+
+others_begun : {A : Type 0} (test : LexemeKind → Bool) (p q : Reader A) → Shrinks q → (tokens after : List Lexeme) (r : Reading A) → begins test tokens ≡ true → q tokens ≡ r → p after ≡ r → repeated_at test q tokens ≡ one_and_others test p q after
+unfolding repeated_at
+others_begun test p q shrinks tokens after None starts e f = rw f (none_within test q (length tokens) tokens starts e)
+others_begun test p q shrinks tokens after (Some r) starts e f = rw f (one_within test q shrinks (length tokens) tokens r.0 r.1 (omega arith) starts e)
+
+-- one is read
+pub is_read : {V A : Type 0} (view : V → A) (test : LexemeKind → Bool) (p q : Reader A) (items : List V) (item : V) (tokens after : List Lexeme) (total : Reading (List A)) → p tokens ≡ Some (view item, after)
+    → with_front (map view items) (one_and_others test p q tokens) ≡ total → with_front (map view (items ++ item ∷ [])) (repeated_at test q after) ≡ total
+is_read view test p q items item tokens after total e so_far =
+    rw map-append (sym (with_one_more (map view items) (view item) (repeated_at test q after)) ∙ (rw e at so_far))
+
+-- one more comes
+pub comes_again : {V A : Type 0} (view : V → A) (test : LexemeKind → Bool) (p q : Reader A) → Shrinks q → (items : List V) (tokens after : List Lexeme) (total : Reading (List A)) → begins test tokens ≡ true → q tokens ≡ p after
+    → with_front (map view items) (repeated_at test q tokens) ≡ total → with_front (map view items) (one_and_others test p q after) ≡ total
+comes_again view test p q shrinks items tokens after total starts same so_far =
+    ap (with_front (map view items)) (sym (others_begun test p q shrinks tokens after (p after) starts same refl)) ∙ so_far

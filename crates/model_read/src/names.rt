@@ -3,7 +3,7 @@
 ghost use Rattle.std.specs.Prelude.{map};
 ghost use Rattle.model_core.specs.WrittenViews.{written_name};
 ghost use Rattle.model_read.specs.Reader.{Gives};
-ghost use Rattle.model_read.specs.Rules.{next_name_at, names_at};
+ghost use Rattle.model_read.specs.Rules.{names_at};
 
 use crate::cursor::Cursor;
 use model_core::{RawName, Symbol};
@@ -11,24 +11,17 @@ use model_lex::ParseError;
 use sig_base::List;
 use std::alloc::Global;
 
-/// Reads a comma and the name after it.
-#[tactic(auto, unfolding(crate::specs::Rules::next_name_at))]
-fn next_name(alloc: Global, cursor: &mut Cursor<'_>) -> Result<RawName, ParseError>
-    ensures { Gives written_name result cursor.new (next_name_at cursor.old) }
-{
-    cursor.symbol(Symbol::Comma)?;
-    cursor.name(alloc)
-}
-
 /// Reads one or more names, separated by commas.
 #[tactic(auto, unfolding(crate::specs::Rules::names_at))]
 pub fn names(alloc: Global, cursor: &mut Cursor<'_>) -> Result<List<RawName>, ParseError>
     ensures { Gives (map written_name) result cursor.new (names_at cursor.old) }
 {
     let mut names = List::new(alloc);
-    names.push(cursor.name(alloc)?)?;
-    while cursor.begins_symbol(Symbol::Comma) {
-        names.push(next_name(alloc, cursor)?)?;
+    loop {
+        names.push(cursor.name(alloc)?)?;
+        if !cursor.begins_symbol(Symbol::Comma) {
+            return Ok(names);
+        }
+        cursor.symbol(Symbol::Comma)?;
     }
-    Ok(names)
 }

@@ -39,9 +39,10 @@ pub fn vertices(alloc: Global, cursor: &mut Cursor<'_>) -> Result<List<RawVertex
     ensures { Gives (map written_vertex) result cursor.new (vertices_at cursor.old) }
 {
     let mut vertices = List::new(alloc);
-    vertices.push(vertex(alloc, cursor)?)?;
-    while cursor.begins_word(Word::Vertex) {
+    loop {
         vertices.push(vertex(alloc, cursor)?)?;
+        if !cursor.begins_word(Word::Vertex) {
+            return Ok(vertices);
+        }
     }
-    Ok(vertices)
 }
