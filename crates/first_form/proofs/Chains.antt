@@ -30,12 +30,6 @@ module _ (m : WrittenModel) (variables vertices : List (List ℕ)) where
   abbrev watch_after : List graph.Variable → Option graph.EventGraph
   watch_after declared = accepted_watch variables m.watch >>= events_after declared
 
-  pub variables_fail : (e : FirstFormError) → FailsWith e (folded (with_value accepted_variable) [] m.variables) → FailsWith e (accepted_among variables vertices m)
-  variables_fail e h = failing e (folded (with_value accepted_variable) [] m.variables) watch_after h
-
-  pub watch_fails : (e : FirstFormError) (declared : List graph.Variable) → folded (with_value accepted_variable) [] m.variables ≡ Some declared → FailsWith e (accepted_watch variables m.watch) → FailsWith e (accepted_among variables vertices m)
-  watch_fails e declared is h = going e (folded (with_value accepted_variable) [] m.variables) watch_after declared is (failing e (accepted_watch variables m.watch) (events_after declared) h)
-
   pub vertices_fail : (e : FirstFormError) (declared : List graph.Variable) (watch : List graph.Watched) → folded (with_value accepted_variable) [] m.variables ≡ Some declared → accepted_watch variables m.watch ≡ Some watch
       → FailsWith e (folded (with_value (accepted_vertex variables vertices)) [] m.vertices) → FailsWith e (accepted_among variables vertices m)
   vertices_fail e declared watch is watched h =

@@ -11,7 +11,7 @@ use crate::edge::edge;
 use crate::error::FirstFormError;
 use crate::names::{Names, declare};
 use model_core::{Change, Edge, RawChange, RawEdge, RawVertex, Vertex};
-use sig_base::{CHANGES_MAX, EDGES_MAX, List};
+use sig_base::{CHANGES_MAX, EDGES_MAX, List, Name};
 use std::alloc::Global;
 
 /// The names of the vertices, where each is short, declared once, and not among the others.
@@ -79,6 +79,30 @@ fn edges_of(alloc: Global, vertices: &Names, raws: &[RawEdge]) -> Result<List<Ed
     each_edge(alloc, vertices, raws)
 }
 
+/// The changes and the edges of a vertex, where it has no parameters.
+fn parts_of(
+    alloc: Global,
+    variables: &Names,
+    vertices: &Names,
+    raw: &RawVertex,
+) -> Result<(List<Change>, List<Edge>), FirstFormError>
+    ensures { Gives (λ parts. record { name = raw.now.name.name; parameters = []; changes = map change_of parts.0; edges = map edge_of parts.1 }) result (accepted_vertex variables.now vertices.now (written_vertex raw.now)) }
+{
+    if raw.params.is_some() {
+        return Err(FirstFormError::NotFirstForm);
+    }
+    let changes = changes_of(alloc, variables, raw.changes.as_slice())?;
+    let edges = edges_of(alloc, vertices, raw.edges.as_slice())?;
+    Ok((changes, edges))
+}
+
+/// The name. The rest is let go.
+fn name_of(raw: RawVertex) -> Name
+    ensures { result ≡ raw.name.name }
+{
+    raw.name.name
+}
+
 /// The vertex, where it has no parameters. What the raw vertex held is let go.
 fn vertex(
     alloc: Global,
@@ -88,13 +112,9 @@ fn vertex(
 ) -> Result<Vertex, FirstFormError>
     ensures { Gives vertex_of result (accepted_vertex variables.now vertices.now (written_vertex raw)) }
 {
-    if raw.params.is_some() {
-        return Err(FirstFormError::NotFirstForm);
-    }
-    let changes = changes_of(alloc, variables, raw.changes.as_slice())?;
-    let edges = edges_of(alloc, vertices, raw.edges.as_slice())?;
+    let (changes, edges) = parts_of(alloc, variables, vertices, &raw)?;
     Ok(Vertex {
-        name: raw.name.name,
+        name: name_of(raw),
         params: List::new(alloc),
         changes,
         edges,

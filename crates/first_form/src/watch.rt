@@ -1,6 +1,6 @@
 //! The watch list: variables whose histories are kept.
 
-ghost use Rattle.std.specs.Prelude.{◌≡◌, IfOk, [], map};
+ghost use Rattle.std.specs.Prelude.{◌≡◌, Some, [], map};
 ghost use Rattle.std.specs.Option.{option_map};
 ghost use Rattle.model_core.specs.Views.{watched_of};
 ghost use Rattle.model_core.specs.WrittenViews.{written_name};
@@ -12,7 +12,7 @@ use crate::error::FirstFormError;
 use crate::names::Names;
 use indexmap::IndexSet;
 use model_core::{RawName, Watch};
-use sig_base::{List, NoMemory};
+use sig_base::List;
 use std::alloc::Global;
 
 /// Adds the number of the named variable, where it isn't watched already.
@@ -46,8 +46,8 @@ fn numbers_of(
     Ok(numbers)
 }
 
-fn watch_list(alloc: Global, numbers: &[usize]) -> Result<List<Watch>, NoMemory>
-    ensures { IfOk result (λ items. map watched_of items ≡ map WatchedVariable numbers.now) }
+fn watch_list(alloc: Global, numbers: &[usize]) -> Result<List<Watch>, FirstFormError>
+    ensures { Gives (map watched_of) result (Some (map WatchedVariable numbers.now)) }
 {
     let mut items = Vec::with_capacity(alloc, numbers.len())?;
     for number in numbers {
@@ -68,5 +68,5 @@ pub fn watch_of(
         return Ok(List::new(alloc));
     };
     let numbers = numbers_of(alloc, variables, raws.as_slice())?;
-    Ok(watch_list(alloc, numbers.as_slice())?)
+    watch_list(alloc, numbers.as_slice())
 }
