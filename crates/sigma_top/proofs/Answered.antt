@@ -14,7 +14,8 @@ pub done_answered : (left old new : Option (List ℕ)) → IfSome left (λ text.
 done_answered None old new done = tt
 done_answered (Some text) old new done = (record { status = statuses.Done; output = done.0; errors = [] }, (done.1, refl), refl, done.2)
 
-grows_by_nothing : (old : Option (List ℕ)) → GrowsBy old old []
+-- nothing grows by no bytes
+pub grows_by_nothing : (old : Option (List ℕ)) → GrowsBy old old []
 grows_by_nothing None = tt
 grows_by_nothing (Some bytes) = ap (λ b. Some b) (sym (append-nil bytes))
 

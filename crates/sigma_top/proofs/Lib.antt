@@ -5,3 +5,5 @@ pub mod Telling
 pub mod Answering
 pub mod Determined
 pub mod Answered
+pub mod Done
+pub mod Stopped

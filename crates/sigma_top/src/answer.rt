@@ -1,20 +1,27 @@
 //! From the text of a model to what is written for it.
 
-ghost use Rattle.std.specs.Prelude.{◌≤◌, length, IfOk, IsErrOf};
+ghost use Rattle.std.specs.Prelude.{◌≡◌, ◌≤◌, ◌++◌, List, length, map, IfOk, IsErrOf};
+ghost use Rattle.std.specs.List.{IsDistinct};
 ghost use Rattle.model_core.specs.Acceptance.{ReadsFirst};
+ghost use Rattle.model_core.specs.Canonical.{canonical};
+ghost use Rattle.model_core.specs.Certificate.{application_of, certificate};
+ghost use Rattle.model_core.specs.EventGraph.{EventGraph};
+ghost use Rattle.model_core.specs.Lexing.{same_bytes};
+ghost use Rattle.model_core.specs.Rules.{RuleApplication, Strategy};
 ghost use Rattle.model_core.specs.Views.{graph_of};
 ghost use Rattle.sigma_top.specs.Answer.{Reduces, ReadsAsNone};
+ghost use Rattle.sigma_top.specs.Sweep.{names_of};
 
 use crate::answer_error::AnswerError;
 use crate::certificate::put_certificate;
 use crate::spelling::spelled;
-use crate::strategy::reduce;
+use crate::strategy::{Reduced, reduce};
 use first_form::{FirstFormError, check};
 use model_core::{Model, reductions_keep_the_meaning};
 use model_print::print;
 use model_read::one_reading;
 use reading_back::reads_back;
-use sig_base::Text;
+use sig_base::{NoMemory, Text};
 use std::alloc::Global;
 
 /// The model that the text reads as.
@@ -34,6 +41,26 @@ fn model_of(alloc: Global, text: &[u8]) -> Result<Model, AnswerError>
 }
 
 /// The canonical text of the reduced model, and then the certificate.
+fn written(alloc: Global, reduced: &Reduced) -> Result<Text, NoMemory>
+    ensures { IfOk result (λ out. out ≡ canonical (graph_of reduced.now.model)
+        ++ certificate (map application_of reduced.now.applications)) }
+{
+    let mut out = print(alloc, &reduced.model)?;
+    put_certificate(out.as_mut_vec(), reduced.applications.as_slice())?;
+    Ok(out)
+}
+
+/// The canonical text of what the model is reduced to, and then the certificate.
+fn reduction(alloc: Global, model: Model) -> Result<Text, NoMemory>
+    requires { IsDistinct same_bytes (names_of (graph_of model)) }
+    ensures { IfOk result (λ out. (applications : List RuleApplication) × (reduced : EventGraph)
+        × Strategy (graph_of model) applications reduced × (out ≡ canonical reduced ++ certificate applications)) }
+{
+    let reduced = reduce(alloc, model)?;
+    written(alloc, &reduced)
+}
+
+/// What is written for the text: the model is read and reduced.
 pub fn reduced_text(alloc: Global, text: &[u8]) -> Result<Text, AnswerError>
     requires { length text.now ≤ 4194304 }
     ensures ok { IfOk result (λ out. Reduces text.now out) }
@@ -43,8 +70,6 @@ pub fn reduced_text(alloc: Global, text: &[u8]) -> Result<Text, AnswerError>
     reads_back();
     reductions_keep_the_meaning();
     let model = model_of(alloc, text)?;
-    let reduced = reduce(alloc, model)?;
-    let mut out = print(alloc, &reduced.model)?;
-    put_certificate(out.as_mut_vec(), reduced.applications.as_slice())?;
+    let out = reduction(alloc, model)?;
     Ok(out)
 }

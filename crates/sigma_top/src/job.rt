@@ -48,10 +48,10 @@ fn write_answer<K: Sink>(output: &mut K, answer: &[u8]) -> Result<(), Stop>
     if put(output, answer).is_err() {
         return Err(Stop::WriteFault);
     }
-    if output.finish().is_err() {
-        return Err(Stop::WriteFault);
+    match output.finish() {
+        Ok(()) => Ok(()),
+        Err(_) => Err(Stop::WriteFault),
     }
-    Ok(())
 }
 
 /// The job of the words: reads the text, and writes the answer to it. Nothing is written before all
