@@ -1,7 +1,6 @@
 //! The top call over memory: worked texts, words, limits, and devices that fail at one call.
 
-use crate::failing::at_call;
-use sig_base::{MemorySink, MemorySource, NoMemory, TEXT_MAX, Text};
+use sig_base::{List, MemorySink, MemorySource, NoMemory, TEXT_MAX, Text};
 use sigma_top::{Status, sigma};
 use std::alloc::{AllocError, Global};
 use std::test::*;
@@ -118,9 +117,9 @@ fn run(
     failing: Failing,
     wanted: Answer<'_>,
 ) -> Result<Seen, NoMemory> {
-    let mut input = MemorySource::new(Text::from_vec(text), 7, at_call(alloc, failing.read)?);
-    let mut output = MemorySink::begin(alloc, 1_000, 1, at_call(alloc, failing.write)?)?;
-    let mut errors = MemorySink::begin(alloc, 1_000, 1_000, at_call(alloc, failing.error)?)?;
+    let mut input = MemorySource::new(Text::from_vec(text), 7, List::of_one(alloc, failing.read)?);
+    let mut output = MemorySink::begin(alloc, 1_000, 1, List::of_one(alloc, failing.write)?)?;
+    let mut errors = MemorySink::begin(alloc, 1_000, 1_000, List::of_one(alloc, failing.error)?)?;
     let status = sigma(alloc, words, &mut input, &mut output, &mut errors);
     Ok(Seen {
         is_wanted: status == wanted.status

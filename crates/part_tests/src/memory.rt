@@ -2,7 +2,6 @@
 
 ghost use Rattle.std.specs.Prelude.{◌≡◌, ◌<◌, ◌++◌, [], ◌∷◌, IfOk, OnOk};
 
-use crate::failing::at_call;
 use sig_base::{
     Failed, List, MemorySink, MemorySource, NoMemory, Sink, TakeError, Text, put, take_all,
 };
@@ -19,7 +18,7 @@ fn taken(
     failing: u64,
 ) -> Result<(Result<bool, TakeError>, u64), NoMemory> {
     let content = Text::from_vec(Vec::from_slice(alloc, BYTES)?);
-    let mut source = MemorySource::new(content, 7, at_call(alloc, failing)?);
+    let mut source = MemorySource::new(content, 7, List::of_one(alloc, failing)?);
     let is_whole = match take_all(alloc, &mut source, limit) {
         Ok(text) => Ok(text.as_slice() == BYTES),
         Err(error) => Err(error),
@@ -51,7 +50,7 @@ fn a_failed_read_is_the_last(rt: HostRuntime) -> Result<(), Fail> {
 /// How many bytes a sink has, and how often it was called, after the bytes were put one by one and
 /// one call failed.
 fn put_failing(alloc: Global, failing: u64) -> Result<(usize, u64), NoMemory> {
-    let mut sink = MemorySink::begin(alloc, 37, 1, at_call(alloc, failing)?)?;
+    let mut sink = MemorySink::begin(alloc, 37, 1, List::of_one(alloc, failing)?)?;
     let _ = put(&mut sink, BYTES);
     Ok((sink.written().len(), sink.calls()))
 }

@@ -1,0 +1,11 @@
+//! Tests of what no clause says of the parts, through the public calls of the lower crates.
+#![tactic(auto)]
+
+#[cfg(test)]
+mod adapters;
+#[cfg(test)]
+mod memory;
+#[cfg(test)]
+mod places;
+#[cfg(test)]
+mod steps;
