@@ -1,8 +1,8 @@
 -- A model's parts one after another, as the call makes them.
 use Rattle.std.proofs.Common.{◌≡◌, ℕ, List, [], Option, Some, Err, ap, ◌∙◌}
 use Rattle.model_core.specs.EventGraph as graph
-use Rattle.model_core.specs.Written.{WrittenModel}
-use Rattle.model_core.specs.Numbering.{◌>>=◌}
+use Rattle.model_core.specs.Text.Written.{WrittenModel}
+use Rattle.model_core.specs.Text.Numbering.{◌>>=◌}
 use Rattle.first_form.specs.declared.error.FirstFormError.{FirstFormError}
 use Rattle.first_form.specs.declared.error.FirstFormError.TheVariants as errors
 use Rattle.first_form.specs.Gives.{Gives}

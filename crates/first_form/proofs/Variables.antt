@@ -7,10 +7,10 @@ use Rattle.std.proofs.lemmas.Float.{T_from_true}
 use Rattle.std.proofs.Math.Dec.{T}
 use Rattle.model_core.specs.declared.model.Kind.TheVariants as kinds
 use Rattle.model_core.specs.EventGraph as graph
-use Rattle.model_core.specs.Written as written
-use Rattle.model_core.specs.Written.{WrittenNumber, WrittenSigned, WrittenKind, WrittenLiteral, WrittenVariable}
-use Rattle.model_core.specs.Numbering.{◌>>=◌, with_sign, signed, initial, size, variable, variable_of_kind}
-use Rattle.model_core.specs.Acceptance.{IsRange, IsFirstKind, IsSignedLiteral, IsFirstVariable}
+use Rattle.model_core.specs.Text.Written as written
+use Rattle.model_core.specs.Text.Written.{WrittenNumber, WrittenSigned, WrittenKind, WrittenLiteral, WrittenVariable}
+use Rattle.model_core.specs.Text.Numbering.{◌>>=◌, with_sign, signed, initial, size, variable, variable_of_kind}
+use Rattle.model_core.specs.Text.Acceptance.{IsRange, IsFirstKind, IsSignedLiteral, IsFirstVariable}
 use Rattle.first_form.specs.declared.variable.Range.{Range}
 use Rattle.first_form.specs.Accepting.{accepted_number, accepted_initial, ordered_range, accepted_range, with_range, accepted_variable}
 use Rattle.first_form.proofs.Options.{bind_some, map_some, guard_some, and_true, none_from_test, Agrees}

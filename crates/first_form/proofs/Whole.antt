@@ -5,11 +5,11 @@ use Rattle.std.specs.List.{AllByRecursion, IsDistinct}
 use Rattle.std.proofs.lemmas.Bool.{leb-true, le-leb, eqb-true}
 use Rattle.std.proofs.lemmas.List.{append-nil, nil_from_length}
 use Rattle.model_core.specs.EventGraph as graph
-use Rattle.model_core.specs.Written.{WrittenVariable, WrittenTable, WrittenVertex, WrittenModel}
-use Rattle.model_core.specs.Lexing.{same_bytes}
-use Rattle.model_core.specs.Canonical.{canonical}
-use Rattle.model_core.specs.Numbering.{◌>>=◌, Declared, declared_by, each, written_or, variable, table, vertex, watched, numbered}
-use Rattle.model_core.specs.Acceptance.{IsShort, IsRange, watched_number, IsVariable, IsSmall, IsFirstVariable, IsFirstVertex, KeepsRules, AcceptedFirst}
+use Rattle.model_core.specs.Text.Written.{WrittenVariable, WrittenTable, WrittenVertex, WrittenModel}
+use Rattle.model_core.specs.Text.Lexing.{same_bytes}
+use Rattle.model_core.specs.Text.Canonical.{canonical}
+use Rattle.model_core.specs.Text.Numbering.{◌>>=◌, Declared, declared_by, each, written_or, variable, table, vertex, watched, numbered}
+use Rattle.model_core.specs.Text.Acceptance.{IsShort, IsRange, watched_number, IsVariable, IsSmall, IsFirstVariable, IsFirstVertex, KeepsRules, AcceptedFirst}
 use Rattle.first_form.specs.declared.error.FirstFormError.{FirstFormError}
 use Rattle.first_form.specs.declared.error.FirstFormError.TheVariants as errors
 use Rattle.first_form.specs.Gives.{Gives}

@@ -5,11 +5,11 @@ use Rattle.std.specs.List.{list_any}
 use Rattle.std.specs.Option.{option_map}
 use Rattle.model_core.specs.declared.model.Kind.TheVariants as kinds
 use Rattle.first_form.specs.declared.variable.Range.{Range}
-use Rattle.model_core.specs.Numbering.{◌>>=◌, place_of, with_sign}
-use Rattle.model_core.specs.Canonical.{canonical}
+use Rattle.model_core.specs.Text.Numbering.{◌>>=◌, place_of, with_sign}
+use Rattle.model_core.specs.Text.Canonical.{canonical}
 use Rattle.model_core.specs.EventGraph as graph
-use Rattle.model_core.specs.Written as written
-use Rattle.model_core.specs.Written.{WrittenName, WrittenSigned, WrittenKind, WrittenLiteral, WrittenExpression, WrittenVariable, WrittenTarget, WrittenChange, WrittenEdgeKind, WrittenEdge, WrittenVertex, WrittenModel}
+use Rattle.model_core.specs.Text.Written as written
+use Rattle.model_core.specs.Text.Written.{WrittenName, WrittenSigned, WrittenKind, WrittenLiteral, WrittenExpression, WrittenVariable, WrittenTarget, WrittenChange, WrittenEdgeKind, WrittenEdge, WrittenVertex, WrittenModel}
 
 -- what the steps make of a value, one element after another, or nothing where a step gives nothing
 abbrev pub folded : {A B : Type 0} → (B → A → Option B) → B → List A → Option B

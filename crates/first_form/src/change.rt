@@ -1,7 +1,7 @@
 //! Changes: one variable takes one value.
 
-ghost use Rattle.model_core.specs.Views.{change_of};
-ghost use Rattle.model_core.specs.WrittenViews.{written_target, written_expression, written_change};
+ghost use Rattle.model_core.specs.Code.Views.{change_of};
+ghost use Rattle.model_core.specs.Code.WrittenViews.{written_target, written_expression, written_change};
 ghost use Rattle.first_form.specs.Gives.{Gives};
 ghost use Rattle.first_form.specs.Accepting.{accepted_set, accepted_change};
 

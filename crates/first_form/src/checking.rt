@@ -2,9 +2,9 @@
 
 ghost use Rattle.std.specs.Prelude.{◌≡◌, ℕ, IfOk, Err, List, [], Some, None, map};
 ghost use Rattle.model_core.specs.EventGraph.{EventGraph};
-ghost use Rattle.model_core.specs.Views.{variable_of, watched_of, graph_of};
-ghost use Rattle.model_core.specs.WrittenViews.{written_model};
-ghost use Rattle.model_core.specs.Acceptance.{AcceptedFirst};
+ghost use Rattle.model_core.specs.Code.Views.{variable_of, watched_of, graph_of};
+ghost use Rattle.model_core.specs.Code.WrittenViews.{written_model};
+ghost use Rattle.model_core.specs.Text.Acceptance.{AcceptedFirst};
 ghost use Rattle.first_form.specs.Gives.{Gives};
 ghost use Rattle.first_form.specs.Accepting.{folded, with_value, fits_limits, variable_names, accepted_variable, accepted_watch, accepted_among, accepted_parts, with_short_text, accepted};
 

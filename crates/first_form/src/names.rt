@@ -1,7 +1,7 @@
 //! The names that a model declares, each with its place.
 
 ghost use Rattle.std.specs.Prelude.{◌≡◌, [], ◌∷◌, ◌++◌, IfOk, is_none, if◌then◌else◌};
-ghost use Rattle.model_core.specs.Numbering.{place_of};
+ghost use Rattle.model_core.specs.Text.Numbering.{place_of};
 ghost use Rattle.first_form.specs.Gives.{Gives};
 ghost use Rattle.first_form.specs.Accepting.{with_name};
 

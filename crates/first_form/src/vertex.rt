@@ -1,8 +1,8 @@
 //! Vertices: events with their changes and edges.
 
 ghost use Rattle.std.specs.Prelude.{◌≡◌, [], map};
-ghost use Rattle.model_core.specs.Views.{change_of, edge_of, vertex_of};
-ghost use Rattle.model_core.specs.WrittenViews.{written_change, written_edge, written_vertex};
+ghost use Rattle.model_core.specs.Code.Views.{change_of, edge_of, vertex_of};
+ghost use Rattle.model_core.specs.Code.WrittenViews.{written_change, written_edge, written_vertex};
 ghost use Rattle.first_form.specs.Gives.{Gives};
 ghost use Rattle.first_form.specs.Accepting.{accepted_changes, accepted_edges, accepted_change, accepted_edge, accepted_vertex, vertex_names, folded, with_value};
 

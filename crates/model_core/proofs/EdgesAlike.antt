@@ -2,15 +2,15 @@
 use Rattle.std.proofs.Common.{◌≡◌, ℕ, ◌^◌, ◌≤◌, ℤ, false, nat_lt, List, [], ◌∷◌, map, slice_index_or, Option, Some, None, Ok, refl, ◌∙◌, ap, ap₂, subst, arith, le_trans}
 use Rattle.std.proofs.lemmas.Bool.Decides.{nat_tests}
 use Rattle.model_core.specs.EventGraph.{EventGraph, EventVertex, StateChange, Watched, WatchedVariable, WatchedVertex}
-use Rattle.model_core.specs.State.{State, variable_at, initial_state}
-use Rattle.model_core.specs.Value.{OrFault, ◌>>=◌, in_turn}
-use Rattle.model_core.specs.Changes.{make_change}
-use Rattle.model_core.specs.Pending.{Entry, TakenOff, next_entry}
-use Rattle.model_core.specs.Edges.{treat}
-use Rattle.model_core.specs.Step.{no_vertex, vertex_at, receive, occur, faulted_at}
-use Rattle.model_core.specs.Machine.{Note, Move, Rests, Fails, Goes}
-use Rattle.model_core.specs.Run.{Moment, leave_for, stepped, comes, next_move, start, look}
-use Rattle.model_core.specs.Same.{SameLooks, Same, thing, VertexNamed, parameter}
+use Rattle.model_core.specs.Run.State.{State, variable_at, initial_state}
+use Rattle.model_core.specs.Run.Value.{OrFault, ◌>>=◌, in_turn}
+use Rattle.model_core.specs.Run.Changes.{make_change}
+use Rattle.model_core.specs.Run.Pending.{Entry, TakenOff, next_entry}
+use Rattle.model_core.specs.Run.Edges.{treat}
+use Rattle.model_core.specs.Run.Step.{no_vertex, vertex_at, receive, occur, faulted_at}
+use Rattle.model_core.specs.Run.Machine.{Note, Move, Rests, Fails, Goes}
+use Rattle.model_core.specs.Run.History.{Moment, leave_for, stepped, comes, next_move, start, look}
+use Rattle.model_core.specs.Run.Same.{SameLooks, Same, thing, VertexNamed, parameter}
 use Rattle.model_core.proofs.Results.{bind_same, cond_same}
 use Rattle.model_core.proofs.Keeping.{Kept, received, changed, next_move-keeps}
 use Rattle.model_core.proofs.Simulation.{Answers, rests, fails, goes, lock_step_same}

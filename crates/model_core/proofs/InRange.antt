@@ -5,11 +5,11 @@ use lib.Pointwise.{pointwise}
 use Rattle.sig_base.specs.declared.fault.FaultKind.{FaultKind}
 use Rattle.sig_base.specs.Stream.{word}
 use Rattle.model_core.specs.EventGraph.{EventGraph, Variable, StateChange, Set, Draw}
-use Rattle.model_core.specs.State.{State, Place, variable_at, cell_count, within, in_ranges, in_range, initial_state, cells_of, with_cell}
-use Rattle.model_core.specs.Value.{OrFault, each, value_of, place_of}
-use Rattle.model_core.specs.Changes.{Drawn, kept, store, set_all, taken_from, picked, one_more, make_change}
-use Rattle.model_core.specs.Machine.{Note, Goes}
-use Rattle.model_core.specs.Run.{Moment, next_move}
+use Rattle.model_core.specs.Run.State.{State, Place, variable_at, cell_count, within, in_ranges, in_range, initial_state, cells_of, with_cell}
+use Rattle.model_core.specs.Run.Value.{OrFault, each, value_of, place_of}
+use Rattle.model_core.specs.Run.Changes.{Drawn, kept, store, set_all, taken_from, picked, one_more, make_change}
+use Rattle.model_core.specs.Run.Machine.{Note, Goes}
+use Rattle.model_core.specs.Run.History.{Moment, next_move}
 use Rattle.model_core.proofs.Results.{bind_ok, in_turn-keeps}
 use Rattle.model_core.proofs.Keeping.{Kept, next_move-keeps}
 

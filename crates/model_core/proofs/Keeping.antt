@@ -1,14 +1,14 @@
 -- A fact about states that each store and each change keeps holds along a run.
 use Rattle.std.proofs.Common.{◌≡◌, ℕ, ℤ, Bool, true, false, cond, nat_lt, List, map, zip, Option, Some, None, Result, Ok, Err, ap, subst}
 use Rattle.model_core.specs.EventGraph.{EventGraph, EventVertex, StateChange}
-use Rattle.model_core.specs.State.{State, Place, scalar}
-use Rattle.model_core.specs.Value.{OrFault, in_turn}
-use Rattle.model_core.specs.Changes.{Drawn, store, make_change}
-use Rattle.model_core.specs.Pending.{TakenOff, next_entry}
-use Rattle.model_core.specs.Edges.{treat}
-use Rattle.model_core.specs.Step.{Configuration, Fault, vertex_at, receive, occur, faulted_at, step}
-use Rattle.model_core.specs.Machine.{Note, Outcome, Stopped, Move, Rests, Goes}
-use Rattle.model_core.specs.Run.{Moment, Noting, leave, leave_for, stepped, comes, next_move}
+use Rattle.model_core.specs.Run.State.{State, Place, scalar}
+use Rattle.model_core.specs.Run.Value.{OrFault, in_turn}
+use Rattle.model_core.specs.Run.Changes.{Drawn, store, make_change}
+use Rattle.model_core.specs.Run.Pending.{TakenOff, next_entry}
+use Rattle.model_core.specs.Run.Edges.{treat}
+use Rattle.model_core.specs.Run.Step.{Configuration, Fault, vertex_at, receive, occur, faulted_at, step}
+use Rattle.model_core.specs.Run.Machine.{Note, Outcome, Stopped, Move, Rests, Goes}
+use Rattle.model_core.specs.Run.History.{Moment, Noting, leave, leave_for, stepped, comes, next_move}
 use Rattle.model_core.proofs.Results.{bind_ok, in_turn-keeps}
 
 -- a fact about states that each store keeps, and each change

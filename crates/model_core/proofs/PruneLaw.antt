@@ -3,13 +3,14 @@ use Rattle.std.proofs.Common.{◌≡◌, ℕ, zero, suc, ◌^◌, ◌≤◌, ℤ
 use Rattle.std.specs.Option.{option_and_then}
 use Rattle.std.proofs.lemmas.Option.{option_and_then_some}
 use Rattle.model_core.specs.EventGraph.{EventGraph, EventVertex, EventEdge, Expression, Number, Truth, Clock, Scalar, Cell, Negative, Not, Binary, If}
-use Rattle.model_core.specs.State.{State, in_range, initial_state}
-use Rattle.model_core.specs.Value.{OrFault, ◌>>=◌, value_of, is_one}
-use Rattle.model_core.specs.Pending.{Entry}
-use Rattle.model_core.specs.Edges.{act, treat}
-use Rattle.model_core.specs.Step.{no_vertex}
-use Rattle.model_core.specs.Rules.{RuleApplication, Prune, is_refuted, place_of_vertex, from_zero, with_place, without_edge, pruned, edge_at, prune_at, applied, Chain, Strategy}
-use Rattle.model_core.specs.Same.{Same}
+use Rattle.model_core.specs.Run.State.{State, in_range, initial_state}
+use Rattle.model_core.specs.Run.Value.{OrFault, ◌>>=◌, value_of, is_one}
+use Rattle.model_core.specs.Run.Pending.{Entry}
+use Rattle.model_core.specs.Run.Edges.{act, treat}
+use Rattle.model_core.specs.Run.Step.{no_vertex}
+use Rattle.model_core.specs.Rules.Reduction.{RuleApplication, Prune, place_of_vertex, from_zero, applied, Chain, Strategy}
+use Rattle.model_core.specs.Rules.Prune.{is_refuted, with_place, without_edge, pruned, edge_at, prune_at}
+use Rattle.model_core.specs.Run.Same.{Same}
 use Rattle.model_core.proofs.Results.{in_turn-remove}
 use Rattle.model_core.proofs.EdgesAlike.{Alike, alike-Same}
 use Rattle.model_core.proofs.Keeping.{Kept}

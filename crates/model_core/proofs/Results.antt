@@ -1,7 +1,7 @@
 -- Results and faults: what a chain of steps does is known from what its parts do.
 use Rattle.std.proofs.Common.{◌≡◌, ℕ, zero, suc, Bool, true, false, cond, List, [], ◌∷◌, slice_get, Some, Ok, Err, refl, ap, subst}
 use Rattle.std.specs.List.{remove}
-use Rattle.model_core.specs.Value.{OrFault, ◌>>=◌, in_turn}
+use Rattle.model_core.specs.Run.Value.{OrFault, ◌>>=◌, in_turn}
 
 pub bind_ok : {A B : Type 0} (r : OrFault A) (f : A → OrFault B) (y : B) → (r >>= f) ≡ Ok y → (x : A) × (r ≡ Ok x) × (f x ≡ Ok y)
 bind_ok (Ok x) f y e = (x, refl, e)

@@ -2,11 +2,11 @@
 use Rattle.std.proofs.Common.{◌≡◌, ℕ, le_trans, ℤ, ◌&&◌, IsTrue, List, [], ◌∷◌, ◌++◌, append_assoc, map, refl, sym, ◌∙◌, ap, subst}
 use lib.Pointwise.{pointwise}
 use Rattle.model_core.specs.EventGraph.{EventGraph}
-use Rattle.model_core.specs.State.{variable_at, within, in_ranges}
-use Rattle.model_core.specs.Step.{vertex_at}
-use Rattle.model_core.specs.Machine.{Look, finished}
-use Rattle.model_core.specs.Run.{allowed, look}
-use Rattle.model_core.specs.Same.{Begins, SameLooks, Parameter, parameter, first_parameters, Same}
+use Rattle.model_core.specs.Run.State.{variable_at, within, in_ranges}
+use Rattle.model_core.specs.Run.Step.{vertex_at}
+use Rattle.model_core.specs.Run.Machine.{Look, finished}
+use Rattle.model_core.specs.Run.History.{allowed, look}
+use Rattle.model_core.specs.Run.Same.{Begins, SameLooks, Parameter, parameter, first_parameters, Same}
 use Rattle.model_core.proofs.Simulation.{equal_looks}
 
 begins_trans : {A : Type 0} (xs ys zs : List A) → Begins xs ys → Begins ys zs → Begins xs zs

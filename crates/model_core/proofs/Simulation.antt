@@ -1,8 +1,8 @@
 -- Simulation: a machine whose moves answer those of another shows the same.
 use Rattle.std.proofs.Common.{◌≡◌, ℕ, zero, suc, ◌≤◌, List, [], ◌++◌, refl, sym, ◌∙◌, ap, subst, append_assoc, arith, IsTrue}
 use Rattle.std.proofs.lemmas.List.{append-nil}
-use Rattle.model_core.specs.Machine.{Note, Outcome, Going, Look, finished, Move, Rests, Fails, Goes, before, ahead, after, look_of}
-use Rattle.model_core.specs.Same.{Begins, SameLooks}
+use Rattle.model_core.specs.Run.Machine.{Note, Outcome, Going, Look, finished, Move, Rests, Fails, Goes, before, ahead, after, look_of}
+use Rattle.model_core.specs.Run.Same.{Begins, SameLooks}
 
 -- a move is answered by the same move, which leads to a related moment
 pub data Answers {S T : Type 0} (R : S → T → Type 0) : Move S → Move T → Type 0 where

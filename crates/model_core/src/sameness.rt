@@ -2,10 +2,11 @@
 
 ghost use Rattle.std.specs.Prelude.{◌≡◌, ℕ, ◌^◌, ◌≤◌, pos, IsTrue, List, Some, Ok};
 ghost use Rattle.model_core.specs.EventGraph.{EventGraph, EventEdge};
-ghost use Rattle.model_core.specs.State.{State, in_range, initial_state};
-ghost use Rattle.model_core.specs.Value.{value_of};
-ghost use Rattle.model_core.specs.Rules.{RuleApplication, pruned, edge_at, prune_at, Chain, Strategy};
-ghost use Rattle.model_core.specs.Same.{Same};
+ghost use Rattle.model_core.specs.Run.State.{State, in_range, initial_state};
+ghost use Rattle.model_core.specs.Run.Value.{value_of};
+ghost use Rattle.model_core.specs.Rules.Reduction.{RuleApplication, Chain, Strategy};
+ghost use Rattle.model_core.specs.Rules.Prune.{pruned, edge_at, prune_at};
+ghost use Rattle.model_core.specs.Run.Same.{Same};
 
 /// Sameness leads along a chain of models.
 pub fn sameness_is_a_preorder()

@@ -4,7 +4,7 @@ use Rattle.std.specs.Prelude.{Result, Ok, Err}
 use Rattle.std.proofs.lemmas.List.{append-nil, at_drop_all, drop-drop, length-drop, map_push, take_rest}
 use Rattle.model_core.specs.declared.token.Token.{Token}
 use Rattle.model_core.specs.declared.token.TokenKind.{TokenKind}
-use Rattle.model_core.specs.Lexing.{Lexeme, LexemeKind, Front, Between, Longest, Neither, front_length, after_front, tokens_from, tokens_of, lexeme_of, lexeme_kind_of}
+use Rattle.model_core.specs.Text.Lexing.{Lexeme, LexemeKind, Front, Between, Longest, Neither, front_length, after_front, tokens_from, tokens_of, lexeme_of, lexeme_kind_of}
 use Rattle.model_lex.specs.Fronts.{front_at, seen}
 use Rattle.model_lex.specs.declared.front.Front.{Front as CodeFront}
 use Rattle.model_lex.proofs.FrontLemmas.{Fits, front-front_at, front_at-fits}

@@ -7,7 +7,7 @@ use Rattle.std.proofs.lemmas.Bool.{le-ltb}
 use Rattle.std.proofs.lemmas.List.{get_or-take, length-take-le, at_drop_more}
 use Rattle.std.proofs.lemmas.List.Sums.{prefix_len_passes, prefix_len-le-length}
 use Rattle.std.proofs.lemmas.Int.Digits.{number_after_ge}
-use Rattle.model_core.specs.Lexing.{literal_value}
+use Rattle.model_core.specs.Text.Lexing.{literal_value}
 
 -- the elements up to the first that fails all pass
 pub AllPass-prefix : {X : Type 0} (p : X → Bool) (xs : List X) → AllPass p (take (prefix_len p xs) xs)

@@ -1,6 +1,6 @@
 -- Where tokens stand.
 use Rattle.std.specs.Prelude.{ℕ, ◌<◌, ◌≤◌, List, [], ◌∷◌}
-use Rattle.model_core.specs.Lexing.{Lexeme}
+use Rattle.model_core.specs.Text.Lexing.{Lexeme}
 
 -- Between two places the tokens stand in order: each takes at least a byte, and begins where the one before it ends, or later.
 abbrev pub StandInOrder : ℕ → List Lexeme → ℕ → Type 0

@@ -1,7 +1,7 @@
 //! What the bytes of a text begin with.
 
 ghost use Rattle.std.specs.Prelude.{◌≡◌, ◌<◌, length};
-ghost use Rattle.model_core.specs.Lexing.{symbol_among, all_symbols};
+ghost use Rattle.model_core.specs.Text.Lexing.{symbol_among, all_symbols};
 ghost use Rattle.model_lex.specs.Fronts.{front_at, seen};
 
 use crate::numbers::literal_value;

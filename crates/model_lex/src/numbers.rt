@@ -3,7 +3,7 @@
 ghost use Rattle.std.specs.Prelude.{◌≡◌};
 ghost use Rattle.std.specs.List.{AllPass};
 ghost use Rattle.std.specs.Char.{is_ascii_digit};
-ghost use Rattle.model_core.specs.Lexing.{literal_value};
+ghost use Rattle.model_core.specs.Text.Lexing.{literal_value};
 
 /// The first number that is no literal.
 const BEYOND: u64 = 9_223_372_036_854_775_808;

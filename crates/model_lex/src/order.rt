@@ -1,7 +1,7 @@
 //! Where the tokens of a text stand.
 
 ghost use Rattle.std.specs.Prelude.{◌≡◌, ◌<◌, ◌≤◌, ℕ, List, Ok, All, length};
-ghost use Rattle.model_core.specs.Lexing.{Lexeme, tokens_of};
+ghost use Rattle.model_core.specs.Text.Lexing.{Lexeme, tokens_of};
 ghost use Rattle.model_core.specs.declared.token.Token.{Token};
 ghost use Rattle.model_lex.specs.TokenOrder.{StandInOrder};
 ghost use Rattle.model_lex.specs.declared.token_list.Tokens.{Tokens};

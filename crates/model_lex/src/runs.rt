@@ -3,7 +3,7 @@
 ghost use Rattle.std.specs.Prelude.{◌≡◌};
 ghost use Rattle.std.specs.List.{prefix_len};
 ghost use Rattle.std.specs.Char.{is_ascii_digit};
-ghost use Rattle.model_core.specs.Lexing.{is_blank, is_word_byte, is_comment_byte};
+ghost use Rattle.model_core.specs.Text.Lexing.{is_blank, is_word_byte, is_comment_byte};
 
 /// Whether the byte is a space, a tab, a carriage return or a line feed.
 pub(crate) fn is_blank(byte: u8) -> bool

@@ -1,7 +1,7 @@
 //! The reserved words.
 
 ghost use Rattle.std.specs.Prelude.{◌≡◌, ◌<◌, length, map};
-ghost use Rattle.model_core.specs.Lexing.{lexeme_kind_of, reserved_words, word_among};
+ghost use Rattle.model_core.specs.Text.Lexing.{lexeme_kind_of, reserved_words, word_among};
 ghost use Rattle.model_lex.specs.Fronts.{words_with_first};
 
 use model_core::{TokenKind, Word};

@@ -3,8 +3,8 @@
 ghost use Rattle.std.specs.Prelude.{◌≡◌, ◌++◌, OnOk, map, codes};
 ghost use Rattle.std.specs.Fmt.{signed_decimal};
 ghost use Rattle.std.specs.List.{flat_map};
-ghost use Rattle.model_core.specs.Canonical.{size_text, clip_text, initial_truth, kind_text, variable_line, row_text, table_line, watched_name, watch_names_line, joined};
-ghost use Rattle.model_core.specs.Views.{graph_of, variable_of, weighted_of, table_of, watched_of};
+ghost use Rattle.model_core.specs.Text.Canonical.{size_text, clip_text, initial_truth, kind_text, variable_line, row_text, table_line, watched_name, watch_names_line, joined};
+ghost use Rattle.model_core.specs.Code.Views.{graph_of, variable_of, weighted_of, table_of, watched_of};
 
 use crate::bytes::{put_bytes, put_comma};
 use crate::expressions::put_truth;

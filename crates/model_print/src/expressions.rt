@@ -1,8 +1,8 @@
 //! Expressions.
 
 ghost use Rattle.std.specs.Prelude.{◌≡◌, ◌++◌, OnOk, map};
-ghost use Rattle.model_core.specs.Canonical.{truth_text, expression_text, expression_texts, joined, in_parentheses};
-ghost use Rattle.model_core.specs.Views.{graph_of, expression_of};
+ghost use Rattle.model_core.specs.Text.Canonical.{truth_text, expression_text, expression_texts, joined, in_parentheses};
+ghost use Rattle.model_core.specs.Code.Views.{graph_of, expression_of};
 
 use crate::bytes::{put_bytes, put_comma};
 use crate::names::put_variable_name;

@@ -1,8 +1,8 @@
 //! The canonical text of a whole model.
 
 ghost use Rattle.std.specs.Prelude.{◌≡◌, IfOk};
-ghost use Rattle.model_core.specs.Canonical.{canonical};
-ghost use Rattle.model_core.specs.Views.{graph_of};
+ghost use Rattle.model_core.specs.Text.Canonical.{canonical};
+ghost use Rattle.model_core.specs.Code.Views.{graph_of};
 
 use crate::bytes::put_bytes;
 use crate::declarations::{put_tables, put_variables, put_watch};

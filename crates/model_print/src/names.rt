@@ -1,8 +1,8 @@
 //! The names of what a model refers to by its place. A place that nothing has prints as nothing.
 
 ghost use Rattle.std.specs.Prelude.{◌≡◌, ◌++◌, OnOk};
-ghost use Rattle.model_core.specs.Canonical.{variable_name, vertex_name};
-ghost use Rattle.model_core.specs.Views.{graph_of};
+ghost use Rattle.model_core.specs.Text.Canonical.{variable_name, vertex_name};
+ghost use Rattle.model_core.specs.Code.Views.{graph_of};
 
 use crate::bytes::put_bytes;
 use model_core::Model;

@@ -2,8 +2,8 @@
 
 ghost use Rattle.std.specs.Prelude.{◌≡◌, ◌++◌, OnOk, map, option_map};
 ghost use Rattle.std.specs.List.{flat_map};
-ghost use Rattle.model_core.specs.Canonical.{index_text, location_text, change_line, delay_text, priority_text, condition_text, edge_line, vertex_lines, variable_name, joined, in_parentheses};
-ghost use Rattle.model_core.specs.Views.{graph_of, expression_of, location_of, change_of, edge_of, vertex_of};
+ghost use Rattle.model_core.specs.Text.Canonical.{index_text, location_text, change_line, delay_text, priority_text, condition_text, edge_line, vertex_lines, variable_name, joined, in_parentheses};
+ghost use Rattle.model_core.specs.Code.Views.{graph_of, expression_of, location_of, change_of, edge_of, vertex_of};
 
 use crate::bytes::{put_bytes, put_comma};
 use crate::expressions::{put_expression, put_expressions, put_passed};

@@ -1,7 +1,7 @@
 -- A loop that reads a part again and again: what it has read, before what is left to read, is what there was to read.
 use Rattle.std.proofs.Common.{◌≡◌, ℕ, zero, suc, ◌+◌, ◌≤◌, Bool, true, false, cond, List, [], ◌∷◌, ◌++◌, length, map, Some, None, refl, sym, ap, ◌∙◌, append_assoc, arith}
 use Rattle.std.proofs.lemmas.List.{append-nil, map-append}
-use Rattle.model_core.specs.Lexing.{Lexeme, LexemeKind}
+use Rattle.model_core.specs.Text.Lexing.{Lexeme, LexemeKind}
 use Rattle.model_lex.specs.declared.parse_error.ParseError.{ParseError}
 use Rattle.model_lex.specs.declared.parse_error.ParseError.TheVariants as errors
 use Rattle.model_read.specs.Reader.{Reading, Reader, Fails, takes_none, and_then, begins, repeated_within, repeated_at}

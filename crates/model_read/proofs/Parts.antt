@@ -1,7 +1,7 @@
 -- The parts that come again and again each take a token at least.
 use Rattle.std.proofs.Common.{ℕ, ◌<◌, List, arith}
-use Rattle.model_core.specs.Lexing.{Lexeme}
-use Rattle.model_core.specs.Grammar.{Grammar}
+use Rattle.model_core.specs.Text.Lexing.{Lexeme}
+use Rattle.model_core.specs.Text.Grammar.{Grammar}
 use Rattle.model_read.specs.Reader.{Reader}
 use Rattle.model_read.specs.Rules.{variable_at, next_name_at, change_at, edge_at, vertex_at}
 use Rattle.model_read.proofs.Decides.{Decides}

@@ -2,10 +2,10 @@
 use Rattle.std.proofs.Common.{◌≡◌, ℕ, List, [], ◌∷◌, Some, None, Result, Ok, Err, refl, ap, subst}
 use Rattle.std.specs.Prelude.{IfOk}
 use Rattle.model_core.specs.declared.raw.RawModel.{RawModel}
-use Rattle.model_core.specs.Lexing.{Lexeme}
-use Rattle.model_core.specs.Written.{WrittenModel}
-use Rattle.model_core.specs.WrittenViews.{written_model}
-use Rattle.model_core.specs.FirstForm.{text}
+use Rattle.model_core.specs.Text.Lexing.{Lexeme}
+use Rattle.model_core.specs.Text.Written.{WrittenModel}
+use Rattle.model_core.specs.Code.WrittenViews.{written_model}
+use Rattle.model_core.specs.Text.FirstForm.{text}
 use Rattle.model_lex.specs.declared.parse_error.ParseError.{ParseError}
 use Rattle.model_lex.specs.declared.parse_error.ParseError.TheVariants as errors
 use Rattle.model_read.specs.Reader.{Reader, Gives, and_then, ended, all_at}

@@ -6,8 +6,8 @@ use Rattle.model_core.specs.declared.token.Word.{Word}
 use Rattle.model_core.specs.declared.token.Symbol.{Symbol}
 use Rattle.model_core.specs.contracts.token.Word.{the_type as word_type}
 use Rattle.model_core.specs.contracts.token.Symbol.{the_type as symbol_type}
-use Rattle.model_core.specs.Lexing.{Lexeme, LexemeKind, NameOf, Reserved, NumberOf, Mark}
-use Rattle.model_core.specs.Written.{WrittenName, WrittenNumber}
+use Rattle.model_core.specs.Text.Lexing.{Lexeme, LexemeKind, NameOf, Reserved, NumberOf, Mark}
+use Rattle.model_core.specs.Text.Written.{WrittenName, WrittenNumber}
 use Rattle.model_lex.specs.declared.parse_error.ParseError.{ParseError}
 use Rattle.model_lex.specs.declared.parse_error.ParseError.TheVariants as errors
 

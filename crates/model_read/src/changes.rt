@@ -1,7 +1,7 @@
 //! The changes of a vertex.
 
 ghost use Rattle.std.specs.Prelude.{map};
-ghost use Rattle.model_core.specs.WrittenViews.{written_change};
+ghost use Rattle.model_core.specs.Code.WrittenViews.{written_change};
 ghost use Rattle.model_read.specs.Reader.{Gives};
 ghost use Rattle.model_read.specs.Rules.{change_at, changes_at};
 

@@ -1,7 +1,7 @@
 //! What is left to read of a text's tokens.
 
 ghost use Rattle.std.specs.Prelude.{◌≡◌, [], map};
-ghost use Rattle.model_core.specs.WrittenViews.{written_name, written_number};
+ghost use Rattle.model_core.specs.Code.WrittenViews.{written_name, written_number};
 ghost use Rattle.model_read.specs.Reader.{Gives, begins, is_word, is_symbol, is_number, word_at, symbol_at, name_at, number_at, ended};
 
 use model_core::{RawName, RawNumber, Symbol, Token, TokenKind, Word};
@@ -19,7 +19,7 @@ pub struct Cursor<'t> {
 
 impl<'t> Model for Cursor<'t> {
     ghost use Rattle.std.specs.Prelude.{List, map};
-    ghost use Rattle.model_core.specs.Lexing.{Lexeme, lexeme_of};
+    ghost use Rattle.model_core.specs.Text.Lexing.{Lexeme, lexeme_of};
 
     ghost Value = { List Lexeme };
 
@@ -31,7 +31,7 @@ impl<'t> Model for Cursor<'t> {
 }
 
 impl<'t> Cursor<'t> {
-    ghost use Rattle.model_core.specs.Lexing.{lexeme_of};
+    ghost use Rattle.model_core.specs.Text.Lexing.{lexeme_of};
     ghost use Rattle.model_read.specs.InText.{AreInText};
 
     /// The tokens, all of which are left to read.

@@ -2,7 +2,7 @@
 
 ghost use Rattle.std.specs.Prelude.{map};
 ghost use Rattle.std.specs.Option.{option_map};
-ghost use Rattle.model_core.specs.WrittenViews.{written_name, written_variable};
+ghost use Rattle.model_core.specs.Code.WrittenViews.{written_name, written_variable};
 ghost use Rattle.model_read.specs.Reader.{Gives, is_word, optional_at};
 ghost use Rattle.model_read.specs.Rules.{variable_at, variables_at, watch_at};
 ghost use Rattle.model_core.specs.declared.token.Word.TheVariants as words;

@@ -3,7 +3,7 @@
 ghost use Rattle.std.specs.Prelude.{map};
 ghost use Rattle.std.specs.Option.{option_map};
 ghost use Rattle.model_core.specs.declared.token.Word.TheVariants as words;
-ghost use Rattle.model_core.specs.WrittenViews.{written_expression, written_edge};
+ghost use Rattle.model_core.specs.Code.WrittenViews.{written_expression, written_edge};
 ghost use Rattle.model_read.specs.Reader.{Gives, is_word, optional_at};
 ghost use Rattle.model_read.specs.Rules.{delay_at, never_at, edge_at, edges_at};
 

@@ -1,6 +1,6 @@
 //! Expressions.
 
-ghost use Rattle.model_core.specs.WrittenViews.{written_expression};
+ghost use Rattle.model_core.specs.Code.WrittenViews.{written_expression};
 ghost use Rattle.model_read.specs.Reader.{Gives};
 ghost use Rattle.model_read.specs.Rules.{number_expression_at, scalar_expression_at, expression_at};
 

@@ -2,9 +2,9 @@
 #![tactic(auto)]
 
 ghost use Rattle.std.specs.Prelude.{◌≡◌, List, []};
-ghost use Rattle.model_core.specs.Lexing.{Lexeme};
-ghost use Rattle.model_core.specs.Written.{WrittenModel};
-ghost use Rattle.model_core.specs.FirstForm.{text};
+ghost use Rattle.model_core.specs.Text.Lexing.{Lexeme};
+ghost use Rattle.model_core.specs.Text.Written.{WrittenModel};
+ghost use Rattle.model_core.specs.Text.FirstForm.{text};
 
 mod changes;
 mod cursor;

@@ -1,7 +1,7 @@
 //! Lists of names.
 
 ghost use Rattle.std.specs.Prelude.{map};
-ghost use Rattle.model_core.specs.WrittenViews.{written_name};
+ghost use Rattle.model_core.specs.Code.WrittenViews.{written_name};
 ghost use Rattle.model_read.specs.Reader.{Gives};
 ghost use Rattle.model_read.specs.Rules.{names_at};
 

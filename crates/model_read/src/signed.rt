@@ -1,6 +1,6 @@
 //! Numbers with a sign.
 
-ghost use Rattle.model_core.specs.WrittenViews.{written_signed};
+ghost use Rattle.model_core.specs.Code.WrittenViews.{written_signed};
 ghost use Rattle.model_read.specs.Reader.{Gives};
 ghost use Rattle.model_read.specs.Rules.{signed_at, negative_signed_at, plain_signed_at};
 

@@ -1,9 +1,9 @@
 //! A whole model text.
 
 ghost use Rattle.std.specs.Prelude.{◌≡◌, ◌≢◌, ℕ, [], IfOk};
-ghost use Rattle.model_core.specs.Written.{WrittenModel};
-ghost use Rattle.model_core.specs.WrittenViews.{written_model};
-ghost use Rattle.model_core.specs.FirstForm.{text};
+ghost use Rattle.model_core.specs.Text.Written.{WrittenModel};
+ghost use Rattle.model_core.specs.Code.WrittenViews.{written_model};
+ghost use Rattle.model_core.specs.Text.FirstForm.{text};
 ghost use Rattle.model_lex.specs.Lexemes.{lexemes};
 ghost use Rattle.model_read.specs.Reader.{Gives, all_at};
 ghost use Rattle.model_read.specs.Rules.{text_at};

@@ -1,7 +1,7 @@
 //! Vertices.
 
 ghost use Rattle.std.specs.Prelude.{map};
-ghost use Rattle.model_core.specs.WrittenViews.{written_vertex};
+ghost use Rattle.model_core.specs.Code.WrittenViews.{written_vertex};
 ghost use Rattle.model_read.specs.Reader.{Gives};
 ghost use Rattle.model_read.specs.Rules.{vertex_at, vertices_at};
 

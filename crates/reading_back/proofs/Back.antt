@@ -1,9 +1,9 @@
 -- What is printed of a model that was read, and of what the rules make of it, reads back.
 use Rattle.std.proofs.Common.{ℕ, List, sym, subst}
 use Rattle.model_core.specs.EventGraph.{EventGraph}
-use Rattle.model_core.specs.Canonical.{canonical}
-use Rattle.model_core.specs.Rules.{RuleApplication, Strategy}
-use Rattle.model_core.specs.Acceptance.{SpellsFirst, ReadsFirst}
+use Rattle.model_core.specs.Text.Canonical.{canonical}
+use Rattle.model_core.specs.Rules.Reduction.{RuleApplication, Strategy}
+use Rattle.model_core.specs.Text.Acceptance.{SpellsFirst, ReadsFirst}
 use Rattle.reading_back.proofs.Printed.{printed_reads}
 use Rattle.reading_back.proofs.CanonicalText.{canonical-is}
 use Rattle.reading_back.proofs.NumberedModel.{model_printable}

@@ -5,7 +5,7 @@ use Rattle.std.specs.Fmt.{signed_decimal}
 use Rattle.std.specs.List.{AllByRecursion, flat_map}
 use Rattle.model_core.specs.declared.model.Kind.TheVariants as kinds
 use Rattle.model_core.specs.EventGraph.{EventVertex, Variable, Watched, WatchedVariable, WatchedVertex, EventGraph}
-use Rattle.model_core.specs.Canonical.{in_parentheses, variable_name, change_line, edge_line, vertex_lines, size_text, clip_text, kind_text, variable_line, table_line, watched_name, watch_names_line, watch_line, joined, canonical}
+use Rattle.model_core.specs.Text.Canonical.{in_parentheses, variable_name, change_line, edge_line, vertex_lines, size_text, clip_text, kind_text, variable_line, table_line, watched_name, watch_names_line, watch_line, joined, canonical}
 use Rattle.reading_back.proofs.Printable.{declared_of, PrintableChange, PrintableEdge, PrintableVertex, PrintableVariable, PrintableWatched, IsPrintable}
 use Rattle.reading_back.proofs.Changes.{change_text}
 use Rattle.reading_back.proofs.Edges.{edge_text}

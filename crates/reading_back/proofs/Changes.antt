@@ -5,13 +5,13 @@ use Rattle.std.specs.Fmt.{signed_decimal}
 use Rattle.std.specs.Option.{option_map}
 use Rattle.model_core.specs.declared.token.Word.TheVariants as words
 use Rattle.model_core.specs.EventGraph.{Expression, Number, Scalar, Location, StateChange, Set}
-use Rattle.model_core.specs.Written as written
-use Rattle.model_core.specs.Written.{WrittenName, WrittenNumber, WrittenExpression, WrittenChange}
-use Rattle.model_core.specs.Grammar.{◌or◌}
-use Rattle.model_core.specs.FirstForm as form
-use Rattle.model_core.specs.Numbering as numbering
-use Rattle.model_core.specs.Numbering.{Declared, place_of}
-use Rattle.model_core.specs.Acceptance.{IsFirstValue, IsFirstChange}
+use Rattle.model_core.specs.Text.Written as written
+use Rattle.model_core.specs.Text.Written.{WrittenName, WrittenNumber, WrittenExpression, WrittenChange}
+use Rattle.model_core.specs.Text.Grammar.{◌or◌}
+use Rattle.model_core.specs.Text.FirstForm as form
+use Rattle.model_core.specs.Text.Numbering as numbering
+use Rattle.model_core.specs.Text.Numbering.{Declared, place_of}
+use Rattle.model_core.specs.Text.Acceptance.{IsFirstValue, IsFirstChange}
 use Rattle.reading_back.proofs.Spelling.{Ends}
 use Rattle.reading_back.proofs.Reading.{Reads, Any, Reads-then, Reads-text, Reads-gives, Reads-left, Reads-right, Reads-space, Reads-before_feed}
 use Rattle.reading_back.proofs.Symbols.{Reads-name, Reads-number, Reads-word, Reads-becomes, Reads-semicolon}

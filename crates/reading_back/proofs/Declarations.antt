@@ -6,13 +6,13 @@ use Rattle.std.specs.List.{AllByRecursion}
 use Rattle.model_core.specs.declared.token.Word.TheVariants as words
 use Rattle.model_core.specs.declared.model.Kind.TheVariants as kinds
 use Rattle.model_core.specs.EventGraph.{Variable, Watched, WatchedVariable, WatchedVertex}
-use Rattle.model_core.specs.Written.{WrittenName, WrittenSigned, WrittenVariable, RangeKind, SignedLiteral}
-use Rattle.model_core.specs.Grammar.{optional}
-use Rattle.model_core.specs.FirstForm as form
-use Rattle.model_core.specs.Numbering as numbering
-use Rattle.model_core.specs.Numbering.{Declared, place_of, each, written_or, watched_or}
-use Rattle.model_core.specs.Canonical.{joined}
-use Rattle.model_core.specs.Acceptance.{IsFirstVariable}
+use Rattle.model_core.specs.Text.Written.{WrittenName, WrittenSigned, WrittenVariable, RangeKind, SignedLiteral}
+use Rattle.model_core.specs.Text.Grammar.{optional}
+use Rattle.model_core.specs.Text.FirstForm as form
+use Rattle.model_core.specs.Text.Numbering as numbering
+use Rattle.model_core.specs.Text.Numbering.{Declared, place_of, each, written_or, watched_or}
+use Rattle.model_core.specs.Text.Canonical.{joined}
+use Rattle.model_core.specs.Text.Acceptance.{IsFirstVariable}
 use Rattle.reading_back.proofs.Spelling.{IsName}
 use Rattle.reading_back.proofs.Reading.{Reads, Any, Reads-then, Reads-gives, Reads-none, Reads-present, Reads-space, Reads-before_feed, Reads-weaken}
 use Rattle.reading_back.proofs.Symbols.{Reads-name, Reads-word, Reads-semicolon, Reads-colon, Reads-to, Reads-equal}

@@ -4,9 +4,9 @@ use Rattle.std.specs.Prelude.{Option, Some, None, IfSome}
 use Rattle.std.specs.List.{AllByRecursion}
 use Rattle.model_core.specs.declared.token.Word.{Word}
 use Rattle.model_core.specs.declared.token.Symbol.{Symbol}
-use Rattle.model_core.specs.Lexing.{Lexeme}
-use Rattle.model_core.specs.Written.{WrittenName, WrittenNumber}
-use Rattle.model_core.specs.Grammar.{Grammar, gives, ◌>>=◌, ◌or◌, optional, many, some, list, word, symbol, name, number}
+use Rattle.model_core.specs.Text.Lexing.{Lexeme}
+use Rattle.model_core.specs.Text.Written.{WrittenName, WrittenNumber}
+use Rattle.model_core.specs.Text.Grammar.{Grammar, gives, ◌>>=◌, ◌or◌, optional, many, some, list, word, symbol, name, number}
 use Rattle.reading_back.proofs.Spelling.{IsName}
 use Rattle.reading_back.proofs.Tokens.{GoodTokens, GoodKind, IsLiteral}
 

@@ -4,13 +4,13 @@ use Rattle.std.specs.Prelude.{pos, Option, Some, None, codes, decimal, IfSome}
 use Rattle.std.specs.Option.{option_map}
 use Rattle.model_core.specs.declared.token.Word.TheVariants as words
 use Rattle.model_core.specs.EventGraph.{Expression, Number, Truth, EdgeKind, Schedule, EventEdge}
-use Rattle.model_core.specs.Written as written
-use Rattle.model_core.specs.Written.{WrittenName, WrittenNumber, WrittenExpression, WrittenEdge}
-use Rattle.model_core.specs.Grammar.{optional}
-use Rattle.model_core.specs.FirstForm as form
-use Rattle.model_core.specs.Numbering as numbering
-use Rattle.model_core.specs.Numbering.{Declared, place_of, written_or}
-use Rattle.model_core.specs.Acceptance.{IsNumber, IsNever, IsFirstEdge}
+use Rattle.model_core.specs.Text.Written as written
+use Rattle.model_core.specs.Text.Written.{WrittenName, WrittenNumber, WrittenExpression, WrittenEdge}
+use Rattle.model_core.specs.Text.Grammar.{optional}
+use Rattle.model_core.specs.Text.FirstForm as form
+use Rattle.model_core.specs.Text.Numbering as numbering
+use Rattle.model_core.specs.Text.Numbering.{Declared, place_of, written_or}
+use Rattle.model_core.specs.Text.Acceptance.{IsNumber, IsNever, IsFirstEdge}
 use Rattle.reading_back.proofs.Spelling.{Ends}
 use Rattle.reading_back.proofs.Reading.{Reads, Any, Reads-then, Reads-gives, Reads-none, Reads-present, Reads-space, Reads-before_feed}
 use Rattle.reading_back.proofs.Symbols.{Reads-name, Reads-number, Reads-word, Reads-semicolon}

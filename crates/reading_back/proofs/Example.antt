@@ -5,11 +5,11 @@ use Rattle.std.specs.Prelude.{pos, None, codes, length}
 use Rattle.std.specs.List.{IsDistinct}
 use Rattle.std.specs.Fmt.{digits}
 use Rattle.model_core.specs.declared.model.Kind.TheVariants as kinds
-use Rattle.model_core.specs.Lexing.{same_bytes}
+use Rattle.model_core.specs.Text.Lexing.{same_bytes}
 use Rattle.model_core.specs.EventGraph.{Number, Truth, Set, Schedule, EventEdge, WatchedVariable, EventGraph}
-use Rattle.model_core.specs.Canonical.{canonical}
-use Rattle.model_core.specs.Rules.{Prune, Strategy}
-use Rattle.model_core.specs.Acceptance.{KeepsRules, ReadsFirst}
+use Rattle.model_core.specs.Text.Canonical.{canonical}
+use Rattle.model_core.specs.Rules.Reduction.{Prune, Strategy}
+use Rattle.model_core.specs.Text.Acceptance.{KeepsRules, ReadsFirst}
 use Rattle.reading_back.proofs.Spelling.{IsName}
 use Rattle.reading_back.proofs.Printable.{IsPrintable}
 use Rattle.reading_back.proofs.Back.{kept_reads, reduced_reads}

@@ -1,7 +1,7 @@
 -- The tokens of a text, one step at a time.
 use Rattle.std.proofs.Common.{◌≡◌, ℕ, suc, ◌+◌, ◌-◌, List, [], ◌∷◌, ◌++◌, length, refl, sym, ap, ◌∙◌, subst, arith}
 use Rattle.std.specs.Prelude.{Ok}
-use Rattle.model_core.specs.Lexing.{Lexeme, LexemeKind, Front, Longest, front, after_front, front_length, tokens_from}
+use Rattle.model_core.specs.Text.Lexing.{Lexeme, LexemeKind, Front, Longest, front, after_front, front_length, tokens_from}
 
 -- the text, which begins at this place, has these tokens
 pub Lexes : ℕ → List ℕ → List Lexeme → Type 0

@@ -4,7 +4,7 @@ use Rattle.std.specs.Prelude.{pos, None, codes, decimal, slice_get}
 use Rattle.std.specs.List.{AllByRecursion, flat_map}
 use Rattle.std.specs.Option.{option_map_or}
 use Rattle.model_core.specs.EventGraph.{Expression, Number, Truth, Scalar, Location, StateChange, Set, EdgeKind, Schedule, EventEdge, EventVertex, Variable, EventGraph}
-use Rattle.model_core.specs.Canonical.{in_parentheses, variable_name, vertex_name, expression_text, expression_texts, index_text, change_line, priority_text, condition_text, edge_word, timing_text, edge_line}
+use Rattle.model_core.specs.Text.Canonical.{in_parentheses, variable_name, vertex_name, expression_text, expression_texts, index_text, change_line, priority_text, condition_text, edge_word, timing_text, edge_line}
 use Rattle.reading_back.proofs.Printable.{declared_of, name_at, PrintableValue, PrintableChange, PrintableCondition, PrintableKind, PrintableEdge}
 use Rattle.reading_back.proofs.Changes.{value_text, change_text}
 use Rattle.reading_back.proofs.Edges.{delay_part, condition_part, edge_text}

@@ -3,9 +3,9 @@ use Rattle.std.proofs.Common.{◌≡◌, ℕ, List, [], ◌∷◌, ◌++◌, ref
 use Rattle.std.specs.Prelude.{codes}
 use Rattle.std.specs.List.{AllByRecursion, flat_map}
 use Rattle.model_core.specs.declared.token.Symbol.TheVariants as symbols
-use Rattle.model_core.specs.Written.{WrittenName}
-use Rattle.model_core.specs.Grammar.{Grammar, ◌>>=◌, many, list, symbol, name}
-use Rattle.model_core.specs.Canonical.{joined, after_commas}
+use Rattle.model_core.specs.Text.Written.{WrittenName}
+use Rattle.model_core.specs.Text.Grammar.{Grammar, ◌>>=◌, many, list, symbol, name}
+use Rattle.model_core.specs.Text.Canonical.{joined, after_commas}
 use Rattle.reading_back.proofs.Spelling.{Ends, IsName}
 use Rattle.reading_back.proofs.Reading.{Reads, Any, Reads-then, Reads-text, Reads-gives, Reads-done, Reads-more, Reads-space}
 use Rattle.reading_back.proofs.Symbols.{Reads-name, Reads-comma}

@@ -6,11 +6,11 @@ use Rattle.std.specs.Option.{option_map}
 use Rattle.std.proofs.lemmas.Option.{option_and_then_some}
 use Rattle.model_core.specs.EventGraph as graph
 use Rattle.model_core.specs.EventGraph.{Variable, Expression, StateChange, EdgeKind, EventEdge, EventVertex, WeightTable, Watched, WatchedVariable, WatchedVertex, EventGraph}
-use Rattle.model_core.specs.Written as written
-use Rattle.model_core.specs.Written.{WrittenName, WrittenNumber, WrittenExpression, WrittenVariable, WrittenTable, WrittenChange, WrittenEdgeKind, WrittenEdge, WrittenVertex, WrittenModel}
-use Rattle.model_core.specs.Numbering as numbering
-use Rattle.model_core.specs.Numbering.{Declared, declared_by, place_of, each, written_or, watched_or, natural, numbered}
-use Rattle.model_core.specs.Acceptance.{IsVariable, ReadsFirst}
+use Rattle.model_core.specs.Text.Written as written
+use Rattle.model_core.specs.Text.Written.{WrittenName, WrittenNumber, WrittenExpression, WrittenVariable, WrittenTable, WrittenChange, WrittenEdgeKind, WrittenEdge, WrittenVertex, WrittenModel}
+use Rattle.model_core.specs.Text.Numbering as numbering
+use Rattle.model_core.specs.Text.Numbering.{Declared, declared_by, place_of, each, written_or, watched_or, natural, numbered}
+use Rattle.model_core.specs.Text.Acceptance.{IsVariable, ReadsFirst}
 use Rattle.reading_back.proofs.Spelling.{IsName}
 use Rattle.reading_back.proofs.Lists.{Pairs}
 use Rattle.reading_back.proofs.Tokens.{tokens_good}

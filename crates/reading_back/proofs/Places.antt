@@ -4,10 +4,10 @@ use Rattle.std.specs.Prelude.{ℤ, pos, negsuc, Option, Some, None, if◌then◌
 use Rattle.std.specs.List.{AllByRecursion}
 use Rattle.std.specs.Option.{option_map, option_and_then}
 use lib.Pointwise.{bytes_decides}
-use Rattle.model_core.specs.Lexing.{same_bytes}
-use Rattle.model_core.specs.Written.{WrittenSigned}
-use Rattle.model_core.specs.Numbering as numbering
-use Rattle.model_core.specs.Numbering.{place_of, each, with_sign}
+use Rattle.model_core.specs.Text.Lexing.{same_bytes}
+use Rattle.model_core.specs.Text.Written.{WrittenSigned}
+use Rattle.model_core.specs.Text.Numbering as numbering
+use Rattle.model_core.specs.Text.Numbering.{place_of, each, with_sign}
 use Rattle.reading_back.proofs.Spelling.{IsName}
 use Rattle.reading_back.proofs.Numerals.{IsSigned}
 use Rattle.reading_back.proofs.Lists.{Pairs}

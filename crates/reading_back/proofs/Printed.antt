@@ -4,12 +4,12 @@ use Rattle.std.specs.Prelude.{Option, Some, Ok, codes}
 use Rattle.std.specs.List.{flat_map}
 use Rattle.model_core.specs.declared.token.Word.TheVariants as words
 use Rattle.model_core.specs.EventGraph.{EventVertex, Variable, EventGraph}
-use Rattle.model_core.specs.Written.{WrittenName, WrittenVariable, WrittenVertex, WrittenModel}
-use Rattle.model_core.specs.FirstForm as form
-use Rattle.model_core.specs.Numbering as numbering
-use Rattle.model_core.specs.Numbering.{Declared, each, declared_by, written_or, numbered}
-use Rattle.model_core.specs.Acceptance.{IsFirstVariable, IsFirstVertex, IsFirstForm, SpellsFirst}
-use Rattle.model_core.specs.Lexing.{tokens_of}
+use Rattle.model_core.specs.Text.Written.{WrittenName, WrittenVariable, WrittenVertex, WrittenModel}
+use Rattle.model_core.specs.Text.FirstForm as form
+use Rattle.model_core.specs.Text.Numbering as numbering
+use Rattle.model_core.specs.Text.Numbering.{Declared, each, declared_by, written_or, numbered}
+use Rattle.model_core.specs.Text.Acceptance.{IsFirstVariable, IsFirstVertex, IsFirstForm, SpellsFirst}
+use Rattle.model_core.specs.Text.Lexing.{tokens_of}
 use Rattle.reading_back.proofs.Lexed.{Lexes-nil, tokens_from_Lexes}
 use Rattle.reading_back.proofs.Reading.{Reads, Any, Reads-then, Reads-gives, Reads-space, Reads-before_feed, Reads-some}
 use Rattle.reading_back.proofs.Symbols.{Reads-name, Reads-word, Reads-semicolon}

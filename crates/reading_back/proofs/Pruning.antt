@@ -3,12 +3,13 @@ use Rattle.std.proofs.Common.{◌≡◌, ℕ, suc, zero, ◌≤◌, Bool, true, 
 use Rattle.std.specs.Prelude.{Some, None, if◌then◌else◌, codes}
 use Rattle.std.specs.List.{AllByRecursion, flat_map, remove, IsDistinct}
 use Rattle.std.proofs.lemmas.Option.{option_and_then_some}
-use Rattle.model_core.specs.Lexing.{same_bytes}
+use Rattle.model_core.specs.Text.Lexing.{same_bytes}
 use Rattle.model_core.specs.EventGraph.{EventVertex, Variable, WeightTable, EventGraph}
-use Rattle.model_core.specs.Canonical.{canonical}
-use Rattle.model_core.specs.Rules.{RuleApplication, Prune, is_refuted, place_of_vertex, from_zero, with_place, without_edge, pruned, edge_at, prune_at, applied, Strategy}
-use Rattle.model_core.specs.Numbering.{Declared}
-use Rattle.model_core.specs.Acceptance.{IsShort, declared_names, IsSmall, KeepsRules}
+use Rattle.model_core.specs.Text.Canonical.{canonical}
+use Rattle.model_core.specs.Rules.Reduction.{RuleApplication, Prune, place_of_vertex, from_zero, applied, Strategy}
+use Rattle.model_core.specs.Rules.Prune.{is_refuted, with_place, without_edge, pruned, edge_at, prune_at}
+use Rattle.model_core.specs.Text.Numbering.{Declared}
+use Rattle.model_core.specs.Text.Acceptance.{IsShort, declared_names, IsSmall, KeepsRules}
 use Rattle.reading_back.proofs.Printable.{declared_of, PrintableEdge, PrintableVertex, PrintableWatched, IsPrintable}
 use Rattle.reading_back.proofs.Declarations.{variable_text, watch_text, watched_text}
 use Rattle.reading_back.proofs.Changes.{change_text}

@@ -1,8 +1,8 @@
 -- Texts that a grammar derives, put together part by part.
 use Rattle.std.proofs.Common.{◌≡◌, ℕ, suc, ◌+◌, List, [], ◌∷◌, ◌++◌, length, refl, sym, subst, arith, length-append, append_assoc, inl, inr}
 use Rattle.std.specs.Prelude.{Option, Some, None}
-use Rattle.model_core.specs.Lexing.{Lexeme}
-use Rattle.model_core.specs.Grammar.{Grammar, gives, ◌>>=◌, ◌or◌, optional, many, some}
+use Rattle.model_core.specs.Text.Lexing.{Lexeme}
+use Rattle.model_core.specs.Text.Grammar.{Grammar, gives, ◌>>=◌, ◌or◌, optional, many, some}
 use Rattle.reading_back.proofs.Lexed.{Lexes, Lexes-at, Lexes-text, Lexes-space, Lexes-feed}
 
 -- the text, before what F allows, is derived as a value of which G holds

@@ -11,8 +11,8 @@ use Rattle.std.proofs.lemmas.Grind.{common_steps}
 use Rattle.model_core.specs.declared.token.Word.{Word}
 use Rattle.model_core.specs.declared.token.Symbol.{Symbol}
 use Rattle.model_core.specs.declared.token.Symbol.TheVariants as symbols
-use Rattle.model_core.specs.Lexing.{NameOf, Reserved, NumberOf, Mark, Longest, front, is_word_byte, word_among, reserved_words, word_front, literal_value}
-use Rattle.model_core.specs.Grammar.{word, symbol, name, number}
+use Rattle.model_core.specs.Text.Lexing.{NameOf, Reserved, NumberOf, Mark, Longest, front, is_word_byte, word_among, reserved_words, word_front, literal_value}
+use Rattle.model_core.specs.Text.Grammar.{word, symbol, name, number}
 use Rattle.reading_back.proofs.Lexed.{Lexes-token, token}
 use Rattle.reading_back.proofs.Spelling.{Ends, IsName, front_name, front_digits, front_word, take_while_word}
 use Rattle.reading_back.proofs.Reading.{Reads, Any}

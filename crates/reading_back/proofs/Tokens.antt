@@ -7,7 +7,7 @@ use Rattle.std.proofs.lemmas.List.Sums.{take_while-cons}
 use Rattle.std.proofs.lemmas.Grind.{common_steps}
 use Rattle.model_core.specs.declared.token.Word.{Word}
 use Rattle.model_core.specs.declared.token.Symbol.{Symbol}
-use Rattle.model_core.specs.Lexing.{Lexeme, LexemeKind, NameOf, Reserved, NumberOf, Mark, Front, Between, Longest, Neither, front, front_length, after_front, tokens_from, is_blank, is_word_byte, word_among, reserved_words, symbol_among, all_symbols, same_bytes}
+use Rattle.model_core.specs.Text.Lexing.{Lexeme, LexemeKind, NameOf, Reserved, NumberOf, Mark, Front, Between, Longest, Neither, front, front_length, after_front, tokens_from, is_blank, is_word_byte, word_among, reserved_words, symbol_among, all_symbols, same_bytes}
 use Rattle.reading_back.proofs.Spelling.{BeginsWord, IsName, letter_word, take_while-more}
 
 -- a number below 2^63, or none

@@ -4,11 +4,11 @@ use Rattle.std.specs.Prelude.{Option, Some, None, codes}
 use Rattle.std.specs.List.{AllByRecursion, flat_map}
 use Rattle.model_core.specs.declared.token.Word.TheVariants as words
 use Rattle.model_core.specs.EventGraph.{EventVertex}
-use Rattle.model_core.specs.Written.{WrittenName, WrittenChange, WrittenEdge, WrittenVertex}
-use Rattle.model_core.specs.FirstForm as form
-use Rattle.model_core.specs.Numbering as numbering
-use Rattle.model_core.specs.Numbering.{Declared, each}
-use Rattle.model_core.specs.Acceptance.{IsFirstChange, IsFirstEdge, IsFirstVertex}
+use Rattle.model_core.specs.Text.Written.{WrittenName, WrittenChange, WrittenEdge, WrittenVertex}
+use Rattle.model_core.specs.Text.FirstForm as form
+use Rattle.model_core.specs.Text.Numbering as numbering
+use Rattle.model_core.specs.Text.Numbering.{Declared, each}
+use Rattle.model_core.specs.Text.Acceptance.{IsFirstChange, IsFirstEdge, IsFirstVertex}
 use Rattle.reading_back.proofs.Reading.{Reads, Any, Reads-then, Reads-gives, Reads-space, Reads-before_feed}
 use Rattle.reading_back.proofs.Symbols.{Reads-name, Reads-word, Reads-open, Reads-close}
 use Rattle.reading_back.proofs.Lists.{Pairs, Reads-lines}

@@ -4,8 +4,8 @@ use Rattle.std.specs.Prelude.{None, IfSome}
 use Rattle.std.specs.List.{AllByRecursion}
 use Rattle.model_core.specs.declared.token.Word.TheVariants as words
 use Rattle.model_core.specs.declared.token.Symbol.TheVariants as symbols
-use Rattle.model_core.specs.Written.{WrittenName, WrittenSigned, WrittenKind, RangeKind, TruthKind, WrittenLiteral, SignedLiteral, TruthLiteral, WrittenExpression, Number, Truth, Scalar, WrittenVariable, WrittenChange, Set, WrittenEdgeKind, Schedule, WrittenEdge, WrittenVertex, WrittenModel}
-use Rattle.model_core.specs.FirstForm as form
+use Rattle.model_core.specs.Text.Written.{WrittenName, WrittenSigned, WrittenKind, RangeKind, TruthKind, WrittenLiteral, SignedLiteral, TruthLiteral, WrittenExpression, Number, Truth, Scalar, WrittenVariable, WrittenChange, Set, WrittenEdgeKind, Schedule, WrittenEdge, WrittenVertex, WrittenModel}
+use Rattle.model_core.specs.Text.FirstForm as form
 use Rattle.reading_back.proofs.Spelling.{IsName}
 use Rattle.reading_back.proofs.Tokens.{IsLiteral}
 use Rattle.reading_back.proofs.Deriving.{Yields, Yields-gives, Yields-then, Yields-or, Yields-optional, Yields-many, Yields-some, Yields-list, Yields-word, Yields-symbol, Yields-name, Yields-number, SomeAll}

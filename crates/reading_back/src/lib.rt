@@ -3,9 +3,9 @@
 
 ghost use Rattle.std.specs.Prelude.{◌≡◌, ℕ, List};
 ghost use Rattle.model_core.specs.EventGraph.{EventGraph};
-ghost use Rattle.model_core.specs.Rules.{RuleApplication, Strategy};
-ghost use Rattle.model_core.specs.Canonical.{canonical};
-ghost use Rattle.model_core.specs.Acceptance.{ReadsFirst};
+ghost use Rattle.model_core.specs.Rules.Reduction.{RuleApplication, Strategy};
+ghost use Rattle.model_core.specs.Text.Canonical.{canonical};
+ghost use Rattle.model_core.specs.Text.Acceptance.{ReadsFirst};
 
 /// What the canonical strategy makes of a model that was read is printed so that it reads back as that model.
 pub fn reads_back()

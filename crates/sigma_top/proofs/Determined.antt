@@ -1,14 +1,14 @@
 -- A text has one answer.
 use Rattle.std.proofs.Common.{◌≡◌, ℕ, List, [], ◌∷◌, ◌++◌, Option, Some, None, refl, sym, ap, ◌∙◌, subst}
 use Rattle.model_core.specs.EventGraph.{EventGraph}
-use Rattle.model_core.specs.Lexing.{Lexeme}
-use Rattle.model_core.specs.Written.{WrittenModel}
-use Rattle.model_core.specs.FirstForm as first_form
-use Rattle.model_core.specs.Numbering.{numbered}
-use Rattle.model_core.specs.Acceptance.{ReadsFirst}
-use Rattle.model_core.specs.Canonical.{canonical}
-use Rattle.model_core.specs.Rules.{RuleApplication, first_rule, applied, Strategy}
-use Rattle.model_core.specs.Certificate.{certificate}
+use Rattle.model_core.specs.Text.Lexing.{Lexeme}
+use Rattle.model_core.specs.Text.Written.{WrittenModel}
+use Rattle.model_core.specs.Text.FirstForm as first_form
+use Rattle.model_core.specs.Text.Numbering.{numbered}
+use Rattle.model_core.specs.Text.Acceptance.{ReadsFirst}
+use Rattle.model_core.specs.Text.Canonical.{canonical}
+use Rattle.model_core.specs.Rules.Reduction.{RuleApplication, first_rule, applied, Strategy}
+use Rattle.model_core.specs.Rules.Certificate.{certificate}
 use Rattle.sigma_top.specs.declared.status.Status.{Status}
 use Rattle.sigma_top.specs.declared.status.Status.TheVariants as statuses
 use Rattle.sigma_top.specs.Answer.{Reduces, Answer, AnswersWith, Answers}

@@ -2,11 +2,11 @@
 use Rattle.std.specs.Prelude.{◌≡◌, ℕ, List, [], ◌++◌, Option}
 use Rattle.sig_base.specs.Sink.{GrowsBy}
 use Rattle.model_core.specs.EventGraph.{EventGraph}
-use Rattle.model_core.specs.Acceptance.{ReadsFirst}
-use Rattle.model_core.specs.Canonical.{canonical}
-use Rattle.model_core.specs.Rules.{RuleApplication, Strategy}
-use Rattle.model_core.specs.Certificate.{certificate}
-use Rattle.model_core.specs.Same.{Same}
+use Rattle.model_core.specs.Text.Acceptance.{ReadsFirst}
+use Rattle.model_core.specs.Text.Canonical.{canonical}
+use Rattle.model_core.specs.Rules.Reduction.{RuleApplication, Strategy}
+use Rattle.model_core.specs.Rules.Certificate.{certificate}
+use Rattle.model_core.specs.Run.Same.{Same}
 use Rattle.sigma_top.specs.declared.status.Status.{Status}
 use Rattle.sigma_top.specs.declared.status.Status.TheVariants as statuses
 use Rattle.sigma_top.specs.Ending.{refusal_line}

@@ -1,6 +1,6 @@
 -- What the words of the command line ask for.
 use Rattle.std.specs.Prelude.{ℕ, Bool, false, List, [], ◌∷◌, codes}
-use Rattle.model_core.specs.Lexing.{same_bytes}
+use Rattle.model_core.specs.Text.Lexing.{same_bytes}
 
 -- the words are the one word `reduce`
 abbrev pub is_reduce : List (List ℕ) → Bool

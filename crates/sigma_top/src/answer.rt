@@ -2,13 +2,13 @@
 
 ghost use Rattle.std.specs.Prelude.{◌≡◌, ◌≤◌, ◌++◌, List, length, map, IfOk, IsErrOf};
 ghost use Rattle.std.specs.List.{IsDistinct};
-ghost use Rattle.model_core.specs.Acceptance.{ReadsFirst};
-ghost use Rattle.model_core.specs.Canonical.{canonical};
-ghost use Rattle.model_core.specs.Certificate.{application_of, certificate};
+ghost use Rattle.model_core.specs.Text.Acceptance.{ReadsFirst};
+ghost use Rattle.model_core.specs.Text.Canonical.{canonical};
+ghost use Rattle.model_core.specs.Rules.Certificate.{application_of, certificate};
 ghost use Rattle.model_core.specs.EventGraph.{EventGraph};
-ghost use Rattle.model_core.specs.Lexing.{same_bytes};
-ghost use Rattle.model_core.specs.Rules.{RuleApplication, Strategy};
-ghost use Rattle.model_core.specs.Views.{graph_of};
+ghost use Rattle.model_core.specs.Text.Lexing.{same_bytes};
+ghost use Rattle.model_core.specs.Rules.Reduction.{RuleApplication, Strategy};
+ghost use Rattle.model_core.specs.Code.Views.{graph_of};
 ghost use Rattle.sigma_top.specs.Answer.{Reduces, ReadsAsNone};
 ghost use Rattle.sigma_top.specs.Sweep.{names_of};
 

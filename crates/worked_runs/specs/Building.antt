@@ -2,7 +2,7 @@
 use Rattle.std.specs.Prelude.{ℕ, ℤ, pos, true, false, List, [], ◌∷◌, map, Some, None}
 use Rattle.model_core.specs.declared.model.Kind.TheVariants as kinds
 use Rattle.model_core.specs.EventGraph.{Variable, Location, Expression, Number, Scalar, Negative, Binary, Add, Subtract, Divide, Above, Equal, Truth, StateChange, Set, Draw, Uniform, EventEdge, EdgeKind, Schedule, Urgent, EventVertex}
-use Rattle.model_core.specs.Machine.{Note, Outcome, Look}
+use Rattle.model_core.specs.Run.Machine.{Note, Outcome, Look}
 
 -- a range variable lo..hi that is a scalar, and begins with this value
 abbrev pub ranged : List ℕ → ℕ → ℕ → ℕ → Variable

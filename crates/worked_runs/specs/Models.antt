@@ -1,8 +1,8 @@
 -- The models whose runs are worked out.
 use Rattle.std.specs.Prelude.{ℕ, ℤ, pos, List, [], ◌∷◌, ◌++◌, codes}
 use Rattle.model_core.specs.EventGraph.{EventGraph, Variable, Expression, Scalar, Binary, Add, Subtract, Divide, Set, StateChange, Draw, ByTable, CancelEqual, CancelAll, EventEdge, EventVertex, WatchedVariable, WatchedVertex, Schedule}
-use Rattle.model_core.specs.State.{initial_state}
-use Rattle.model_core.specs.Value.{OrFault, value_of}
+use Rattle.model_core.specs.Run.State.{initial_state}
+use Rattle.model_core.specs.Run.Value.{OrFault, value_of}
 use Rattle.worked_runs.specs.Building.{ranged, clipped, array, number, scalar, indexed, set, draw, edge, schedule, schedule_with, urgent, only_if, vertex, takes, plus_one, minus_one, positive, one_over_zero}
 
 -- N grows by 1 each 5 ticks

@@ -1,8 +1,8 @@
 //! A bank with one teller, whose customers come after drawn gaps.
 
 ghost use Rattle.std.specs.Prelude.{◌≡◌, pos, [], ◌∷◌};
-ghost use Rattle.model_core.specs.Machine.{At, Stopped, Going, Outcome, Look};
-ghost use Rattle.model_core.specs.Run.{look};
+ghost use Rattle.model_core.specs.Run.Machine.{At, Stopped, Going, Outcome, Look};
+ghost use Rattle.model_core.specs.Run.History.{look};
 ghost use Rattle.worked_runs.specs.Building.{scalars, seen};
 ghost use Rattle.worked_runs.specs.Models.{bank, smaller_bank};
 

@@ -2,8 +2,8 @@
 
 ghost use Rattle.std.specs.Prelude.{◌≡◌, pos, [], ◌∷◌, codes};
 ghost use Rattle.sig_base.specs.declared.fault.FaultKind.TheVariants as faults;
-ghost use Rattle.model_core.specs.Machine.{At, Ended, Faulted};
-ghost use Rattle.model_core.specs.Run.{look};
+ghost use Rattle.model_core.specs.Run.Machine.{At, Ended, Faulted};
+ghost use Rattle.model_core.specs.Run.History.{look};
 ghost use Rattle.worked_runs.specs.Building.{ranged, clipped, scalars, seen};
 ghost use Rattle.worked_runs.specs.Models.{two_draws, two_rows, cells, index_and_cell, bad_index_and_value, doubling, lowering};
 

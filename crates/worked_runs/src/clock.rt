@@ -2,8 +2,8 @@
 
 ghost use Rattle.std.specs.Prelude.{◌≡◌, [], ◌∷◌};
 ghost use Rattle.sig_base.specs.declared.fault.FaultKind.TheVariants as faults;
-ghost use Rattle.model_core.specs.Machine.{At, Ended, Stopped, Faulted, Going};
-ghost use Rattle.model_core.specs.Run.{look};
+ghost use Rattle.model_core.specs.Run.Machine.{At, Ended, Stopped, Faulted, Going};
+ghost use Rattle.model_core.specs.Run.History.{look};
 ghost use Rattle.worked_runs.specs.Building.{scalars, seen};
 ghost use Rattle.worked_runs.specs.Models.{clock, strict_clock, loop, backwards};
 

@@ -3,8 +3,8 @@
 ghost use Rattle.std.specs.Prelude.{◌≡◌, [], ◌∷◌};
 ghost use Rattle.sig_base.specs.declared.fault.FaultKind.TheVariants as faults;
 ghost use Rattle.model_core.specs.EventGraph.{Schedule, CancelNext};
-ghost use Rattle.model_core.specs.Machine.{At, On, Ended, Faulted};
-ghost use Rattle.model_core.specs.Run.{look};
+ghost use Rattle.model_core.specs.Run.Machine.{At, On, Ended, Faulted};
+ghost use Rattle.model_core.specs.Run.History.{look};
 ghost use Rattle.worked_runs.specs.Building.{scalars, seen, number, edge, schedule, schedule_with, urgent};
 ghost use Rattle.worked_runs.specs.Models.{cut, cancel_three, cancel_all, late_and_bad, ordering};
 

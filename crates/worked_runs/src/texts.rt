@@ -2,7 +2,7 @@
 
 ghost use Rattle.std.specs.Prelude.{◌≡◌, codes};
 ghost use Rattle.model_core.specs.EventGraph.{Clock, Cell, Negative, Not, Binary, If, Remainder, Least, Below, Equal, And, Or};
-ghost use Rattle.model_core.specs.Canonical.{canonical, expression_text};
+ghost use Rattle.model_core.specs.Text.Canonical.{canonical, expression_text};
 ghost use Rattle.worked_runs.specs.Building.{number};
 ghost use Rattle.worked_runs.specs.Texts.{desk, desk_text, n, is_open, plus, less, times};
 

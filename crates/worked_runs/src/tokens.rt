@@ -3,7 +3,7 @@
 ghost use Rattle.std.specs.Prelude.{◌≡◌, pos, Some, None, Ok, Err, [], ◌∷◌, codes};
 ghost use Rattle.model_core.specs.declared.token.Word.TheVariants as words;
 ghost use Rattle.model_core.specs.declared.token.Symbol.TheVariants as symbols;
-ghost use Rattle.model_core.specs.Lexing.{tokens_of, NameOf, Reserved, NumberOf, Mark};
+ghost use Rattle.model_core.specs.Text.Lexing.{tokens_of, NameOf, Reserved, NumberOf, Mark};
 ghost use Rattle.worked_runs.specs.Tokens.{token};
 
 /// The longest token is taken each time.

@@ -1,5 +1,5 @@
-use Rattle.model_core.specs.Views.{graph_of}
-use Rattle.model_core.specs.WrittenViews.{written_model}
+use Rattle.model_core.specs.Code.Views.{graph_of}
+use Rattle.model_core.specs.Code.WrittenViews.{written_model}
 use Rattle.first_form.proofs.Whole.{answered_ok, answered_refused}
 use Rattle.first_form.proofs.checking.check.Goals as goal
 

@@ -1,8 +1,8 @@
 -- The vertices follow the variables and the watch list: they fail, or all parts are given.
 use Rattle.std.proofs.Common.{map}
 use Rattle.std.proofs.lemmas.Result.{err_from_is_err_and}
-use Rattle.model_core.specs.Views.{variable_of, watched_of, vertex_of}
-use Rattle.model_core.specs.WrittenViews.{written_model}
+use Rattle.model_core.specs.Code.Views.{variable_of, watched_of, vertex_of}
+use Rattle.model_core.specs.Code.WrittenViews.{written_model}
 use Rattle.first_form.proofs.Chains.{vertices_fail, all_given}
 use Rattle.first_form.proofs.checking.model_among.Goals as goal
 

@@ -1,5 +1,5 @@
 use Rattle.std.proofs.Common.{◌≡◌, map, drop}
-use Rattle.model_core.specs.WrittenViews.{written_variable}
+use Rattle.model_core.specs.Code.WrittenViews.{written_variable}
 use Rattle.first_form.specs.Accepting.{variable_names, with_variable, folded}
 use Rattle.first_form.proofs.variable.variable_names_of.Given as goal
 

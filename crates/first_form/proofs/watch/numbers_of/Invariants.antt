@@ -1,5 +1,5 @@
 use Rattle.std.proofs.Common.{◌≡◌, [], map, drop}
-use Rattle.model_core.specs.WrittenViews.{written_name}
+use Rattle.model_core.specs.Code.WrittenViews.{written_name}
 use Rattle.first_form.specs.Accepting.{with_watched, folded}
 use Rattle.first_form.proofs.watch.numbers_of.Given as goal
 

@@ -1,7 +1,7 @@
 -- One number more is one watched variable more.
 use Rattle.std.proofs.Common.{refl}
 use Rattle.std.proofs.lemmas.List.{map_push, map_more}
-use Rattle.model_core.specs.Views.{watched_of}
+use Rattle.model_core.specs.Code.Views.{watched_of}
 use Rattle.model_core.specs.EventGraph.{WatchedVariable}
 use Rattle.first_form.proofs.watch.watch_list.Goals as goal
 

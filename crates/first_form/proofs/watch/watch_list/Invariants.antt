@@ -1,5 +1,5 @@
 use Rattle.std.proofs.Common.{◌≡◌, map, take}
-use Rattle.model_core.specs.Views.{watched_of}
+use Rattle.model_core.specs.Code.Views.{watched_of}
 use Rattle.model_core.specs.EventGraph.{WatchedVariable}
 use Rattle.first_form.proofs.watch.watch_list.Given as goal
 

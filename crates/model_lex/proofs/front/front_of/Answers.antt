@@ -1,7 +1,7 @@
 -- The tests of the first byte, in the order in which `front_at` has them.
 use Rattle.std.proofs.Common.{sym, refl, ap, ◌∙◌, ne_eqb}
 use Rattle.std.specs.Char.{is_ascii_digit}
-use Rattle.model_core.specs.Lexing.{Longest, NumberOf}
+use Rattle.model_core.specs.Text.Lexing.{Longest, NumberOf}
 use Rattle.model_lex.proofs.Digits.{AllPass-prefix}
 use Rattle.model_lex.proofs.FrontLemmas.{word_begins}
 use Rattle.model_lex.proofs.front.front_of.Goals as goal

@@ -1,6 +1,6 @@
 use Rattle.std.proofs.Common.{◌≡◌, ◌+◌, drop}
 use Rattle.std.specs.List.{prefix_len}
-use Rattle.model_core.specs.Lexing.{is_comment_byte}
+use Rattle.model_core.specs.Text.Lexing.{is_comment_byte}
 use Rattle.model_lex.proofs.runs.comment_length.Given as goal
 
 -- what the run has so far, and what it has of the rest

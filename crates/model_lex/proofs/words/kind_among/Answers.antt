@@ -2,7 +2,7 @@
 use Rattle.std.proofs.Common.{◌≡◌, ℕ, ◌+◌, ◌<◌, Bool, cond, List, length, map, drop, get_or, sym, ap, ◌∙◌, Bor}
 use Rattle.std.proofs.lemmas.List.{at_drop_more}
 use Rattle.model_core.specs.declared.token.Word.{Word}
-use Rattle.model_core.specs.Lexing.{Reserved, same_bytes, word_among}
+use Rattle.model_core.specs.Text.Lexing.{Reserved, same_bytes, word_among}
 use Rattle.model_lex.proofs.words.kind_among.Goals as goal
 
 word_among-at : (words : List (Bor (List ℕ) × Word)) (word : List ℕ) (i : ℕ) (d : Bor (List ℕ) × Word) (b : Bool) → i < length words → same_bytes word (get_or words i d).0.now ≡ b

@@ -1,5 +1,5 @@
 use Rattle.std.proofs.Common.{◌≡◌, drop, map}
-use Rattle.model_core.specs.Lexing.{word_among}
+use Rattle.model_core.specs.Text.Lexing.{word_among}
 use Rattle.model_lex.proofs.words.kind_among.Given as goal
 
 -- the words so far are none of them the word's spelling

@@ -1,6 +1,6 @@
 -- The words with the first letter are enough.
 use Rattle.std.proofs.Common.{◌∙◌, sym, ap, refl, slice_index}
-use Rattle.model_core.specs.Lexing.{word_among}
+use Rattle.model_core.specs.Text.Lexing.{word_among}
 use Rattle.model_lex.proofs.ReservedWords.{word_among-first}
 use Rattle.model_lex.proofs.words.word_kind.Goals as goal
 

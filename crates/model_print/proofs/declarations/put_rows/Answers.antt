@@ -1,7 +1,7 @@
 -- the invariant after one element more
 use Rattle.std.proofs.lemmas.List.{map_more}
-use Rattle.model_core.specs.Canonical.{row_text}
-use Rattle.model_core.specs.Views.{weighted_of}
+use Rattle.model_core.specs.Text.Canonical.{row_text}
+use Rattle.model_core.specs.Code.Views.{weighted_of}
 use Rattle.model_print.proofs.Loops.{one_more}
 use Rattle.model_print.proofs.declarations.put_rows.Goals as goal
 

@@ -1,7 +1,7 @@
 use Rattle.std.proofs.Common.{◌≡◌, ◌++◌, map, take}
 use Rattle.std.specs.List.{flat_map}
-use Rattle.model_core.specs.Canonical.{row_text}
-use Rattle.model_core.specs.Views.{weighted_of}
+use Rattle.model_core.specs.Text.Canonical.{row_text}
+use Rattle.model_core.specs.Code.Views.{weighted_of}
 use Rattle.model_print.proofs.declarations.put_rows.Given as goal
 
 abbrev pub invariant-loop-row : goal.invariant-loop-row

@@ -1,6 +1,6 @@
 -- the invariant after one element more
-use Rattle.model_core.specs.Canonical.{variable_line}
-use Rattle.model_core.specs.Views.{variable_of}
+use Rattle.model_core.specs.Text.Canonical.{variable_line}
+use Rattle.model_core.specs.Code.Views.{variable_of}
 use Rattle.model_print.proofs.Loops.{seen_more, one_more}
 use Rattle.model_print.proofs.declarations.put_variables.Goals as goal
 

@@ -1,7 +1,7 @@
 use Rattle.std.proofs.Common.{◌≡◌, ◌++◌, map, take}
 use Rattle.std.specs.List.{flat_map}
-use Rattle.model_core.specs.Canonical.{variable_line}
-use Rattle.model_core.specs.Views.{variable_of}
+use Rattle.model_core.specs.Text.Canonical.{variable_line}
+use Rattle.model_core.specs.Code.Views.{variable_of}
 use Rattle.model_print.proofs.declarations.put_variables.Given as goal
 
 abbrev pub invariant-loop-var : goal.invariant-loop-var

@@ -1,6 +1,6 @@
 use Rattle.std.proofs.Common.{◌≡◌, ◌++◌, map, take}
-use Rattle.model_core.specs.Canonical.{after_commas, watched_name}
-use Rattle.model_core.specs.Views.{graph_of, watched_of}
+use Rattle.model_core.specs.Text.Canonical.{after_commas, watched_name}
+use Rattle.model_core.specs.Code.Views.{graph_of, watched_of}
 use Rattle.model_print.proofs.declarations.put_watched_names.Given as goal
 
 abbrev pub invariant-loop-next : goal.invariant-loop-next

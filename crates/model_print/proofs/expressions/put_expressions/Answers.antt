@@ -1,7 +1,7 @@
 -- the invariant after one element more
 use Rattle.std.proofs.lemmas.List.{map_more}
-use Rattle.model_core.specs.Canonical.{expression_text}
-use Rattle.model_core.specs.Views.{expression_of, graph_of}
+use Rattle.model_core.specs.Text.Canonical.{expression_text}
+use Rattle.model_core.specs.Code.Views.{expression_of, graph_of}
 use Rattle.model_print.proofs.Loops.{one_more_behind_comma}
 use Rattle.model_print.proofs.expressions.put_expressions.Goals as goal
 

@@ -1,6 +1,6 @@
 use Rattle.std.proofs.Common.{◌≡◌, ◌++◌, map, take}
-use Rattle.model_core.specs.Canonical.{after_commas, expression_text}
-use Rattle.model_core.specs.Views.{graph_of, expression_of}
+use Rattle.model_core.specs.Text.Canonical.{after_commas, expression_text}
+use Rattle.model_core.specs.Code.Views.{graph_of, expression_of}
 use Rattle.model_print.proofs.expressions.put_expressions.Given as goal
 
 abbrev pub invariant-loop-expr : goal.invariant-loop-expr

@@ -1,7 +1,7 @@
 use Rattle.std.proofs.Common.{◌≡◌, ◌++◌, map, take}
 use Rattle.std.specs.List.{flat_map}
-use Rattle.model_core.specs.Canonical.{edge_line}
-use Rattle.model_core.specs.Views.{graph_of, edge_of}
+use Rattle.model_core.specs.Text.Canonical.{edge_line}
+use Rattle.model_core.specs.Code.Views.{graph_of, edge_of}
 use Rattle.model_print.proofs.vertices.put_edges.Given as goal
 
 abbrev pub invariant-loop-edge : goal.invariant-loop-edge

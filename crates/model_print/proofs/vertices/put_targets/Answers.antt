@@ -1,7 +1,7 @@
 -- the invariant after one element more
 use Rattle.std.proofs.lemmas.List.{map_more}
-use Rattle.model_core.specs.Canonical.{location_text}
-use Rattle.model_core.specs.Views.{graph_of, location_of}
+use Rattle.model_core.specs.Text.Canonical.{location_text}
+use Rattle.model_core.specs.Code.Views.{graph_of, location_of}
 use Rattle.model_print.proofs.Loops.{one_more_behind_comma}
 use Rattle.model_print.proofs.vertices.put_targets.Goals as goal
 

@@ -1,6 +1,6 @@
 use Rattle.std.proofs.Common.{◌≡◌, ◌++◌, map, take}
-use Rattle.model_core.specs.Canonical.{after_commas, location_text}
-use Rattle.model_core.specs.Views.{graph_of, location_of}
+use Rattle.model_core.specs.Text.Canonical.{after_commas, location_text}
+use Rattle.model_core.specs.Code.Views.{graph_of, location_of}
 use Rattle.model_print.proofs.vertices.put_targets.Given as goal
 
 abbrev pub invariant-loop-target : goal.invariant-loop-target

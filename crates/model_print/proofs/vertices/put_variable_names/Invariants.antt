@@ -1,6 +1,6 @@
 use Rattle.std.proofs.Common.{◌≡◌, ◌++◌, map, take}
-use Rattle.model_core.specs.Canonical.{after_commas, variable_name}
-use Rattle.model_core.specs.Views.{graph_of}
+use Rattle.model_core.specs.Text.Canonical.{after_commas, variable_name}
+use Rattle.model_core.specs.Code.Views.{graph_of}
 use Rattle.model_print.proofs.vertices.put_variable_names.Given as goal
 
 abbrev pub invariant-loop-var : goal.invariant-loop-var

@@ -1,7 +1,7 @@
 use Rattle.std.proofs.Common.{◌≡◌, ◌++◌, map, take}
 use Rattle.std.specs.List.{flat_map}
-use Rattle.model_core.specs.Canonical.{vertex_lines}
-use Rattle.model_core.specs.Views.{graph_of, vertex_of}
+use Rattle.model_core.specs.Text.Canonical.{vertex_lines}
+use Rattle.model_core.specs.Code.Views.{graph_of, vertex_of}
 use Rattle.model_print.proofs.vertices.put_vertices.Given as goal
 
 abbrev pub invariant-loop-vertex : goal.invariant-loop-vertex

@@ -1,7 +1,7 @@
 -- One name is read, and then it ends or a comma comes.
 use Rattle.std.proofs.Common.{sym, refl, rules, ◌∙◌}
 use Rattle.model_core.specs.declared.token.Symbol.TheVariants as symbols
-use Rattle.model_core.specs.WrittenViews.{written_name}
+use Rattle.model_core.specs.Code.WrittenViews.{written_name}
 use Rattle.model_read.specs.Reader.{is_symbol, name_at}
 use Rattle.model_read.specs.Rules.{next_name_at, names_at}
 use Rattle.model_read.proofs.Loop.{is_read, comes_again, is_done}

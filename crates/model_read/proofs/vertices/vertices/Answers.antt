@@ -1,7 +1,7 @@
 -- One vertex is read, and then it ends or one more comes.
 use Rattle.std.proofs.Common.{sym, refl, rules, arith, ◌∙◌}
 use Rattle.model_core.specs.declared.token.Word.TheVariants as words
-use Rattle.model_core.specs.WrittenViews.{written_vertex}
+use Rattle.model_core.specs.Code.WrittenViews.{written_vertex}
 use Rattle.model_read.specs.Reader.{is_word}
 use Rattle.model_read.specs.Rules.{vertex_at, vertices_at}
 use Rattle.model_read.proofs.Loop.{is_read, comes_again, is_done}

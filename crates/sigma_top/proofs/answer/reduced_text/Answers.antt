@@ -1,5 +1,5 @@
 use Rattle.std.proofs.lemmas.Result.{err_from_is_err_and}
-use Rattle.model_core.specs.Views.{graph_of}
+use Rattle.model_core.specs.Code.Views.{graph_of}
 use Rattle.sigma_top.proofs.Answering.{vertices_distinct}
 use Rattle.sigma_top.proofs.answer.reduced_text.Goals as goal
 

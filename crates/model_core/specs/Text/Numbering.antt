@@ -3,10 +3,10 @@ use Rattle.std.specs.Prelude.{◌≡◌, ℕ, ◌+◌, ℤ, pos, negsuc, neg_ℤ
 use Rattle.std.specs.Option.{option_map, option_and_then}
 use Rattle.model_core.specs.declared.model.Kind.{Kind}
 use Rattle.model_core.specs.declared.model.Kind.TheVariants as kinds
-use Rattle.model_core.specs.Lexing.{same_bytes}
+use Rattle.model_core.specs.Text.Lexing.{same_bytes}
 use Rattle.model_core.specs.EventGraph as graph
-use Rattle.model_core.specs.Written as written
-use Rattle.model_core.specs.Written.{WrittenName, WrittenNumber, WrittenSigned, WrittenKind, WrittenLiteral, WrittenExpression, WrittenVariable, WrittenRow, WrittenTable, WrittenTarget, WrittenChoice, WrittenChange, WrittenEdgeKind, WrittenEdge, WrittenVertex, WrittenModel}
+use Rattle.model_core.specs.Text.Written as written
+use Rattle.model_core.specs.Text.Written.{WrittenName, WrittenNumber, WrittenSigned, WrittenKind, WrittenLiteral, WrittenExpression, WrittenVariable, WrittenRow, WrittenTable, WrittenTarget, WrittenChoice, WrittenChange, WrittenEdgeKind, WrittenEdge, WrittenVertex, WrittenModel}
 
 -- a value that may be missing, and what is done with it
 infixl 10 ◌>>=◌

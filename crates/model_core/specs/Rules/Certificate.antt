@@ -3,7 +3,7 @@ use Rattle.std.specs.Prelude.{ℕ, List, [], ◌∷◌, ◌++◌, map, codes, de
 use Rattle.std.specs.List.{flat_map}
 use Rattle.model_core.specs.declared.application.Application.{Application}
 use Rattle.model_core.specs.declared.application.Application.TheVariants as code
-use Rattle.model_core.specs.Rules.{RuleApplication, Prune}
+use Rattle.model_core.specs.Rules.Reduction.{RuleApplication, Prune}
 
 -- the rule application that one of the code stands for
 abbrev pub application_of : Application → RuleApplication

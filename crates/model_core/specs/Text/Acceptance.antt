@@ -2,12 +2,12 @@
 use Rattle.std.specs.Prelude.{◌≡◌, ℕ, ◌+◌, ◌≤◌, ℤ, pos, negsuc, ◌≤ℤ◌, Bool, false, List, [], ◌∷◌, ◌++◌, length, map, Some, None, IfSome, Ok, nat_eq}
 use Rattle.std.specs.List.{AllByRecursion, IsDistinct}
 use Rattle.model_core.specs.EventGraph.{EventGraph, EventVertex, Variable, WeightTable, Watched, WatchedVariable, WatchedVertex}
-use Rattle.model_core.specs.Written as written
-use Rattle.model_core.specs.Written.{WrittenModel, WrittenKind, WrittenLiteral, WrittenVariable, WrittenExpression, WrittenChange, WrittenEdgeKind, WrittenEdge, WrittenVertex}
-use Rattle.model_core.specs.Lexing.{Lexeme, tokens_of, same_bytes}
-use Rattle.model_core.specs.FirstForm as first_form
-use Rattle.model_core.specs.Numbering.{numbered}
-use Rattle.model_core.specs.Canonical.{canonical}
+use Rattle.model_core.specs.Text.Written as written
+use Rattle.model_core.specs.Text.Written.{WrittenModel, WrittenKind, WrittenLiteral, WrittenVariable, WrittenExpression, WrittenChange, WrittenEdgeKind, WrittenEdge, WrittenVertex}
+use Rattle.model_core.specs.Text.Lexing.{Lexeme, tokens_of, same_bytes}
+use Rattle.model_core.specs.Text.FirstForm as first_form
+use Rattle.model_core.specs.Text.Numbering.{numbered}
+use Rattle.model_core.specs.Text.Canonical.{canonical}
 
 -- a name has at most 32 bytes
 abbrev pub IsShort : List ℕ → Type 0

@@ -22,7 +22,7 @@ use Rattle.model_core.specs.declared.raw.RawEdgeForm.TheVariants as forms
 use Rattle.model_core.specs.declared.raw.RawExpr.{RawExpr}
 use Rattle.model_core.specs.declared.raw.RawForm.{RawForm}
 use Rattle.model_core.specs.declared.raw.RawForm.TheVariants as exprs
-use Rattle.model_core.specs.Written.{WrittenName, WrittenNumber, WrittenSigned, WrittenKind, RangeKind, WrittenLiteral, SignedLiteral, WrittenExpression, Number, Truth, Scalar, WrittenVariable, WrittenRow, WrittenTable, WrittenTarget, WrittenChange, Set, WrittenEdgeKind, Schedule, WrittenEdge, WrittenVertex, WrittenModel}
+use Rattle.model_core.specs.Text.Written.{WrittenName, WrittenNumber, WrittenSigned, WrittenKind, RangeKind, WrittenLiteral, SignedLiteral, WrittenExpression, Number, Truth, Scalar, WrittenVariable, WrittenRow, WrittenTable, WrittenTarget, WrittenChange, Set, WrittenEdgeKind, Schedule, WrittenEdge, WrittenVertex, WrittenModel}
 
 abbrev pub written_name : RawName → WrittenName
 written_name n = record { name = n.name; at = n.at }

@@ -2,11 +2,11 @@
 use Rattle.std.specs.Prelude.{ℕ, ℤ, List, [], map, zip, slice_index_or, Result, Ok, Err}
 use Rattle.sig_base.specs.declared.fault.FaultKind.{FaultKind}
 use Rattle.model_core.specs.EventGraph.{EventGraph, EventVertex}
-use Rattle.model_core.specs.State.{State, scalar}
-use Rattle.model_core.specs.Value.{OrFault, ◌>>=◌, in_turn}
-use Rattle.model_core.specs.Changes.{store, make_change}
-use Rattle.model_core.specs.Pending.{Entry, TakenOff}
-use Rattle.model_core.specs.Edges.{treat}
+use Rattle.model_core.specs.Run.State.{State, scalar}
+use Rattle.model_core.specs.Run.Value.{OrFault, ◌>>=◌, in_turn}
+use Rattle.model_core.specs.Run.Changes.{store, make_change}
+use Rattle.model_core.specs.Run.Pending.{Entry, TakenOff}
+use Rattle.model_core.specs.Run.Edges.{treat}
 
 -- where a run stands between two steps
 pub record Configuration : Type 0 where

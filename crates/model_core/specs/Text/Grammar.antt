@@ -3,8 +3,8 @@ use Rattle.std.specs.Prelude.{◌≡◌, ◌⊎◌, ℕ, ℤ, List, [], ◌∷�
 use Rattle.model_core.specs.declared.token.Word.{Word}
 use Rattle.model_core.specs.declared.token.Symbol.{Symbol}
 use Rattle.model_core.specs.declared.token.Symbol.TheVariants as symbols
-use Rattle.model_core.specs.Lexing.{Lexeme, NameOf, Reserved, NumberOf, Mark}
-use Rattle.model_core.specs.Written.{WrittenName, WrittenNumber}
+use Rattle.model_core.specs.Text.Lexing.{Lexeme, NameOf, Reserved, NumberOf, Mark}
+use Rattle.model_core.specs.Text.Written.{WrittenName, WrittenNumber}
 
 -- p tokens value left: the tokens begin with what p derives as the value, and the others are left
 abbrev pub Grammar : Type 0 → Type 1

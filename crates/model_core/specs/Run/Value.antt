@@ -4,7 +4,7 @@ use Rattle.std.specs.Ordering.{int_eq}
 use Rattle.sig_base.specs.declared.fault.FaultKind.{FaultKind}
 use Rattle.sig_base.specs.declared.fault.FaultKind.TheVariants as faults
 use Rattle.model_core.specs.EventGraph.{EventGraph, Expression, Number, Truth, Clock, Scalar, Cell, Negative, Not, Binary, If, Operator, Add, Subtract, Multiply, Divide, Remainder, Least, Greatest, Equal, NotEqual, Below, AtMost, Above, AtLeast, And, Or, Location}
-use Rattle.model_core.specs.State.{State, Place, scalar, variable_at, cell_at, within}
+use Rattle.model_core.specs.Run.State.{State, Place, scalar, variable_at, cell_at, within}
 
 -- a result, or the fault of what is done first
 abbrev pub OrFault : Type 0 → Type 0

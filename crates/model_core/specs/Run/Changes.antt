@@ -3,8 +3,8 @@ use Rattle.std.specs.Prelude.{ℕ, ◌+◌, ℤ, pos, int_lt, cond, List, [], ma
 use Rattle.sig_base.specs.declared.fault.FaultKind.TheVariants as faults
 use Rattle.sig_base.specs.Stream.{word, uniform_pick, weighted_pick}
 use Rattle.model_core.specs.EventGraph.{EventGraph, Variable, Choice, Uniform, ByTable, WeightTable, StateChange, Set, Draw, Location, Expression}
-use Rattle.model_core.specs.State.{State, Place, variable_at, within, with_cell}
-use Rattle.model_core.specs.Value.{OrFault, ◌>>=◌, each, in_turn, value_of, place_of}
+use Rattle.model_core.specs.Run.State.{State, Place, variable_at, within, with_cell}
+use Rattle.model_core.specs.Run.Value.{OrFault, ◌>>=◌, each, in_turn, value_of, place_of}
 
 -- a state, and how many words were taken from each stream
 pub record Drawn : Type 0 where

@@ -2,9 +2,9 @@
 use Rattle.std.specs.Prelude.{ℕ, ◌+◌, ℤ, pos, negsuc, cond, List, [], ◌∷◌, ◌++◌, Ok, Err}
 use Rattle.sig_base.specs.declared.fault.FaultKind.TheVariants as faults
 use Rattle.model_core.specs.EventGraph.{EventGraph, EventEdge, EdgeKind, Schedule, Urgent, CancelNext, CancelEqual, CancelAll}
-use Rattle.model_core.specs.State.{State}
-use Rattle.model_core.specs.Value.{OrFault, ◌>>=◌, each, value_of, is_one}
-use Rattle.model_core.specs.Pending.{Entry, is_of, is_with, without_next, without_all}
+use Rattle.model_core.specs.Run.State.{State}
+use Rattle.model_core.specs.Run.Value.{OrFault, ◌>>=◌, each, value_of, is_one}
+use Rattle.model_core.specs.Run.Pending.{Entry, is_of, is_with, without_next, without_all}
 
 -- a delay in ticks
 abbrev pub delay_ticks : ℤ → OrFault ℕ

@@ -1,10 +1,10 @@
 -- The sameness of two models: no look at their runs tells them apart, but for the number of steps.
 use Rattle.std.specs.Prelude.{◌≡◌, ℕ, ◌^◌, ◌<◌, ◌≤◌, ℤ, IsTrue, List, ◌++◌, map}
 use Rattle.model_core.specs.EventGraph.{EventGraph, Variable, Watched, WatchedVariable, WatchedVertex}
-use Rattle.model_core.specs.State.{variable_at}
-use Rattle.model_core.specs.Step.{vertex_at}
-use Rattle.model_core.specs.Machine.{Look, finished}
-use Rattle.model_core.specs.Run.{allowed, look}
+use Rattle.model_core.specs.Run.State.{variable_at}
+use Rattle.model_core.specs.Run.Step.{vertex_at}
+use Rattle.model_core.specs.Run.Machine.{Look, finished}
+use Rattle.model_core.specs.Run.History.{allowed, look}
 
 -- a list begins with another
 abbrev pub Begins : {A : Type 0} → List A → List A → Type 0

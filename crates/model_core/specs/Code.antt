@@ -1,0 +1,3 @@
+-- Which plain value each value of the code stands for.
+pub mod Views
+pub mod WrittenViews

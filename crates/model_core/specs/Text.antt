@@ -1,0 +1,8 @@
+-- Which texts are models and which model each is, and the one text of a model, in reading order.
+pub mod Lexing
+pub mod Written
+pub mod Grammar
+pub mod FirstForm
+pub mod Numbering
+pub mod Canonical
+pub mod Acceptance
