@@ -1,5 +1,5 @@
--- A text has one answer.
-use Rattle.std.proofs.Common.{◌≡◌, ℕ, List, [], ◌∷◌, ◌++◌, Option, Some, None, refl, sym, ap, ◌∙◌, subst}
+-- A job has one answer to a text: what it is made of is determined, and there is one.
+use Rattle.std.proofs.Common.{◌≡◌, ◌⊎◌, inl, inr, ℕ, ◌≤◌, List, [], ◌∷◌, ◌++◌, Option, Some, None, refl, sym, ap, ◌∙◌, subst, arith}
 use Rattle.model_core.specs.EventGraph.{EventGraph}
 use Rattle.model_core.specs.Text.Lexing.{Lexeme}
 use Rattle.model_core.specs.Text.Written.{WrittenModel}
@@ -9,9 +9,11 @@ use Rattle.model_core.specs.Text.Acceptance.{ReadsFirst}
 use Rattle.model_core.specs.Text.Canonical.{canonical}
 use Rattle.model_core.specs.Rules.Reduction.{RuleApplication, first_rule, applied, Strategy}
 use Rattle.model_core.specs.Rules.Certificate.{certificate}
-use Rattle.sigma_top.specs.declared.status.Status.{Status}
-use Rattle.sigma_top.specs.declared.status.Status.TheVariants as statuses
-use Rattle.sigma_top.specs.Answer.{Reduces, Answer, AnswersWith, Answers}
+use Rattle.sigma_top.specs.declared.answer.Answer.{Answer}
+use Rattle.sigma_top.specs.declared.job.Job.{Job}
+use Rattle.sigma_top.specs.declared.job.Job.TheVariants as jobs
+use Rattle.sigma_top.specs.Answer.{done, Reduces, WritesFor, IsDone, OfModel, AnswersJob, IsWithin, IsOver, Answers}
+use Rattle.sigma_top.specs.Jobs.{limit_of}
 use Rattle.sigma_top.proofs.Answering.{same_tokens}
 
 -- what the strategy makes of a model: the applications and the model reached
@@ -29,7 +31,7 @@ some_is_not_none : {A : Type 0} (o : Option A) (x : A) → o ≡ None → o ≡ 
 some_is_not_none o x e f = cc
 
 -- the strategy makes one list of applications of a model, and reaches one model
-one_strategy : (a b : List RuleApplication) (g h k : EventGraph) → Strategy g a h → Strategy g b k → reached a h ≡ reached b k
+pub one_strategy : (a b : List RuleApplication) (g h k : EventGraph) → Strategy g a h → Strategy g b k → reached a h ≡ reached b k
 one_strategy [] [] g h k p q = ap (reached []) (sym p.1 ∙ q.1)
 one_strategy [] (y ∷ ys) g h k p q = absurd (some_is_not_none (first_rule g) y p.0 q.0)
 one_strategy (x ∷ xs) [] g h k p q = absurd (some_is_not_none (first_rule g) x q.0 p.0)
@@ -39,40 +41,42 @@ one_strategy (x ∷ xs) (y ∷ ys) g h k p q =
     let rest = one_strategy xs ys p.1 h k p.3 (subst (λ (n : EventGraph). Strategy n ys k) (sym next) q.3) in
     ap (λ (r : Reached). reached (x ∷ r.applications) r.graph) rest ∙ ap (λ z. reached (z ∷ ys) k) rule
 
+-- what the strategy makes of a model is written in one way
+one_reduction : (g : EventGraph) (a b : List ℕ) → Reduces g a → Reduces g b → a ≡ b
+one_reduction g a b p q =
+    p.written ∙ ap (λ (r : Reached). canonical r.graph ++ certificate r.applications) (one_strategy p.applications q.applications g p.reduced q.reduced p.strategy q.strategy) ∙ sym q.written
+
+one_written : (job : Job) (g : EventGraph) (a b : List ℕ) → WritesFor job g a → WritesFor job g b → a ≡ b
+one_written jobs.Reduce g a b p q = one_reduction g a b p q
+
+one_done : (AreWritten : List ℕ → Type 0) → ((m n : List ℕ) → AreWritten m → AreWritten n → m ≡ n) → (a b : Answer) → IsDone AreWritten a → IsDone AreWritten b → a ≡ b
+one_done AreWritten one a b x y = x.2 ∙ ap (λ out. done out) (one x.0 y.0 x.1 y.1) ∙ sym y.2
+
+over_within : (limit : Option ℕ) (text : List ℕ) → IsOver limit text → IsWithin limit text → ⊥
+over_within None text over within = over
+over_within (Some limit) text over within = omega (arith, over, within)
+
 module _ (one : (tokens : List Lexeme) (a b : WrittenModel) → first_form.text tokens a [] → first_form.text tokens b [] → a ≡ b) where
   -- a text reads as one model
-  one_model : (text : List ℕ) (g h : EventGraph) → ReadsFirst text g → ReadsFirst text h → g ≡ h
+  pub one_model : (text : List ℕ) (g h : EventGraph) → ReadsFirst text g → ReadsFirst text h → g ≡ h
   one_model text g h p q =
       let tokens = same_tokens text q.spells.0 p.spells.0 q.spells.1 p.spells.1 in
       let model = one p.spells.0 q.model p.model (subst (λ (t : List Lexeme). first_form.text t q.model []) tokens q.spells.2) p.spells.2 in
       same_next (numbered p.model) g h p.accepted.numbers (subst (λ (m : WrittenModel). numbered m ≡ Some h) model q.accepted.numbers)
 
-  -- one text is written for it
-  one_output : (text a b : List ℕ) → Reduces text a → Reduces text b → a ≡ b
-  one_output text a b p q =
-      let model = one_model text q.original p.original q.reads p.reads in
-      let same = one_strategy p.applications q.applications p.original p.reduced q.reduced p.strategy (subst (λ (g : EventGraph). Strategy g q.applications q.reduced) model q.strategy) in
-      p.written ∙ ap (λ (r : Reached). canonical r.graph ++ certificate r.applications) same ∙ sym q.written
+  module _ (text : List ℕ) where
+    -- a job whose answer a model determines
+    of_one_model : (AnswersModel : EventGraph → Answer → Type 0) → ((g : EventGraph) (a b : Answer) → AnswersModel g a → AnswersModel g b → a ≡ b) → (a b : Answer) → OfModel text AnswersModel a → OfModel text AnswersModel b → a ≡ b
+    of_one_model AnswersModel only a b (inl x) (inl y) = x.1 ∙ sym y.1
+    of_one_model AnswersModel only a b (inl x) (inr y) = absurd (x.0 y.0 y.1)
+    of_one_model AnswersModel only a b (inr x) (inl y) = absurd (y.0 x.0 x.1)
+    of_one_model AnswersModel only a b (inr x) (inr y) = only x.0 a b x.2 (subst (λ (g : EventGraph). AnswersModel g b) (one_model text y.0 x.0 y.1 x.1) y.2)
 
-  one_answer_with : (s t : Status) (text o p e f : List ℕ) → AnswersWith s text o e → AnswersWith t text p f → (s ≡ t) × (o ≡ p) × (e ≡ f)
-  one_answer_with statuses.Done statuses.Done text o p e f x y = (refl, one_output text o p x.0 y.0, x.1 ∙ sym y.1)
-  one_answer_with statuses.Refused statuses.Refused text o p e f x y = (refl, x.1 ∙ sym y.1, x.2 ∙ sym y.2)
-  one_answer_with statuses.Done statuses.Refused text o p e f x y = absurd (y.0 x.0.original x.0.reads)
-  one_answer_with statuses.Refused statuses.Done text o p e f x y = absurd (x.0 y.0.original y.0.reads)
-  one_answer_with statuses.Done statuses.Usage text o p e f x y = absurd y
-  one_answer_with statuses.Done statuses.ReadFault text o p e f x y = absurd y
-  one_answer_with statuses.Done statuses.WriteFault text o p e f x y = absurd y
-  one_answer_with statuses.Done statuses.NoMemory text o p e f x y = absurd y
-  one_answer_with statuses.Refused statuses.Usage text o p e f x y = absurd y
-  one_answer_with statuses.Refused statuses.ReadFault text o p e f x y = absurd y
-  one_answer_with statuses.Refused statuses.WriteFault text o p e f x y = absurd y
-  one_answer_with statuses.Refused statuses.NoMemory text o p e f x y = absurd y
-  one_answer_with statuses.Usage t text o p e f x y = absurd x
-  one_answer_with statuses.ReadFault t text o p e f x y = absurd x
-  one_answer_with statuses.WriteFault t text o p e f x y = absurd x
-  one_answer_with statuses.NoMemory t text o p e f x y = absurd x
+    one_of_job : (job : Job) (a b : Answer) → AnswersJob job text a → AnswersJob job text b → a ≡ b
+    one_of_job job a b x y = of_one_model (λ g c. IsDone (WritesFor job g) c) (λ g c d v w. one_done (WritesFor job g) (one_written job g) c d v w) a b x y
 
-  pub one_answer : (text : List ℕ) (a b : Answer) → Answers text a → Answers text b → a ≡ b
-  one_answer text a b x y =
-      let same = one_answer_with a.status b.status text a.output b.output a.errors b.errors x y in
-      λ i. record { status = same.0 i; output = same.1 i; errors = same.2 i }
+    pub one_answer : (job : Job) (a b : Answer) → Answers job text a → Answers job text b → a ≡ b
+    one_answer job a b (inl x) (inl y) = x.1 ∙ sym y.1
+    one_answer job a b (inl x) (inr y) = absurd (over_within (limit_of job) text x.0 y.0)
+    one_answer job a b (inr x) (inl y) = absurd (over_within (limit_of job) text y.0 x.0)
+    one_answer job a b (inr x) (inr y) = one_of_job job a b x.1 y.1

@@ -1,9 +1,9 @@
 pub mod Lists
 pub mod SweepIsStrategy
-pub mod Reading
-pub mod Telling
 pub mod Answering
+pub mod InputRead
+pub mod Streaming
+pub mod Performing
+pub mod TopCall
 pub mod Determined
-pub mod Answered
-pub mod Done
-pub mod Stopped
+pub mod HasAnswer

@@ -1,19 +1,82 @@
--- What the program answers to the text of a model.
-use Rattle.std.specs.Prelude.{◌≡◌, ℕ, List, [], ◌++◌, Option}
-use Rattle.sig_base.specs.Sink.{GrowsBy}
+-- What each job answers to a text. Nothing is said here of where the text comes from or where the answer goes.
+use Rattle.std.specs.Prelude.{◌≡◌, ◌≤◌, ◌<◌, ◌⊎◌, ℕ, List, ◌++◌, codes, length, Option, Some, None}
 use Rattle.model_core.specs.EventGraph.{EventGraph}
 use Rattle.model_core.specs.Text.Acceptance.{ReadsFirst}
 use Rattle.model_core.specs.Text.Canonical.{canonical}
 use Rattle.model_core.specs.Rules.Reduction.{RuleApplication, Strategy}
 use Rattle.model_core.specs.Rules.Certificate.{certificate}
 use Rattle.model_core.specs.Run.Same.{Same}
-use Rattle.sigma_top.specs.declared.status.Status.{Status}
-use Rattle.sigma_top.specs.declared.status.Status.TheVariants as statuses
-use Rattle.sigma_top.specs.Ending.{refusal_line}
+use Rattle.sigma_top.specs.declared.answer.Answer.{Answer}
+use Rattle.sigma_top.specs.declared.answer.Answer.TheVariants.{Given, Refused}
+use Rattle.sigma_top.specs.declared.job.Job.{Job}
+use Rattle.sigma_top.specs.declared.job.Job.TheVariants as jobs
+use Rattle.sigma_top.specs.declared.status.End.TheVariants as ends
+use Rattle.sigma_top.specs.declared.status.Refusal.TheVariants as refusals
+use Rattle.sigma_top.specs.Jobs.{limit_of}
 
--- What is written for the text of a model: the canonical text of the reduced model and then the certificate of the
--- applications that the strategy makes. The canonical text reads back as the reduced model, which is the same.
-pub record Reduces (text out : List ℕ) : Type 0 where
+-- ---- the forms of an answer
+
+-- the job is done, and these bytes are written
+abbrev pub done : List ℕ → Answer
+done bytes = Given ends.Done bytes
+
+-- the text is refused, and this line tells why
+abbrev pub refused : List ℕ → Answer
+refused line = Refused refusals.Refused line
+
+abbrev pub too_long : List ℕ
+too_long = codes "sigma: text too long\n"
+
+abbrev pub not_first_form : List ℕ
+not_first_form = codes "sigma: not of the first form\n"
+
+-- ---- what each job writes for a model
+
+-- `reduce`: the canonical text of what the strategy makes of the model, and the certificate of its applications
+pub record Reduces (original : EventGraph) (out : List ℕ) : Type 0 where
+  pub applications : List RuleApplication
+  pub reduced : EventGraph
+  pub strategy : Strategy original applications reduced
+  pub written : out ≡ canonical reduced ++ certificate applications
+
+abbrev pub WritesFor : Job → EventGraph → List ℕ → Type 0
+WritesFor jobs.Reduce g out = Reduces g out
+
+-- ---- the answer to a text
+
+-- no model reads, in the first form, from the text
+abbrev pub ReadsAsNone : List ℕ → Type 0
+ReadsAsNone text = (g : EventGraph) → ReadsFirst text g → ⊥
+
+-- the text is refused, or it reads as a model that has this answer
+abbrev pub OfModel : List ℕ → (EventGraph → Answer → Type 0) → Answer → Type 0
+OfModel text AnswersModel a = (ReadsAsNone text × (a ≡ refused not_first_form)) ⊎ ((g : EventGraph) × ReadsFirst text g × AnswersModel g a)
+
+-- the job is done, and these are its bytes
+abbrev pub IsDone : (List ℕ → Type 0) → Answer → Type 0
+IsDone AreWritten a = (out : List ℕ) × AreWritten out × (a ≡ done out)
+
+-- the answer of a job to a text within its limit
+abbrev pub AnswersJob : Job → List ℕ → Answer → Type 0
+AnswersJob job text a = OfModel text (λ g b. IsDone (WritesFor job g) b) a
+
+-- the text has at most so many bytes
+abbrev pub IsWithin : Option ℕ → List ℕ → Type 0
+IsWithin None text = Unit {0}
+IsWithin (Some limit) text = length text ≤ limit
+
+abbrev pub IsOver : Option ℕ → List ℕ → Type 0
+IsOver None text = ⊥
+IsOver (Some limit) text = limit < length text
+
+-- the answer of a job to a text
+abbrev pub Answers : Job → List ℕ → Answer → Type 0
+Answers job text a = (IsOver (limit_of job) text × (a ≡ refused too_long)) ⊎ (IsWithin (limit_of job) text × AnswersJob job text a)
+
+-- ---- what `reduce` is for
+
+-- What is written for the text spells a model that means the same: it reads back, and the two models are the same.
+pub record KeepsMeaning (text out : List ℕ) : Type 0 where
   pub original : EventGraph
   pub applications : List RuleApplication
   pub reduced : EventGraph
@@ -22,30 +85,3 @@ pub record Reduces (text out : List ℕ) : Type 0 where
   pub written : out ≡ canonical reduced ++ certificate applications
   pub reads_back : ReadsFirst (canonical reduced) reduced
   pub same : Same original reduced
-
--- no model reads, in the first form, from the text
-abbrev pub ReadsAsNone : List ℕ → Type 0
-ReadsAsNone text = (g : EventGraph) → ReadsFirst text g → ⊥
-
--- ---- the whole answer
-
--- a status, the bytes for the output and those for the error output
-pub record Answer : Type 0 where
-  pub status : Status
-  pub output : List ℕ
-  pub errors : List ℕ
-
--- with this status, the bytes answer the text
-abbrev pub AnswersWith : Status → List ℕ → List ℕ → List ℕ → Type 0
-AnswersWith statuses.Done text output errors = Reduces text output × (errors ≡ [])
-AnswersWith statuses.Refused text output errors = ReadsAsNone text × (output ≡ []) × (errors ≡ refusal_line text)
-AnswersWith status text output errors = ⊥
-
--- the answer to the text of a model
-abbrev pub Answers : List ℕ → Answer → Type 0
-Answers text a = AnswersWith a.status text a.output a.errors
-
--- the text has an answer with this status, and the output, of which these bytes were told before and these are now, grew by
--- its bytes
-abbrev pub AnsweredBy : Status → Option (List ℕ) → Option (List ℕ) → List ℕ → Type 0
-AnsweredBy status old new text = (a : Answer) × Answers text a × (a.status ≡ status) × GrowsBy old new a.output

@@ -1,46 +1,53 @@
 -- How the program ends: its status, and the line on the error output.
-use Rattle.std.specs.Prelude.{◌≡◌, ◌⊎◌, ℕ, nat_lt, if◌then◌else◌, List, [], length, codes}
+use Rattle.std.specs.Prelude.{ℕ, List, [], codes}
+use Rattle.sigma_top.specs.declared.answer.Answer.{Answer}
+use Rattle.sigma_top.specs.declared.answer.Answer.TheVariants.{Given, Refused}
 use Rattle.sigma_top.specs.declared.status.Status.{Status}
 use Rattle.sigma_top.specs.declared.status.Status.TheVariants as statuses
-use Rattle.sigma_top.specs.declared.status.Stop.{Stop}
-use Rattle.sigma_top.specs.declared.status.Stop.TheVariants as stops
+use Rattle.sigma_top.specs.declared.status.End.{End}
+use Rattle.sigma_top.specs.declared.status.End.TheVariants as ends
+use Rattle.sigma_top.specs.declared.status.Refusal.{Refusal}
+use Rattle.sigma_top.specs.declared.status.Refusal.TheVariants as refusals
+use Rattle.sigma_top.specs.declared.status.Failure.{Failure}
+use Rattle.sigma_top.specs.declared.status.Failure.TheVariants as failures
 
 -- the exit status of the program
-abbrev pub number_of : Status → ℕ
-number_of statuses.Done = 0
-number_of statuses.Refused = 1
-number_of statuses.Usage = 2
-number_of statuses.ReadFault = 3
-number_of statuses.WriteFault = 4
-number_of statuses.NoMemory = 5
+abbrev pub exit_status_of : Status → ℕ
+exit_status_of statuses.Done = 0
+exit_status_of statuses.Refused = 1
+exit_status_of statuses.Usage = 2
+exit_status_of statuses.ReadFault = 3
+exit_status_of statuses.WriteFault = 4
+exit_status_of statuses.NoMemory = 5
 
--- the status of a job that isn't done
-abbrev pub status_of : Stop → Status
-status_of stops.Usage = statuses.Usage
-status_of stops.ReadFault = statuses.ReadFault
-status_of stops.WriteFault = statuses.WriteFault
-status_of stops.NoMemory = statuses.NoMemory
-status_of stops.TooLong = statuses.Refused
-status_of stops.NotFirstForm = statuses.Refused
+-- the status of a job that writes
+abbrev pub status_of_end : End → Status
+status_of_end ends.Done = statuses.Done
 
--- the line that tells why a job isn't done
-abbrev pub error_line : Stop → List ℕ
-error_line stops.Usage = codes "sigma: bad command line\n"
-error_line stops.ReadFault = codes "sigma: cannot read\n"
-error_line stops.WriteFault = codes "sigma: cannot write\n"
-error_line stops.NoMemory = codes "sigma: out of memory\n"
-error_line stops.TooLong = codes "sigma: text too long\n"
-error_line stops.NotFirstForm = codes "sigma: not of the first form\n"
+-- the status of a refusal
+abbrev pub status_of_refusal : Refusal → Status
+status_of_refusal refusals.Refused = statuses.Refused
 
--- the line tells this status; nothing is told of a job that is done
-abbrev pub TellsStatus : Status → List ℕ → Type 0
-TellsStatus statuses.Done line = line ≡ []
-TellsStatus statuses.Refused line = (line ≡ error_line stops.TooLong) ⊎ (line ≡ error_line stops.NotFirstForm)
-TellsStatus statuses.Usage line = line ≡ error_line stops.Usage
-TellsStatus statuses.ReadFault line = line ≡ error_line stops.ReadFault
-TellsStatus statuses.WriteFault line = line ≡ error_line stops.WriteFault
-TellsStatus statuses.NoMemory line = line ≡ error_line stops.NoMemory
+-- the status where there is no answer
+abbrev pub status_of_failure : Failure → Status
+status_of_failure failures.Usage = statuses.Usage
+status_of_failure failures.ReadFault = statuses.ReadFault
+status_of_failure failures.WriteFault = statuses.WriteFault
+status_of_failure failures.NoMemory = statuses.NoMemory
 
--- the line that tells why this text is refused
-abbrev pub refusal_line : List ℕ → List ℕ
-refusal_line text = if nat_lt 4194304 (length text) then error_line stops.TooLong else error_line stops.NotFirstForm
+-- the line that tells why there is no answer
+abbrev pub failure_line : Failure → List ℕ
+failure_line failures.Usage = codes "sigma: bad command line\n"
+failure_line failures.ReadFault = codes "sigma: cannot read\n"
+failure_line failures.WriteFault = codes "sigma: cannot write\n"
+failure_line failures.NoMemory = codes "sigma: out of memory\n"
+
+-- the status of an answer
+abbrev pub status_of_answer : Answer → Status
+status_of_answer (Given end bytes) = status_of_end end
+status_of_answer (Refused why line) = status_of_refusal why
+
+-- the bytes of an answer for the output
+abbrev pub bytes_of_answer : Answer → List ℕ
+bytes_of_answer (Given end bytes) = bytes
+bytes_of_answer (Refused why line) = []

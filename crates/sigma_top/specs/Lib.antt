@@ -1,5 +1,7 @@
 pub mod Sweep
-pub mod Words
+pub mod Limits
+pub mod Jobs
 pub mod Ending
 pub mod Answer
-pub mod Outside
+pub mod Delivery
+pub mod Frame

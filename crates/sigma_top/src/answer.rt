@@ -1,32 +1,42 @@
-//! From the text of a model to what is written for it.
+//! What each job answers to a text: one function a job, behind the reading that jobs on a model share.
 
-ghost use Rattle.std.specs.Prelude.{◌≡◌, ◌≤◌, ◌++◌, List, length, map, IfOk, IsErrOf};
+ghost use Rattle.std.specs.Prelude.{◌≡◌, ◌≤◌, ◌++◌, length, map, IfOk, IsErrOf};
 ghost use Rattle.std.specs.List.{IsDistinct};
 ghost use Rattle.model_core.specs.Text.Acceptance.{ReadsFirst};
 ghost use Rattle.model_core.specs.Text.Canonical.{canonical};
 ghost use Rattle.model_core.specs.Rules.Certificate.{application_of, certificate};
-ghost use Rattle.model_core.specs.EventGraph.{EventGraph};
 ghost use Rattle.model_core.specs.Text.Lexing.{same_bytes};
-ghost use Rattle.model_core.specs.Rules.Reduction.{RuleApplication, Strategy};
 ghost use Rattle.model_core.specs.Code.Views.{graph_of};
-ghost use Rattle.sigma_top.specs.Answer.{Reduces, ReadsAsNone};
+ghost use Rattle.sigma_top.specs.Answer.{refused, too_long, AnswersJob, WritesFor, IsWithin, Reduces, ReadsAsNone};
+ghost use Rattle.sigma_top.specs.Jobs.{limit_of};
+ghost use Rattle.sigma_top.specs.Limits.{text_max};
 ghost use Rattle.sigma_top.specs.Sweep.{names_of};
 
 use crate::answer_error::AnswerError;
 use crate::certificate::put_certificate;
+use crate::job::Job;
 use crate::spelling::spelled;
+use crate::status::{End, Refusal};
 use crate::strategy::{Reduced, reduce};
 use first_form::{FirstFormError, check};
-use model_core::{Model, reductions_keep_the_meaning};
+use model_core::Model;
 use model_print::print;
 use model_read::one_reading;
-use reading_back::reads_back;
 use sig_base::{NoMemory, Text};
 use std::alloc::Global;
 
+/// What a job answers to a text.
+#[derive(Drop)]
+pub enum Answer {
+    /// How it ends, and the bytes for the output.
+    Given(End, Text),
+    /// Why nothing is written, and the line for the error output.
+    Refused(Refusal, Text),
+}
+
 /// The model that the text reads as.
 fn model_of(alloc: Global, text: &[u8]) -> Result<Model, AnswerError>
-    requires { length text.now ≤ 4194304 }
+    requires { length text.now ≤ text_max }
     ensures ok { IfOk result (λ model. ReadsFirst text.now (graph_of model)) }
     ensures refused { IsErrOf result AnswerError.NotFirstForm → ReadsAsNone text.now }
 {
@@ -40,6 +50,21 @@ fn model_of(alloc: Global, text: &[u8]) -> Result<Model, AnswerError>
     }
 }
 
+/// A refusal of the text, with its line.
+fn refused(alloc: Global, line: &[u8]) -> Result<Answer, NoMemory>
+    ensures { IfOk result (λ a. a ≡ refused line.now) }
+{
+    let line = Vec::from_slice(alloc, line)?;
+    Ok(Answer::Refused(Refusal::Refused, Text::from_vec(line)))
+}
+
+/// The refusal of a text over the limit.
+pub fn too_long(alloc: Global) -> Result<Answer, NoMemory>
+    ensures { IfOk result (λ a. a ≡ refused too_long) }
+{
+    refused(alloc, b"sigma: text too long\n")
+}
+
 /// The canonical text of the reduced model, and then the certificate.
 fn written(alloc: Global, reduced: &Reduced) -> Result<Text, NoMemory>
     ensures { IfOk result (λ out. out ≡ canonical (graph_of reduced.now.model)
@@ -50,26 +75,36 @@ fn written(alloc: Global, reduced: &Reduced) -> Result<Text, NoMemory>
     Ok(out)
 }
 
-/// The canonical text of what the model is reduced to, and then the certificate.
+/// `reduce`: the canonical text of what the model is reduced to, and then the certificate.
 fn reduction(alloc: Global, model: Model) -> Result<Text, NoMemory>
     requires { IsDistinct same_bytes (names_of (graph_of model)) }
-    ensures { IfOk result (λ out. (applications : List RuleApplication) × (reduced : EventGraph)
-        × Strategy (graph_of model) applications reduced × (out ≡ canonical reduced ++ certificate applications)) }
+    ensures { IfOk result (Reduces (graph_of model)) }
 {
     let reduced = reduce(alloc, model)?;
     written(alloc, &reduced)
 }
 
-/// What is written for the text: the model is read and reduced.
-pub fn reduced_text(alloc: Global, text: &[u8]) -> Result<Text, AnswerError>
-    requires { length text.now ≤ 4194304 }
-    ensures ok { IfOk result (λ out. Reduces text.now out) }
-    ensures refused { IsErrOf result AnswerError.NotFirstForm → ReadsAsNone text.now }
+/// What a job writes for a model.
+fn output_of(alloc: Global, job: Job, model: Model) -> Result<Text, NoMemory>
+    requires { IsDistinct same_bytes (names_of (graph_of model)) }
+    ensures { IfOk result (WritesFor job (graph_of model)) }
 {
-    // By these laws what is written reads back as the reduced model, which means the same.
-    reads_back();
-    reductions_keep_the_meaning();
-    let model = model_of(alloc, text)?;
-    let out = reduction(alloc, model)?;
-    Ok(out)
+    match job {
+        Job::Reduce => reduction(alloc, model),
+    }
+}
+
+/// What a job answers to a text.
+pub fn answer_job(alloc: Global, job: Job, text: &[u8]) -> Result<Answer, NoMemory>
+    requires { IsWithin (limit_of job) text.now }
+    ensures { IfOk result (AnswersJob job text.now) }
+{
+    match model_of(alloc, text) {
+        Ok(model) => {
+            let output = output_of(alloc, job, model)?;
+            Ok(Answer::Given(End::Done, output))
+        }
+        Err(AnswerError::NotFirstForm) => refused(alloc, b"sigma: not of the first form\n"),
+        Err(AnswerError::NoMemory) => Err(NoMemory),
+    }
 }

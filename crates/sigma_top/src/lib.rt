@@ -5,12 +5,15 @@ mod answer;
 mod answer_error;
 mod answer_law;
 mod certificate;
+mod delivering;
+mod frame;
 mod job;
+mod reading;
+mod reduction_law;
 mod spelling;
 mod status;
 mod strategy;
-mod words;
 
 pub use answer_law::answers_are_determined;
-pub use job::sigma;
+pub use frame::sigma;
 pub use status::Status;

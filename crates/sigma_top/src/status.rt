@@ -1,7 +1,7 @@
 //! How the program ends.
 
 ghost use Rattle.std.specs.Prelude.{◌≡◌};
-ghost use Rattle.sigma_top.specs.Ending.{number_of, status_of, error_line};
+ghost use Rattle.sigma_top.specs.Ending.{exit_status_of, status_of_end, status_of_refusal, status_of_failure, failure_line};
 
 /// How a call of the program ended.
 #[derive(Clone, Copy, Debug, PartialEq, Eq)]
@@ -23,7 +23,7 @@ pub enum Status {
 impl Status {
     /// The exit status of the program.
     pub fn number(&self) -> u8
-        ensures { result ≡ number_of self.now }
+        ensures { result ≡ exit_status_of self.now }
     {
         match self {
             Status::Done => 0,
@@ -36,9 +36,45 @@ impl Status {
     }
 }
 
-/// Why a job isn't done.
+/// How a job ends that writes its answer.
 #[derive(Clone, Copy, Debug, PartialEq, Eq)]
-pub enum Stop {
+pub enum End {
+    /// It is done.
+    Done,
+}
+
+impl End {
+    /// The status that tells it.
+    pub fn status(self) -> Status
+        ensures { result ≡ status_of_end self }
+    {
+        match self {
+            End::Done => Status::Done,
+        }
+    }
+}
+
+/// Why a job writes nothing.
+#[derive(Clone, Copy, Debug, PartialEq, Eq)]
+pub enum Refusal {
+    /// The text is too long, or spells no accepted model.
+    Refused,
+}
+
+impl Refusal {
+    /// The status that tells it.
+    pub fn status(self) -> Status
+        ensures { result ≡ status_of_refusal self }
+    {
+        match self {
+            Refusal::Refused => Status::Refused,
+        }
+    }
+}
+
+/// Why there is no answer.
+#[derive(Clone, Copy, Debug, PartialEq, Eq)]
+pub enum Failure {
     /// The words are no job.
     Usage,
     /// A read of the input failed.
@@ -47,37 +83,30 @@ pub enum Stop {
     WriteFault,
     /// Memory was refused.
     NoMemory,
-    /// The text has more bytes than the limit.
-    TooLong,
-    /// The text reads, in the first form, as no model.
-    NotFirstForm,
 }
 
-impl Stop {
+impl Failure {
     /// The status that tells it.
     pub fn status(self) -> Status
-        ensures { result ≡ status_of self }
+        ensures { result ≡ status_of_failure self }
     {
         match self {
-            Stop::Usage => Status::Usage,
-            Stop::ReadFault => Status::ReadFault,
-            Stop::WriteFault => Status::WriteFault,
-            Stop::NoMemory => Status::NoMemory,
-            Stop::TooLong | Stop::NotFirstForm => Status::Refused,
+            Failure::Usage => Status::Usage,
+            Failure::ReadFault => Status::ReadFault,
+            Failure::WriteFault => Status::WriteFault,
+            Failure::NoMemory => Status::NoMemory,
         }
     }
 
     /// The line that tells it on the error output.
     pub fn line(self) -> &'static [u8]
-        ensures { result.now ≡ error_line self }
+        ensures { result.now ≡ failure_line self }
     {
         match self {
-            Stop::Usage => b"sigma: bad command line\n",
-            Stop::ReadFault => b"sigma: cannot read\n",
-            Stop::WriteFault => b"sigma: cannot write\n",
-            Stop::NoMemory => b"sigma: out of memory\n",
-            Stop::TooLong => b"sigma: text too long\n",
-            Stop::NotFirstForm => b"sigma: not of the first form\n",
+            Failure::Usage => b"sigma: bad command line\n",
+            Failure::ReadFault => b"sigma: cannot read\n",
+            Failure::WriteFault => b"sigma: cannot write\n",
+            Failure::NoMemory => b"sigma: out of memory\n",
         }
     }
 }

@@ -1,0 +1,137 @@
+-- From the job to the call, and from its table of statuses to its other clauses.
+use Rattle.std.proofs.Common.{◌≡◌, ◌⊎◌, inl, inr, ℕ, List, [], Option, Some, None, Result, Ok, Err, refl, ap, sym, subst, ◌∙◌}
+use Rattle.std.specs.Prelude.{IfSome}
+use Rattle.std.proofs.lemmas.List.{append-nil}
+use Rattle.sig_base.specs.Faults.{HasRisen}
+use Rattle.sig_base.specs.Sink.{GrowsBy}
+use Rattle.model_core.specs.EventGraph.{EventGraph}
+use Rattle.model_core.specs.Text.Acceptance.{ReadsFirst}
+use Rattle.sigma_top.specs.declared.answer.Answer.{Answer}
+use Rattle.sigma_top.specs.declared.answer.Answer.TheVariants.{Given, Refused}
+use Rattle.sigma_top.specs.declared.delivering.Said.{Said}
+use Rattle.sigma_top.specs.declared.delivering.Said.TheVariants as said
+use Rattle.sigma_top.specs.declared.job.Job.{Job}
+use Rattle.sigma_top.specs.declared.job.Job.TheVariants as jobs
+use Rattle.sigma_top.specs.declared.status.End.{End}
+use Rattle.sigma_top.specs.declared.status.End.TheVariants as ends
+use Rattle.sigma_top.specs.declared.status.Refusal.{Refusal}
+use Rattle.sigma_top.specs.declared.status.Refusal.TheVariants as refusals
+use Rattle.sigma_top.specs.declared.status.Failure.{Failure}
+use Rattle.sigma_top.specs.declared.status.Failure.TheVariants as failures
+use Rattle.sigma_top.specs.declared.status.Status.{Status}
+use Rattle.sigma_top.specs.declared.status.Status.TheVariants as statuses
+use Rattle.sigma_top.specs.Answer.{Answers, AnswersJob, Reduces, KeepsMeaning}
+use Rattle.sigma_top.specs.Delivery.{Inlet, Outlet, text_of, Told, Gives, Refuses, AnswersInput, ForJob, Ends}
+use Rattle.sigma_top.specs.Ending.{status_of_answer, bytes_of_answer, status_of_end, status_of_refusal, status_of_failure, failure_line}
+use Rattle.sigma_top.specs.Frame.{Performs, Runs}
+use Rattle.sigma_top.specs.Jobs.{job_of, limit_of}
+use Rattle.sigma_top.proofs.Performing.{given_is_no_refusal, given_bytes}
+
+-- ---- what `reduce` gives
+
+abbrev pub MeansTheSame : Type 0
+MeansTheSame = (text out : List ℕ) (g : EventGraph) → ReadsFirst text g → Reduces g out → KeepsMeaning text out
+
+same_job : {a b : Job} → Some a ≡ Some b → a ≡ b
+same_job e = cc
+
+module _ (law : MeansTheSame) (text bytes : List ℕ) (end : End) where
+  model_means : AnswersJob jobs.Reduce text (Given end bytes) → KeepsMeaning text bytes
+  model_means (inl none) = absurd (given_is_no_refusal none.1)
+  model_means (inr h) = subst (λ (b : List ℕ). KeepsMeaning text b) (sym (given_bytes h.2.2)) (law text h.2.0 h.0 h.1 h.2.1)
+
+  text_means : Answers jobs.Reduce text (Given end bytes) → KeepsMeaning text bytes
+  text_means (inl over) = absurd (given_is_no_refusal over.1)
+  text_means (inr h) = model_means h.1
+
+written_means : MeansTheSame → (left : Option (List ℕ)) (Grows : List ℕ → Type 0) (end : End) (bytes : List ℕ) → IfSome left (λ text. Answers jobs.Reduce text (Given end bytes)) → Grows bytes
+    → IfSome left (λ text. (out : List ℕ) × KeepsMeaning text out × Grows out)
+written_means law None Grows end bytes answers grows = tt
+written_means law (Some text) Grows end bytes answers grows = (bytes, text_means law text bytes end answers, grows)
+
+-- ---- the answer of the job
+
+abbrev pub IsComplete : Job → Status → Option (List ℕ) → (List ℕ → Type 0) → Type 0
+IsComplete job status left Grows = IfSome (text_of (limit_of job) left) (λ text. (a : Answer) × Answers job text a × (status ≡ status_of_answer a) × Grows (bytes_of_answer a))
+
+if_answers : (job : Job) (left : Option (List ℕ)) (P Q : Answer → Type 0) (a : Answer) → IfSome left (λ text. Answers job text a) → P a → Q a → IfSome left (λ text. (b : Answer) × Answers job text b × P b × Q b)
+if_answers job None P Q a answers x y = tt
+if_answers job (Some text) P Q a answers x y = (a, answers, x, y)
+
+some_is_not_none : {A : Type 0} {o : Option A} {x : A} → o ≡ Some x → o ≡ None → ⊥
+some_is_not_none e f = cc
+
+grows_by_nothing : (old : Option (List ℕ)) → GrowsBy old old []
+grows_by_nothing None = tt
+grows_by_nothing (Some bytes) = ap (λ b. Some b) (sym (append-nil bytes))
+
+unwritten : {K : Type 0} {o p : Outlet K} → p ≡ o → GrowsBy o.written p.written []
+unwritten {K} {o} {p} same = subst (λ (q : Outlet K). GrowsBy o.written q.written []) (sym same) (grows_by_nothing o.written)
+
+-- ---- from the job to the call
+
+module _ {S K : Type 0} (words : List (List ℕ)) (i j : Inlet S) (o p : Outlet K) where
+  -- what the job does, the call does
+  pub runs : (job : Job) → job_of words ≡ Some job → (r : Result Said Failure) → Performs job r i j o p → Runs words r i j o p
+  runs job asked (Ok s) h = (job, asked, h)
+  runs job asked (Err failures.Usage) h = absurd h
+  runs job asked (Err failures.ReadFault) h = (job, asked, h)
+  runs job asked (Err failures.WriteFault) h = (job, asked, h)
+  runs job asked (Err failures.NoMemory) h = (job, asked, h)
+
+module _ {S K E : Type 0} (words : List (List ℕ)) (i j : Inlet S) (o p : Outlet K) (e : Outlet E) where
+  -- a job that wrote is told by its status alone
+  gave : (end : End) → Runs words (Ok (said.Gave end)) i j o p → Ends (status_of_end end) words i j o p e e
+  gave ends.Done h = (h, refl)
+
+  pub gave_ends : (end : End) (r : Result Said Failure) (status : Status) → r ≡ Ok (said.Gave end) → status ≡ status_of_end end → Runs words r i j o p → Ends status words i j o p e e
+  gave_ends end r status is known h = subst (λ (s : Status). Ends s words i j o p e e) (sym known) (gave end (subst (λ (x : Result Said Failure). Runs words x i j o p) is h))
+
+  module _ (f : Outlet E) where
+    -- a refusal is told by its line
+    refused : (why : Refusal) (line : List ℕ) → Runs words (Ok (said.Refused why line)) i j o p → Told e f line → Ends (status_of_refusal why) words i j o p e f
+    refused refusals.Refused line h told = (line, h, told)
+
+    pub refused_ends : (why : Refusal) (line shown : List ℕ) (r : Result Said Failure) (status : Status) → r ≡ Ok (said.Refused why line) → status ≡ status_of_refusal why → shown ≡ line → Runs words r i j o p → Told e f shown
+        → Ends status words i j o p e f
+    refused_ends why line shown r status is known same h told =
+        subst (λ (s : Status). Ends s words i j o p e f) (sym known) (refused why line (subst (λ (x : Result Said Failure). Runs words x i j o p) is h) (subst (λ (l : List ℕ). Told e f l) same told))
+
+    -- and so is a failure
+    failed : (failure : Failure) → Runs words (Err failure) i j o p → Told e f (failure_line failure) → Ends (status_of_failure failure) words i j o p e f
+    failed failures.Usage h told = (h.0, h.1, h.2, told)
+    failed failures.ReadFault h told = (h, told)
+    failed failures.WriteFault h told = (h, told)
+    failed failures.NoMemory h told = (h, told)
+
+    pub failure_ends : (failure : Failure) (shown : List ℕ) (r : Result Said Failure) (status : Status) → r ≡ Err failure → status ≡ status_of_failure failure → shown ≡ failure_line failure → Runs words r i j o p → Told e f shown
+        → Ends status words i j o p e f
+    failure_ends failure shown r status is known same h told =
+        subst (λ (s : Status). Ends s words i j o p e f) (sym known) (failed failure (subst (λ (x : Result Said Failure). Runs words x i j o p) is h) (subst (λ (l : List ℕ). Told e f l) same told))
+
+    -- what `reduce` gives means the same as what the input had
+    pub reduced_means : MeansTheSame → (status : Status) → Ends status words i j o p e f → job_of words ≡ Some jobs.Reduce → status ≡ statuses.Done
+        → IfSome i.left (λ text. (out : List ℕ) × KeepsMeaning text out × GrowsBy o.written p.written out)
+    reduced_means law status h asked is_done =
+        let done = (subst (λ (s : Status). Ends s words i j o p e f) is_done h).0 in
+        let answers = subst (λ (job : Job). AnswersInput job i (Given ends.Done done.2.bytes)) (same_job (sym done.1 ∙ asked)) done.2.answers in
+        written_means law i.left (GrowsBy o.written p.written) ends.Done done.2.bytes answers done.2.output_grown
+
+    module _ (job : Job) (asked : job_of words ≡ Some job) (read : HasRisen i.faults j.faults → ⊥) (wrote : HasRisen o.faults p.faults → ⊥) where
+      given : (end : End) → ForJob words (λ job. Gives job end i j o p) → IsComplete job (status_of_end end) i.left (GrowsBy o.written p.written)
+      given end h =
+          let answers = subst (λ (job : Job). AnswersInput job i (Given end h.2.bytes)) (same_job (sym h.1 ∙ asked)) h.2.answers in
+          if_answers job (text_of (limit_of job) i.left) (λ a. status_of_end end ≡ status_of_answer a) (λ a. GrowsBy o.written p.written (bytes_of_answer a)) (Given end h.2.bytes) answers refl h.2.output_grown
+
+      refusal : (why : Refusal) (line : List ℕ) → ForJob words (λ job. Refuses job why line i j o p) → IsComplete job (status_of_refusal why) i.left (GrowsBy o.written p.written)
+      refusal why line h =
+          let answers = subst (λ (job : Job). AnswersInput job i (Refused why line)) (same_job (sym h.1 ∙ asked)) h.2.answers in
+          if_answers job (text_of (limit_of job) i.left) (λ a. status_of_refusal why ≡ status_of_answer a) (λ a. GrowsBy o.written p.written (bytes_of_answer a)) (Refused why line) answers refl (unwritten h.2.output_untouched)
+
+      pub complete : (status : Status) → Ends status words i j o p e f → (status ≡ statuses.NoMemory) ⊎ IsComplete job status i.left (GrowsBy o.written p.written)
+      complete statuses.Done h = inr (given ends.Done h.0)
+      complete statuses.Refused h = inr (refusal refusals.Refused h.0 h.1)
+      complete statuses.Usage h = absurd (some_is_not_none asked h.0)
+      complete statuses.ReadFault h = absurd (read h.0.2.input_failed)
+      complete statuses.WriteFault h = absurd (wrote h.0.2.output_failed)
+      complete statuses.NoMemory h = inl refl

@@ -1,0 +1,89 @@
+-- What the steps of a call say to one another: the text, the bytes, the answer, the job.
+use Rattle.std.specs.Prelude.{◌≡◌, ◌<◌, ◌⊎◌, ℕ, Bool, true, false, List, length, Option, None, Result, Ok, Err, IfSome}
+use Rattle.sig_base.specs.Faults.{HasRisen}
+use Rattle.sig_base.specs.Sink.{GrowsBy}
+use Rattle.sig_base.specs.Source.{Stays}
+use Rattle.sigma_top.specs.declared.answer.Answer.{Answer}
+use Rattle.sigma_top.specs.declared.answer.Answer.TheVariants.{Given, Refused}
+use Rattle.sigma_top.specs.declared.delivering.Said.{Said}
+use Rattle.sigma_top.specs.declared.delivering.Said.TheVariants as said
+use Rattle.sigma_top.specs.declared.reading.Taken.{Taken}
+use Rattle.sigma_top.specs.declared.reading.Taken.TheVariants as taken
+use Rattle.sigma_top.specs.declared.job.Job.{Job}
+use Rattle.sigma_top.specs.declared.status.End.{End}
+use Rattle.sigma_top.specs.declared.status.Failure.{Failure}
+use Rattle.sigma_top.specs.declared.status.Failure.TheVariants as failures
+use Rattle.sigma_top.specs.Answer.{IsWithin, IsOver}
+use Rattle.sigma_top.specs.Delivery.{Inlet, Outlet, text_of, HasLimit, IsReadToEnd, IsReadThrough, IsReadInPart, GrowsByFront, Gives, Refuses, FailsToRead, FailsToWrite, LacksMemory, ForJob}
+use Rattle.sigma_top.specs.Jobs.{job_of}
+
+-- ---- the text
+
+abbrev pub TakesText : {S : Type 0} → Option ℕ → Result Taken Failure → Inlet S → Inlet S → Type 0
+TakesText limit (Ok (taken.Whole text)) i j = IfSome (text_of limit i.left) (λ bytes. text ≡ bytes) × IsWithin limit text × IsReadToEnd limit i j × (j.faults ≡ i.faults)
+TakesText limit (Ok taken.TooLong) i j = IfSome (text_of limit i.left) (IsOver limit) × IsReadThrough limit i j × (j.faults ≡ i.faults)
+TakesText limit (Err failures.ReadFault) i j = HasLimit limit × IsReadInPart limit i j × HasRisen i.faults j.faults
+TakesText limit (Err failures.NoMemory) i j = IsReadInPart limit i j × (j.faults ≡ i.faults)
+TakesText limit (Err e) i j = ⊥
+
+-- ---- the bytes
+
+-- These bytes are written, as they come or at once, and the end is known at last. What was begun isn't finished: that is
+-- the next step.
+abbrev pub Streams : {K : Type 0} → End → List ℕ → Result End Failure → Outlet K → Outlet K → Type 0
+Streams end bytes (Ok e) o p = (e ≡ end) × GrowsBy o.written p.written bytes × (0 < length bytes → p.settled ≡ false) × (p.faults ≡ o.faults)
+Streams end bytes (Err failures.WriteFault) o p = GrowsByFront o p bytes × (p.settled ≡ false) × HasRisen o.faults p.faults
+Streams end bytes (Err failures.NoMemory) o p = GrowsByFront o p bytes × (p.faults ≡ o.faults)
+Streams end bytes (Err e) o p = ⊥
+
+-- What was streamed is finished, and told.
+abbrev pub Closes : {K : Type 0} → Result End Failure → Result Said Failure → Outlet K → Outlet K → Type 0
+Closes (Ok end) (Ok (said.Gave e)) o p = (e ≡ end) × Stays o.written p.written × (p.settled ≡ true) × (p.faults ≡ o.faults)
+Closes (Ok end) (Err failures.WriteFault) o p = Stays o.written p.written × (p.settled ≡ o.settled) × HasRisen o.faults p.faults
+Closes (Ok end) result o p = ⊥
+Closes (Err failure) result o p = (result ≡ Err failure) × (p ≡ o)
+
+-- ---- the answer, of which P holds
+
+-- Its bytes were written and finished.
+pub record Delivers {K : Type 0} (P : Answer → Type 0) (end : End) (o p : Outlet K) : Type 0 where
+  pub bytes : List ℕ
+  pub answers : P (Given end bytes)
+  pub grown : GrowsBy o.written p.written bytes
+  pub settled : p.settled ≡ true
+  pub faults : p.faults ≡ o.faults
+
+-- A write failed, or finishing did, after a front of them.
+pub record BreaksOff {K : Type 0} (P : Answer → Type 0) (o p : Outlet K) : Type 0 where
+  pub end : End
+  pub bytes : List ℕ
+  pub answers : P (Given end bytes)
+  pub grown : GrowsByFront o p bytes
+  pub unsettled : 0 < length bytes → p.settled ≡ false
+  pub failed : HasRisen o.faults p.faults
+
+-- Memory was refused; where the answer is streamed, it may be after a front of its bytes.
+pub record FallsShort {K : Type 0} (P : Answer → Type 0) (streamed : Bool) (o p : Outlet K) : Type 0 where
+  pub grown : (p ≡ o) ⊎ ((streamed ≡ true) × (end : End) × (bytes : List ℕ) × P (Given end bytes) × GrowsByFront o p bytes)
+  pub faults : p.faults ≡ o.faults
+
+abbrev pub Answering : {K : Type 0} → (Answer → Type 0) → Bool → Result Said Failure → Outlet K → Outlet K → Type 0
+Answering P streamed (Ok (said.Gave end)) o p = Delivers P end o p
+Answering P streamed (Ok (said.Refused why line)) o p = P (Refused why line) × (p ≡ o)
+Answering P streamed (Err failures.WriteFault) o p = BreaksOff P o p
+Answering P streamed (Err failures.NoMemory) o p = FallsShort P streamed o p
+Answering P streamed (Err e) o p = ⊥
+
+-- ---- the job, and the words
+
+abbrev pub Performs : {S K : Type 0} → Job → Result Said Failure → Inlet S → Inlet S → Outlet K → Outlet K → Type 0
+Performs job (Ok (said.Gave end)) i j o p = Gives job end i j o p
+Performs job (Ok (said.Refused why line)) i j o p = Refuses job why line i j o p
+Performs job (Err failures.ReadFault) i j o p = FailsToRead job i j o p
+Performs job (Err failures.WriteFault) i j o p = FailsToWrite job i j o p
+Performs job (Err failures.NoMemory) i j o p = LacksMemory job i j o p
+Performs job (Err failures.Usage) i j o p = ⊥
+
+abbrev pub Runs : {S K : Type 0} → List (List ℕ) → Result Said Failure → Inlet S → Inlet S → Outlet K → Outlet K → Type 0
+Runs words (Err failures.Usage) i j o p = (job_of words ≡ None) × (j ≡ i) × (p ≡ o)
+Runs words result i j o p = ForJob words (λ job. Performs job result i j o p)
