@@ -1,14 +1,11 @@
 -- Each text has an answer: whether it reads as a model is decided, and the strategy of a model that was read ends.
-use Rattle.std.proofs.Common.{◌≡◌, ◌⊎◌, inl, inr, ℕ, ◌≤◌, ◌<◌, Bool, true, false, List, [], ◌∷◌, length, map, Option, Some, None, Result, Ok, Err, refl, sym, ap, ◌∙◌, subst, arith}
+use Rattle.std.proofs.Common.{◌≡◌, ◌⊎◌, inl, inr, ℕ, ◌≤◌, ◌<◌, List, [], ◌∷◌, length, map, Option, Some, None, Result, Ok, Err, refl, sym, ◌∙◌}
 use Rattle.std.proofs.lemmas.Bool.{cases_lt}
 use Rattle.model_core.specs.EventGraph.{EventGraph}
 use Rattle.model_core.specs.Text.Lexing.{Lexeme, tokens_of}
 use Rattle.model_core.specs.Text.Written.{WrittenModel}
 use Rattle.model_core.specs.Text.FirstForm as first_form
 use Rattle.model_core.specs.Text.Acceptance.{SpellsFirst, AcceptedFirst, ReadsFirst}
-use Rattle.model_core.specs.Text.Canonical.{canonical}
-use Rattle.model_core.specs.Rules.Certificate.{certificate}
-use Rattle.model_read.specs.Reader.{Reading}
 use Rattle.model_read.specs.Rules.{text_at}
 use Rattle.model_read.proofs.Decides.{same_reading}
 use Rattle.model_read.proofs.FirstFormDecides.{decides-text, one_text}
@@ -17,8 +14,9 @@ use Rattle.first_form.proofs.Whole.{accepted_sound, accepted_complete}
 use Rattle.sigma_top.specs.declared.answer.Answer.{Answer}
 use Rattle.sigma_top.specs.declared.job.Job.{Job}
 use Rattle.sigma_top.specs.declared.job.Job.TheVariants as jobs
-use Rattle.sigma_top.specs.Answer.{done, refused, too_long, not_first_form, ReadsAsNone, WritesFor, AnswersJob, IsWithin, IsOver, Answers}
+use Rattle.sigma_top.specs.Answer.{done, refused, too_long, not_first_form, WritesFor, AnswersJob, IsWithin, IsOver, Answers}
 use Rattle.sigma_top.specs.Jobs.{limit_of}
+use Rattle.sigma_top.specs.Limits.{text_max}
 use Rattle.sigma_top.specs.Sweep.{prunes_of_all, swept_vertex}
 use Rattle.sigma_top.proofs.Answering.{vertices_distinct, tokens_spell_none, unspelled_none, unaccepted_none}
 use Rattle.sigma_top.proofs.SweepIsStrategy.{sweep_is_strategy}
@@ -63,15 +61,15 @@ acceptance_decided : (m : WrittenModel) (r : Option EventGraph) → accepted m �
 acceptance_decided m None e = inr (λ g a. nothing_read (sym e ∙ accepted_complete m g a))
 acceptance_decided m (Some g) e = inl (g, accepted_sound m g e)
 
-reads_if_accepted : (text : List ℕ) → length text ≤ 4194304 → (m : WrittenModel) → SpellsFirst text m → Decided (AcceptedFirst m) → Decided (ReadsFirst text)
+reads_if_accepted : (text : List ℕ) → length text ≤ text_max → (m : WrittenModel) → SpellsFirst text m → Decided (AcceptedFirst m) → Decided (ReadsFirst text)
 reads_if_accepted text within m spells (inl a) = inl (a.0, record { fits = within; model = m; spells = spells; accepted = a.1 })
 reads_if_accepted text within m spells (inr none) = inr (unaccepted_none text m one_text spells none)
 
-reads_if_spelled : (text : List ℕ) → length text ≤ 4194304 → Decided (SpellsFirst text) → Decided (ReadsFirst text)
+reads_if_spelled : (text : List ℕ) → length text ≤ text_max → Decided (SpellsFirst text) → Decided (ReadsFirst text)
 reads_if_spelled text within (inl s) = reads_if_accepted text within s.0 s.1 (acceptance_decided s.0 (accepted s.0) refl)
 reads_if_spelled text within (inr none) = inr (unspelled_none text none)
 
-reading_decided : (text : List ℕ) → length text ≤ 4194304 → Decided (ReadsFirst text)
+reading_decided : (text : List ℕ) → length text ≤ text_max → Decided (ReadsFirst text)
 reading_decided text within = reads_if_spelled text within (spelling_decided text (tokens_of text) refl)
 
 -- ---- what is written for a model that was read
@@ -85,7 +83,7 @@ answered_as job text (inr none) = (refused not_first_form, inl (none, refl))
 
 -- ---- a text within the limit, and one over it
 
-within_text_max : (job : Job) (text : List ℕ) → IsWithin (limit_of job) text → length text ≤ 4194304
+within_text_max : (job : Job) (text : List ℕ) → IsWithin (limit_of job) text → length text ≤ text_max
 within_text_max jobs.Reduce text within = within
 
 within_or_over : (m n : ℕ) → (m ≤ n) ⊎ (n < m)

@@ -1,5 +1,5 @@
 -- From the text that was taken, and the answer to it, to how the job ended.
-use Rattle.std.proofs.Common.{◌≡◌, ◌⊎◌, inl, inr, ℕ, ◌<◌, true, false, List, ◌++◌, length, Option, Some, None, Result, Ok, Err, refl, sym, ap, ◌∙◌, subst, arith}
+use Rattle.std.proofs.Common.{◌≡◌, ◌⊎◌, inl, inr, ℕ, zero, suc, ◌+◌, ◌<◌, true, false, List, [], ◌∷◌, ◌++◌, length, Option, Some, None, Result, Ok, Err, refl, sym, subst, arith}
 use Rattle.std.specs.Prelude.{IfSome, codes}
 use Rattle.std.proofs.lemmas.List.{length-append}
 use Rattle.model_core.specs.EventGraph.{EventGraph}
@@ -17,7 +17,7 @@ use Rattle.sigma_top.specs.declared.status.End.{End}
 use Rattle.sigma_top.specs.declared.status.Refusal.{Refusal}
 use Rattle.sigma_top.specs.declared.status.Failure.{Failure}
 use Rattle.sigma_top.specs.declared.status.Failure.TheVariants as failures
-use Rattle.sigma_top.specs.Answer.{refused, too_long, Reduces, AnswersJob, IsWithin, IsOver, Answers}
+use Rattle.sigma_top.specs.Answer.{refused, too_long, Reduces, AnswersJob, IsOver}
 use Rattle.sigma_top.specs.Delivery.{Inlet, Outlet, text_of, IsReadThrough, AnswersInput, HasBegun, GrowsByFront}
 use Rattle.sigma_top.specs.Frame.{TakesText, Answering, Performs}
 use Rattle.sigma_top.specs.Jobs.{limit_of, is_streamed}
@@ -48,13 +48,23 @@ given_has_bytes jobs.Reduce text end bytes (inr h) = subst (λ (b : List ℕ). 0
 
 -- ---- the answer to the text is that to the input
 
-answers_told : (job : Job) (told : Option (List ℕ)) (text : List ℕ) (a : Answer) → IfSome told (λ bytes. text ≡ bytes) → IsWithin (limit_of job) text → AnswersJob job text a → IfSome told (λ bytes. Answers job bytes a)
-answers_told job None text a same within h = tt
-answers_told job (Some bytes) text a same within h = subst (λ (t : List ℕ). Answers job t a) same (inr (within, h))
+zeros : ℕ → List ℕ
+zeros zero = []
+zeros (suc n) = 0 ∷ zeros n
 
-refuses_told : (job : Job) (told : Option (List ℕ)) (a : Answer) → IfSome told (IsOver (limit_of job)) → a ≡ refused too_long → IfSome told (λ bytes. Answers job bytes a)
-refuses_told job None a over is = tt
-refuses_told job (Some bytes) a over is = inl (over, is)
+zeros-length : (n : ℕ) → length (zeros n) ≡ n
+unfolding zeros
+zeros-length zero = refl
+zeros-length (suc n) = let more = zeros-length n in omega (arith, more)
+
+-- an input that is over the limit has a text that is, the one it tells or any
+long_text : (limit : Option ℕ) (left : Option (List ℕ)) → IfSome (text_of limit left) (IsOver limit) → (text : List ℕ) × IfSome (text_of limit left) (λ bytes. text ≡ bytes) × IsOver limit text
+long_text None left over = absurd over
+long_text (Some limit) None over = (zeros (limit + 1), tt, omega (arith, zeros-length (limit + 1)))
+long_text (Some limit) (Some bytes) over = (bytes, refl, over)
+
+refused_long : {S : Type 0} (job : Job) (i : Inlet S) (a : Answer) → IfSome (text_of (limit_of job) i.left) (IsOver (limit_of job)) → a ≡ refused too_long → AnswersInput job i a
+refused_long job i a over is = let long = long_text (limit_of job) i.left over in record { text = long.0; told = long.1; answers = inl (long.2, is) }
 
 -- what was taken up to a limit that is the job's
 pub taken_as : {S : Type 0} (job : Job) (i j : Inlet S) (limit : Option ℕ) (r s : Result Taken Failure) → limit ≡ limit_of job → r ≡ s → TakesText limit r i j → TakesText (limit_of job) s i j
@@ -66,23 +76,23 @@ module _ {S K : Type 0} (job : Job) (i j : Inlet S) (o : Outlet K) where
   not_taken failures.Usage h = absurd h
   not_taken failures.ReadFault h = record { reads_text = h.0; input_read = h.1; input_failed = h.2; output_untouched = refl }
   not_taken failures.WriteFault h = absurd h
-  not_taken failures.NoMemory h = record { input_read = h.0; input_faults = h.1; output_grown = inl refl; output_faults = refl }
+  not_taken failures.NoMemory h = record { input_read = h.0; input_steady = h.1; output_grown = inl refl; output_steady = refl }
 
   module _ (p : Outlet K) where
     -- the text is over the limit
     pub performed_long : TakesText (limit_of job) (Ok taken.TooLong) i j → (r : Result Said Failure) → Answering (λ a. a ≡ refused too_long) false r o p → Performs job r i j o p
     performed_long h (Ok (said.Gave end)) k = absurd (given_is_no_refusal k.answers)
     performed_long h (Ok (said.Refused why line)) k =
-        record { answers = refuses_told job (text_of (limit_of job) i.left) (Refused why line) h.0 k.0; input_read = h.1; input_faults = h.2; output_untouched = k.1 }
+        record { answer = refused_long job i (Refused why line) h.0 k.0; input_read = h.1; input_steady = h.2; output_untouched = k.1 }
     performed_long h (Err failures.WriteFault) k = absurd (given_is_no_refusal k.answers)
     performed_long h (Err failures.NoMemory) k =
-        record { input_read = read_in_part i j (limit_of job) h.1; input_faults = h.2; output_grown = at_once (λ a. a ≡ refused too_long) k.grown; output_faults = k.faults }
+        record { input_read = read_in_part i j (limit_of job) h.1; input_steady = h.2; output_grown = at_once (λ a. a ≡ refused too_long) k.grown; output_steady = k.faults }
     performed_long h (Err failures.Usage) k = absurd k
     performed_long h (Err failures.ReadFault) k = absurd k
 
     module _ (text : List ℕ) (h : TakesText (limit_of job) (Ok (taken.Whole text)) i j) where
       answers_input : (a : Answer) → AnswersJob job text a → AnswersInput job i a
-      answers_input a x = answers_told job (text_of (limit_of job) i.left) text a h.0 h.1 x
+      answers_input a x = record { text = text; told = h.0; answers = inr (h.1, x) }
 
       through : IsReadThrough (limit_of job) i j
       through = read_through i j (limit_of job) text h.0 h.1 h.2
@@ -95,24 +105,24 @@ module _ {S K : Type 0} (job : Job) (i j : Inlet S) (o : Outlet K) where
       pub performed : (r : Result Said Failure) → Answering (AnswersJob job text) (is_streamed job) r o p → Performs job r i j o p
       performed (Ok (said.Gave end)) k = record {
         bytes = k.bytes;
-        answers = answers_input (Given end k.bytes) k.answers;
+        answer = answers_input (Given end k.bytes) k.answers;
         input_read = h.2;
-        input_faults = h.3;
+        input_steady = h.3;
         output_grown = k.grown;
         output_settled = k.settled;
-        output_faults = k.faults;
+        output_steady = k.faults;
       }
-      performed (Ok (said.Refused why line)) k = record { answers = answers_input (Refused why line) k.0; input_read = through; input_faults = h.3; output_untouched = k.1 }
+      performed (Ok (said.Refused why line)) k = record { answer = answers_input (Refused why line) k.0; input_read = through; input_steady = h.3; output_untouched = k.1 }
       performed (Err failures.WriteFault) k = record {
         end = k.end;
         bytes = k.bytes;
-        answers = answers_input (Given k.end k.bytes) k.answers;
+        answer = answers_input (Given k.end k.bytes) k.answers;
         input_read = h.2;
-        input_faults = h.3;
+        input_steady = h.3;
         output_grown = k.grown;
         output_unsettled = k.unsettled (given_has_bytes job text k.end k.bytes k.answers);
         output_failed = k.failed;
       }
-      performed (Err failures.NoMemory) k = record { input_read = read_in_part i j (limit_of job) through; input_faults = h.3; output_grown = begun k.grown; output_faults = k.faults }
+      performed (Err failures.NoMemory) k = record { input_read = read_in_part i j (limit_of job) through; input_steady = h.3; output_grown = begun k.grown; output_steady = k.faults }
       performed (Err failures.Usage) k = absurd k
       performed (Err failures.ReadFault) k = absurd k

@@ -1,6 +1,6 @@
 -- From what was streamed, and how it was finished, to the answer that was delivered; for answers that are written as they
 -- come, and for those that are written at once.
-use Rattle.std.proofs.Common.{◌≡◌, inl, inr, ℕ, ◌≤◌, ◌<◌, Bool, true, false, ◌⊎◌, List, take, length, Option, Some, None, Result, Ok, Err, refl, sym, ap, ◌∙◌, subst, arith}
+use Rattle.std.proofs.Common.{◌≡◌, inl, inr, ℕ, ◌<◌, Bool, true, false, ◌⊎◌, List, take, length, Option, Some, None, Result, Ok, Err, refl, sym, ap, ◌∙◌, subst, arith}
 use Rattle.std.specs.Prelude.{IfErr}
 use Rattle.std.proofs.Math.Seq.{take-length}
 use Rattle.sig_base.specs.Faults.{HasRisen}

@@ -21,7 +21,7 @@ use Rattle.sigma_top.specs.declared.status.Failure.TheVariants as failures
 use Rattle.sigma_top.specs.declared.status.Status.{Status}
 use Rattle.sigma_top.specs.declared.status.Status.TheVariants as statuses
 use Rattle.sigma_top.specs.Answer.{Answers, AnswersJob, Reduces, KeepsMeaning}
-use Rattle.sigma_top.specs.Delivery.{Inlet, Outlet, text_of, Told, Gives, Refuses, AnswersInput, ForJob, Ends}
+use Rattle.sigma_top.specs.Delivery.{Inlet, Outlet, text_of, Told, WritesAnswer, Refuses, AnswersInput, ForJob, Ends}
 use Rattle.sigma_top.specs.Ending.{status_of_answer, bytes_of_answer, status_of_end, status_of_refusal, status_of_failure, failure_line}
 use Rattle.sigma_top.specs.Frame.{Performs, Runs}
 use Rattle.sigma_top.specs.Jobs.{job_of, limit_of}
@@ -44,19 +44,19 @@ module _ (law : MeansTheSame) (text bytes : List ℕ) (end : End) where
   text_means (inl over) = absurd (given_is_no_refusal over.1)
   text_means (inr h) = model_means h.1
 
-written_means : MeansTheSame → (left : Option (List ℕ)) (Grows : List ℕ → Type 0) (end : End) (bytes : List ℕ) → IfSome left (λ text. Answers jobs.Reduce text (Given end bytes)) → Grows bytes
-    → IfSome left (λ text. (out : List ℕ) × KeepsMeaning text out × Grows out)
-written_means law None Grows end bytes answers grows = tt
-written_means law (Some text) Grows end bytes answers grows = (bytes, text_means law text bytes end answers, grows)
+answer_means : MeansTheSame → (left : Option (List ℕ)) (Grows : List ℕ → Type 0) (text bytes : List ℕ) (end : End) → IfSome left (λ told. text ≡ told) → Answers jobs.Reduce text (Given end bytes) → Grows bytes
+    → IfSome left (λ told. (out : List ℕ) × KeepsMeaning told out × Grows out)
+answer_means law None Grows text bytes end same answers grows = tt
+answer_means law (Some told) Grows text bytes end same answers grows = (bytes, subst (λ (t : List ℕ). KeepsMeaning t bytes) same (text_means law text bytes end answers), grows)
 
 -- ---- the answer of the job
 
 abbrev pub IsComplete : Job → Status → Option (List ℕ) → (List ℕ → Type 0) → Type 0
 IsComplete job status left Grows = IfSome (text_of (limit_of job) left) (λ text. (a : Answer) × Answers job text a × (status ≡ status_of_answer a) × Grows (bytes_of_answer a))
 
-if_answers : (job : Job) (left : Option (List ℕ)) (P Q : Answer → Type 0) (a : Answer) → IfSome left (λ text. Answers job text a) → P a → Q a → IfSome left (λ text. (b : Answer) × Answers job text b × P b × Q b)
-if_answers job None P Q a answers x y = tt
-if_answers job (Some text) P Q a answers x y = (a, answers, x, y)
+if_answers : (job : Job) (told : Option (List ℕ)) (P Q : Answer → Type 0) (text : List ℕ) (a : Answer) → IfSome told (λ bytes. text ≡ bytes) → Answers job text a → P a → Q a → IfSome told (λ bytes. (b : Answer) × Answers job bytes b × P b × Q b)
+if_answers job None P Q text a same answers x y = tt
+if_answers job (Some bytes) P Q text a same answers x y = (a, subst (λ (t : List ℕ). Answers job t a) same answers, x, y)
 
 some_is_not_none : {A : Type 0} {o : Option A} {x : A} → o ≡ Some x → o ≡ None → ⊥
 some_is_not_none e f = cc
@@ -114,19 +114,19 @@ module _ {S K E : Type 0} (words : List (List ℕ)) (i j : Inlet S) (o p : Outle
         → IfSome i.left (λ text. (out : List ℕ) × KeepsMeaning text out × GrowsBy o.written p.written out)
     reduced_means law status h asked is_done =
         let done = (subst (λ (s : Status). Ends s words i j o p e f) is_done h).0 in
-        let answers = subst (λ (job : Job). AnswersInput job i (Given ends.Done done.2.bytes)) (same_job (sym done.1 ∙ asked)) done.2.answers in
-        written_means law i.left (GrowsBy o.written p.written) ends.Done done.2.bytes answers done.2.output_grown
+        let answer = subst (λ (job : Job). AnswersInput job i (Given ends.Done done.2.bytes)) (same_job (sym done.1 ∙ asked)) done.2.answer in
+        answer_means law i.left (GrowsBy o.written p.written) answer.text done.2.bytes ends.Done answer.told answer.answers done.2.output_grown
 
     module _ (job : Job) (asked : job_of words ≡ Some job) (read : HasRisen i.faults j.faults → ⊥) (wrote : HasRisen o.faults p.faults → ⊥) where
-      given : (end : End) → ForJob words (λ job. Gives job end i j o p) → IsComplete job (status_of_end end) i.left (GrowsBy o.written p.written)
+      given : (end : End) → ForJob words (λ job. WritesAnswer job end i j o p) → IsComplete job (status_of_end end) i.left (GrowsBy o.written p.written)
       given end h =
-          let answers = subst (λ (job : Job). AnswersInput job i (Given end h.2.bytes)) (same_job (sym h.1 ∙ asked)) h.2.answers in
-          if_answers job (text_of (limit_of job) i.left) (λ a. status_of_end end ≡ status_of_answer a) (λ a. GrowsBy o.written p.written (bytes_of_answer a)) (Given end h.2.bytes) answers refl h.2.output_grown
+          let answer = subst (λ (job : Job). AnswersInput job i (Given end h.2.bytes)) (same_job (sym h.1 ∙ asked)) h.2.answer in
+          if_answers job (text_of (limit_of job) i.left) (λ a. status_of_end end ≡ status_of_answer a) (λ a. GrowsBy o.written p.written (bytes_of_answer a)) answer.text (Given end h.2.bytes) answer.told answer.answers refl h.2.output_grown
 
       refusal : (why : Refusal) (line : List ℕ) → ForJob words (λ job. Refuses job why line i j o p) → IsComplete job (status_of_refusal why) i.left (GrowsBy o.written p.written)
       refusal why line h =
-          let answers = subst (λ (job : Job). AnswersInput job i (Refused why line)) (same_job (sym h.1 ∙ asked)) h.2.answers in
-          if_answers job (text_of (limit_of job) i.left) (λ a. status_of_refusal why ≡ status_of_answer a) (λ a. GrowsBy o.written p.written (bytes_of_answer a)) (Refused why line) answers refl (unwritten h.2.output_untouched)
+          let answer = subst (λ (job : Job). AnswersInput job i (Refused why line)) (same_job (sym h.1 ∙ asked)) h.2.answer in
+          if_answers job (text_of (limit_of job) i.left) (λ a. status_of_refusal why ≡ status_of_answer a) (λ a. GrowsBy o.written p.written (bytes_of_answer a)) answer.text (Refused why line) answer.told answer.answers refl (unwritten h.2.output_untouched)
 
       pub complete : (status : Status) → Ends status words i j o p e f → (status ≡ statuses.NoMemory) ⊎ IsComplete job status i.left (GrowsBy o.written p.written)
       complete statuses.Done h = inr (given ends.Done h.0)

@@ -76,25 +76,27 @@ Told old new line = HasRisen old.faults new.faults ⊎ GrowsBy old.written new.w
 
 -- ---- the ways to end: of a job, with the input from i to j and the output from o to p
 
--- this is the answer to what the input had
-abbrev pub AnswersInput : {S : Type 0} → Job → Inlet S → Answer → Type 0
-AnswersInput job i a = IfSome (text_of (limit_of job) i.left) (λ text. Answers job text a)
+-- this is the answer to the input's text, or to some text where the input tells none
+pub record AnswersInput {S : Type 0} (job : Job) (i : Inlet S) (a : Answer) : Type 0 where
+  pub text : List ℕ
+  pub told : IfSome (text_of (limit_of job) i.left) (λ bytes. text ≡ bytes)
+  pub answers : Answers job text a
 
 -- All of the answer's bytes are written, and finished.
-pub record Gives {S K : Type 0} (job : Job) (end : End) (i j : Inlet S) (o p : Outlet K) : Type 0 where
+pub record WritesAnswer {S K : Type 0} (job : Job) (end : End) (i j : Inlet S) (o p : Outlet K) : Type 0 where
   pub bytes : List ℕ
-  pub answers : AnswersInput job i (Given end bytes)
+  pub answer : AnswersInput job i (Given end bytes)
   pub input_read : IsReadToEnd (limit_of job) i j
-  pub input_faults : j.faults ≡ i.faults
+  pub input_steady : j.faults ≡ i.faults
   pub output_grown : GrowsBy o.written p.written bytes
   pub output_settled : p.settled ≡ true
-  pub output_faults : p.faults ≡ o.faults
+  pub output_steady : p.faults ≡ o.faults
 
 -- The text is refused. Nothing is written.
 pub record Refuses {S K : Type 0} (job : Job) (why : Refusal) (line : List ℕ) (i j : Inlet S) (o p : Outlet K) : Type 0 where
-  pub answers : AnswersInput job i (Refused why line)
+  pub answer : AnswersInput job i (Refused why line)
   pub input_read : IsReadThrough (limit_of job) i j
-  pub input_faults : j.faults ≡ i.faults
+  pub input_steady : j.faults ≡ i.faults
   pub output_untouched : p ≡ o
 
 -- A read failed. Nothing is written.
@@ -108,9 +110,9 @@ pub record FailsToRead {S K : Type 0} (job : Job) (i j : Inlet S) (o p : Outlet 
 pub record FailsToWrite {S K : Type 0} (job : Job) (i j : Inlet S) (o p : Outlet K) : Type 0 where
   pub end : End
   pub bytes : List ℕ
-  pub answers : AnswersInput job i (Given end bytes)
+  pub answer : AnswersInput job i (Given end bytes)
   pub input_read : IsReadToEnd (limit_of job) i j
-  pub input_faults : j.faults ≡ i.faults
+  pub input_steady : j.faults ≡ i.faults
   pub output_grown : GrowsByFront o p bytes
   pub output_unsettled : p.settled ≡ false
   pub output_failed : HasRisen o.faults p.faults
@@ -122,9 +124,9 @@ HasBegun job i o p = (is_streamed job ≡ true) × (end : End) × (bytes : List 
 -- Memory was refused.
 pub record LacksMemory {S K : Type 0} (job : Job) (i j : Inlet S) (o p : Outlet K) : Type 0 where
   pub input_read : IsReadInPart (limit_of job) i j
-  pub input_faults : j.faults ≡ i.faults
+  pub input_steady : j.faults ≡ i.faults
   pub output_grown : (p ≡ o) ⊎ HasBegun job i o p
-  pub output_faults : p.faults ≡ o.faults
+  pub output_steady : p.faults ≡ o.faults
 
 -- ---- the table of statuses
 
@@ -135,7 +137,7 @@ ForJob words Holds = (job : Job) × (job_of words ≡ Some job) × Holds job
 -- What a call with these words that ends with this status did: to the input from i to j, to the output from o to p, and to
 -- the error output from e to f.
 abbrev pub Ends : {S K E : Type 0} → Status → List (List ℕ) → Inlet S → Inlet S → Outlet K → Outlet K → Outlet E → Outlet E → Type 0
-Ends statuses.Done words i j o p e f = ForJob words (λ job. Gives job ends.Done i j o p) × (f ≡ e)
+Ends statuses.Done words i j o p e f = ForJob words (λ job. WritesAnswer job ends.Done i j o p) × (f ≡ e)
 Ends statuses.Refused words i j o p e f = (line : List ℕ) × ForJob words (λ job. Refuses job refusals.Refused line i j o p) × Told e f line
 Ends statuses.Usage words i j o p e f = (job_of words ≡ None) × (j ≡ i) × (p ≡ o) × Told e f (failure_line failures.Usage)
 Ends statuses.ReadFault words i j o p e f = ForJob words (λ job. FailsToRead job i j o p) × Told e f (failure_line failures.ReadFault)

@@ -14,7 +14,7 @@ use Rattle.sigma_top.specs.declared.status.End.{End}
 use Rattle.sigma_top.specs.declared.status.Failure.{Failure}
 use Rattle.sigma_top.specs.declared.status.Failure.TheVariants as failures
 use Rattle.sigma_top.specs.Answer.{IsWithin, IsOver}
-use Rattle.sigma_top.specs.Delivery.{Inlet, Outlet, text_of, HasLimit, IsReadToEnd, IsReadThrough, IsReadInPart, GrowsByFront, Gives, Refuses, FailsToRead, FailsToWrite, LacksMemory, ForJob}
+use Rattle.sigma_top.specs.Delivery.{Inlet, Outlet, text_of, HasLimit, IsReadToEnd, IsReadThrough, IsReadInPart, GrowsByFront, WritesAnswer, Refuses, FailsToRead, FailsToWrite, LacksMemory, ForJob}
 use Rattle.sigma_top.specs.Jobs.{job_of}
 
 -- ---- the text
@@ -77,7 +77,7 @@ Answering P streamed (Err e) o p = ⊥
 -- ---- the job, and the words
 
 abbrev pub Performs : {S K : Type 0} → Job → Result Said Failure → Inlet S → Inlet S → Outlet K → Outlet K → Type 0
-Performs job (Ok (said.Gave end)) i j o p = Gives job end i j o p
+Performs job (Ok (said.Gave end)) i j o p = WritesAnswer job end i j o p
 Performs job (Ok (said.Refused why line)) i j o p = Refuses job why line i j o p
 Performs job (Err failures.ReadFault) i j o p = FailsToRead job i j o p
 Performs job (Err failures.WriteFault) i j o p = FailsToWrite job i j o p
