@@ -1,6 +1,6 @@
 -- From what was streamed, and how it was finished, to the answer that was delivered; for answers that are written as they
 -- come, and for those that are written at once.
-use Rattle.std.proofs.Common.{◌≡◌, inl, inr, ℕ, ◌<◌, Bool, true, false, ◌⊎◌, List, take, length, Option, Some, None, Result, Ok, Err, refl, sym, ap, ◌∙◌, subst, arith}
+use Rattle.std.proofs.Common.{◌≡◌, inl, inr, ℕ, ◌<◌, Bool, true, false, ◌⊎◌, List, [], ◌∷◌, take, length, Option, Some, None, Result, Ok, Err, refl, sym, ap, ◌∙◌, subst, arith}
 use Rattle.std.specs.Prelude.{IfErr}
 use Rattle.std.proofs.Math.Seq.{take-length}
 use Rattle.sig_base.specs.Faults.{HasRisen}
@@ -14,7 +14,7 @@ use Rattle.sigma_top.specs.declared.status.End.{End}
 use Rattle.sigma_top.specs.declared.status.Failure.{Failure}
 use Rattle.sigma_top.specs.declared.status.Failure.TheVariants as failures
 use Rattle.sigma_top.specs.Delivery.{Outlet, GrowsByFront}
-use Rattle.sigma_top.specs.Frame.{Streams, Closes, Answering}
+use Rattle.sigma_top.specs.Frame.{SettledAfter, Streams, Closes, Answering}
 
 -- ---- a piece that was written at once
 
@@ -25,7 +25,16 @@ some_unwritten bytes n front = omega (arith, front)
 pub front_of : {K : Type 0} (o p : Outlet K) (bytes : List ℕ) (n : ℕ) → n < length bytes → GrowsBy o.written p.written (take n bytes) → GrowsByFront o p bytes
 front_of o p bytes n front h = (n, omega (arith, front), h)
 
+-- what a write says of its bytes, some or none
+pub settled_after : (bytes : List ℕ) (old new : Bool) → (0 < length bytes → new ≡ false) → (bytes ≡ [] → new ≡ old) → SettledAfter bytes old new
+settled_after [] old new some none = none refl
+settled_after (b ∷ bytes) old new some none = some (omega arith)
+
 -- ---- what was streamed, and finished
+
+unsettled_after : (bytes : List ℕ) (old new : Bool) → SettledAfter bytes old new → 0 < length bytes → new ≡ false
+unsettled_after [] old new h some = absurd (omega (arith, some))
+unsettled_after (b ∷ bytes) old new h some = h
 
 stays_grown : (old mid new : Option (List ℕ)) (bytes : List ℕ) → GrowsBy old mid bytes → Stays mid new → GrowsBy old new bytes
 stays_grown None mid new bytes h k = tt
@@ -57,7 +66,7 @@ module _ {K : Type 0} (P : Answer → Type 0) (streamed : Bool) (o m p : Outlet 
     bytes = bytes;
     answers = answers;
     grown = all_in_front o p bytes (stays_grown o.written m.written p.written bytes h.1 k.0);
-    unsettled = λ some. k.1 ∙ h.2 some;
+    unsettled = λ some. k.1 ∙ unsettled_after bytes o.settled m.settled h.2 some;
     failed = subst (λ (n : ℕ). HasRisen n p.faults) h.3 k.2;
   }
   delivered (Ok e) lacking h (Err failures.Usage) k = absurd k

@@ -1,5 +1,5 @@
 -- What the steps of a call say to one another: the text, the bytes, the answer, the job.
-use Rattle.std.specs.Prelude.{◌≡◌, ◌<◌, ◌⊎◌, ℕ, Bool, true, false, List, length, Option, None, Result, Ok, Err, IfSome}
+use Rattle.std.specs.Prelude.{◌≡◌, ◌<◌, ◌⊎◌, ℕ, Bool, true, false, List, [], ◌∷◌, length, Option, None, Result, Ok, Err, IfSome}
 use Rattle.sig_base.specs.Faults.{HasRisen}
 use Rattle.sig_base.specs.Sink.{GrowsBy}
 use Rattle.sig_base.specs.Source.{Stays}
@@ -28,10 +28,15 @@ TakesText limit (Err e) i j = ⊥
 
 -- ---- the bytes
 
+-- writing some bytes leaves the output unsettled, and writing none changes nothing
+abbrev pub SettledAfter : List ℕ → Bool → Bool → Type 0
+SettledAfter [] old new = new ≡ old
+SettledAfter (b ∷ bytes) old new = new ≡ false
+
 -- These bytes are written, as they come or at once, and the end is known at last. What was begun isn't finished: that is
 -- the next step.
-abbrev pub Streams : {K : Type 0} → End → List ℕ → Result End Failure → Outlet K → Outlet K → Type 0
-Streams end bytes (Ok e) o p = (e ≡ end) × GrowsBy o.written p.written bytes × (0 < length bytes → p.settled ≡ false) × (p.faults ≡ o.faults)
+abbrev pub Streams : {K A : Type 0} → A → List ℕ → Result A Failure → Outlet K → Outlet K → Type 0
+Streams end bytes (Ok e) o p = (e ≡ end) × GrowsBy o.written p.written bytes × SettledAfter bytes o.settled p.settled × (p.faults ≡ o.faults)
 Streams end bytes (Err failures.WriteFault) o p = GrowsByFront o p bytes × (p.settled ≡ false) × HasRisen o.faults p.faults
 Streams end bytes (Err failures.NoMemory) o p = GrowsByFront o p bytes × (p.faults ≡ o.faults)
 Streams end bytes (Err e) o p = ⊥

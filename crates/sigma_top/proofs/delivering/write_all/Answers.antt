@@ -3,7 +3,7 @@ use Rattle.std.proofs.Common.{◌≡◌, true, false, Result, Ok, Err, refl, sym
 use Rattle.std.specs.Prelude.{OnOk, OnErr}
 use Rattle.std.specs.Result.{is_err}
 use Rattle.sigma_top.specs.Delivery.{outlet}
-use Rattle.sigma_top.proofs.Streaming.{some_unwritten, front_of}
+use Rattle.sigma_top.proofs.Streaming.{some_unwritten, front_of, settled_after}
 use Rattle.sigma_top.proofs.delivering.write_all.Goals as goal
 
 where_failed : {T E P : Type 0} (r : Result T E) → is_err r ≡ true → OnErr r P → P
@@ -30,6 +30,6 @@ pub returns : goal.returns
 returns g c =
     let done = sym c.is_err.ensures.value ∙ c.if-is_err.false in
     record {
-      streams = (refl, where_done c.put.result done c.put.ensures.all, c.put.ensures.unsettled, where_done c.put.result done c.put.ensures.steady);
+      streams = (refl, where_done c.put.result done c.put.ensures.all, settled_after c.args.bytes.now (g.K.Sink.settled c.args.output.now) (g.K.Sink.settled c.put.new.sink) c.put.ensures.unsettled c.put.ensures.unchanged, where_done c.put.result done c.put.ensures.steady);
       error = tt;
     }
