@@ -1,7 +1,6 @@
 -- From what was streamed, and how it was finished, to the answer that was delivered; for answers that are written as they
 -- come, and for those that are written at once.
-use Rattle.std.proofs.Common.{◌≡◌, inl, inr, ℕ, ◌<◌, Bool, true, false, ◌⊎◌, List, [], ◌∷◌, take, length, Option, Some, None, Result, Ok, Err, refl, sym, ap, ◌∙◌, subst, arith}
-use Rattle.std.specs.Prelude.{IfErr}
+use Rattle.std.proofs.Common.{◌≡◌, inl, inr, ℕ, ◌<◌, Bool, true, false, ◌⊎◌, List, [], ◌∷◌, take, length, Option, Some, None, Result, Ok, Err, refl, sym, ◌∙◌, subst, arith}
 use Rattle.std.proofs.Math.Seq.{take-length}
 use Rattle.sig_base.specs.Faults.{HasRisen}
 use Rattle.sig_base.specs.Sink.{GrowsBy}
@@ -14,7 +13,7 @@ use Rattle.sigma_top.specs.declared.status.End.{End}
 use Rattle.sigma_top.specs.declared.status.Failure.{Failure}
 use Rattle.sigma_top.specs.declared.status.Failure.TheVariants as failures
 use Rattle.sigma_top.specs.Delivery.{Outlet, GrowsByFront}
-use Rattle.sigma_top.specs.Frame.{SettledAfter, Streams, Closes, Answering}
+use Rattle.sigma_top.specs.Frame.{SettledAfter, Streams, Delivers, BreaksOff, Answering}
 
 -- ---- a piece that was written at once
 
@@ -43,44 +42,38 @@ stays_grown (Some before) mid new bytes h k = subst (λ (m : Option (List ℕ)).
 all_in_front : {K : Type 0} (o p : Outlet K) (bytes : List ℕ) → GrowsBy o.written p.written bytes → GrowsByFront o p bytes
 all_in_front o p bytes h = (length bytes, omega arith, subst (λ (b : List ℕ). GrowsBy o.written p.written b) (sym (take-length bytes)) h)
 
--- The bytes of an answer of which P holds are streamed from o to m, and finished to p. Only where they are written as they
--- come may memory be lacking.
-module _ {K : Type 0} (P : Answer → Type 0) (streamed : Bool) (o m p : Outlet K) (end : End) (bytes : List ℕ) (answers : P (Given end bytes)) where
-  broken_off : (f : Failure) → (f ≡ failures.NoMemory → streamed ≡ true) → Streams end bytes (Err f) o m → Answering P streamed (Err f) o m
-  broken_off failures.Usage lacking h = absurd h
-  broken_off failures.ReadFault lacking h = absurd h
-  broken_off failures.WriteFault lacking h = record { end = end; bytes = bytes; answers = answers; grown = h.0; unsettled = λ some. h.1; failed = h.2 }
-  broken_off failures.NoMemory lacking h = record { grown = inr (lacking refl, end, bytes, answers, h.0); faults = h.1 }
-
-  pub delivered : (r : Result End Failure) → (r ≡ Err failures.NoMemory → streamed ≡ true) → Streams end bytes r o m → (s : Result Said Failure) → Closes r s m p → Answering P streamed s o p
-  delivered (Ok e) lacking h (Ok (said.Gave f)) k = record {
+-- The bytes of an answer of which P holds are streamed from o to m, and finished to p.
+module _ {K : Type 0} (P : Answer → Type 0) (o m p : Outlet K) (end : End) (bytes : List ℕ) (answers : P (Given end bytes)) where
+  finished : (e : End) → Streams end bytes (Ok e) o m → Stays m.written p.written → p.settled ≡ true → p.faults ≡ m.faults → Delivers P e o p
+  finished e h stays settled steady = record {
     bytes = bytes;
-    answers = subst (λ (x : End). P (Given x bytes)) (sym (k.0 ∙ h.0)) answers;
-    grown = stays_grown o.written m.written p.written bytes h.1 k.1;
-    settled = k.2;
-    faults = k.3 ∙ h.3;
+    answers = subst (λ (x : End). P (Given x bytes)) (sym h.0) answers;
+    grown = stays_grown o.written m.written p.written bytes h.1 stays;
+    settled = settled;
+    faults = steady ∙ h.3;
   }
-  delivered (Ok e) lacking h (Ok (said.Refused why line)) k = absurd k
-  delivered (Ok e) lacking h (Err failures.WriteFault) k = record {
+
+  unfinished : (e : End) → Streams end bytes (Ok e) o m → Stays m.written p.written → p.settled ≡ m.settled → HasRisen m.faults p.faults → BreaksOff P o p
+  unfinished e h stays unchanged failed = record {
     end = end;
     bytes = bytes;
     answers = answers;
-    grown = all_in_front o p bytes (stays_grown o.written m.written p.written bytes h.1 k.0);
-    unsettled = λ some. k.1 ∙ unsettled_after bytes o.settled m.settled h.2 some;
-    failed = subst (λ (n : ℕ). HasRisen n p.faults) h.3 k.2;
+    grown = all_in_front o p bytes (stays_grown o.written m.written p.written bytes h.1 stays);
+    unsettled = λ some. unchanged ∙ unsettled_after bytes o.settled m.settled h.2 some;
+    failed = subst (λ (n : ℕ). HasRisen n p.faults) h.3 failed;
   }
-  delivered (Ok e) lacking h (Err failures.Usage) k = absurd k
-  delivered (Ok e) lacking h (Err failures.ReadFault) k = absurd k
-  delivered (Ok e) lacking h (Err failures.NoMemory) k = absurd k
-  delivered (Err f) lacking h s k =
-      subst (λ (t : Result Said Failure). Answering P streamed t o p) (sym k.0) (subst (λ (q : Outlet K). Answering P streamed (Err f) o q) (sym k.1) (broken_off f (λ e. lacking (ap (λ x. Err x) e)) h))
 
--- what is written at once lacks no memory
-pub never_lacking : (r : Result End Failure) → IfErr r (λ e. e ≡ failures.WriteFault) → r ≡ Err failures.NoMemory → false ≡ true
-never_lacking (Ok end) only e = cc
-never_lacking (Err f) only e = cc
+-- the same, from how the streaming went
+module _ {K : Type 0} (m p : Outlet K) (r : Result End Failure) (e : End) (went : r ≡ Ok e) (stays : Stays m.written p.written) where
+  pub closed : p.settled ≡ true → p.faults ≡ m.faults → (before : Outlet K) (end : End) (bytes : List ℕ) → Streams end bytes r before m → Delivers (λ a. a ≡ Given end bytes) e before p
+  closed settled steady before end bytes h = finished (λ a. a ≡ Given end bytes) before m p end bytes refl e (subst (λ (x : Result End Failure). Streams end bytes x before m) went h) stays settled steady
 
-false_is_not_true : false ≡ true → ⊥
+  pub unclosed : p.settled ≡ m.settled → HasRisen m.faults p.faults → (before : Outlet K) (end : End) (bytes : List ℕ) → Streams end bytes r before m → BreaksOff (λ a. a ≡ Given end bytes) before p
+  unclosed unchanged failed before end bytes h = unfinished (λ a. a ≡ Given end bytes) before m p end bytes refl e (subst (λ (x : Result End Failure). Streams end bytes x before m) went h) stays unchanged failed
+
+-- ---- an answer, written at once or as it comes
+
+pub false_is_not_true : false ≡ true → ⊥
 false_is_not_true e = cc
 
 -- what is written at once isn't begun before memory is refused
@@ -88,11 +81,16 @@ pub at_once : {K Begun : Type 0} (P : Answer → Type 0) {o p : Outlet K} → (p
 at_once P (inl same) = inl same
 at_once P (inr begun) = absurd (false_is_not_true begun.0)
 
--- An answer of which P holds, that was written at once, is one of which Q holds, that may be streamed.
-pub as_answering : {K : Type 0} (P Q : Answer → Type 0) (streamed : Bool) (o p : Outlet K) (s : Result Said Failure) → ((a : Answer) → P a → Q a) → Answering P false s o p → Answering Q streamed s o p
-as_answering P Q streamed o p (Ok (said.Gave end)) f h = record { bytes = h.bytes; answers = f (Given end h.bytes) h.answers; grown = h.grown; settled = h.settled; faults = h.faults }
-as_answering P Q streamed o p (Ok (said.Refused why line)) f h = (f (Refused why line) h.0, h.1)
-as_answering P Q streamed o p (Err failures.WriteFault) f h = record { end = h.end; bytes = h.bytes; answers = f (Given h.end h.bytes) h.answers; grown = h.grown; unsettled = h.unsettled; failed = h.failed }
-as_answering P Q streamed o p (Err failures.NoMemory) f h = record { grown = at_once P h.grown; faults = h.faults }
-as_answering P Q streamed o p (Err failures.Usage) f h = absurd h
-as_answering P Q streamed o p (Err failures.ReadFault) f h = absurd h
+-- An answer of which P holds is one of which Q holds; one that is written at once may be taken for one that is streamed.
+pub as_answering : {K : Type 0} (P Q : Answer → Type 0) (streamed later : Bool) (o p : Outlet K) (s : Result Said Failure) → ((a : Answer) → P a → Q a) → (streamed ≡ true → later ≡ true) → Answering P streamed s o p → Answering Q later s o p
+as_answering P Q streamed later o p (Ok (said.Gave end)) f may h = record { bytes = h.bytes; answers = f (Given end h.bytes) h.answers; grown = h.grown; settled = h.settled; faults = h.faults }
+as_answering P Q streamed later o p (Ok (said.Refused why line)) f may h = (f (Refused why line) h.0, h.1)
+as_answering P Q streamed later o p (Err failures.WriteFault) f may h = record { end = h.end; bytes = h.bytes; answers = f (Given h.end h.bytes) h.answers; grown = h.grown; unsettled = h.unsettled; failed = h.failed }
+as_answering {K} P Q streamed later o p (Err failures.NoMemory) f may h = record { grown = begun h.grown; faults = h.faults }
+  where
+    begun : (p ≡ o) ⊎ ((streamed ≡ true) × (end : End) × (bytes : List ℕ) × P (Given end bytes) × GrowsByFront o p bytes)
+        → (p ≡ o) ⊎ ((later ≡ true) × (end : End) × (bytes : List ℕ) × Q (Given end bytes) × GrowsByFront o p bytes)
+    begun (inl same) = inl same
+    begun (inr b) = inr (may b.0, b.1, b.2, f (Given b.1 b.2) b.3, b.4)
+as_answering P Q streamed later o p (Err failures.Usage) f may h = absurd h
+as_answering P Q streamed later o p (Err failures.ReadFault) f may h = absurd h

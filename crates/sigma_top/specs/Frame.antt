@@ -2,7 +2,6 @@
 use Rattle.std.specs.Prelude.{◌≡◌, ◌<◌, ◌⊎◌, ℕ, Bool, true, false, List, [], ◌∷◌, length, Option, None, Result, Ok, Err, IfSome}
 use Rattle.sig_base.specs.Faults.{HasRisen}
 use Rattle.sig_base.specs.Sink.{GrowsBy}
-use Rattle.sig_base.specs.Source.{Stays}
 use Rattle.sigma_top.specs.declared.answer.Answer.{Answer}
 use Rattle.sigma_top.specs.declared.answer.Answer.TheVariants.{Given, Refused}
 use Rattle.sigma_top.specs.declared.delivering.Said.{Said}
@@ -40,13 +39,6 @@ Streams end bytes (Ok e) o p = (e ≡ end) × GrowsBy o.written p.written bytes 
 Streams end bytes (Err failures.WriteFault) o p = GrowsByFront o p bytes × (p.settled ≡ false) × HasRisen o.faults p.faults
 Streams end bytes (Err failures.NoMemory) o p = GrowsByFront o p bytes × (p.faults ≡ o.faults)
 Streams end bytes (Err e) o p = ⊥
-
--- What was streamed is finished, and told.
-abbrev pub Closes : {K : Type 0} → Result End Failure → Result Said Failure → Outlet K → Outlet K → Type 0
-Closes (Ok end) (Ok (said.Gave e)) o p = (e ≡ end) × Stays o.written p.written × (p.settled ≡ true) × (p.faults ≡ o.faults)
-Closes (Ok end) (Err failures.WriteFault) o p = Stays o.written p.written × (p.settled ≡ o.settled) × HasRisen o.faults p.faults
-Closes (Ok end) result o p = ⊥
-Closes (Err failure) result o p = (result ≡ Err failure) × (p ≡ o)
 
 -- ---- the answer, of which P holds
 

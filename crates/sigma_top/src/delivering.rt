@@ -1,8 +1,9 @@
 //! The answer's way to the output: its bytes are streamed, and then finished.
 
-ghost use Rattle.std.specs.Prelude.{◌≡◌, false, IfErr};
-ghost use Rattle.sigma_top.specs.Delivery.{outlet};
-ghost use Rattle.sigma_top.specs.Frame.{Streams, Closes, Answering};
+ghost use Rattle.std.specs.Prelude.{◌≡◌, ℕ, List, true, false, IfErr};
+ghost use Rattle.sigma_top.specs.declared.status.End.{End};
+ghost use Rattle.sigma_top.specs.Delivery.{Outlet, outlet};
+ghost use Rattle.sigma_top.specs.Frame.{Streams, Answering};
 
 use crate::answer::Answer;
 use crate::status::{End, Failure, Refusal};
@@ -27,10 +28,17 @@ fn write_all<K: Sink>(output: &mut K, end: End, bytes: &[u8]) -> Result<End, Fai
     Ok(end)
 }
 
-/// Finishes the output behind what was streamed.
+/// Finishes the output behind what was streamed of an answer.
 pub fn close<K: Sink>(output: &mut K, streamed: Result<End, Failure>) -> Result<Said, Failure>
-    ensures { Closes streamed result
-        (outlet K.written K.faults K.settled output.old) (outlet K.written K.faults K.settled output.new) }
+    // Bytes that were written as they came are an answer that is delivered as it came.
+    ensures as_it_came { (before : Outlet K) (end : End) (bytes : List ℕ)
+        → Streams end bytes streamed before (outlet K.written K.faults K.settled output.old)
+        → Answering (λ a. a ≡ Answer.Given end bytes) true result before (outlet K.written K.faults K.settled output.new) }
+    // So are bytes that were written at once, where only a write can have failed.
+    ensures at_once { (before : Outlet K) (end : End) (bytes : List ℕ)
+        → Streams end bytes streamed before (outlet K.written K.faults K.settled output.old)
+        → IfErr streamed (λ e. e ≡ Failure.WriteFault)
+        → Answering (λ a. a ≡ Answer.Given end bytes) false result before (outlet K.written K.faults K.settled output.new) }
 {
     let end = streamed?;
     match output.finish() {

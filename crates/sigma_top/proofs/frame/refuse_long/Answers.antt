@@ -6,7 +6,7 @@ use Rattle.sigma_top.proofs.frame.refuse_long.Goals as goal
 
 pub returns-in-Ok : goal.returns-in-Ok
 returns-in-Ok g c =
-    as_answering (λ a. a ≡ c.in-Ok.answer) (λ a. a ≡ refused too_long) false
+    as_answering (λ a. a ≡ c.in-Ok.answer) (λ a. a ≡ refused too_long) false false
     (outlet g.K.Sink.written g.K.Sink.faults g.K.Sink.settled c.args.output.now)
     (outlet g.K.Sink.written g.K.Sink.faults g.K.Sink.settled c.send.new.output)
-    c.send.result (λ a is. is ∙ c.in-Ok.ensures) c.send.ensures
+    c.send.result (λ a is. is ∙ c.in-Ok.ensures) (λ e. e) c.send.ensures
