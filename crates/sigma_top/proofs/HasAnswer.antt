@@ -6,10 +6,10 @@ use Rattle.model_core.specs.Text.Lexing.{Lexeme, tokens_of}
 use Rattle.model_core.specs.Text.Written.{WrittenModel}
 use Rattle.model_core.specs.Text.FirstForm as first_form
 use Rattle.model_core.specs.Text.Acceptance.{SpellsFirst, AcceptedFirst, ReadsFirst}
-use Rattle.model_read.specs.Rules.{text_at}
+use Rattle.model_read.specs.Inner.Rules.{text_at}
 use Rattle.model_read.proofs.Decides.{same_reading}
 use Rattle.model_read.proofs.FirstFormDecides.{decides-text, one_text}
-use Rattle.first_form.specs.Accepting.{accepted}
+use Rattle.first_form.specs.Inner.Accepting.{accepted}
 use Rattle.first_form.proofs.Whole.{accepted_sound, accepted_complete}
 use Rattle.sigma_top.specs.declared.answer.Answer.{Answer}
 use Rattle.sigma_top.specs.declared.job.Job.{Job}

@@ -4,7 +4,8 @@ ghost use Rattle.std.specs.Prelude.{◌≡◌, ◌≤◌, ◌++◌, length, map,
 ghost use Rattle.std.specs.List.{IsDistinct};
 ghost use Rattle.model_core.specs.Text.Acceptance.{ReadsFirst};
 ghost use Rattle.model_core.specs.Text.Canonical.{canonical};
-ghost use Rattle.model_core.specs.Rules.Certificate.{application_of, certificate};
+ghost use Rattle.model_core.specs.Code.Views.{application_of};
+ghost use Rattle.model_core.specs.Rules.Certificate.{certificate};
 ghost use Rattle.model_core.specs.Text.Lexing.{same_bytes};
 ghost use Rattle.model_core.specs.Code.Views.{graph_of};
 ghost use Rattle.sigma_top.specs.Answer.{refused, too_long, AnswersJob, WritesFor, IsWithin, Reduces, ReadsAsNone};
