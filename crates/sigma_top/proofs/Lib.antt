@@ -1,5 +1,3 @@
-pub mod Lists
-pub mod SweepIsStrategy
 pub mod Reading
 pub mod Telling
 pub mod Answering

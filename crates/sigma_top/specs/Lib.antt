@@ -1,4 +1,3 @@
-pub mod Sweep
 pub mod Words
 pub mod Ending
 pub mod Answer

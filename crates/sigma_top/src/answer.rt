@@ -1,26 +1,23 @@
 //! From the text of a model to what is written for it.
 
 ghost use Rattle.std.specs.Prelude.{◌≡◌, ◌≤◌, ◌++◌, List, length, map, IfOk, IsErrOf};
-ghost use Rattle.std.specs.List.{IsDistinct};
-ghost use Rattle.model_core.specs.Text.Acceptance.{ReadsFirst};
+ghost use Rattle.model_core.specs.Text.Acceptance.{ReadsFirst, IsValid};
 ghost use Rattle.model_core.specs.Text.Canonical.{canonical};
 ghost use Rattle.model_core.specs.Rules.Certificate.{application_of, certificate};
 ghost use Rattle.model_core.specs.EventGraph.{EventGraph};
-ghost use Rattle.model_core.specs.Text.Lexing.{same_bytes};
 ghost use Rattle.model_core.specs.Rules.Reduction.{RuleApplication, Strategy};
 ghost use Rattle.model_core.specs.Code.Views.{graph_of};
 ghost use Rattle.sigma_top.specs.Answer.{Reduces, ReadsAsNone};
-ghost use Rattle.sigma_top.specs.Sweep.{names_of};
 
 use crate::answer_error::AnswerError;
-use crate::certificate::put_certificate;
 use crate::spelling::spelled;
-use crate::strategy::{Reduced, reduce};
 use first_form::{FirstFormError, check};
-use model_core::{Model, reductions_keep_the_meaning};
+use model_core::Model;
 use model_print::print;
 use model_read::one_reading;
-use reading_back::reads_back;
+use reading_back::valid_models_read_back;
+use reducer::{Reduced, reduce, strategies_keep_the_meaning};
+use reduction_cert::put_certificate;
 use sig_base::{NoMemory, Text};
 use std::alloc::Global;
 
@@ -52,7 +49,7 @@ fn written(alloc: Global, reduced: &Reduced) -> Result<Text, NoMemory>
 
 /// The canonical text of what the model is reduced to, and then the certificate.
 fn reduction(alloc: Global, model: Model) -> Result<Text, NoMemory>
-    requires { IsDistinct same_bytes (names_of (graph_of model)) }
+    requires { IsValid (graph_of model) }
     ensures { IfOk result (λ out. (applications : List RuleApplication) × (reduced : EventGraph)
         × Strategy (graph_of model) applications reduced × (out ≡ canonical reduced ++ certificate applications)) }
 {
@@ -67,8 +64,8 @@ pub fn reduced_text(alloc: Global, text: &[u8]) -> Result<Text, AnswerError>
     ensures refused { IsErrOf result AnswerError.NotFirstForm → ReadsAsNone text.now }
 {
     // By these laws what is written reads back as the reduced model, which means the same.
-    reads_back();
-    reductions_keep_the_meaning();
+    valid_models_read_back();
+    strategies_keep_the_meaning();
     let model = model_of(alloc, text)?;
     let out = reduction(alloc, model)?;
     Ok(out)

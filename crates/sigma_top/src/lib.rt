@@ -4,11 +4,9 @@
 mod answer;
 mod answer_error;
 mod answer_law;
-mod certificate;
 mod job;
 mod spelling;
 mod status;
-mod strategy;
 mod words;
 
 pub use answer_law::answers_are_determined;

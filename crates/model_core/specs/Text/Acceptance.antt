@@ -124,3 +124,7 @@ pub record ReadsFirst (text : List ℕ) (g : EventGraph) : Type 0 where
   pub model : WrittenModel
   pub spells : SpellsFirst text model
   pub accepted : AcceptedFirst model g
+
+-- a model is valid where some text reads as it
+abbrev pub IsValid : EventGraph → Type 0
+IsValid g = (text : List ℕ) × ReadsFirst text g
