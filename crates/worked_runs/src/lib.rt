@@ -5,7 +5,10 @@
 mod bank;
 mod changes;
 mod clock;
+mod left;
 mod order;
+mod reaching;
+mod rules;
 mod stream;
 mod texts;
 mod tokens;
@@ -14,7 +17,13 @@ mod values;
 pub use bank::bank_serves;
 pub use changes::{cells_are_set, parameters_come_first, variables_are_drawn};
 pub use clock::{clock_counts, loop_goes_on};
+pub use left::{stores_before_a_fault_stay, words_before_a_fault_are_taken};
 pub use order::{equal_events_are_cut, events_come_in_order};
+pub use reaching::steps_reach_moments;
+pub use rules::{
+    applications_are_made_in_order, conditions_have_numbers, the_first_rule_is_taken,
+    the_strategy_ends,
+};
 pub use stream::stream_gives;
 pub use texts::{models_have_texts, operands_stand_in_parentheses};
 pub use tokens::{

@@ -1,0 +1,31 @@
+-- A model with edges that never do anything, and what is left of it as they are pruned.
+use Rattle.std.specs.Prelude.{false, List, [], ◌∷◌, codes}
+use Rattle.model_core.specs.EventGraph.{EventGraph, EventEdge, Truth}
+use Rattle.worked_runs.specs.Building.{number, schedule, only_if, vertex}
+
+-- an edge back to RUN that never does anything
+abbrev pub never : EventEdge
+never = only_if (Truth false) (schedule 0 (number 5))
+
+-- an edge to A after 2 ticks
+abbrev pub later : EventEdge
+later = schedule 1 (number 2)
+
+-- RUN leads to A, which has these edges
+abbrev pub leading_on : List EventEdge → EventGraph
+leading_on edges = record {
+  name = codes "IDLE";
+  variables = [];
+  tables = [];
+  watch = [];
+  vertices = vertex (codes "RUN") [] (later ∷ []) ∷ vertex (codes "A") [] edges ∷ [];
+}
+
+abbrev pub idle : EventGraph
+idle = leading_on (never ∷ later ∷ never ∷ [])
+
+abbrev pub once_pruned : EventGraph
+once_pruned = leading_on (later ∷ never ∷ [])
+
+abbrev pub twice_pruned : EventGraph
+twice_pruned = leading_on (later ∷ [])
