@@ -8,8 +8,8 @@ use Rattle.model_core.specs.Code.WrittenViews.{written_model}
 use Rattle.model_core.specs.Text.FirstForm.{text}
 use Rattle.model_lex.specs.declared.parse_error.ParseError.{ParseError}
 use Rattle.model_lex.specs.declared.parse_error.ParseError.TheVariants as errors
-use Rattle.model_read.specs.Reader.{Reader, Gives, and_then, ended, all_at}
-use Rattle.model_read.specs.Rules.{text_at}
+use Rattle.model_read.specs.Inner.Reader.{Reader, Gives, and_then, ended, all_at}
+use Rattle.model_read.specs.Inner.Rules.{text_at}
 use Rattle.model_read.proofs.Decides.{same_reading, then_some}
 use Rattle.model_read.proofs.FirstFormDecides.{decides-text}
 

@@ -4,7 +4,7 @@ use Rattle.std.specs.List.{IsDistinct}
 use Rattle.model_core.specs.EventGraph.{EventGraph, Variable, WeightTable}
 use Rattle.model_core.specs.Text.Lexing.{same_bytes}
 use Rattle.model_core.specs.Text.Acceptance.{IsValid}
-use Rattle.reducer.specs.Sweep.{vertex_names}
+use Rattle.reducer.specs.Inner.Sweep.{vertex_names}
 
 distinct_behind : {A : Type 0} (same : A → A → Bool) (front back : List A) → IsDistinct same (front ++ back) → IsDistinct same back
 unfolding IsDistinct

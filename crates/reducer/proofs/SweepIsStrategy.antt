@@ -12,7 +12,7 @@ use Rattle.model_core.specs.Rules.Conditions.{first_failed}
 use Rattle.model_core.specs.Rules.Prune.{has_refuted_condition, edge_at, prune_conditions, with_place, without_edge, pruned, edge_or, first_edge, first_prune}
 use Rattle.model_core.specs.Rules.Reduction.{RuleApplication, Prune, place_of_vertex, from_zero, edge_named, unless_failed, applied, first_rule, Strategy}
 use Rattle.model_core.proofs.EdgesAlike.{with_vertices}
-use Rattle.reducer.specs.Sweep.{vertex_names, is_kept, swept_vertex, prunes_with, prunes_after, prunes_of_all}
+use Rattle.reducer.specs.Inner.Sweep.{vertex_names, is_kept, swept_vertex, prunes_with, prunes_after, prunes_of_all}
 use Rattle.reducer.proofs.FirstEdge.{position_from-behind, position_from-push, first_edge-behind, first_edge-push}
 
 abbrev with_edges : EventVertex → List EventEdge → EventVertex

@@ -25,9 +25,9 @@ chain-from : (g : EventGraph) (a : RuleApplication) (later : List RuleApplicatio
 chain-from g a later None made go e = cc
 chain-from g a later (Some next) made go e =
     let (h, chain) = go next (no_number (first_bad next later) e) in (h, (next, made, chain)) where
-  no_number : (o : Option ℕ) → option_map suc o ≡ None → o ≡ None
-  no_number None e = refl
-  no_number (Some n) e = cc
+      no_number : (o : Option ℕ) → option_map suc o ≡ None → o ≡ None
+      no_number None e = refl
+      no_number (Some n) e = cc
 
 chain-is : (g : EventGraph) (applications : List RuleApplication) → first_bad g applications ≡ None → (h : EventGraph) × Chain g applications h
 chain-is g [] e = (g, refl)

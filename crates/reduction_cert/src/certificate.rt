@@ -2,7 +2,8 @@
 
 ghost use Rattle.std.specs.Prelude.{◌≡◌, ◌++◌, map, OnOk};
 ghost use Rattle.std.specs.List.{flat_map};
-ghost use Rattle.model_core.specs.Rules.Certificate.{application_of, application_line, certificate};
+ghost use Rattle.model_core.specs.Code.Views.{application_of};
+ghost use Rattle.model_core.specs.Rules.Certificate.{application_line, certificate};
 
 use model_core::Application;
 use sig_base::{NoMemory, put_bytes, put_number};

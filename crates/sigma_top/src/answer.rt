@@ -3,7 +3,8 @@
 ghost use Rattle.std.specs.Prelude.{◌≡◌, ◌≤◌, ◌++◌, List, length, map, IfOk, IsErrOf};
 ghost use Rattle.model_core.specs.Text.Acceptance.{ReadsFirst, IsValid};
 ghost use Rattle.model_core.specs.Text.Canonical.{canonical};
-ghost use Rattle.model_core.specs.Rules.Certificate.{application_of, certificate};
+ghost use Rattle.model_core.specs.Code.Views.{application_of};
+ghost use Rattle.model_core.specs.Rules.Certificate.{certificate};
 ghost use Rattle.model_core.specs.EventGraph.{EventGraph};
 ghost use Rattle.model_core.specs.Rules.Reduction.{RuleApplication, Strategy};
 ghost use Rattle.model_core.specs.Code.Views.{graph_of};

@@ -1,7 +1,7 @@
 pub mod Building
 pub mod Models
 pub mod Left
-pub mod Reaching
+pub mod Moments
 pub mod Reductions
 pub mod Texts
 pub mod Tokens

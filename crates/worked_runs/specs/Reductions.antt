@@ -4,8 +4,8 @@ use Rattle.model_core.specs.EventGraph.{EventGraph, EventEdge, Truth}
 use Rattle.worked_runs.specs.Building.{number, schedule, only_if, vertex}
 
 -- an edge back to RUN that never does anything
-abbrev pub never : EventEdge
-never = only_if (Truth false) (schedule 0 (number 5))
+abbrev pub idle_edge : EventEdge
+idle_edge = only_if (Truth false) (schedule 0 (number 5))
 
 -- an edge to A after 2 ticks
 abbrev pub later : EventEdge
@@ -22,10 +22,10 @@ leading_on edges = record {
 }
 
 abbrev pub idle : EventGraph
-idle = leading_on (never ∷ later ∷ never ∷ [])
+idle = leading_on (idle_edge ∷ later ∷ idle_edge ∷ [])
 
 abbrev pub once_pruned : EventGraph
-once_pruned = leading_on (later ∷ never ∷ [])
+once_pruned = leading_on (later ∷ idle_edge ∷ [])
 
 abbrev pub twice_pruned : EventGraph
 twice_pruned = leading_on (later ∷ [])

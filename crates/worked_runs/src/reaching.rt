@@ -5,7 +5,7 @@ ghost use Rattle.model_core.specs.Run.Machine.{At, Stopped};
 ghost use Rattle.model_core.specs.Run.History.{start, look_from, reached_from};
 ghost use Rattle.worked_runs.specs.Building.{scalars, seen};
 ghost use Rattle.worked_runs.specs.Models.{clock, strict_clock};
-ghost use Rattle.worked_runs.specs.Reaching.{counted_to};
+ghost use Rattle.worked_runs.specs.Moments.{counted_to};
 
 /// Steps that go on lead to a moment, from which a look goes on. A run that is over leads nowhere.
 pub fn steps_reach_moments()

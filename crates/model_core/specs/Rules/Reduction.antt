@@ -1,7 +1,7 @@
 -- Reductions: where a rule is applied and what that gives, chains of applications, and the strategy.
-use Rattle.std.specs.Prelude.{◌≡◌, ℕ, zero, suc, ◌+◌, if◌then◌else◌, List, [], ◌∷◌, Option, Some, None, slice_get}
+use Rattle.std.specs.Prelude.{◌≡◌, ℕ, zero, suc, ◌+◌, List, [], ◌∷◌, Option, Some, None, map}
 use Rattle.std.specs.Option.{option_map, option_map_or, option_and_then}
-use Rattle.model_core.specs.Text.Lexing.{same_bytes}
+use Rattle.model_core.specs.Text.Numbering.{declared_place}
 use Rattle.model_core.specs.EventGraph.{EventVertex, EventGraph}
 use Rattle.model_core.specs.Text.Canonical.{vertex_name}
 use Rattle.model_core.specs.Rules.Conditions.{first_failed}
@@ -13,8 +13,7 @@ pub data RuleApplication : Type 0 where
 
 -- the place from 0 of the first vertex of this name
 abbrev pub place_of_vertex : List ℕ → List EventVertex → Option ℕ
-place_of_vertex name [] = None
-place_of_vertex name (v ∷ vs) = if same_bytes v.name name then Some 0 else option_map (λ k. k + 1) (place_of_vertex name vs)
+place_of_vertex name vertices = declared_place name (map (λ (v : EventVertex). v.name) vertices)
 
 -- the place from 0 of what counts from 1
 abbrev pub from_zero : ℕ → Option ℕ

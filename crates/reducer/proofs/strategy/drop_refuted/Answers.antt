@@ -4,7 +4,7 @@ use Rattle.std.proofs.lemmas.List.Elements.{filter_from_retain}
 use Rattle.model_core.specs.declared.vertex.Edge.{Edge}
 use Rattle.model_core.specs.EventGraph.{EventEdge}
 use Rattle.model_core.specs.Code.Views.{vertex_of, edge_of}
-use Rattle.reducer.specs.Sweep.{is_kept}
+use Rattle.reducer.specs.Inner.Sweep.{is_kept}
 use Rattle.sig_base.proofs.Lists.{map-filter}
 use Rattle.reducer.proofs.strategy.drop_refuted.Goals as goal
 

@@ -5,8 +5,8 @@ use Rattle.model_core.specs.declared.vertex.Edge.{Edge}
 use Rattle.model_core.specs.Code.Views.{edge_of}
 use Rattle.model_core.specs.Rules.Prune.{is_literal_false}
 use Rattle.model_core.specs.Rules.Reduction.{Prune}
-use Rattle.model_core.specs.Rules.Certificate.{application_of}
-use Rattle.reducer.specs.Sweep.{prunes_with, prunes_after}
+use Rattle.model_core.specs.Code.Views.{application_of}
+use Rattle.reducer.specs.Inner.Sweep.{prunes_with, prunes_after}
 use Rattle.sig_base.proofs.Lists.{pushed}
 use Rattle.reducer.proofs.strategy.note_prunes.Goals as goal
 use Rattle.reducer.proofs.strategy.note_prunes.Goals.{then-is_literal_false+in_ok-name+in_ok-push, else-is_literal_false}

@@ -1,7 +1,7 @@
 use Rattle.std.proofs.Common.{◌≡◌, ◌++◌, ◌≤◌, map, drop}
 use Rattle.model_core.specs.Code.Views.{vertex_of, edge_of}
-use Rattle.model_core.specs.Rules.Certificate.{application_of}
-use Rattle.reducer.specs.Sweep.{prunes_of, prunes_after}
+use Rattle.model_core.specs.Code.Views.{application_of}
+use Rattle.reducer.specs.Inner.Sweep.{prunes_of, prunes_after}
 use Rattle.reducer.proofs.strategy.note_prunes.Given as goal
 
 abbrev pub invariant-loop-edge : goal.invariant-loop-edge

@@ -1,7 +1,7 @@
 use Rattle.std.proofs.Common.{◌∙◌, ◌++◌, ap, map}
 use Rattle.model_core.specs.Code.Views.{graph_of, vertex_of}
-use Rattle.model_core.specs.Rules.Certificate.{application_of}
-use Rattle.reducer.specs.Sweep.{swept_vertex, prunes_of_all}
+use Rattle.model_core.specs.Code.Views.{application_of}
+use Rattle.reducer.specs.Inner.Sweep.{swept_vertex, prunes_of_all}
 use Rattle.reducer.proofs.DistinctNames.{vertices_distinct}
 use Rattle.reducer.proofs.SweepIsStrategy.{strategy_from_sweep}
 use Rattle.reducer.proofs.strategy.reduce.Goals as goal

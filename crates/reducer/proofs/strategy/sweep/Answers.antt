@@ -1,7 +1,7 @@
 use Rattle.std.proofs.Common.{◌≡◌, ◌∙◌, ◌<◌, sym, ap, map, take, length, get_or, [], ◌∷◌, ◌++◌, add-one, arith}
 use Rattle.std.proofs.lemmas.List.{take_at, map_more}
 use Rattle.model_core.specs.Code.Views.{vertex_of}
-use Rattle.reducer.specs.Sweep.{swept_vertex, prunes_of}
+use Rattle.reducer.specs.Inner.Sweep.{swept_vertex, prunes_of}
 use Rattle.sig_base.proofs.Lists.{ChangedTo-at, ChangedTo-step, ChangedTo-all, ChangedTo-length, one_more}
 use Rattle.reducer.proofs.strategy.sweep.Goals as goal
 

@@ -1,5 +1,6 @@
 -- One application more: its line joins those of the ones before.
-use Rattle.model_core.specs.Rules.Certificate.{application_of, application_line}
+use Rattle.model_core.specs.Code.Views.{application_of}
+use Rattle.model_core.specs.Rules.Certificate.{application_line}
 use Rattle.sig_base.proofs.Lists.{seen_more, one_more}
 use Rattle.reduction_cert.proofs.certificate.put_applications.Goals as goal
 

@@ -1,6 +1,7 @@
 use Rattle.std.proofs.Common.{◌≡◌, ◌++◌, map, take}
 use Rattle.std.specs.List.{flat_map}
-use Rattle.model_core.specs.Rules.Certificate.{application_of, application_line}
+use Rattle.model_core.specs.Code.Views.{application_of}
+use Rattle.model_core.specs.Rules.Certificate.{application_line}
 use Rattle.reduction_cert.proofs.certificate.put_applications.Given as goal
 
 abbrev pub invariant-loop-application : goal.invariant-loop-application

@@ -4,7 +4,7 @@ use Rattle.std.specs.Prelude.{true, false, List, [], ◌∷◌, None}
 use Rattle.model_core.specs.declared.token.Word.TheVariants as words
 use Rattle.model_core.specs.declared.token.Symbol.TheVariants as symbols
 use Rattle.model_core.specs.Text.Written.{WrittenName, WrittenSigned, RangeKind, SignedLiteral, WrittenExpression, Number, Truth, Scalar, WrittenVariable, WrittenChange, Set, WrittenEdge, Schedule, WrittenVertex, WrittenModel}
-use Rattle.model_read.specs.Reader.{Reader, takes_none, ◌>>=◌, is_word, is_symbol, is_number, word_at, symbol_at, name_at, number_at, either_at, optional_at, repeated_at}
+use Rattle.model_read.specs.Inner.Reader.{Reader, takes_none, ◌>>=◌, is_word, is_symbol, is_number, word_at, symbol_at, name_at, number_at, either_at, optional_at, repeated_at}
 
 unfoldable pub negative_signed_at : Reader WrittenSigned
 negative_signed_at = do

@@ -3,7 +3,8 @@ use Rattle.std.proofs.Common.{◌≡◌, ℕ, zero, suc, ◌+◌, ◌-◌, ◌<�
 use Rattle.std.specs.Prelude.{Result, Ok, Err}
 use Rattle.std.proofs.lemmas.List.{length-map, get_or-map}
 use Rattle.model_core.specs.declared.token.Token.{Token}
-use Rattle.model_core.specs.Text.Lexing.{Lexeme, Front, Between, Longest, Neither, front, front_length, after_front, tokens_from, tokens_of, lexeme_of}
+use Rattle.model_core.specs.Text.Lexing.{Lexeme, Front, Between, Longest, Neither, front, front_length, after_front, tokens_from, tokens_of}
+use Rattle.model_core.specs.Code.TokenViews.{lexeme_of}
 use Rattle.model_lex.specs.TokenOrder.{StandInOrder}
 use Rattle.model_lex.proofs.FrontLemmas.{Fits, front-front_at, front_at-fits}
 

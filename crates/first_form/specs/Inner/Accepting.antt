@@ -5,7 +5,7 @@ use Rattle.std.specs.List.{list_any}
 use Rattle.std.specs.Option.{option_map}
 use Rattle.model_core.specs.declared.model.Kind.TheVariants as kinds
 use Rattle.first_form.specs.declared.variable.Range.{Range}
-use Rattle.model_core.specs.Text.Numbering.{◌>>=◌, place_of, with_sign}
+use Rattle.model_core.specs.Text.Numbering.{◌>>=◌, declared_place as place_of, with_sign}
 use Rattle.model_core.specs.Text.Canonical.{canonical}
 use Rattle.model_core.specs.EventGraph as graph
 use Rattle.model_core.specs.Text.Written as written
