@@ -41,6 +41,10 @@ schedule vertex delay = edge (Schedule delay 5) vertex []
 abbrev pub schedule_with : ℕ → ℕ → ℕ → EventEdge
 schedule_with vertex carried delay = edge (Schedule (number delay) 5) vertex (number carried ∷ [])
 
+-- two numbers that an edge carries
+abbrev pub two_numbers : ℕ → ℕ → List Expression
+two_numbers a b = number a ∷ number b ∷ []
+
 abbrev pub urgent : ℕ → EventEdge
 urgent vertex = edge Urgent vertex []
 

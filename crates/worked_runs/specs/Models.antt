@@ -147,6 +147,35 @@ ordering edges = record {
       [];
 }
 
+-- one event with these edges to A and B, which are watched and take X and Y
+abbrev pub carrying : List EventEdge → EventGraph
+carrying edges = record {
+  name = codes "CARRY";
+  variables = ranged (codes "X") 0 9 0 ∷ ranged (codes "Y") 0 9 0 ∷ [];
+  tables = [];
+  watch = WatchedVertex 1 ∷ WatchedVertex 2 ∷ [];
+  vertices =
+      vertex (codes "RUN") [] edges ∷
+      takes (0 ∷ 1 ∷ []) (vertex (codes "A") [] []) ∷
+      takes (0 ∷ 1 ∷ []) (vertex (codes "B") [] []) ∷
+      [];
+}
+
+-- A comes at 2, makes these changes of X and of C, an array of three cells, and has these edges to B, which takes X.
+-- X and B are watched
+abbrev pub at_two : List StateChange → List EventEdge → EventGraph
+at_two changes edges = record {
+  name = codes "TWO";
+  variables = ranged (codes "X") 0 9 0 ∷ array 3 (ranged (codes "C") 0 9 0) ∷ [];
+  tables = [];
+  watch = WatchedVariable 0 ∷ WatchedVertex 2 ∷ [];
+  vertices =
+      vertex (codes "RUN") [] (schedule 1 (number 2) ∷ []) ∷
+      vertex (codes "A") changes edges ∷
+      takes (0 ∷ []) (vertex (codes "B") [] []) ∷
+      [];
+}
+
 -- the edge waits below 0
 abbrev pub backwards : EventGraph
 backwards = record {

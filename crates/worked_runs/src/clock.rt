@@ -1,8 +1,9 @@
 //! A clock that counts to 3, and a loop that never leaves clock 0.
 
-ghost use Rattle.std.specs.Prelude.{◌≡◌, [], ◌∷◌};
+ghost use Rattle.std.specs.Prelude.{◌≡◌, ℕ, true, false, [], ◌∷◌};
+ghost use Rattle.sig_base.specs.declared.fault.FaultKind.{FaultKind};
 ghost use Rattle.sig_base.specs.declared.fault.FaultKind.TheVariants as faults;
-ghost use Rattle.model_core.specs.Run.Machine.{At, Ended, Stopped, Faulted, Going};
+ghost use Rattle.model_core.specs.Run.Machine.{At, Ended, Stopped, Faulted, Going, finished};
 ghost use Rattle.model_core.specs.Run.History.{look};
 ghost use Rattle.worked_runs.specs.Building.{scalars, seen};
 ghost use Rattle.worked_runs.specs.Models.{clock, strict_clock, loop, backwards};
@@ -26,4 +27,12 @@ pub fn clock_counts()
 pub fn loop_goes_on()
     ensures goes_on_after_50_steps { look loop 42 [] 100 50 ≡ seen [] Going }
     ensures never_waits_below_0 { look backwards 42 [] 100 1000 ≡ seen [] (Faulted 0 faults.NegativeDelay) }
+{}
+
+/// A run is over where no event is pending, where the next is due after the stop time, and where one failed.
+pub fn runs_are_over()
+    ensures ended { (time : ℕ) → finished (Ended time) ≡ true }
+    ensures stopped { finished Stopped ≡ true }
+    ensures failed { (time : ℕ) (kind : FaultKind) → finished (Faulted time kind) ≡ true }
+    ensures not_while_it_goes_on { finished Going ≡ false }
 {}

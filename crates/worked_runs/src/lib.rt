@@ -5,6 +5,8 @@
 mod bank;
 mod changes;
 mod clock;
+mod event_time;
+mod limits;
 mod order;
 mod stream;
 mod texts;
@@ -13,9 +15,11 @@ mod values;
 
 pub use bank::bank_serves;
 pub use changes::{cells_are_set, parameters_come_first, variables_are_drawn};
-pub use clock::{clock_counts, loop_goes_on};
-pub use order::{equal_events_are_cut, events_come_in_order};
-pub use stream::stream_gives;
+pub use clock::{clock_counts, loop_goes_on, runs_are_over};
+pub use event_time::events_see_their_time;
+pub use limits::limits_have_these_numbers;
+pub use order::{equal_events_are_cut, events_come_in_order, others_stay};
+pub use stream::{stream_gives, words_are_shared};
 pub use texts::{models_have_texts, operands_stand_in_parentheses};
 pub use tokens::{
     bad_bytes_have_places, blanks_and_comments_are_no_tokens, longest_tokens_are_taken,

@@ -1,0 +1,29 @@
+//! The clock that an event's expressions see, which is the time of the event.
+
+ghost use Rattle.std.specs.Prelude.{◌≡◌, false, [], ◌∷◌};
+ghost use Rattle.model_core.specs.EventGraph.{Truth, Clock, Cell, Binary, Equal, Set, Schedule, Urgent, CancelEqual};
+ghost use Rattle.model_core.specs.Run.Machine.{At, On, Ended};
+ghost use Rattle.model_core.specs.Run.History.{look};
+ghost use Rattle.worked_runs.specs.Building.{number, indexed, one_over_zero, set, edge, schedule_with, only_if, scalars, seen};
+ghost use Rattle.worked_runs.specs.Models.{at_two};
+
+/// Changes and edges of an event at clock 2 see 2. An edge whose condition is false evaluates nothing else.
+pub fn events_see_their_time()
+    ensures in_a_value { look (at_two (set 0 Clock ∷ []) []) 42 [] 100 1000
+        ≡ seen (At 0 (scalars (0 ∷ [])) ∷ At 2 (scalars (2 ∷ [])) ∷ []) (Ended 2) }
+    ensures in_an_index { look (at_two (Set (indexed 1 Clock ∷ []) (number 7 ∷ []) ∷ []) (edge Urgent 2 (Cell 1 (number 2) ∷ []) ∷ [])) 42 [] 100 1000
+        ≡ seen (At 0 (scalars (0 ∷ [])) ∷ On 2 1 (scalars (7 ∷ [])) ∷ At 2 (scalars (7 ∷ [])) ∷ []) (Ended 2) }
+    ensures in_a_condition { look (at_two [] (only_if (Binary Equal Clock (number 2)) (schedule_with 2 7 1) ∷ [])) 42 [] 100 1000
+        ≡ seen (At 0 (scalars (0 ∷ [])) ∷ On 3 1 (scalars (7 ∷ [])) ∷ At 3 (scalars (7 ∷ [])) ∷ []) (Ended 3) }
+    ensures in_a_delay { look (at_two [] (edge (Schedule Clock 5) 2 (number 7 ∷ []) ∷ [])) 42 [] 100 1000
+        ≡ seen (At 0 (scalars (0 ∷ [])) ∷ On 4 1 (scalars (7 ∷ [])) ∷ At 4 (scalars (7 ∷ [])) ∷ []) (Ended 4) }
+    ensures in_what_is_carried { look (at_two [] (edge (Schedule (number 1) 5) 2 (Clock ∷ []) ∷ [])) 42 [] 100 1000
+        ≡ seen (At 0 (scalars (0 ∷ [])) ∷ On 3 1 (scalars (2 ∷ [])) ∷ At 3 (scalars (2 ∷ [])) ∷ []) (Ended 3) }
+    ensures in_what_is_carried_at_once { look (at_two [] (edge Urgent 2 (Clock ∷ []) ∷ [])) 42 [] 100 1000
+        ≡ seen (At 0 (scalars (0 ∷ [])) ∷ On 2 1 (scalars (2 ∷ [])) ∷ At 2 (scalars (2 ∷ [])) ∷ []) (Ended 2) }
+    ensures in_what_is_cancelled { look (at_two [] (schedule_with 2 2 1 ∷ edge CancelEqual 2 (Clock ∷ []) ∷ [])) 42 [] 100 1000
+        ≡ seen (At 0 (scalars (0 ∷ [])) ∷ []) (Ended 2) }
+    ensures not_where_it_is_false { look
+        (at_two [] (only_if (Truth false) (edge (Schedule one_over_zero 5) 2 (one_over_zero ∷ [])) ∷ [])) 42 [] 100 1000
+        ≡ seen (At 0 (scalars (0 ∷ [])) ∷ []) (Ended 2) }
+{}
