@@ -1,4 +1,5 @@
 pub mod Building
 pub mod Models
+pub mod Pairs
 pub mod Texts
 pub mod Tokens

@@ -2,6 +2,7 @@
 //! The clauses are theorems. The functions that carry them do nothing.
 #![tactic(auto)]
 
+mod apart;
 mod bank;
 mod changes;
 mod clock;
@@ -13,6 +14,7 @@ mod texts;
 mod tokens;
 mod values;
 
+pub use apart::ends_tell_apart;
 pub use bank::bank_serves;
 pub use changes::{cells_are_set, parameters_come_first, variables_are_drawn};
 pub use clock::{clock_counts, loop_goes_on, runs_are_over};
