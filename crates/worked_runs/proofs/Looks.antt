@@ -1,9 +1,11 @@
 -- What follows where two machines show the same: how they end, and what they show.
-use Rattle.std.proofs.Common.{◌≡◌, ℕ, zero, suc, ◌<◌, ◌≤◌, ◌^◌, ℤ, IsTrue, List, [], ◌++◌, refl, sym, ◌∙◌, ap, subst}
+use Rattle.std.proofs.Common.{◌≡◌, ℕ, zero, suc, ◌<◌, ◌≤◌, ◌^◌, ℤ, IsTrue, List, [], map, false, nat_lt, refl, sym, ◌∙◌, ap, subst, arith}
+use Rattle.std.proofs.lemmas.Bool.{le-ltb}
 use Rattle.model_core.specs.EventGraph.{EventGraph}
-use Rattle.model_core.specs.Run.Machine.{Note, Outcome, Going, Look, finished, Move, Rests, Fails, Goes, before, ahead, after, look_of}
+use Rattle.model_core.specs.Run.Machine.{Going, Look, finished, Move, Rests, Fails, Goes, before, ahead, after, look_of}
 use Rattle.model_core.specs.Run.History.{next_move, start, allowed, look}
-use Rattle.model_core.specs.Run.Same.{Begins, SameLooks, Same}
+use Rattle.model_core.specs.Run.Same.{Begins, SameLooks, thing, first_parameters, Same}
+use Rattle.model_core.proofs.Simulation.{Answers, Joined}
 use Rattle.worked_runs.specs.Pairs.{Apart}
 
 -- ---- one machine
@@ -30,6 +32,10 @@ one_end f (suc n) (suc k) s a b = same_after_move (look_of f n) (look_of f k) (f
 pub circles : {S : Type 0} (f : S → Move S) (s : S) → f s ≡ Goes [] s → (n : ℕ) → look_of f n s ≡ record { history = []; outcome = Going }
 circles f s e zero = ap before e
 circles f s e (suc n) = ap (after (look_of f n)) e ∙ ap (ahead []) (circles f s e n)
+
+-- looks are different whose histories are
+pub other_notes : (a b : Look) → (a.history ≡ b.history → ⊥) → a ≡ b → ⊥
+other_notes a b differ e = differ (ap (λ (l : Look). l.history) e)
 
 -- ---- two machines that show the same
 
@@ -68,18 +74,43 @@ same_end g h same seed fits starts ok until early n k a b =
 pub apart_by_ends : (g h : EventGraph) (seed : ℕ) → seed < 2 ^ 64 → (starts : List ℤ) → IsTrue (allowed g starts) → IsTrue (allowed h starts) → (until : ℕ) → until ≤ 2 ^ 48 → (n k : ℕ) (a b : Look) → look g seed starts until n ≡ a → look h seed starts until k ≡ b → IsTrue (finished a.outcome) → IsTrue (finished b.outcome) → (a ≡ b → ⊥) → Apart g h
 apart_by_ends g h seed fits starts ok ok_too until early n k a b at_a at_b fin fin_too differ =
     let first : IsTrue (finished (look g seed starts until n).outcome) = subst (λ (l : Look). IsTrue (finished l.outcome)) (sym at_a) fin in
-    let second : IsTrue (finished (look h seed starts until k).outcome) = subst (λ (l : Look). IsTrue (finished l.outcome)) (sym at_b) fin_too in
-    (λ same. differ (sym at_a ∙ (same_end g h same seed fits starts ok until early n k first second ∙ at_b)),
-    λ same. differ (sym at_a ∙ (sym (same_end h g same seed fits starts ok_too until early k n second first) ∙ at_b)))
+    let second : IsTrue (finished (look h seed starts until k).outcome) = subst (λ (l : Look). IsTrue (finished l.outcome)) (sym at_b) fin_too in (
+      λ same. differ (sym at_a ∙ (same_end g h same seed fits starts ok until early n k first second ∙ at_b)),
+      λ same. differ (sym at_a ∙ (sym (same_end h g same seed fits starts ok_too until early k n second first) ∙ at_b)),
+    )
 
 -- models are apart of which one is finished in a run and the other goes on for ever
 pub apart_by_going_on : (g h : EventGraph) (seed : ℕ) → seed < 2 ^ 64 → (starts : List ℤ) → IsTrue (allowed g starts) → IsTrue (allowed h starts) → (until : ℕ) → until ≤ 2 ^ 48 → (n : ℕ) → IsTrue (finished (look g seed starts until n).outcome) → ((m : ℕ) → (look h seed starts until m).outcome ≡ Going) → Apart g h
-apart_by_going_on g h seed fits starts ok ok_too until early n fin going =
-    (λ same. both_finish (λ n. look g seed starts until n) (λ m. look h seed starts until m) (same.runs seed fits starts ok until early) n fin going,
-    λ same. both_finish_only (λ m. look h seed starts until m) (λ n. look g seed starts until n) (same.runs seed fits starts ok_too until early) n fin going)
+apart_by_going_on g h seed fits starts ok ok_too until early n fin going = (
+  λ same. both_finish (λ n. look g seed starts until n) (λ m. look h seed starts until m) (same.runs seed fits starts ok until early) n fin going,
+  λ same. both_finish_only (λ m. look h seed starts until m) (λ n. look g seed starts until n) (same.runs seed fits starts ok_too until early) n fin going,
+)
 
 -- models are apart of which one shows in a run what the other never shows
 pub apart_by_notes : (g h : EventGraph) (seed : ℕ) → seed < 2 ^ 64 → (starts : List ℤ) → IsTrue (allowed g starts) → IsTrue (allowed h starts) → (until : ℕ) → until ≤ 2 ^ 48 → (n : ℕ) → ((m : ℕ) → Begins (look g seed starts until n).history (look h seed starts until m).history → ⊥) → Apart g h
-apart_by_notes g h seed fits starts ok ok_too until early n missing =
-    (λ same. both_show (λ n. look g seed starts until n) (λ m. look h seed starts until m) (same.runs seed fits starts ok until early) n missing,
-    λ same. both_show_only (λ m. look h seed starts until m) (λ n. look g seed starts until n) (same.runs seed fits starts ok_too until early) n missing)
+apart_by_notes g h seed fits starts ok ok_too until early n missing = (
+  λ same. both_show (λ n. look g seed starts until n) (λ m. look h seed starts until m) (same.runs seed fits starts ok until early) n missing,
+  λ same. both_show_only (λ m. look h seed starts until m) (λ n. look g seed starts until n) (same.runs seed fits starts ok_too until early) n missing,
+)
+
+-- models are apart that watch other things
+pub apart_by_watch : (g h : EventGraph) → (map (thing g) g.watch ≡ map (thing h) h.watch → ⊥) → Apart g h
+apart_by_watch g h differ = (λ same. differ same.watched, λ same. differ (sym same.watched))
+
+-- models are apart whose runs begin with other parameters
+pub apart_by_parameters : (g h : EventGraph) → (first_parameters g ≡ first_parameters h → ⊥) → Apart g h
+apart_by_parameters g h differ = (λ same. differ same.started, λ same. differ (sym same.started))
+
+-- ---- answers to moves that are known by equations
+
+pub joined_by : {S T : Type 0} (f : S → Move S) (g : T → Move T) (R : S → T → Type 0) (s : S) (t : T) {m : Move S} {k : Move T} → f s ≡ m → g t ≡ k → Joined f R m k → Joined f R (f s) (g t)
+joined_by {S} {T} f g R s t {m} {k} first second joined =
+    subst (λ (m : Move S). Joined f R m (g t)) (sym first) (subst (λ (k : Move T). Joined f R m k) (sym second) joined)
+
+pub answered_by : {S T : Type 0} (f : S → Move S) (g : T → Move T) (R : S → T → Type 0) (s : S) (t : T) {m : Move S} {k : Move T} → f s ≡ m → g t ≡ k → Answers R m k → Answers R (f s) (g t)
+answered_by {S} {T} f g R s t {m} {k} first second answers =
+    subst (λ (m : Move S). Answers R m (g t)) (sym first) (subst (λ (k : Move T). Answers R m k) (sym second) answers)
+
+-- no stop time is before 0
+pub none_below_0 : (until : ℕ) → nat_lt until 0 ≡ false
+none_below_0 until = le-ltb until 0 (omega arith)

@@ -1,8 +1,8 @@
 -- Models two by two, which differ in one thing, and what it is that sameness tells two models apart.
-use Rattle.std.specs.Prelude.{ℕ, ◌^◌, List, [], ◌∷◌, codes}
-use Rattle.model_core.specs.EventGraph.{EventGraph, Variable, Expression, Truth, Scalar, Binary, Equal, And, StateChange, EventEdge, EventVertex, Watched, WatchedVariable, WatchedVertex}
+use Rattle.std.specs.Prelude.{ℕ, List, [], ◌∷◌, codes}
+use Rattle.model_core.specs.EventGraph.{EventGraph, Variable, Expression, Scalar, Binary, Equal, And, StateChange, EventEdge, EventVertex, Watched, WatchedVertex}
 use Rattle.model_core.specs.Run.Same.{Same}
-use Rattle.worked_runs.specs.Building.{ranged, number, set, draw, schedule, urgent, only_if, vertex, takes, one_over_zero}
+use Rattle.worked_runs.specs.Building.{ranged, number, set, draw, schedule, urgent, only_if, vertex, takes, plus_one, one_over_zero}
 
 -- neither of two models is the same as the other
 abbrev pub Apart : EventGraph → EventGraph → Type 0
@@ -105,8 +105,8 @@ taking_x condition =
     (takes (0 ∷ []) (vertex (codes "RUN") [] (only_if condition (urgent 1) ∷ [])) ∷ vertex (codes "A") [] [] ∷ [])
 
 -- X is this number
-abbrev pub is_number : ℕ → Expression
-is_number n = Binary Equal (Scalar 0) (number n)
+abbrev pub equals_x : ℕ → Expression
+equals_x n = Binary Equal (Scalar 0) (number n)
 
 -- X and Y are the first two words of stream 54 and, under this condition, A follows, which is watched
 abbrev pub drawing : Expression → EventGraph
@@ -115,8 +115,8 @@ drawing condition =
     (vertex (codes "RUN") (draw 0 54 0 4294967295 ∷ draw 1 54 0 4294967295 ∷ []) (only_if condition (urgent 1) ∷ []) ∷ vertex (codes "A") [] [] ∷ [])
 
 -- X and Y are these numbers
-abbrev pub are_numbers : ℕ → ℕ → Expression
-are_numbers x y = Binary And (is_number x) (Binary Equal (Scalar 1) (number y))
+abbrev pub equals_x_and_y : ℕ → ℕ → Expression
+equals_x_and_y x y = Binary And (equals_x x) (Binary Equal (Scalar 1) (number y))
 
 -- ---- how many steps a run needs
 
@@ -131,3 +131,7 @@ two_events = nothing_more (urgent 1 ∷ [])
 -- A never comes
 abbrev pub one_event : EventGraph
 one_event = nothing_more []
+
+-- A comes at 5 twice, and X is 1 after the first time
+abbrev pub comes_twice : EventGraph
+comes_twice = at_five (set 0 (plus_one 0) ∷ []) (only_if (equals_x 1) (urgent 1) ∷ [])

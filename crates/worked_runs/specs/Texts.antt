@@ -1,7 +1,7 @@
 -- A model with each part of the language, and its canonical text.
-use Rattle.std.specs.Prelude.{ℕ, pos, negsuc, true, false, List, [], ◌∷◌, ◌++◌, Some, None, codes}
+use Rattle.std.specs.Prelude.{ℕ, pos, negsuc, true, false, List, [], ◌∷◌, ◌++◌, codes}
 use Rattle.model_core.specs.declared.model.Kind.TheVariants as kinds
-use Rattle.model_core.specs.EventGraph.{Expression, Number, Truth, Scalar, Not, Binary, Add, Subtract, Multiply, Variable, Weighted, WeightTable, WatchedVariable, WatchedVertex, Uniform, ByTable, Set, Draw, EventEdge, EdgeKind, Schedule, Urgent, CancelNext, CancelEqual, CancelAll, EventVertex, EventGraph}
+use Rattle.model_core.specs.EventGraph.{Expression, Truth, Scalar, Not, Binary, Add, Subtract, Multiply, WatchedVariable, WatchedVertex, Uniform, ByTable, Set, Draw, EventEdge, EdgeKind, Schedule, Urgent, CancelNext, CancelEqual, CancelAll, EventVertex, EventGraph}
 use Rattle.worked_runs.specs.Building.{number, scalar, indexed}
 
 -- the expressions that stand in the texts: n is the variable N, and open is OPEN

@@ -2,6 +2,7 @@
 //! The clauses are theorems. The functions that carry them do nothing.
 #![tactic(auto)]
 
+mod alike;
 mod apart;
 mod bank;
 mod changes;
@@ -14,7 +15,8 @@ mod texts;
 mod tokens;
 mod values;
 
-pub use apart::ends_tell_apart;
+pub use alike::{later_events_are_unseen, steps_may_be_fewer};
+pub use apart::{declarations_tell_apart, ends_tell_apart, notes_tell_apart, one_run_tells_apart};
 pub use bank::bank_serves;
 pub use changes::{cells_are_set, parameters_come_first, variables_are_drawn};
 pub use clock::{clock_counts, loop_goes_on, runs_are_over};

@@ -2,8 +2,8 @@
 use Rattle.std.proofs.Common.{◌≡◌, ℕ, zero, suc, pos, Some, IsTrue, [], ◌∷◌, replicate, refl, ap, lit<, lit≤}
 use Rattle.sig_base.specs.declared.fault.FaultKind.TheVariants as faults
 use Rattle.model_core.specs.EventGraph.{EventGraph}
-use Rattle.model_core.specs.Run.Machine.{Note, At, Outcome, Ended, Stopped, Faulted, Look, Going, finished, Goes, ahead, look_of}
-use Rattle.model_core.specs.Run.History.{Moment, allowed, next_move, start, look}
+use Rattle.model_core.specs.Run.Machine.{At, Outcome, Ended, Stopped, Faulted, Look, Going, finished}
+use Rattle.model_core.specs.Run.History.{Moment, allowed, next_move, look}
 use Rattle.worked_runs.specs.Building.{seen}
 use Rattle.worked_runs.specs.Pairs.{Apart, ends, stops, goes_on, divides, leaves, ends_at_4, divides_at_4}
 use Rattle.worked_runs.proofs.Looks.{apart_by_ends, apart_by_going_on, circles}
