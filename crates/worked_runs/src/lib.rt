@@ -10,6 +10,7 @@ mod clock;
 mod event_time;
 mod limits;
 mod order;
+mod ranges;
 mod stream;
 mod texts;
 mod tokens;
@@ -23,6 +24,9 @@ pub use clock::{clock_counts, loop_goes_on, runs_are_over};
 pub use event_time::events_see_their_time;
 pub use limits::limits_have_these_numbers;
 pub use order::{equal_events_are_cut, events_come_in_order, others_stay};
+pub use ranges::{
+    runs_begin_with_initial_values, starting_values_are_in_range, states_are_in_range,
+};
 pub use stream::{stream_gives, words_are_shared};
 pub use texts::{models_have_texts, operands_stand_in_parentheses};
 pub use tokens::{
