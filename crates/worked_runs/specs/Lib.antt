@@ -3,5 +3,6 @@ pub mod Models
 pub mod Left
 pub mod Moments
 pub mod Reductions
+pub mod Pairs
 pub mod Texts
 pub mod Tokens

@@ -1,15 +1,15 @@
 -- A model with edges that never do anything, and what is left of it as they are pruned.
 use Rattle.std.specs.Prelude.{false, List, [], ◌∷◌, codes}
 use Rattle.model_core.specs.EventGraph.{EventGraph, EventEdge, Truth}
-use Rattle.worked_runs.specs.Building.{number, schedule, only_if, vertex}
+use Rattle.worked_runs.specs.Building.{whole, schedule, only_if, event}
 
 -- an edge back to RUN that never does anything
 abbrev pub idle_edge : EventEdge
-idle_edge = only_if (Truth false) (schedule 0 (number 5))
+idle_edge = only_if (Truth false) (schedule 0 (whole 5))
 
 -- an edge to A after 2 ticks
 abbrev pub later : EventEdge
-later = schedule 1 (number 2)
+later = schedule 1 (whole 2)
 
 -- RUN leads to A, which has these edges
 abbrev pub leading_on : List EventEdge → EventGraph
@@ -18,7 +18,7 @@ leading_on edges = record {
   variables = [];
   tables = [];
   watch = [];
-  vertices = vertex (codes "RUN") [] (later ∷ []) ∷ vertex (codes "A") [] edges ∷ [];
+  vertices = event (codes "RUN") [] (later ∷ []) ∷ event (codes "A") [] edges ∷ [];
 }
 
 abbrev pub idle : EventGraph

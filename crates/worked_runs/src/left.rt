@@ -2,7 +2,7 @@
 
 ghost use Rattle.std.specs.Prelude.{◌≡◌, pos, [], ◌∷◌};
 ghost use Rattle.model_core.specs.Run.Changes.{left_by_changes, one_more};
-ghost use Rattle.worked_runs.specs.Building.{set, draw, number};
+ghost use Rattle.worked_runs.specs.Building.{set, draw, whole};
 ghost use Rattle.worked_runs.specs.Models.{cells, changing, bad_index_and_value};
 ghost use Rattle.worked_runs.specs.Left.{untouched, with_state, with_words, second_store_bad, bad_index_drawn};
 
@@ -12,7 +12,7 @@ pub fn stores_before_a_fault_stay()
         ≡ with_state ((pos 3 ∷ []) ∷ (pos 0 ∷ pos 0 ∷ []) ∷ []) (untouched (cells [])) }
     ensures no_store_before_all_values { left_by_changes (cells []) 42 0 (bad_index_and_value ∷ []) (untouched (cells []))
         ≡ untouched (cells []) }
-    ensures nothing_behind_a_fault { left_by_changes (cells []) 42 0 (set 0 (number 3) ∷ set 0 (number 10) ∷ set 0 (number 5) ∷ []) (untouched (cells []))
+    ensures nothing_behind_a_fault { left_by_changes (cells []) 42 0 (set 0 (whole 3) ∷ set 0 (whole 10) ∷ set 0 (whole 5) ∷ []) (untouched (cells []))
         ≡ with_state ((pos 3 ∷ []) ∷ (pos 0 ∷ pos 0 ∷ []) ∷ []) (untouched (cells [])) }
 {}
 

@@ -3,7 +3,7 @@
 ghost use Rattle.std.specs.Prelude.{◌≡◌, [], ◌∷◌, Some, None};
 ghost use Rattle.model_core.specs.Run.Machine.{At, Stopped};
 ghost use Rattle.model_core.specs.Run.History.{start, look_from, reached_from};
-ghost use Rattle.worked_runs.specs.Building.{scalars, seen};
+ghost use Rattle.worked_runs.specs.Building.{scalars, showing};
 ghost use Rattle.worked_runs.specs.Models.{clock, strict_clock};
 ghost use Rattle.worked_runs.specs.Moments.{counted_to};
 
@@ -11,7 +11,7 @@ ghost use Rattle.worked_runs.specs.Moments.{counted_to};
 pub fn steps_reach_moments()
     ensures two_steps { reached_from clock 42 12 2 (start clock []) ≡ Some (record { notes = At 0 (scalars (1 ∷ [])) ∷ []; moment = counted_to 5 2 1 }) }
     ensures from_there { look_from clock 42 12 10 (counted_to 5 2 1)
-        ≡ seen (At 5 (scalars (2 ∷ [])) ∷ At 10 (scalars (3 ∷ [])) ∷ []) Stopped }
+        ≡ showing (At 5 (scalars (2 ∷ [])) ∷ At 10 (scalars (3 ∷ [])) ∷ []) Stopped }
     ensures not_past_the_end { reached_from clock 42 12 4 (start clock []) ≡ None }
     ensures not_past_a_fault { reached_from strict_clock 42 100 4 (start strict_clock []) ≡ None }
 {}
