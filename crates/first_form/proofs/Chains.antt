@@ -5,8 +5,8 @@ use Rattle.model_core.specs.Text.Written.{WrittenModel}
 use Rattle.model_core.specs.Text.Numbering.{◌>>=◌}
 use Rattle.first_form.specs.declared.error.FirstFormError.{FirstFormError}
 use Rattle.first_form.specs.declared.error.FirstFormError.TheVariants as errors
-use Rattle.first_form.specs.Gives.{Gives}
-use Rattle.first_form.specs.Accepting.{folded, with_value, accepted_variable, accepted_vertex, accepted_watch, accepted_among}
+use Rattle.first_form.specs.Inner.Gives.{Gives}
+use Rattle.first_form.specs.Inner.Accepting.{folded, with_value, accepted_variable, accepted_vertex, accepted_watch, accepted_among}
 
 -- what fails with this error
 abbrev pub FailsWith : {Y : Type 0} → FirstFormError → Option Y → Type 0

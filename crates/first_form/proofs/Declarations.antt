@@ -6,9 +6,9 @@ use Rattle.std.proofs.lemmas.List.{append-nil}
 use Rattle.model_core.specs.EventGraph as graph
 use Rattle.model_core.specs.Text.Written.{WrittenName}
 use Rattle.model_core.specs.Text.Lexing.{same_bytes}
-use Rattle.model_core.specs.Text.Numbering.{Declared, each, written_or, place_of, watched}
+use Rattle.model_core.specs.Text.Numbering.{Declared, each_numbered as each, written_or, declared_place as place_of, watched}
 use Rattle.model_core.specs.Text.Acceptance.{IsShort, IsVariable, watched_number}
-use Rattle.first_form.specs.Accepting.{folded, with_name, with_watched, accepted_watch}
+use Rattle.first_form.specs.Inner.Accepting.{folded, with_name, with_watched, accepted_watch}
 use Rattle.first_form.proofs.Options.{map_some, folded-same}
 use Rattle.first_form.proofs.Distinct.{adds, adds_sound, adds_complete, short_name, each_short_sound, each_short_complete, with_name-adds}
 use Rattle.first_form.proofs.Vertices.{watched_variables, places_of_watched, numbers_watched}

@@ -8,9 +8,9 @@ use Rattle.std.proofs.lemmas.Cmp.{nat_list_eq_equiv}
 use Rattle.std.proofs.lemmas.List.{append-nil}
 use Rattle.std.proofs.lemmas.Map.Keys.{IsDistinct-head, IsDistinct-tail, IsDistinct-push}
 use Rattle.model_core.specs.Text.Lexing.{same_bytes}
-use Rattle.model_core.specs.Text.Numbering.{◌>>=◌, each, place_of}
+use Rattle.model_core.specs.Text.Numbering.{◌>>=◌, each_numbered as each, declared_place as place_of}
 use Rattle.model_core.specs.Text.Acceptance.{IsShort}
-use Rattle.first_form.specs.Accepting.{folded, with_name}
+use Rattle.first_form.specs.Inner.Accepting.{folded, with_name}
 use Rattle.first_form.proofs.Options.{bind_some, guard_some, each_cons, each_front}
 
 all_at : {K : Type 0} (P : K → Type 0) (xs : List K) (y : K) (ys : List K) → AllByRecursion P (xs ++ y ∷ ys) → P y

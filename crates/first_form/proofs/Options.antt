@@ -3,8 +3,8 @@ use Rattle.std.proofs.Common.{◌≡◌, Bool, true, false, cond, ◌&&◌, List
 use Rattle.std.specs.List.{AllByRecursion}
 use Rattle.std.specs.Option.{option_map}
 use Rattle.std.proofs.lemmas.List.{append-nil}
-use Rattle.model_core.specs.Text.Numbering.{◌>>=◌, each}
-use Rattle.first_form.specs.Accepting.{folded, with_value}
+use Rattle.model_core.specs.Text.Numbering.{◌>>=◌, each_numbered as each}
+use Rattle.first_form.specs.Inner.Accepting.{folded, with_value}
 
 pub bind_some : {A B : Type 0} (o : Option A) (f : A → Option B) (y : B) → (o >>= f) ≡ Some y → (x : A) × (o ≡ Some x) × (f x ≡ Some y)
 bind_some None f y h = absurd cc

@@ -5,9 +5,9 @@ use Rattle.std.specs.Option.{option_map}
 use Rattle.model_core.specs.EventGraph as graph
 use Rattle.model_core.specs.Text.Written as written
 use Rattle.model_core.specs.Text.Written.{WrittenExpression, WrittenTarget, WrittenChange, WrittenEdgeKind, WrittenEdge}
-use Rattle.model_core.specs.Text.Numbering.{◌>>=◌, Declared, written_or, place_of, expression, change, edge_kind, edge}
+use Rattle.model_core.specs.Text.Numbering.{◌>>=◌, Declared, written_or, declared_place as place_of, expression, change, edge_kind, edge}
 use Rattle.model_core.specs.Text.Acceptance.{IsNumber, IsFirstValue, IsNever, IsFirstChange, IsFirstEdgeKind, IsFirstEdge}
-use Rattle.first_form.specs.Accepting.{accepted_value, accepted_change, accepted_delay, accepted_condition, accepted_edge_kind, accepted_edge}
+use Rattle.first_form.specs.Inner.Accepting.{accepted_value, accepted_change, accepted_delay, accepted_condition, accepted_edge_kind, accepted_edge}
 use Rattle.first_form.proofs.Options.{bind_some, map_some, guard_some, none_from_test, Agrees}
 
 -- nothing more is asked of a part

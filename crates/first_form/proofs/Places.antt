@@ -5,7 +5,7 @@ use Rattle.std.specs.Option.{option_map}
 use Rattle.std.proofs.lemmas.Bool.{cases_lt, lt-ltb, le-ltb}
 use Rattle.std.proofs.lemmas.Cmp.{nat_list_eq_equiv}
 use lib.Pointwise.{pointwise}
-use Rattle.model_core.specs.Text.Numbering.{place_of}
+use Rattle.model_core.specs.Text.Numbering.{declared_place as place_of}
 
 abbrev found_within : ℕ → ℕ → Option ℕ
 found_within n len = cond (ltb n len) (Some n) None

@@ -5,8 +5,8 @@ use Rattle.std.proofs.lemmas.List.{length-drop, nil_from_length}
 use Rattle.model_core.specs.Text.Numbering.{◌>>=◌}
 use Rattle.first_form.specs.declared.error.FirstFormError.{FirstFormError}
 use Rattle.first_form.specs.declared.error.FirstFormError.TheVariants as errors
-use Rattle.first_form.specs.Gives.{Gives}
-use Rattle.first_form.specs.Accepting.{folded, with_value}
+use Rattle.first_form.specs.Inner.Gives.{Gives}
+use Rattle.first_form.specs.Inner.Accepting.{folded, with_value}
 
 module _ {X A B : Type 0} (step : B → A → Option B) (f : X → A) (total : Option B) where
   -- the steps over a list, from a value on, give this in all

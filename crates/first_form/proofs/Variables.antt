@@ -12,7 +12,7 @@ use Rattle.model_core.specs.Text.Written.{WrittenNumber, WrittenSigned, WrittenK
 use Rattle.model_core.specs.Text.Numbering.{◌>>=◌, with_sign, signed, initial, size, variable, variable_of_kind}
 use Rattle.model_core.specs.Text.Acceptance.{IsRange, IsFirstKind, IsSignedLiteral, IsFirstVariable}
 use Rattle.first_form.specs.declared.variable.Range.{Range}
-use Rattle.first_form.specs.Accepting.{accepted_number, accepted_initial, ordered_range, accepted_range, with_range, accepted_variable}
+use Rattle.first_form.specs.Inner.Accepting.{accepted_number, accepted_initial, ordered_range, accepted_range, with_range, accepted_variable}
 use Rattle.first_form.proofs.Options.{bind_some, map_some, guard_some, and_true, none_from_test, Agrees}
 
 le_from_test : (a b : ℤ) → le_z a b ≡ true → a ≤ℤ b

@@ -4,9 +4,9 @@ use Rattle.std.specs.List.{AllByRecursion}
 use Rattle.std.proofs.lemmas.Bool.{leb-true, le-leb}
 use Rattle.model_core.specs.EventGraph as graph
 use Rattle.model_core.specs.Text.Written.{WrittenName, WrittenVertex}
-use Rattle.model_core.specs.Text.Numbering.{◌>>=◌, Declared, each, written_or, place_of, change, edge, parameter, vertex, watched_or, watched}
+use Rattle.model_core.specs.Text.Numbering.{◌>>=◌, Declared, each_numbered as each, written_or, declared_place as place_of, change, edge, numbered_parameter as parameter, vertex, watched_or, watched}
 use Rattle.model_core.specs.Text.Acceptance.{IsFirstChange, IsFirstEdge, IsFirstVertex, IsSmall, IsVariable, watched_number}
-use Rattle.first_form.specs.Accepting.{folded, with_value, accepted_change, accepted_edge, accepted_changes, accepted_edges, accepted_vertex}
+use Rattle.first_form.specs.Inner.Accepting.{folded, with_value, accepted_change, accepted_edge, accepted_changes, accepted_edges, accepted_vertex}
 use Rattle.first_form.proofs.Options.{bind_some, guard_some, none_from_test, each_cons, each_front, folded-each, Agrees, each_agrees}
 use Rattle.first_form.proofs.Parts.{Anything, change_agrees, edge_agrees}
 

@@ -8,12 +8,12 @@ use Rattle.model_core.specs.EventGraph as graph
 use Rattle.model_core.specs.Text.Written.{WrittenVariable, WrittenTable, WrittenVertex, WrittenModel}
 use Rattle.model_core.specs.Text.Lexing.{same_bytes}
 use Rattle.model_core.specs.Text.Canonical.{canonical}
-use Rattle.model_core.specs.Text.Numbering.{◌>>=◌, Declared, declared_by, each, written_or, variable, table, vertex, watched, numbered}
+use Rattle.model_core.specs.Text.Numbering.{◌>>=◌, Declared, declared_by, each_numbered as each, written_or, variable, table, vertex, watched, numbered}
 use Rattle.model_core.specs.Text.Acceptance.{IsShort, IsRange, watched_number, IsVariable, IsSmall, IsFirstVariable, IsFirstVertex, KeepsRules, AcceptedFirst}
 use Rattle.first_form.specs.declared.error.FirstFormError.{FirstFormError}
 use Rattle.first_form.specs.declared.error.FirstFormError.TheVariants as errors
-use Rattle.first_form.specs.Gives.{Gives}
-use Rattle.first_form.specs.Accepting.{folded, with_value, variable_names, vertex_names, accepted_variable, accepted_vertex, accepted_watch, fits_limits, accepted_parts, with_short_text, accepted}
+use Rattle.first_form.specs.Inner.Gives.{Gives}
+use Rattle.first_form.specs.Inner.Accepting.{folded, with_value, variable_names, vertex_names, accepted_variable, accepted_vertex, accepted_watch, fits_limits, accepted_parts, with_short_text, accepted}
 use Rattle.first_form.proofs.Options.{bind_some, guard_some, and_true, each_kept, folded-each, each_agrees}
 use Rattle.first_form.proofs.Variables.{variable_agrees, variable-name}
 use Rattle.first_form.proofs.Vertices.{vertex_agrees, vertex-name, each-length, all_variables, numbers_watched}

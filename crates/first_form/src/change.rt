@@ -2,8 +2,8 @@
 
 ghost use Rattle.model_core.specs.Code.Views.{change_of};
 ghost use Rattle.model_core.specs.Code.WrittenViews.{written_target, written_expression, written_change};
-ghost use Rattle.first_form.specs.Gives.{Gives};
-ghost use Rattle.first_form.specs.Accepting.{accepted_set, accepted_change};
+ghost use Rattle.first_form.specs.Inner.Gives.{Gives};
+ghost use Rattle.first_form.specs.Inner.Accepting.{accepted_set, accepted_change};
 
 use crate::error::FirstFormError;
 use crate::names::Names;

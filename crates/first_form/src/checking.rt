@@ -5,8 +5,8 @@ ghost use Rattle.model_core.specs.EventGraph.{EventGraph};
 ghost use Rattle.model_core.specs.Code.Views.{variable_of, watched_of, graph_of};
 ghost use Rattle.model_core.specs.Code.WrittenViews.{written_model};
 ghost use Rattle.model_core.specs.Text.Acceptance.{AcceptedFirst};
-ghost use Rattle.first_form.specs.Gives.{Gives};
-ghost use Rattle.first_form.specs.Accepting.{folded, with_value, fits_limits, variable_names, accepted_variable, accepted_watch, accepted_among, accepted_parts, with_short_text, accepted};
+ghost use Rattle.first_form.specs.Inner.Gives.{Gives};
+ghost use Rattle.first_form.specs.Inner.Accepting.{folded, with_value, fits_limits, variable_names, accepted_variable, accepted_watch, accepted_among, accepted_parts, with_short_text, accepted};
 
 use crate::error::FirstFormError;
 use crate::names::Names;

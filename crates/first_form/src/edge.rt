@@ -4,8 +4,8 @@ ghost use Rattle.std.specs.Prelude.{◌≡◌};
 ghost use Rattle.std.specs.Option.{option_map};
 ghost use Rattle.model_core.specs.Code.Views.{expression_of, edge_kind_of, edge_of};
 ghost use Rattle.model_core.specs.Code.WrittenViews.{written_expression, written_edge_kind, written_edge};
-ghost use Rattle.first_form.specs.Gives.{Gives};
-ghost use Rattle.first_form.specs.Accepting.{accepted_delay, accepted_condition, accepted_edge_kind, accepted_edge};
+ghost use Rattle.first_form.specs.Inner.Gives.{Gives};
+ghost use Rattle.first_form.specs.Inner.Accepting.{accepted_delay, accepted_condition, accepted_edge_kind, accepted_edge};
 
 use crate::error::FirstFormError;
 use crate::names::Names;

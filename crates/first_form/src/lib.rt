@@ -2,6 +2,7 @@
 //! model with numbers in place of names.
 #![tactic(auto)]
 
+mod acceptance_law;
 mod change;
 mod checking;
 mod edge;
@@ -12,5 +13,6 @@ mod variable;
 mod vertex;
 mod watch;
 
+pub use acceptance_law::acceptance_is_decided;
 pub use checking::check;
 pub use error::FirstFormError;

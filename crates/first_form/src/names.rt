@@ -1,9 +1,9 @@
 //! The names that a model declares, each with its place.
 
 ghost use Rattle.std.specs.Prelude.{◌≡◌, [], ◌∷◌, ◌++◌, IfOk, is_none, if◌then◌else◌};
-ghost use Rattle.model_core.specs.Text.Numbering.{place_of};
-ghost use Rattle.first_form.specs.Gives.{Gives};
-ghost use Rattle.first_form.specs.Accepting.{with_name};
+ghost use Rattle.model_core.specs.Text.Numbering.{declared_place as place_of};
+ghost use Rattle.first_form.specs.Inner.Gives.{Gives};
+ghost use Rattle.first_form.specs.Inner.Accepting.{with_name};
 
 use crate::error::FirstFormError;
 use indexmap::IndexSet;

@@ -4,7 +4,7 @@ ghost use Rattle.std.specs.Prelude.{◌≡◌};
 ghost use Rattle.std.specs.Option.{option_map};
 ghost use Rattle.model_core.specs.Code.Views.{expression_of};
 ghost use Rattle.model_core.specs.Code.WrittenViews.{written_expression};
-ghost use Rattle.first_form.specs.Accepting.{accepted_value};
+ghost use Rattle.first_form.specs.Inner.Accepting.{accepted_value};
 
 use crate::names::Names;
 use model_core::{Expr, RawExpr, RawForm};

@@ -3,8 +3,8 @@
 ghost use Rattle.std.specs.Prelude.{◌≡◌, [], map};
 ghost use Rattle.model_core.specs.Code.Views.{variable_of};
 ghost use Rattle.model_core.specs.Code.WrittenViews.{written_signed, written_kind, written_literal, written_variable};
-ghost use Rattle.first_form.specs.Gives.{Gives};
-ghost use Rattle.first_form.specs.Accepting.{accepted_number, accepted_initial, ordered_range, accepted_range, accepted_variable, variable_names, folded, with_value};
+ghost use Rattle.first_form.specs.Inner.Gives.{Gives};
+ghost use Rattle.first_form.specs.Inner.Accepting.{accepted_number, accepted_initial, ordered_range, accepted_range, accepted_variable, variable_names, folded, with_value};
 
 use crate::error::FirstFormError;
 use crate::names::{Names, copy_name, declare};

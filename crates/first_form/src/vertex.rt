@@ -3,8 +3,8 @@
 ghost use Rattle.std.specs.Prelude.{◌≡◌, [], map};
 ghost use Rattle.model_core.specs.Code.Views.{change_of, edge_of, vertex_of};
 ghost use Rattle.model_core.specs.Code.WrittenViews.{written_change, written_edge, written_vertex};
-ghost use Rattle.first_form.specs.Gives.{Gives};
-ghost use Rattle.first_form.specs.Accepting.{accepted_changes, accepted_edges, accepted_change, accepted_edge, accepted_vertex, vertex_names, folded, with_value};
+ghost use Rattle.first_form.specs.Inner.Gives.{Gives};
+ghost use Rattle.first_form.specs.Inner.Accepting.{accepted_changes, accepted_edges, accepted_change, accepted_edge, accepted_vertex, vertex_names, folded, with_value};
 
 use crate::change::change;
 use crate::edge::edge;

@@ -5,8 +5,8 @@ ghost use Rattle.std.specs.Option.{option_map};
 ghost use Rattle.model_core.specs.Code.Views.{watched_of};
 ghost use Rattle.model_core.specs.Code.WrittenViews.{written_name};
 ghost use Rattle.model_core.specs.EventGraph.{WatchedVariable};
-ghost use Rattle.first_form.specs.Gives.{Gives};
-ghost use Rattle.first_form.specs.Accepting.{with_watched, accepted_watch, folded};
+ghost use Rattle.first_form.specs.Inner.Gives.{Gives};
+ghost use Rattle.first_form.specs.Inner.Accepting.{with_watched, accepted_watch, folded};
 
 use crate::error::FirstFormError;
 use crate::names::Names;

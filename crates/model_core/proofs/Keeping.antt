@@ -24,11 +24,11 @@ received g Q kept parameters values s t q e = in_turn-keeps Q (store g) (λ p a 
 pub changed : (g : EventGraph) (Q : State → Type 0) → Kept g Q → (seed clk : ℕ) (changes : List StateChange) (d e : Drawn) → Q d.state → in_turn (make_change g seed clk) changes d ≡ Ok e → Q e.state
 changed g Q kept seed clk changes d e q done = in_turn-keeps (λ (d : Drawn). Q d.state) (make_change g seed clk) (λ c a b. kept.by_change seed clk c a b) changes d e q done
 
-occur-keeps : (g : EventGraph) (Q : State → Type 0) → Kept g Q → (seed : ℕ) (v : EventVertex) (n : TakenOff) (s : State) (taken : List ℕ) (c : Configuration) → Q s → occur g seed v n s taken ≡ Ok c → Q c.state
+pub occur-keeps : (g : EventGraph) (Q : State → Type 0) → Kept g Q → (seed : ℕ) (v : EventVertex) (n : TakenOff) (s : State) (taken : List ℕ) (c : Configuration) → Q s → occur g seed v n s taken ≡ Ok c → Q c.state
 occur-keeps g Q kept seed v n s taken c q e =
     let (t, at_receive, after_receive) = bind_ok (receive g v.parameters n.entry.values s) _ c e in
     let (d, at_changes, after_changes) = bind_ok (in_turn (make_change g seed n.entry.time) v.changes (record { state = t; taken = taken })) _ c after_receive in
-    let (p, at_edges, at_end) = bind_ok (in_turn (treat g d.state n.entry.time) v.edges n.others) _ c after_changes in
+    let (p, at_edges, at_end) = bind_ok (in_turn (treat g seed d.state n.entry.time) v.edges (record { pending = n.others; taken = d.taken })) _ c after_changes in
     let holds : Q d.state = changed g Q kept seed n.entry.time v.changes (record { state = t; taken = taken }) d (received g Q kept v.parameters n.entry.values s t q at_receive) at_changes in
     let ended : d.state ≡ c.state = cc in
     subst Q ended holds

@@ -4,6 +4,8 @@
 
 mod application;
 mod expr;
+mod going_on;
+mod left;
 mod model;
 mod raw;
 mod sameness;
@@ -13,12 +15,14 @@ mod vertex;
 
 pub use application::Application;
 pub use expr::Expr;
+pub use going_on::runs_go_on;
+pub use left::changes_leave_their_result;
 pub use model::{Kind, Model, Var, Watch};
 pub use raw::{
     RawChange, RawEdge, RawEdgeForm, RawExpr, RawForm, RawKind, RawLiteral, RawModel, RawName,
     RawNumber, RawRow, RawSigned, RawTable, RawTarget, RawVar, RawVertex,
 };
-pub use sameness::{idle_edges_may_go, reductions_keep_the_meaning, sameness_is_a_preorder};
+pub use sameness::sameness_is_a_preorder;
 pub use staying::runs_stay_in_range;
 pub use token::{Symbol, Token, TokenKind, Word};
 pub use vertex::{Change, Edge, EdgeForm, Target, Vertex};

@@ -4,8 +4,9 @@ use Rattle.std.specs.Prelude.{Result, Ok, Err}
 use Rattle.std.proofs.lemmas.List.{append-nil, at_drop_all, drop-drop, length-drop, map_push, take_rest}
 use Rattle.model_core.specs.declared.token.Token.{Token}
 use Rattle.model_core.specs.declared.token.TokenKind.{TokenKind}
-use Rattle.model_core.specs.Text.Lexing.{Lexeme, LexemeKind, Front, Between, Longest, Neither, front_length, after_front, tokens_from, tokens_of, lexeme_of, lexeme_kind_of}
-use Rattle.model_lex.specs.Fronts.{front_at, seen}
+use Rattle.model_core.specs.Text.Lexing.{Lexeme, LexemeKind, Front, Between, Longest, Neither, front_length, after_front, tokens_from, tokens_of}
+use Rattle.model_core.specs.Code.TokenViews.{lexeme_of, lexeme_kind_of}
+use Rattle.model_lex.specs.Inner.Fronts.{front_at, seen}
 use Rattle.model_lex.specs.declared.front.Front.{Front as CodeFront}
 use Rattle.model_lex.proofs.FrontLemmas.{Fits, front-front_at, front_at-fits}
 
@@ -22,7 +23,7 @@ tokens_from-inside at (suc n) (c ∷ s) =
     let same : at + 1 + n ≡ at + suc n = omega arith in
     tokens_from-inside (at + 1) n s ∙ ap (λ a. tokens_from a 0 (drop n s)) same
 
-after_byte : (at n c : ℕ) (s : List ℕ) → 1 ≤ n → tokens_from (at + 1) (n - 1) s ≡ tokens_from (at + n) 0 (drop n (c ∷ s))
+pub after_byte : (at n c : ℕ) (s : List ℕ) → 1 ≤ n → tokens_from (at + 1) (n - 1) s ≡ tokens_from (at + n) 0 (drop n (c ∷ s))
 after_byte at zero c s some = absurd (omega arith)
 after_byte at (suc n) c s some =
     let one_less : suc n - 1 ≡ n = omega arith in

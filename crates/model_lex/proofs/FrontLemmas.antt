@@ -11,7 +11,7 @@ use Rattle.std.proofs.lemmas.Bool.{false≢true}
 use Rattle.std.proofs.lemmas.Bool.Decides.{Decides-eqb, nat_tests}
 use Rattle.model_core.specs.declared.token.Symbol.{Symbol}
 use Rattle.model_core.specs.Text.Lexing.{Mark, NumberOf, Front, Between, Longest, front, front_length, is_blank, is_word_byte, is_comment_byte, reserved_words, all_symbols, word_among, symbol_among, literal_value}
-use Rattle.model_lex.specs.Fronts.{front_at}
+use Rattle.model_lex.specs.Inner.Fronts.{front_at}
 
 length-take_while : (p : ℕ → Bool) (xs : List ℕ) → length (take_while p xs) ≡ prefix_len p xs
 length-take_while p xs = length-take-le (prefix_len p xs) xs (prefix_len-le-length p xs)

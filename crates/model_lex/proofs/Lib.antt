@@ -1,6 +1,7 @@
 pub mod Cutting
 pub mod Digits
 pub mod FrontLemmas
-pub mod Places
+pub mod TokenPlaces
 pub mod ReservedWords
 pub mod SymbolsAmong
+pub mod FrontByFront

@@ -4,7 +4,7 @@ use Rattle.std.specs.Prelude.{◌==◌, filter}
 use Rattle.std.proofs.lemmas.Bool.Decides.{nat_tests}
 use Rattle.model_core.specs.declared.token.Word.{Word}
 use Rattle.model_core.specs.Text.Lexing.{Reserved, same_bytes, word_among, reserved_words}
-use Rattle.model_lex.specs.Fronts.{words_with_first}
+use Rattle.model_lex.specs.Inner.Fronts.{words_with_first}
 
 other_first : (c : ℕ) (s spelling : List ℕ) → (slice_index spelling 0 == c) ≡ false → same_bytes (c ∷ s) spelling ≡ false
 other_first c s [] e = refl

@@ -4,7 +4,7 @@ use Rattle.std.specs.Prelude.{nat_eq, Option, Some, None}
 use Rattle.std.specs.List.{starts_with}
 use Rattle.model_core.specs.declared.token.Symbol.{Symbol}
 use Rattle.model_core.specs.Text.Lexing.{LexemeKind, Mark, Front, Longest, Neither, all_symbols, symbol_among}
-use Rattle.model_lex.specs.Fronts.{symbol_front, symbols_of_length}
+use Rattle.model_lex.specs.Inner.Fronts.{symbol_front, symbols_of_length}
 
 step : (b : Bool) (n m : ℕ) (k : LexemeKind) (o : Option Symbol) (rest rest' later : Front) → (symbol_front n o Neither ≡ rest → symbol_front n o later ≡ rest') → symbol_front n o Neither ≡ cond b (Longest m k) rest → symbol_front n o later ≡ cond b (Longest m k) rest'
 step true n m k None rest rest' later more e = absurd cc

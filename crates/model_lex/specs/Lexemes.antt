@@ -1,6 +1,7 @@
 -- The tokens of a text, as plain data.
 use Rattle.std.specs.Prelude.{List, map}
-use Rattle.model_core.specs.Text.Lexing.{Lexeme, lexeme_of}
+use Rattle.model_core.specs.Text.Lexing.{Lexeme}
+use Rattle.model_core.specs.Code.TokenViews.{lexeme_of}
 use Rattle.model_lex.specs.declared.token_list.Tokens.{Tokens}
 
 -- what the tokens stand for, in their text

@@ -1,4 +1,4 @@
-pub mod Fronts
-pub mod LexemeSets
 pub mod Lexemes
+pub mod LexemeSets
 pub mod TokenOrder
+pub mod Inner

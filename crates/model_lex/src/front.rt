@@ -2,7 +2,7 @@
 
 ghost use Rattle.std.specs.Prelude.{◌≡◌, ◌<◌, length};
 ghost use Rattle.model_core.specs.Text.Lexing.{symbol_among, all_symbols};
-ghost use Rattle.model_lex.specs.Fronts.{front_at, seen};
+ghost use Rattle.model_lex.specs.Inner.Fronts.{front_at, seen};
 
 use crate::numbers::literal_value;
 use crate::runs::{comment_length, digits_length, is_blank, word_length};

@@ -1,8 +1,9 @@
 //! Cuts a text into its tokens.
 
 ghost use Rattle.std.specs.Prelude.{◌≡◌, ℕ, [], ◌∷◌, ◌++◌, map, Ok, Err, IfOk, OnOk};
-ghost use Rattle.model_core.specs.Text.Lexing.{tokens_of, lexeme_of};
-ghost use Rattle.model_lex.specs.Fronts.{Gives};
+ghost use Rattle.model_core.specs.Text.Lexing.{tokens_of};
+ghost use Rattle.model_core.specs.Code.TokenViews.{lexeme_of};
+ghost use Rattle.model_lex.specs.Inner.Fronts.{Gives};
 ghost use Rattle.model_lex.specs.Lexemes.{lexemes};
 
 use crate::front::{Front, front_of};

@@ -14,6 +14,6 @@ mod words;
 
 pub use lex_error::LexError;
 pub use lexer::tokens;
-pub use order::tokens_stand_in_order;
+pub use order::{texts_are_cut, tokens_stand_in_order};
 pub use parse_error::ParseError;
 pub use token_list::Tokens;

@@ -1,10 +1,16 @@
-//! Where the tokens of a text stand.
+//! Laws of the tokens of a text: how it is cut into them, and where they stand.
 
-ghost use Rattle.std.specs.Prelude.{◌≡◌, ◌<◌, ◌≤◌, ℕ, List, Ok, All, length};
-ghost use Rattle.model_core.specs.Text.Lexing.{Lexeme, tokens_of};
+ghost use Rattle.std.specs.Prelude.{◌≡◌, ◌↔◌, ◌<◌, ◌≤◌, ℕ, List, Result, Ok, All, length};
+ghost use Rattle.model_core.specs.Text.Lexing.{Lexeme, IsCut, tokens_of};
 ghost use Rattle.model_core.specs.declared.token.Token.{Token};
 ghost use Rattle.model_lex.specs.TokenOrder.{StandInOrder};
 ghost use Rattle.model_lex.specs.declared.token_list.Tokens.{Tokens};
+
+/// A text is cut, front by front, into its tokens or up to its first byte that begins none, and into nothing
+/// else.
+pub fn texts_are_cut()
+    ensures { (text : List ℕ) (r : Result (List Lexeme) ℕ) → IsCut 0 text r ↔ (tokens_of text ≡ r) }
+{}
 
 /// The law that the tokens of a text stand in it in order, each of at least a byte.
 pub fn tokens_stand_in_order()

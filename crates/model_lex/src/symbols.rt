@@ -2,7 +2,7 @@
 
 ghost use Rattle.std.specs.Prelude.{◌≡◌, [], ◌∷◌};
 ghost use Rattle.model_core.specs.Text.Lexing.{symbol_among, Neither};
-ghost use Rattle.model_lex.specs.Fronts.{symbol_front, symbols_of_length};
+ghost use Rattle.model_lex.specs.Inner.Fronts.{symbol_front, symbols_of_length};
 
 use model_core::Symbol;
 

@@ -1,7 +1,8 @@
 //! A text with its tokens.
 
 ghost use Rattle.std.specs.Prelude.{◌≡◌, map, Ok};
-ghost use Rattle.model_core.specs.Text.Lexing.{tokens_of, lexeme_of};
+ghost use Rattle.model_core.specs.Text.Lexing.{tokens_of};
+ghost use Rattle.model_core.specs.Code.TokenViews.{lexeme_of};
 ghost use Rattle.model_lex.specs.LexemeSets.{lexemes-prop};
 
 use model_core::Token;

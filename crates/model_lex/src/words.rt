@@ -1,8 +1,9 @@
 //! The reserved words.
 
 ghost use Rattle.std.specs.Prelude.{◌≡◌, ◌<◌, length, map};
-ghost use Rattle.model_core.specs.Text.Lexing.{lexeme_kind_of, reserved_words, word_among};
-ghost use Rattle.model_lex.specs.Fronts.{words_with_first};
+ghost use Rattle.model_core.specs.Code.TokenViews.{lexeme_kind_of};
+ghost use Rattle.model_core.specs.Text.Lexing.{reserved_words, word_among};
+ghost use Rattle.model_lex.specs.Inner.Fronts.{words_with_first};
 
 use model_core::{TokenKind, Word};
 

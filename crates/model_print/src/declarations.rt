@@ -6,12 +6,10 @@ ghost use Rattle.std.specs.List.{flat_map};
 ghost use Rattle.model_core.specs.Text.Canonical.{size_text, clip_text, initial_truth, kind_text, variable_line, row_text, table_line, watched_name, watch_names_line, joined};
 ghost use Rattle.model_core.specs.Code.Views.{graph_of, variable_of, weighted_of, table_of, watched_of};
 
-use crate::bytes::{put_bytes, put_comma};
 use crate::expressions::put_truth;
 use crate::names::{put_variable_name, put_vertex_name};
-use crate::numbers::{put_number, put_signed};
 use model_core::{Kind, Model, Var, Watch};
-use sig_base::{NoMemory, Row, Table};
+use sig_base::{NoMemory, Row, Table, put_bytes, put_comma, put_number, put_signed};
 
 /// Adds the size of an array in brackets, or nothing where it is 0.
 fn put_size(out: &mut Vec<u8>, size: usize) -> Result<(), NoMemory>

@@ -4,11 +4,9 @@ ghost use Rattle.std.specs.Prelude.{◌≡◌, ◌++◌, OnOk, map};
 ghost use Rattle.model_core.specs.Text.Canonical.{truth_text, expression_text, expression_texts, joined, in_parentheses};
 ghost use Rattle.model_core.specs.Code.Views.{graph_of, expression_of};
 
-use crate::bytes::{put_bytes, put_comma};
 use crate::names::put_variable_name;
-use crate::numbers::put_signed;
 use model_core::{Expr, Model};
-use sig_base::NoMemory;
+use sig_base::{NoMemory, put_bytes, put_comma, put_signed};
 
 /// Adds `true` or `false`.
 pub fn put_truth(out: &mut Vec<u8>, truth: bool) -> Result<(), NoMemory>

@@ -4,11 +4,10 @@ ghost use Rattle.std.specs.Prelude.{◌≡◌, IfOk};
 ghost use Rattle.model_core.specs.Text.Canonical.{canonical};
 ghost use Rattle.model_core.specs.Code.Views.{graph_of};
 
-use crate::bytes::put_bytes;
 use crate::declarations::{put_tables, put_variables, put_watch};
 use crate::vertices::put_vertices;
 use model_core::Model;
-use sig_base::{NoMemory, Text};
+use sig_base::{NoMemory, Text, put_bytes};
 use std::alloc::Global;
 
 /// The canonical text of a model: one line for each declaration, change and edge, in the model's order.

@@ -4,9 +4,8 @@ ghost use Rattle.std.specs.Prelude.{◌≡◌, ◌++◌, OnOk};
 ghost use Rattle.model_core.specs.Text.Canonical.{variable_name, vertex_name};
 ghost use Rattle.model_core.specs.Code.Views.{graph_of};
 
-use crate::bytes::put_bytes;
 use model_core::Model;
-use sig_base::NoMemory;
+use sig_base::{NoMemory, put_bytes};
 
 /// Adds the name of the variable at a place.
 pub fn put_variable_name(out: &mut Vec<u8>, model: &Model, var: usize) -> Result<(), NoMemory>

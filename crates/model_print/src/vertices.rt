@@ -5,12 +5,10 @@ ghost use Rattle.std.specs.List.{flat_map};
 ghost use Rattle.model_core.specs.Text.Canonical.{index_text, location_text, change_line, delay_text, priority_text, condition_text, edge_line, vertex_lines, variable_name, joined, in_parentheses};
 ghost use Rattle.model_core.specs.Code.Views.{graph_of, expression_of, location_of, change_of, edge_of, vertex_of};
 
-use crate::bytes::{put_bytes, put_comma};
 use crate::expressions::{put_expression, put_expressions, put_passed};
 use crate::names::{put_variable_name, put_vertex_name};
-use crate::numbers::put_number;
 use model_core::{Change, Edge, EdgeForm, Expr, Model, Target, Vertex};
-use sig_base::NoMemory;
+use sig_base::{NoMemory, put_bytes, put_comma, put_number};
 
 /// The priority that an edge has where none is written.
 const PLAIN_PRIORITY: u8 = 5;

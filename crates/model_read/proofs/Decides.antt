@@ -9,7 +9,7 @@ use Rattle.model_core.specs.contracts.token.Symbol.{the_type as symbol_type}
 use Rattle.model_core.specs.Text.Lexing.{Lexeme, LexemeKind, NameOf, Reserved, NumberOf, Mark}
 use Rattle.model_core.specs.Text.Grammar.{Grammar, gives, ◌>>=◌, ◌or◌, optional, many, some, word, symbol, name, number}
 use Rattle.model_core.specs.Text.Written.{WrittenName, WrittenNumber}
-use Rattle.model_read.specs.Reader.{Reading, Reader, takes_none, and_then, is_word, is_symbol, begins, place_at, name_at, name_of_kind, number_at, number_of_kind, either_at, optional_at, repeated_within, repeated_at}
+use Rattle.model_read.specs.Inner.Reader.{Reading, Reader, takes_none, and_then, is_word, is_symbol, begins, place_at, name_at, name_of_kind, number_at, number_of_kind, either_at, optional_at, repeated_within, repeated_at}
 
 -- at least so many tokens are taken
 pub record Decides {A : Type 0} (P : Grammar A) (p : Reader A) (Follow : List Lexeme → Type 0) (least : ℕ) : Type 0 where

@@ -6,8 +6,8 @@ use Rattle.model_core.specs.Text.Lexing.{Lexeme, LexemeKind, Reserved}
 use Rattle.model_core.specs.Text.Written.{WrittenName, WrittenExpression, WrittenVariable, WrittenChange, WrittenEdge, WrittenVertex, WrittenModel}
 use Rattle.model_core.specs.Text.Grammar.{◌>>=◌, ◌or◌, list, symbol, name, many, some}
 use Rattle.model_core.specs.Text.FirstForm.{negative_signed, plain_signed, signed, variable, watch, number_expression, scalar_expression, change, delay, never, edge, vertex, text}
-use Rattle.model_read.specs.Reader.{is_word, is_symbol, is_number, begins}
-use Rattle.model_read.specs.Rules.{negative_signed_at, plain_signed_at, signed_at, variable_at, variables_at, next_name_at, names_at, watch_at, number_expression_at, scalar_expression_at, expression_at, change_at, changes_at, delay_at, never_at, edge_at, edges_at, vertex_at, vertices_at, text_at}
+use Rattle.model_read.specs.Inner.Reader.{is_word, is_symbol, is_number, begins}
+use Rattle.model_read.specs.Inner.Rules.{negative_signed_at, plain_signed_at, signed_at, variable_at, variables_at, next_name_at, names_at, watch_at, number_expression_at, scalar_expression_at, expression_at, change_at, changes_at, delay_at, never_at, edge_at, edges_at, vertex_at, vertices_at, text_at}
 use Rattle.model_read.proofs.Decides.{Decides, Anything, Stops, same_reading, decides-gives, decides-then, decides-next, decides-last, decides-word, decides-symbol, decides-name, decides-number, decides-either, decides-optional, decides-many, decides-some, begins_word, begins_symbol, begins_name, begins_number, begins_optional, begins_many, begins_some}
 
 pub decides-negative_signed : Decides negative_signed negative_signed_at Anything 2

@@ -4,9 +4,10 @@ use Rattle.std.specs.Prelude.{slice_range}
 use Rattle.std.proofs.lemmas.List.{take_rest}
 use Rattle.model_core.specs.declared.token.Token.{Token}
 use Rattle.model_core.specs.declared.token.TokenKind.TheVariants as kinds
-use Rattle.model_core.specs.Text.Lexing.{Lexeme, lexeme_of}
+use Rattle.model_core.specs.Text.Lexing.{Lexeme}
+use Rattle.model_core.specs.Code.TokenViews.{lexeme_of}
 use Rattle.model_read.specs.InText.{AreInText}
-use Rattle.model_read.specs.Reader.{name_at, ended}
+use Rattle.model_read.specs.Inner.Reader.{name_at, ended}
 
 -- what the other tokens stand for
 abbrev pub others : List ℕ → List Token → List Lexeme

@@ -4,7 +4,7 @@ use Rattle.std.proofs.lemmas.List.{append-nil, map-append}
 use Rattle.model_core.specs.Text.Lexing.{Lexeme, LexemeKind}
 use Rattle.model_lex.specs.declared.parse_error.ParseError.{ParseError}
 use Rattle.model_lex.specs.declared.parse_error.ParseError.TheVariants as errors
-use Rattle.model_read.specs.Reader.{Reading, Reader, Fails, takes_none, and_then, begins, repeated_within, repeated_at}
+use Rattle.model_read.specs.Inner.Reader.{Reading, Reader, Fails, takes_none, and_then, begins, repeated_within, repeated_at}
 
 -- what is read takes a token at least
 abbrev pub Shrinks : {A : Type 0} → Reader A → Type 0

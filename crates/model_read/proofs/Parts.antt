@@ -2,8 +2,8 @@
 use Rattle.std.proofs.Common.{ℕ, ◌<◌, List, arith}
 use Rattle.model_core.specs.Text.Lexing.{Lexeme}
 use Rattle.model_core.specs.Text.Grammar.{Grammar}
-use Rattle.model_read.specs.Reader.{Reader}
-use Rattle.model_read.specs.Rules.{variable_at, next_name_at, change_at, edge_at, vertex_at}
+use Rattle.model_read.specs.Inner.Reader.{Reader}
+use Rattle.model_read.specs.Inner.Rules.{variable_at, next_name_at, change_at, edge_at, vertex_at}
 use Rattle.model_read.proofs.Decides.{Decides}
 use Rattle.model_read.proofs.FirstFormDecides.{decides-variable, decides-next_name, decides-change, decides-edge, decides-vertex}
 use Rattle.model_read.proofs.Loop.{Shrinks}

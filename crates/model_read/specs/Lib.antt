@@ -1,3 +1,2 @@
 pub mod InText
-pub mod Reader
-pub mod Rules
+pub mod Inner

@@ -2,8 +2,8 @@
 
 ghost use Rattle.std.specs.Prelude.{map};
 ghost use Rattle.model_core.specs.Code.WrittenViews.{written_change};
-ghost use Rattle.model_read.specs.Reader.{Gives};
-ghost use Rattle.model_read.specs.Rules.{change_at, changes_at};
+ghost use Rattle.model_read.specs.Inner.Reader.{Gives};
+ghost use Rattle.model_read.specs.Inner.Rules.{change_at, changes_at};
 
 use crate::cursor::Cursor;
 use crate::expression::expression;
@@ -14,7 +14,7 @@ use sig_base::List;
 use std::alloc::Global;
 
 /// Reads a change.
-#[tactic(auto, unfolding(crate::specs::Rules::change_at))]
+#[tactic(auto, unfolding(crate::specs::Inner::Rules::change_at))]
 fn change(alloc: Global, cursor: &mut Cursor<'_>) -> Result<RawChange, ParseError>
     ensures { Gives written_change result cursor.new (change_at cursor.old) }
 {

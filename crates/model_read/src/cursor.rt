@@ -2,7 +2,7 @@
 
 ghost use Rattle.std.specs.Prelude.{◌≡◌, [], map};
 ghost use Rattle.model_core.specs.Code.WrittenViews.{written_name, written_number};
-ghost use Rattle.model_read.specs.Reader.{Gives, begins, is_word, is_symbol, is_number, word_at, symbol_at, name_at, number_at, ended};
+ghost use Rattle.model_read.specs.Inner.Reader.{Gives, begins, is_word, is_symbol, is_number, word_at, symbol_at, name_at, number_at, ended};
 
 use model_core::{RawName, RawNumber, Symbol, Token, TokenKind, Word};
 use model_lex::ParseError;
@@ -19,7 +19,8 @@ pub struct Cursor<'t> {
 
 impl<'t> Model for Cursor<'t> {
     ghost use Rattle.std.specs.Prelude.{List, map};
-    ghost use Rattle.model_core.specs.Text.Lexing.{Lexeme, lexeme_of};
+    ghost use Rattle.model_core.specs.Text.Lexing.{Lexeme};
+    ghost use Rattle.model_core.specs.Code.TokenViews.{lexeme_of};
 
     ghost Value = { List Lexeme };
 
@@ -31,7 +32,7 @@ impl<'t> Model for Cursor<'t> {
 }
 
 impl<'t> Cursor<'t> {
-    ghost use Rattle.model_core.specs.Text.Lexing.{lexeme_of};
+    ghost use Rattle.model_core.specs.Code.TokenViews.{lexeme_of};
     ghost use Rattle.model_read.specs.InText.{AreInText};
 
     /// The tokens, all of which are left to read.

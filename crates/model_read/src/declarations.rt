@@ -3,8 +3,8 @@
 ghost use Rattle.std.specs.Prelude.{map};
 ghost use Rattle.std.specs.Option.{option_map};
 ghost use Rattle.model_core.specs.Code.WrittenViews.{written_name, written_variable};
-ghost use Rattle.model_read.specs.Reader.{Gives, is_word, optional_at};
-ghost use Rattle.model_read.specs.Rules.{variable_at, variables_at, watch_at};
+ghost use Rattle.model_read.specs.Inner.Reader.{Gives, is_word, optional_at};
+ghost use Rattle.model_read.specs.Inner.Rules.{variable_at, variables_at, watch_at};
 ghost use Rattle.model_core.specs.declared.token.Word.TheVariants as words;
 
 use crate::cursor::Cursor;
@@ -16,7 +16,7 @@ use sig_base::List;
 use std::alloc::Global;
 
 /// Reads the declaration of a variable.
-#[tactic(auto, unfolding(crate::specs::Rules::variable_at))]
+#[tactic(auto, unfolding(crate::specs::Inner::Rules::variable_at))]
 fn variable(alloc: Global, cursor: &mut Cursor<'_>) -> Result<RawVar, ParseError>
     ensures { Gives written_variable result cursor.new (variable_at cursor.old) }
 {
@@ -56,7 +56,7 @@ pub fn variables(alloc: Global, cursor: &mut Cursor<'_>) -> Result<List<RawVar>,
 }
 
 /// Reads the watch list, where one is written.
-#[tactic(auto, unfolding(crate::specs::Rules::watch_at))]
+#[tactic(auto, unfolding(crate::specs::Inner::Rules::watch_at))]
 pub fn watch(alloc: Global, cursor: &mut Cursor<'_>) -> Result<Option<List<RawName>>, ParseError>
     ensures { Gives (option_map (map written_name)) result cursor.new (optional_at (is_word words.Watch) watch_at cursor.old) }
 {

@@ -4,8 +4,8 @@ ghost use Rattle.std.specs.Prelude.{map};
 ghost use Rattle.std.specs.Option.{option_map};
 ghost use Rattle.model_core.specs.declared.token.Word.TheVariants as words;
 ghost use Rattle.model_core.specs.Code.WrittenViews.{written_expression, written_edge};
-ghost use Rattle.model_read.specs.Reader.{Gives, is_word, optional_at};
-ghost use Rattle.model_read.specs.Rules.{delay_at, never_at, edge_at, edges_at};
+ghost use Rattle.model_read.specs.Inner.Reader.{Gives, is_word, optional_at};
+ghost use Rattle.model_read.specs.Inner.Rules.{delay_at, never_at, edge_at, edges_at};
 
 use crate::cursor::Cursor;
 use crate::expression::number;
@@ -16,7 +16,7 @@ use sig_base::List;
 use std::alloc::Global;
 
 /// Reads the delay of an edge, where one is written.
-#[tactic(auto, unfolding(crate::specs::Rules::delay_at))]
+#[tactic(auto, unfolding(crate::specs::Inner::Rules::delay_at))]
 fn delay(cursor: &mut Cursor<'_>) -> Result<Option<RawExpr>, ParseError>
     ensures { Gives (option_map written_expression) result cursor.new (optional_at (is_word words.After) delay_at cursor.old) }
 {
@@ -28,7 +28,7 @@ fn delay(cursor: &mut Cursor<'_>) -> Result<Option<RawExpr>, ParseError>
 }
 
 /// Reads the condition of an edge, where one is written. It is the word `false`.
-#[tactic(auto, unfolding(crate::specs::Rules::never_at))]
+#[tactic(auto, unfolding(crate::specs::Inner::Rules::never_at))]
 fn condition(cursor: &mut Cursor<'_>) -> Result<Option<RawExpr>, ParseError>
     ensures { Gives (option_map written_expression) result cursor.new (optional_at (is_word words.When) never_at cursor.old) }
 {
@@ -44,7 +44,7 @@ fn condition(cursor: &mut Cursor<'_>) -> Result<Option<RawExpr>, ParseError>
 }
 
 /// Reads an edge.
-#[tactic(auto, unfolding(crate::specs::Rules::edge_at))]
+#[tactic(auto, unfolding(crate::specs::Inner::Rules::edge_at))]
 fn edge(alloc: Global, cursor: &mut Cursor<'_>) -> Result<RawEdge, ParseError>
     ensures { Gives written_edge result cursor.new (edge_at cursor.old) }
 {

@@ -1,7 +1,7 @@
 //! Reads a model text from its tokens.
 #![tactic(auto)]
 
-ghost use Rattle.std.specs.Prelude.{◌≡◌, List, []};
+ghost use Rattle.std.specs.Prelude.{◌≡◌, ◌⊎◌, List, []};
 ghost use Rattle.model_core.specs.Text.Lexing.{Lexeme};
 ghost use Rattle.model_core.specs.Text.Written.{WrittenModel};
 ghost use Rattle.model_core.specs.Text.FirstForm.{text};
@@ -22,4 +22,9 @@ pub use text::parse;
 /// Tokens spell at most one model text.
 pub fn one_reading()
     ensures { (tokens : List Lexeme) (a b : WrittenModel) → text tokens a [] → text tokens b [] → a ≡ b }
+{}
+
+/// Whether tokens spell a model text is decided.
+pub fn spelling_is_decided()
+    ensures { (tokens : List Lexeme) → ((m : WrittenModel) × text tokens m []) ⊎ ((m : WrittenModel) → text tokens m [] → ⊥) }
 {}

@@ -2,8 +2,8 @@
 
 ghost use Rattle.std.specs.Prelude.{map};
 ghost use Rattle.model_core.specs.Code.WrittenViews.{written_name};
-ghost use Rattle.model_read.specs.Reader.{Gives};
-ghost use Rattle.model_read.specs.Rules.{names_at};
+ghost use Rattle.model_read.specs.Inner.Reader.{Gives};
+ghost use Rattle.model_read.specs.Inner.Rules.{names_at};
 
 use crate::cursor::Cursor;
 use model_core::{RawName, Symbol};
@@ -12,7 +12,7 @@ use sig_base::List;
 use std::alloc::Global;
 
 /// Reads one or more names, separated by commas.
-#[tactic(auto, unfolding(crate::specs::Rules::names_at))]
+#[tactic(auto, unfolding(crate::specs::Inner::Rules::names_at))]
 pub fn names(alloc: Global, cursor: &mut Cursor<'_>) -> Result<List<RawName>, ParseError>
     ensures { Gives (map written_name) result cursor.new (names_at cursor.old) }
 {

@@ -5,8 +5,8 @@ ghost use Rattle.model_core.specs.Text.Written.{WrittenModel};
 ghost use Rattle.model_core.specs.Code.WrittenViews.{written_model};
 ghost use Rattle.model_core.specs.Text.FirstForm.{text};
 ghost use Rattle.model_lex.specs.Lexemes.{lexemes};
-ghost use Rattle.model_read.specs.Reader.{Gives, all_at};
-ghost use Rattle.model_read.specs.Rules.{text_at};
+ghost use Rattle.model_read.specs.Inner.Reader.{Gives, all_at};
+ghost use Rattle.model_read.specs.Inner.Rules.{text_at};
 
 use crate::cursor::Cursor;
 use crate::declarations::{variables, watch};
@@ -17,7 +17,7 @@ use sig_base::List;
 use std::alloc::Global;
 
 /// Reads a model text.
-#[tactic(auto, unfolding(crate::specs::Rules::text_at))]
+#[tactic(auto, unfolding(crate::specs::Inner::Rules::text_at))]
 fn model(alloc: Global, cursor: &mut Cursor<'_>) -> Result<RawModel, ParseError>
     ensures { Gives written_model result cursor.new (text_at cursor.old) }
 {

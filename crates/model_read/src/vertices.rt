@@ -2,8 +2,8 @@
 
 ghost use Rattle.std.specs.Prelude.{map};
 ghost use Rattle.model_core.specs.Code.WrittenViews.{written_vertex};
-ghost use Rattle.model_read.specs.Reader.{Gives};
-ghost use Rattle.model_read.specs.Rules.{vertex_at, vertices_at};
+ghost use Rattle.model_read.specs.Inner.Reader.{Gives};
+ghost use Rattle.model_read.specs.Inner.Rules.{vertex_at, vertices_at};
 
 use crate::changes::changes;
 use crate::cursor::Cursor;
@@ -14,7 +14,7 @@ use sig_base::List;
 use std::alloc::Global;
 
 /// Reads a vertex.
-#[tactic(auto, unfolding(crate::specs::Rules::vertex_at))]
+#[tactic(auto, unfolding(crate::specs::Inner::Rules::vertex_at))]
 fn vertex(alloc: Global, cursor: &mut Cursor<'_>) -> Result<RawVertex, ParseError>
     ensures { Gives written_vertex result cursor.new (vertex_at cursor.old) }
 {
@@ -34,7 +34,7 @@ fn vertex(alloc: Global, cursor: &mut Cursor<'_>) -> Result<RawVertex, ParseErro
 }
 
 /// Reads all vertices, of which there is one at least.
-#[tactic(auto, unfolding(crate::specs::Rules::vertices_at))]
+#[tactic(auto, unfolding(crate::specs::Inner::Rules::vertices_at))]
 pub fn vertices(alloc: Global, cursor: &mut Cursor<'_>) -> Result<List<RawVertex>, ParseError>
     ensures { Gives (map written_vertex) result cursor.new (vertices_at cursor.old) }
 {

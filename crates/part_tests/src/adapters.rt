@@ -1,60 +1,77 @@
-//! Sources and sinks over real readers and writers.
+//! Sources and sinks over readers and writers of std: how often a call is tried, and that all bytes get through.
 
 ghost use Rattle.std.specs.Prelude.{◌≡◌, [], Some, IfOk, OnOk};
 
-use sig_base::{Failed, Sink, StdSink, StdSource, TakeError, Text, put, take_all};
+use sig_base::{Failed, Sink, Source, StdSink, StdSource, TakeError, Text, put, take_all};
 use std::alloc::Global;
 use std::io;
 use std::io::{Error, ErrorKind, Read, Write};
 use std::test::*;
 
-/// A reader or a writer whose first calls are interrupted.
+/// What a device does once it was interrupted as often as it is to be.
+#[derive(Clone, Copy)]
+enum Then {
+    Serves,
+    MovesNoByte,
+    Fails(ErrorKind),
+}
+
+/// A reader and a writer whose first calls are interrupted, whose next call comes to `then`, and which is
+/// sound from there on. It counts its calls.
 #[derive(Drop)]
-struct Interrupted<I> {
-    calls_left: u32,
+struct Device<I> {
+    interruptions: u32,
+    then: Then,
+    calls: u32,
     inner: I,
 }
 
-impl<I> Interrupted<I> {
-    fn interrupt(&mut self) -> io::Result<()> {
-        if self.calls_left == 0 {
-            return Ok(());
+impl<I> Device<I> {
+    fn new(interruptions: u32, then: Then, inner: I) -> Device<I> {
+        Device {
+            interruptions,
+            then,
+            calls: 0,
+            inner,
         }
-        self.calls_left -= 1;
-        Err(Error::from(ErrorKind::Interrupted))
+    }
+
+    /// What this call comes to before the inner device is asked.
+    fn call(&mut self) -> io::Result<Then> {
+        self.calls = self.calls.saturating_add(1);
+        if self.interruptions > 0 {
+            self.interruptions -= 1;
+            return Err(Error::from(ErrorKind::Interrupted));
+        }
+        let now = self.then;
+        self.then = Then::Serves;
+        match now {
+            Then::Fails(kind) => Err(Error::from(kind)),
+            Then::Serves | Then::MovesNoByte => Ok(now),
+        }
     }
 }
 
-impl<R: Read> Read for Interrupted<R> {
+impl<R: Read> Read for Device<R> {
     fn read(&mut self, buf: &mut [u8]) -> io::Result<usize> {
-        self.interrupt()?;
-        self.inner.read(buf)
+        match self.call()? {
+            Then::MovesNoByte => Ok(0),
+            _ => self.inner.read(buf),
+        }
     }
 }
 
-impl<W: Write> Write for Interrupted<W> {
+impl<W: Write> Write for Device<W> {
     fn write(&mut self, buf: &[u8]) -> io::Result<usize> {
-        self.interrupt()?;
-        self.inner.write(buf)
+        match self.call()? {
+            Then::MovesNoByte => Ok(0),
+            _ => self.inner.write(buf),
+        }
     }
 
     fn flush(&mut self) -> io::Result<()> {
-        self.interrupt()?;
+        self.call()?;
         self.inner.flush()
-    }
-}
-
-/// A writer that takes no byte.
-#[derive(Drop)]
-struct Full;
-
-impl Write for Full {
-    fn write(&mut self, _buf: &[u8]) -> io::Result<usize> {
-        Ok(0)
-    }
-
-    fn flush(&mut self) -> io::Result<()> {
-        Ok(())
     }
 }
 
@@ -62,28 +79,21 @@ const BYTES: &[u8] = b"an event graph has vertices and edges";
 
 /// The bytes, taken from a reader whose first calls are interrupted.
 fn taken(alloc: Global, interruptions: u32) -> Result<Text, TakeError> {
-    let mut source = StdSource::new(Interrupted {
-        calls_left: interruptions,
-        inner: BYTES,
-    });
+    let mut source = StdSource::new(Device::new(interruptions, Then::Serves, BYTES));
     take_all(alloc, &mut source, 100)
 }
 
-/// What a writer has whose first calls are interrupted, after all the bytes were put and finished.
+/// What a writer has whose first calls are interrupted, after all the bytes were put.
 fn written(alloc: Global, interruptions: u32) -> Vec<u8> {
     let mut bytes = Vec::new(alloc);
-    let mut sink = StdSink::new(Interrupted {
-        calls_left: interruptions,
-        inner: &mut bytes,
-    });
+    let mut sink = StdSink::new(Device::new(interruptions, Then::Serves, &mut bytes));
     let _ = put(&mut sink, BYTES);
-    let _ = sink.finish();
     drop(sink);
     bytes
 }
 
 #[test]
-fn interrupted_calls_are_tried_100_times(rt: HostRuntime) -> Result<(), Fail> {
+fn interruptions_lose_no_byte(rt: HostRuntime) -> Result<(), Fail> {
     for interruptions in [0, 3, 99] {
         assert!(rt; taken(rt.alloc(), interruptions)?.as_slice() == BYTES);
         assert!(rt; written(rt.alloc(), interruptions).as_slice() == BYTES);
@@ -93,41 +103,85 @@ fn interrupted_calls_are_tried_100_times(rt: HostRuntime) -> Result<(), Fail> {
     Ok(())
 }
 
-#[test]
-fn a_write_of_no_byte_fails(rt: HostRuntime) {
-    let mut sink = StdSink::new(Full);
-    assert!(rt; put(&mut sink, BYTES).is_err());
-    assert!(rt; put(&mut sink, b"").is_ok());
+/// Whether a call of a source or a sink succeeded, and how many calls it made of its device.
+type Outcome = (bool, u32);
+
+fn outcome_of_read(interruptions: u32, then: Then) -> Outcome {
+    let mut device = Device::new(interruptions, then, BYTES);
+    let mut source = StdSource::new(&mut device);
+    let is_read = source.read(&mut [0; 8]).is_ok();
+    drop(source);
+    (is_read, device.calls)
 }
 
-/// A writer that knows whether it was flushed.
-#[derive(Drop)]
-struct Flushed {
-    is_flushed: bool,
+fn outcome_of_write(alloc: Global, interruptions: u32, then: Then) -> Outcome {
+    let mut device = Device::new(interruptions, then, Vec::new(alloc));
+    let mut sink = StdSink::new(&mut device);
+    let is_written = sink.write(BYTES).is_ok();
+    drop(sink);
+    (is_written, device.calls)
 }
 
-impl Write for Flushed {
-    fn write(&mut self, buf: &[u8]) -> io::Result<usize> {
-        Ok(buf.len())
-    }
-
-    fn flush(&mut self) -> io::Result<()> {
-        self.is_flushed = true;
-        Ok(())
-    }
-}
-
-fn finish_flushes() -> bool {
-    let mut writer = Flushed { is_flushed: false };
-    let mut sink = StdSink::new(&mut writer);
+fn outcome_of_finish(alloc: Global, interruptions: u32, then: Then) -> Outcome {
+    let mut device = Device::new(interruptions, then, Vec::new(alloc));
+    let mut sink = StdSink::new(&mut device);
     let is_finished = sink.finish().is_ok();
     drop(sink);
-    is_finished && writer.is_flushed
+    (is_finished, device.calls)
+}
+
+/// Whether a read, a write and a finish each have this outcome.
+fn all_come_out(alloc: Global, interruptions: u32, then: Then, wanted: Outcome) -> bool {
+    outcome_of_read(interruptions, then) == wanted
+        && outcome_of_write(alloc, interruptions, then) == wanted
+        && outcome_of_finish(alloc, interruptions, then) == wanted
 }
 
 #[test]
-fn a_writer_is_flushed_at_the_end(rt: HostRuntime) {
-    assert!(rt; finish_flushes());
+fn an_interrupted_call_is_tried_100_times_in_all(rt: HostRuntime) {
+    for (interruptions, wanted) in [
+        (0, (true, 1)),
+        (1, (true, 2)),
+        (99, (true, 100)),
+        (100, (false, 100)),
+        (1_000, (false, 100)),
+    ] {
+        assert!(rt; all_come_out(rt.alloc(), interruptions, Then::Serves, wanted));
+    }
+}
+
+#[test]
+fn any_other_error_fails_at_once(rt: HostRuntime) {
+    for kind in [
+        ErrorKind::NotFound,
+        ErrorKind::PermissionDenied,
+        ErrorKind::BrokenPipe,
+        ErrorKind::WouldBlock,
+        ErrorKind::TimedOut,
+        ErrorKind::WriteZero,
+        ErrorKind::StorageFull,
+        ErrorKind::UnexpectedEof,
+        ErrorKind::OutOfMemory,
+        ErrorKind::Other,
+    ] {
+        for (interruptions, calls) in [(0, 1), (3, 4), (99, 100)] {
+            let wanted = (false, calls);
+            assert!(rt; all_come_out(rt.alloc(), interruptions, Then::Fails(kind), wanted));
+        }
+    }
+}
+
+#[test]
+fn a_write_of_no_byte_fails_at_once(rt: HostRuntime) {
+    for (interruptions, calls) in [(0, 1), (3, 4), (99, 100)] {
+        let outcome = outcome_of_write(rt.alloc(), interruptions, Then::MovesNoByte);
+        assert!(rt; outcome == (false, calls));
+    }
+}
+
+#[test]
+fn a_read_of_no_byte_is_the_end(rt: HostRuntime) {
+    assert!(rt; outcome_of_read(0, Then::MovesNoByte) == (true, 1));
 }
 
 /// The bytes, through a reader of std.

@@ -1,13 +1,13 @@
--- What is printed of a model that was read, and of what the rules make of it, reads back.
+-- The canonical text of a valid model reads back, also where an edge is taken away.
 use Rattle.std.proofs.Common.{ℕ, List, sym, subst}
 use Rattle.model_core.specs.EventGraph.{EventGraph}
 use Rattle.model_core.specs.Text.Canonical.{canonical}
-use Rattle.model_core.specs.Rules.Reduction.{RuleApplication, Strategy}
-use Rattle.model_core.specs.Text.Acceptance.{SpellsFirst, ReadsFirst}
+use Rattle.model_core.specs.Rules.Prune.{pruned}
+use Rattle.model_core.specs.Text.Acceptance.{SpellsFirst, ReadsFirst, IsValid}
 use Rattle.reading_back.proofs.Printed.{printed_reads}
 use Rattle.reading_back.proofs.CanonicalText.{canonical-is}
 use Rattle.reading_back.proofs.NumberedModel.{model_printable}
-use Rattle.reading_back.proofs.Pruning.{Kept, strategy_kept}
+use Rattle.reading_back.proofs.Pruning.{Kept, pruned_kept}
 
 -- the canonical text of a printable model that keeps the rules reads as the model
 pub kept_reads : (g : EventGraph) → Kept g → ReadsFirst (canonical g) g
@@ -23,10 +23,11 @@ kept_reads g k =
 pub read_kept : (text : List ℕ) (g : EventGraph) → ReadsFirst text g → Kept g
 read_kept text g r = record { printable = model_printable text g r; rules = r.accepted.rules }
 
--- the canonical text of a model that was read reads as the same model
-pub canonical_reads : (text : List ℕ) (g : EventGraph) → ReadsFirst text g → ReadsFirst (canonical g) g
-canonical_reads text g r = kept_reads g (read_kept text g r)
+-- the canonical text of a valid model reads as that model
+pub valid_reads : (g : EventGraph) → IsValid g → ReadsFirst (canonical g) g
+valid_reads g (text, r) = kept_reads g (read_kept text g r)
 
--- so does that of the model which the strategy reaches
-pub reduced_reads : (text : List ℕ) (g : EventGraph) (applications : List RuleApplication) (reduced : EventGraph) → ReadsFirst text g → Strategy g applications reduced → ReadsFirst (canonical reduced) reduced
-reduced_reads text g applications reduced r s = kept_reads reduced (strategy_kept g applications reduced (read_kept text g r) s)
+-- and so does that of the model without an edge, which is then valid
+pub pruned_valid : (g : EventGraph) (vertex edge : ℕ) → IsValid g → IsValid (pruned g vertex edge)
+pruned_valid g vertex edge (text, r) =
+    (canonical (pruned g vertex edge), kept_reads (pruned g vertex edge) (pruned_kept g vertex edge (read_kept text g r)))

@@ -10,7 +10,7 @@ use Rattle.model_core.specs.Text.Written.{WrittenName, WrittenNumber, WrittenExp
 use Rattle.model_core.specs.Text.Grammar.{◌or◌}
 use Rattle.model_core.specs.Text.FirstForm as form
 use Rattle.model_core.specs.Text.Numbering as numbering
-use Rattle.model_core.specs.Text.Numbering.{Declared, place_of}
+use Rattle.model_core.specs.Text.Numbering.{Declared, declared_place as place_of}
 use Rattle.model_core.specs.Text.Acceptance.{IsFirstValue, IsFirstChange}
 use Rattle.reading_back.proofs.Spelling.{Ends}
 use Rattle.reading_back.proofs.Reading.{Reads, Any, Reads-then, Reads-text, Reads-gives, Reads-left, Reads-right, Reads-space, Reads-before_feed}

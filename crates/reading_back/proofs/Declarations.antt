@@ -10,7 +10,7 @@ use Rattle.model_core.specs.Text.Written.{WrittenName, WrittenSigned, WrittenVar
 use Rattle.model_core.specs.Text.Grammar.{optional}
 use Rattle.model_core.specs.Text.FirstForm as form
 use Rattle.model_core.specs.Text.Numbering as numbering
-use Rattle.model_core.specs.Text.Numbering.{Declared, place_of, each, written_or, watched_or}
+use Rattle.model_core.specs.Text.Numbering.{Declared, declared_place as place_of, each_numbered as each, written_or, watched_or}
 use Rattle.model_core.specs.Text.Canonical.{joined}
 use Rattle.model_core.specs.Text.Acceptance.{IsFirstVariable}
 use Rattle.reading_back.proofs.Spelling.{IsName}

@@ -9,7 +9,7 @@ use Rattle.model_core.specs.Text.Written.{WrittenName, WrittenNumber, WrittenExp
 use Rattle.model_core.specs.Text.Grammar.{optional}
 use Rattle.model_core.specs.Text.FirstForm as form
 use Rattle.model_core.specs.Text.Numbering as numbering
-use Rattle.model_core.specs.Text.Numbering.{Declared, place_of, written_or}
+use Rattle.model_core.specs.Text.Numbering.{Declared, declared_place as place_of, written_or}
 use Rattle.model_core.specs.Text.Acceptance.{IsNumber, IsNever, IsFirstEdge}
 use Rattle.reading_back.proofs.Spelling.{Ends}
 use Rattle.reading_back.proofs.Reading.{Reads, Any, Reads-then, Reads-gives, Reads-none, Reads-present, Reads-space, Reads-before_feed}

@@ -8,11 +8,12 @@ use Rattle.model_core.specs.declared.model.Kind.TheVariants as kinds
 use Rattle.model_core.specs.Text.Lexing.{same_bytes}
 use Rattle.model_core.specs.EventGraph.{Number, Truth, Set, Schedule, EventEdge, WatchedVariable, EventGraph}
 use Rattle.model_core.specs.Text.Canonical.{canonical}
+use Rattle.model_core.specs.Rules.Prune.{pruned}
 use Rattle.model_core.specs.Rules.Reduction.{Prune, Strategy}
 use Rattle.model_core.specs.Text.Acceptance.{KeepsRules, ReadsFirst}
 use Rattle.reading_back.proofs.Spelling.{IsName}
 use Rattle.reading_back.proofs.Printable.{IsPrintable}
-use Rattle.reading_back.proofs.Back.{kept_reads, reduced_reads}
+use Rattle.reading_back.proofs.Back.{kept_reads, valid_reads, pruned_valid}
 
 abbrev never : EventEdge
 never = record { target = 0; values = []; condition = Truth false; kind = Schedule (Number (pos 5)) 5 }
@@ -99,4 +100,4 @@ pub one_is_pruned : Strategy one (Prune (codes "RUN") 1 ∷ []) one_reduced
 one_is_pruned = (refl, one_reduced, refl, (refl, refl))
 
 pub one_reduced_reads : ReadsFirst (codes "model ONE;\nvar N : 0..9 = 0;\nwatch N;\nvertex RUN {\n  set N := 4;\n}\nend\n") one_reduced
-one_reduced_reads = subst (λ (t : List ℕ). ReadsFirst t one_reduced) one_reduced_text (reduced_reads _ one (Prune (codes "RUN") 1 ∷ []) one_reduced one_reads one_is_pruned)
+one_reduced_reads = subst (λ (t : List ℕ). ReadsFirst t one_reduced) one_reduced_text (valid_reads (pruned one 0 0) (pruned_valid one 0 0 (_, one_reads)))

@@ -9,7 +9,7 @@ use Rattle.model_core.specs.EventGraph.{Variable, Expression, StateChange, EdgeK
 use Rattle.model_core.specs.Text.Written as written
 use Rattle.model_core.specs.Text.Written.{WrittenName, WrittenNumber, WrittenSigned, WrittenKind, WrittenLiteral, WrittenExpression, WrittenVariable, WrittenTarget, WrittenChange, WrittenEdgeKind, WrittenEdge, WrittenVertex, WrittenModel}
 use Rattle.model_core.specs.Text.Numbering as numbering
-use Rattle.model_core.specs.Text.Numbering.{Declared, place_of, each, written_or, watched_or, natural}
+use Rattle.model_core.specs.Text.Numbering.{Declared, declared_place as place_of, each_numbered as each, written_or, watched_or, natural}
 use Rattle.reading_back.proofs.Spelling.{IsName}
 use Rattle.reading_back.proofs.Numerals.{IsSigned}
 use Rattle.reading_back.proofs.Tokens.{IsLiteral}

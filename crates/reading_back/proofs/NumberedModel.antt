@@ -9,7 +9,7 @@ use Rattle.model_core.specs.EventGraph.{Variable, Expression, StateChange, EdgeK
 use Rattle.model_core.specs.Text.Written as written
 use Rattle.model_core.specs.Text.Written.{WrittenName, WrittenNumber, WrittenExpression, WrittenVariable, WrittenTable, WrittenChange, WrittenEdgeKind, WrittenEdge, WrittenVertex, WrittenModel}
 use Rattle.model_core.specs.Text.Numbering as numbering
-use Rattle.model_core.specs.Text.Numbering.{Declared, declared_by, place_of, each, written_or, watched_or, natural, numbered}
+use Rattle.model_core.specs.Text.Numbering.{Declared, declared_by, declared_place as place_of, each_numbered as each, written_or, watched_or, natural, numbered}
 use Rattle.model_core.specs.Text.Acceptance.{IsVariable, ReadsFirst}
 use Rattle.reading_back.proofs.Spelling.{IsName}
 use Rattle.reading_back.proofs.Lists.{Pairs}
@@ -66,13 +66,13 @@ NumberedVertex d w v = PrintableVertex d v × (w.name.name ≡ v.name)
 
 vertex_numbered : (d : Declared) (w : WrittenVertex) (v : EventVertex) → GoodVertex w → numbering.vertex d w ≡ Some v → NumberedVertex d w v
 vertex_numbered d w v g q =
-    option_and_then_some _ (written_or (each (numbering.parameter d)) [] w.parameters) v q (λ parameters p q.
+    option_and_then_some _ (written_or (each (numbering.numbered_parameter d)) [] w.parameters) v q (λ parameters p q.
     option_and_then_some _ (each (numbering.change d) w.changes) v q (λ changes c q.
     option_and_then_some _ (each (numbering.edge d) w.edges) v q (λ edges e q.
     let made : EventVertex = record { name = w.name.name; parameters = parameters; changes = changes; edges = edges } in
     let printable : PrintableVertex d made = record {
       name = g.name;
-      parameters = no_values (each (numbering.parameter d)) w.parameters parameters g.parameters p;
+      parameters = no_values (each (numbering.numbered_parameter d)) w.parameters parameters g.parameters p;
       changes = all_from_pairs (λ y x. numbering.change d x ≡ Some y) GoodChange (PrintableChange d) (λ y x f h. change_numbered d x y h f) changes w.changes (pairs_from_each (numbering.change d) w.changes changes c) g.changes;
       edges = all_from_pairs (λ y x. numbering.edge d x ≡ Some y) GoodEdge (PrintableEdge d) (λ y x f h. edge_numbered d x y h f) edges w.edges (pairs_from_each (numbering.edge d) w.edges edges e) g.edges;
     } in

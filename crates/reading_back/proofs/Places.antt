@@ -7,7 +7,7 @@ use lib.Pointwise.{bytes_decides}
 use Rattle.model_core.specs.Text.Lexing.{same_bytes}
 use Rattle.model_core.specs.Text.Written.{WrittenSigned}
 use Rattle.model_core.specs.Text.Numbering as numbering
-use Rattle.model_core.specs.Text.Numbering.{place_of, each, with_sign}
+use Rattle.model_core.specs.Text.Numbering.{declared_place as place_of, each_numbered as each, with_sign}
 use Rattle.reading_back.proofs.Spelling.{IsName}
 use Rattle.reading_back.proofs.Numerals.{IsSigned}
 use Rattle.reading_back.proofs.Lists.{Pairs}

@@ -4,7 +4,7 @@ use Rattle.std.specs.Prelude.{pos, negsuc, Some, None}
 use Rattle.std.specs.List.{AllByRecursion}
 use Rattle.model_core.specs.declared.model.Kind.TheVariants as kinds
 use Rattle.model_core.specs.EventGraph.{Expression, Number, Truth, Scalar, StateChange, Set, EdgeKind, Schedule, EventEdge, EventVertex, Variable, Watched, WatchedVariable, WatchedVertex, EventGraph}
-use Rattle.model_core.specs.Text.Numbering.{Declared, place_of}
+use Rattle.model_core.specs.Text.Numbering.{Declared, declared_place as place_of}
 use Rattle.reading_back.proofs.Spelling.{IsName}
 use Rattle.reading_back.proofs.Numerals.{IsSigned}
 

@@ -7,7 +7,7 @@ use Rattle.model_core.specs.EventGraph.{EventVertex, Variable, EventGraph}
 use Rattle.model_core.specs.Text.Written.{WrittenName, WrittenVariable, WrittenVertex, WrittenModel}
 use Rattle.model_core.specs.Text.FirstForm as form
 use Rattle.model_core.specs.Text.Numbering as numbering
-use Rattle.model_core.specs.Text.Numbering.{Declared, each, declared_by, written_or, numbered}
+use Rattle.model_core.specs.Text.Numbering.{Declared, each_numbered as each, declared_by, written_or, numbered}
 use Rattle.model_core.specs.Text.Acceptance.{IsFirstVariable, IsFirstVertex, IsFirstForm, SpellsFirst}
 use Rattle.model_core.specs.Text.Lexing.{tokens_of}
 use Rattle.reading_back.proofs.Lexed.{Lexes-nil, tokens_from_Lexes}

@@ -1,13 +1,11 @@
 -- A model without one of its edges is printable, keeps the rules, and has no longer text.
-use Rattle.std.proofs.Common.{◌≡◌, ℕ, suc, zero, ◌≤◌, Bool, true, false, List, [], ◌∷◌, ◌++◌, map, length, refl, sym, ap, subst, arith, length-append}
-use Rattle.std.specs.Prelude.{Some, None, if◌then◌else◌, codes}
+use Rattle.std.proofs.Common.{◌≡◌, ℕ, suc, zero, ◌≤◌, List, [], ◌∷◌, ◌++◌, map, length, refl, sym, ap, subst, arith, length-append}
+use Rattle.std.specs.Prelude.{codes}
 use Rattle.std.specs.List.{AllByRecursion, flat_map, remove, IsDistinct}
-use Rattle.std.proofs.lemmas.Option.{option_and_then_some}
 use Rattle.model_core.specs.Text.Lexing.{same_bytes}
 use Rattle.model_core.specs.EventGraph.{EventVertex, Variable, WeightTable, EventGraph}
 use Rattle.model_core.specs.Text.Canonical.{canonical}
-use Rattle.model_core.specs.Rules.Reduction.{RuleApplication, Prune, place_of_vertex, from_zero, applied, Strategy}
-use Rattle.model_core.specs.Rules.Prune.{is_refuted, with_place, without_edge, pruned, edge_at, prune_at}
+use Rattle.model_core.specs.Rules.Prune.{with_place, without_edge, pruned}
 use Rattle.model_core.specs.Text.Numbering.{Declared}
 use Rattle.model_core.specs.Text.Acceptance.{IsShort, declared_names, IsSmall, KeepsRules}
 use Rattle.reading_back.proofs.Printable.{declared_of, PrintableEdge, PrintableVertex, PrintableWatched, IsPrintable}
@@ -17,7 +15,6 @@ use Rattle.reading_back.proofs.Edges.{edge_text}
 use Rattle.reading_back.proofs.Vertices.{vertex_text}
 use Rattle.reading_back.proofs.Printed.{printed}
 use Rattle.reading_back.proofs.CanonicalText.{canonical-is}
-use Rattle.reading_back.proofs.Places.{some_same, none_some}
 
 -- ---- lists without an element
 
@@ -167,26 +164,12 @@ pruned_rules g v e p r =
     no_more : (m n : ℕ) → m ≤ n → n ≤ 4194304 → m ≤ 4194304
     no_more m n h k = omega arith
 
--- ---- what an application of a rule gives
+-- ---- both
 
 -- it is printable, and keeps the rules
 pub record Kept (g : EventGraph) : Type 0 where
   pub printable : IsPrintable g
   pub rules : KeepsRules g
 
-prune_kept : (g next : EventGraph) (v e : ℕ) → Kept g → prune_at g v e ≡ Some next → Kept next
-prune_kept g next v e k q = option_and_then_some _ (edge_at g v e) next q (λ edge found q. chosen (is_refuted edge.condition) q)
-  where
-    chosen : (b : Bool) → (if b then Some (pruned g v e) else None) ≡ Some next → Kept next
-    chosen true q = subst Kept (some_same (pruned g v e) next q) (record { printable = pruned_printable g v e k.printable; rules = pruned_rules g v e k.printable k.rules })
-    chosen false q = none_some next q
-
-applied_kept : (g next : EventGraph) (a : RuleApplication) → Kept g → applied g a ≡ Some next → Kept next
-applied_kept g next (Prune name number) k q =
-    option_and_then_some _ (place_of_vertex name g.vertices) next q (λ vertex found q.
-    option_and_then_some _ (from_zero number) next q (λ edge counted q. prune_kept g next vertex edge k q))
-
--- the strategy keeps a model printable and within the rules
-pub strategy_kept : (g : EventGraph) (applications : List RuleApplication) (reduced : EventGraph) → Kept g → Strategy g applications reduced → Kept reduced
-strategy_kept g [] reduced k s = subst Kept s.1 k
-strategy_kept g (a ∷ later) reduced k s = strategy_kept s.1 later reduced (applied_kept g s.1 a k s.2) s.3
+pub pruned_kept : (g : EventGraph) (v e : ℕ) → Kept g → Kept (pruned g v e)
+pruned_kept g v e k = record { printable = pruned_printable g v e k.printable; rules = pruned_rules g v e k.printable k.rules }

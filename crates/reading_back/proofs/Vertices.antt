@@ -7,7 +7,7 @@ use Rattle.model_core.specs.EventGraph.{EventVertex}
 use Rattle.model_core.specs.Text.Written.{WrittenName, WrittenChange, WrittenEdge, WrittenVertex}
 use Rattle.model_core.specs.Text.FirstForm as form
 use Rattle.model_core.specs.Text.Numbering as numbering
-use Rattle.model_core.specs.Text.Numbering.{Declared, each}
+use Rattle.model_core.specs.Text.Numbering.{Declared, each_numbered as each}
 use Rattle.model_core.specs.Text.Acceptance.{IsFirstChange, IsFirstEdge, IsFirstVertex}
 use Rattle.reading_back.proofs.Reading.{Reads, Any, Reads-then, Reads-gives, Reads-space, Reads-before_feed}
 use Rattle.reading_back.proofs.Symbols.{Reads-name, Reads-word, Reads-open, Reads-close}

@@ -1,14 +1,15 @@
-//! What is printed of a model that was read reads back: a law of the definitions alone, with no code.
+//! What valid models are like: laws of the definitions alone, with no code.
 #![tactic(auto)]
 
-ghost use Rattle.std.specs.Prelude.{◌≡◌, ℕ, List};
+ghost use Rattle.std.specs.Prelude.{ℕ};
 ghost use Rattle.model_core.specs.EventGraph.{EventGraph};
-ghost use Rattle.model_core.specs.Rules.Reduction.{RuleApplication, Strategy};
 ghost use Rattle.model_core.specs.Text.Canonical.{canonical};
-ghost use Rattle.model_core.specs.Text.Acceptance.{ReadsFirst};
+ghost use Rattle.model_core.specs.Text.Acceptance.{ReadsFirst, IsValid};
+ghost use Rattle.model_core.specs.Rules.Prune.{pruned};
 
-/// What the canonical strategy makes of a model that was read is printed so that it reads back as that model.
-pub fn reads_back()
-    ensures { (text : List ℕ) (g : EventGraph) (applications : List RuleApplication) (reduced : EventGraph)
-        → ReadsFirst text g → Strategy g applications reduced → ReadsFirst (canonical reduced) reduced }
+/// The canonical text of a valid model reads as that model, and a valid model without one of its edges is
+/// valid.
+pub fn valid_models_read_back()
+    ensures canonical { (g : EventGraph) → IsValid g → ReadsFirst (canonical g) g }
+    ensures without_an_edge { (g : EventGraph) (vertex edge : ℕ) → IsValid g → IsValid (pruned g vertex edge) }
 {}

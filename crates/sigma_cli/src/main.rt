@@ -1,10 +1,11 @@
 //! The program `sigma`: the words after its name, standard input, output and error, and the exit status.
 #![tactic(auto)]
 
-use sig_base::{StdSink, StdSource, put};
-use sigma_top::{Status, sigma};
-use std::alloc::Global;
-use std::io::ErrorKind;
+mod program;
+
+use program::program as run;
+use sig_base::{StdSink, StdSource};
+use std::io::{Stderr, Stdin, Stdout};
 use std::process::ExitCode;
 use std::{env, io};
 
@@ -14,27 +15,13 @@ fn words(rt: &HostRuntime) -> io::Result<Vec<String>> {
     Ok(words)
 }
 
-/// The status where the words can't be had, and the line that tells it: memory was refused, or a word
-/// isn't UTF-8.
-fn without_words(error: ErrorKind) -> (Status, &'static [u8]) {
-    if error == ErrorKind::OutOfMemory {
-        (Status::NoMemory, b"sigma: out of memory\n")
-    } else {
-        (Status::Usage, b"sigma: bad command line\n")
-    }
-}
-
+// The types keep the two outputs apart: each other order of the streams is refused.
 fn main(rt: HostRuntime) -> ExitCode {
-    let mut input = StdSource::new(rt.stdin());
-    let mut output = StdSink::new(rt.stdout());
-    let mut errors = StdSink::new(rt.stderr());
-    let status = match words(&rt) {
-        Ok(words) => sigma(rt.alloc(), &words, &mut input, &mut output, &mut errors),
-        Err(error) => {
-            let (status, line) = without_words(error.kind());
-            let _ = put(&mut errors, line);
-            status
-        }
-    };
-    ExitCode::from(status.number())
+    run::<StdSource<Stdin>, StdSink<Stdout>, StdSink<Stderr>>(
+        rt.alloc(),
+        words(&rt),
+        &mut StdSource::new(rt.stdin()),
+        &mut StdSink::new(rt.stdout()),
+        &mut StdSink::new(rt.stderr()),
+    )
 }

@@ -1,5 +1,5 @@
 -- A job has one answer to a text: what it is made of is determined, and there is one.
-use Rattle.std.proofs.Common.{◌≡◌, inl, inr, ℕ, List, [], ◌∷◌, ◌++◌, Option, Some, None, sym, ap, ◌∙◌, subst, arith}
+use Rattle.std.proofs.Common.{◌≡◌, inl, inr, ℕ, List, [], ◌++◌, Option, Some, None, sym, ap, ap₂, ◌∙◌, subst, arith}
 use Rattle.model_core.specs.EventGraph.{EventGraph}
 use Rattle.model_core.specs.Text.Lexing.{Lexeme}
 use Rattle.model_core.specs.Text.Written.{WrittenModel}
@@ -7,7 +7,7 @@ use Rattle.model_core.specs.Text.FirstForm as first_form
 use Rattle.model_core.specs.Text.Numbering.{numbered}
 use Rattle.model_core.specs.Text.Acceptance.{ReadsFirst}
 use Rattle.model_core.specs.Text.Canonical.{canonical}
-use Rattle.model_core.specs.Rules.Reduction.{RuleApplication, first_rule, applied, Strategy}
+use Rattle.model_core.specs.Rules.Reduction.{RuleApplication, Strategy}
 use Rattle.model_core.specs.Rules.Certificate.{certificate}
 use Rattle.sigma_top.specs.declared.answer.Answer.{Answer}
 use Rattle.sigma_top.specs.declared.job.Job.{Job}
@@ -16,38 +16,22 @@ use Rattle.sigma_top.specs.Answer.{done, Reduces, WritesFor, IsDone, OfModel, An
 use Rattle.sigma_top.specs.Jobs.{limit_of}
 use Rattle.sigma_top.proofs.Answering.{same_tokens}
 
--- what the strategy makes of a model: the applications and the model reached
-pub record Reached : Type 0 where
-  pub applications : List RuleApplication
-  pub graph : EventGraph
-
-abbrev reached : List RuleApplication → EventGraph → Reached
-reached applications graph = record { applications = applications; graph = graph }
-
 same_next : {A : Type 0} (o : Option A) (x y : A) → o ≡ Some x → o ≡ Some y → x ≡ y
 same_next o x y e f = cc
 
-some_is_not_none : {A : Type 0} (o : Option A) (x : A) → o ≡ None → o ≡ Some x → ⊥
-some_is_not_none o x e f = cc
-
 -- the strategy makes one list of applications of a model, and reaches one model
-pub one_strategy : (a b : List RuleApplication) (g h k : EventGraph) → Strategy g a h → Strategy g b k → reached a h ≡ reached b k
-one_strategy [] [] g h k p q = ap (reached []) (sym p.1 ∙ q.1)
-one_strategy [] (y ∷ ys) g h k p q = absurd (some_is_not_none (first_rule g) y p.0 q.0)
-one_strategy (x ∷ xs) [] g h k p q = absurd (some_is_not_none (first_rule g) x q.0 p.0)
-one_strategy (x ∷ xs) (y ∷ ys) g h k p q =
-    let rule : x ≡ y = same_next (first_rule g) x y p.0 q.0 in
-    let next : p.1 ≡ q.1 = same_next (applied g y) p.1 q.1 (ap (applied g) (sym rule) ∙ p.2) q.2 in
-    let rest = one_strategy xs ys p.1 h k p.3 (subst (λ (n : EventGraph). Strategy n ys k) (sym next) q.3) in
-    ap (λ (r : Reached). reached (x ∷ r.applications) r.graph) rest ∙ ap (λ z. reached (z ∷ ys) k) rule
+pub record OneStrategy : Type 0 where
+  pub applications : (g h k : EventGraph) (a b : List RuleApplication) → Strategy g a h → Strategy g b k → a ≡ b
+  pub reduced : (g h k : EventGraph) (a b : List RuleApplication) → Strategy g a h → Strategy g b k → h ≡ k
 
--- what the strategy makes of a model is written in one way
-one_reduction : (g : EventGraph) (a b : List ℕ) → Reduces g a → Reduces g b → a ≡ b
-one_reduction g a b p q =
-    p.written ∙ ap (λ (r : Reached). canonical r.graph ++ certificate r.applications) (one_strategy p.applications q.applications g p.reduced q.reduced p.strategy q.strategy) ∙ sym q.written
+module _ (only : OneStrategy) where
+  -- what the strategy makes of a model is written in one way
+  one_reduction : (g : EventGraph) (a b : List ℕ) → Reduces g a → Reduces g b → a ≡ b
+  one_reduction g a b p q =
+      p.written ∙ ap₂ (λ r as_. canonical r ++ certificate as_) (only.reduced g p.reduced q.reduced p.applications q.applications p.strategy q.strategy) (only.applications g p.reduced q.reduced p.applications q.applications p.strategy q.strategy) ∙ sym q.written
 
-one_written : (job : Job) (g : EventGraph) (a b : List ℕ) → WritesFor job g a → WritesFor job g b → a ≡ b
-one_written jobs.Reduce g a b p q = one_reduction g a b p q
+  one_written : (job : Job) (g : EventGraph) (a b : List ℕ) → WritesFor job g a → WritesFor job g b → a ≡ b
+  one_written jobs.Reduce g a b p q = one_reduction g a b p q
 
 one_done : (AreWritten : List ℕ → Type 0) → ((m n : List ℕ) → AreWritten m → AreWritten n → m ≡ n) → (a b : Answer) → IsDone AreWritten a → IsDone AreWritten b → a ≡ b
 one_done AreWritten one a b x y = x.2 ∙ ap (λ out. done out) (one x.0 y.0 x.1 y.1) ∙ sym y.2
@@ -56,7 +40,7 @@ over_within : (limit : Option ℕ) (text : List ℕ) → IsOver limit text → I
 over_within None text over within = over
 over_within (Some limit) text over within = omega (arith, over, within)
 
-module _ (one : (tokens : List Lexeme) (a b : WrittenModel) → first_form.text tokens a [] → first_form.text tokens b [] → a ≡ b) where
+module _ (only : OneStrategy) (one : (tokens : List Lexeme) (a b : WrittenModel) → first_form.text tokens a [] → first_form.text tokens b [] → a ≡ b) where
   -- a text reads as one model
   pub one_model : (text : List ℕ) (g h : EventGraph) → ReadsFirst text g → ReadsFirst text h → g ≡ h
   one_model text g h p q =
@@ -73,7 +57,7 @@ module _ (one : (tokens : List Lexeme) (a b : WrittenModel) → first_form.text 
     of_one_model AnswersModel only a b (inr x) (inr y) = only x.0 a b x.2 (subst (λ (g : EventGraph). AnswersModel g b) (one_model text y.0 x.0 y.1 x.1) y.2)
 
     one_of_job : (job : Job) (a b : Answer) → AnswersJob job text a → AnswersJob job text b → a ≡ b
-    one_of_job job a b x y = of_one_model (λ g c. IsDone (WritesFor job g) c) (λ g c d v w. one_done (WritesFor job g) (one_written job g) c d v w) a b x y
+    one_of_job job a b x y = of_one_model (λ g c. IsDone (WritesFor job g) c) (λ g c d v w. one_done (WritesFor job g) (one_written only job g) c d v w) a b x y
 
     pub one_answer : (job : Job) (a b : Answer) → Answers job text a → Answers job text b → a ≡ b
     one_answer job a b (inl x) (inl y) = x.1 ∙ sym y.1

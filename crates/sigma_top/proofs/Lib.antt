@@ -1,5 +1,3 @@
-pub mod Lists
-pub mod SweepIsStrategy
 pub mod Answering
 pub mod InputRead
 pub mod Streaming

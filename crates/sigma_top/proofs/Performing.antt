@@ -19,7 +19,7 @@ use Rattle.sigma_top.specs.declared.status.Failure.{Failure}
 use Rattle.sigma_top.specs.declared.status.Failure.TheVariants as failures
 use Rattle.sigma_top.specs.Answer.{refused, too_long, Reduces, AnswersJob, IsOver}
 use Rattle.sigma_top.specs.Delivery.{Inlet, Outlet, text_of, IsReadThrough, AnswersInput, HasBegun, GrowsByFront}
-use Rattle.sigma_top.specs.Frame.{TakesText, Answering, Performs}
+use Rattle.sigma_top.specs.Inner.Frame.{TakesText, Answering, Performs}
 use Rattle.sigma_top.specs.Jobs.{limit_of, is_streamed}
 use Rattle.sigma_top.proofs.InputRead.{read_through, read_in_part}
 use Rattle.sigma_top.proofs.Streaming.{at_once}

@@ -13,7 +13,7 @@ use Rattle.sigma_top.specs.declared.status.End.{End}
 use Rattle.sigma_top.specs.declared.status.Failure.{Failure}
 use Rattle.sigma_top.specs.declared.status.Failure.TheVariants as failures
 use Rattle.sigma_top.specs.Delivery.{Outlet, GrowsByFront}
-use Rattle.sigma_top.specs.Frame.{SettledAfter, Streams, Delivers, BreaksOff, Answering}
+use Rattle.sigma_top.specs.Inner.Frame.{SettledAfter, Streams, Delivers, BreaksOff, Answering}
 
 -- ---- a piece that was written at once
 

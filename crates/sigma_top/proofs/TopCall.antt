@@ -23,7 +23,7 @@ use Rattle.sigma_top.specs.declared.status.Status.TheVariants as statuses
 use Rattle.sigma_top.specs.Answer.{Answers, AnswersJob, Reduces, KeepsMeaning}
 use Rattle.sigma_top.specs.Delivery.{Inlet, Outlet, text_of, Told, WritesAnswer, Refuses, AnswersInput, ForJob, Ends}
 use Rattle.sigma_top.specs.Ending.{status_of_answer, bytes_of_answer, status_of_end, status_of_refusal, status_of_failure, failure_line}
-use Rattle.sigma_top.specs.Frame.{Performs, Runs}
+use Rattle.sigma_top.specs.Inner.Frame.{Performs, Runs}
 use Rattle.sigma_top.specs.Jobs.{job_of, limit_of}
 use Rattle.sigma_top.proofs.Performing.{given_is_no_refusal, given_bytes}
 

@@ -3,7 +3,7 @@ use Rattle.std.specs.Prelude.{ℕ, Bool, false, if◌then◌else◌, List, [], �
 use Rattle.model_core.specs.Text.Lexing.{same_bytes}
 use Rattle.sigma_top.specs.declared.job.Job.{Job}
 use Rattle.sigma_top.specs.declared.job.Job.TheVariants as jobs
-use Rattle.sigma_top.specs.Limits.{text_max}
+use Rattle.sig_base.specs.declared.limits.TheConstants.{TEXT_MAX}
 
 -- the job of the words, if they are one
 abbrev pub job_of : List (List ℕ) → Option Job
@@ -12,7 +12,7 @@ job_of words = None
 
 -- the most bytes that the text of a job may have; `None` is a job that reads no text
 abbrev pub limit_of : Job → Option ℕ
-limit_of jobs.Reduce = Some text_max
+limit_of jobs.Reduce = Some TEXT_MAX
 
 -- whether a job writes as it goes; every other one writes once its answer is whole
 abbrev pub is_streamed : Job → Bool

@@ -1,29 +1,24 @@
 //! What each job answers to a text: one function a job, behind the reading that jobs on a model share.
 
 ghost use Rattle.std.specs.Prelude.{◌≡◌, ◌≤◌, ◌++◌, length, map, IfOk, IsErrOf};
-ghost use Rattle.std.specs.List.{IsDistinct};
-ghost use Rattle.model_core.specs.Text.Acceptance.{ReadsFirst};
+ghost use Rattle.model_core.specs.Text.Acceptance.{ReadsFirst, IsValid};
 ghost use Rattle.model_core.specs.Text.Canonical.{canonical};
-ghost use Rattle.model_core.specs.Code.Views.{application_of};
 ghost use Rattle.model_core.specs.Rules.Certificate.{certificate};
-ghost use Rattle.model_core.specs.Text.Lexing.{same_bytes};
-ghost use Rattle.model_core.specs.Code.Views.{graph_of};
+ghost use Rattle.model_core.specs.Code.Views.{graph_of, application_of};
 ghost use Rattle.sigma_top.specs.Answer.{refused, too_long, AnswersJob, WritesFor, IsWithin, Reduces, ReadsAsNone};
 ghost use Rattle.sigma_top.specs.Jobs.{limit_of};
-ghost use Rattle.sigma_top.specs.Limits.{text_max};
-ghost use Rattle.sigma_top.specs.Sweep.{names_of};
 
 use crate::answer_error::AnswerError;
-use crate::certificate::put_certificate;
 use crate::job::Job;
 use crate::spelling::spelled;
 use crate::status::{End, Refusal};
-use crate::strategy::{Reduced, reduce};
 use first_form::{FirstFormError, check};
 use model_core::Model;
 use model_print::print;
 use model_read::one_reading;
-use sig_base::{NoMemory, Text};
+use reducer::{Reduced, reduce};
+use reduction_cert::put_certificate;
+use sig_base::{NoMemory, TEXT_MAX, Text};
 use std::alloc::Global;
 
 /// What a job answers to a text.
@@ -37,7 +32,7 @@ pub enum Answer {
 
 /// The model that the text reads as.
 fn model_of(alloc: Global, text: &[u8]) -> Result<Model, AnswerError>
-    requires { length text.now ≤ text_max }
+    requires { length text.now ≤ TEXT_MAX }
     ensures ok { IfOk result (λ model. ReadsFirst text.now (graph_of model)) }
     ensures refused { IsErrOf result AnswerError.NotFirstForm → ReadsAsNone text.now }
 {
@@ -78,7 +73,7 @@ fn written(alloc: Global, reduced: &Reduced) -> Result<Text, NoMemory>
 
 /// `reduce`: the canonical text of what the model is reduced to, and then the certificate.
 fn reduction(alloc: Global, model: Model) -> Result<Text, NoMemory>
-    requires { IsDistinct same_bytes (names_of (graph_of model)) }
+    requires { IsValid (graph_of model) }
     ensures { IfOk result (Reduces (graph_of model)) }
 {
     let reduced = reduce(alloc, model)?;
@@ -87,7 +82,7 @@ fn reduction(alloc: Global, model: Model) -> Result<Text, NoMemory>
 
 /// What a job writes for a model.
 fn output_of(alloc: Global, job: Job, model: Model) -> Result<Text, NoMemory>
-    requires { IsDistinct same_bytes (names_of (graph_of model)) }
+    requires { IsValid (graph_of model) }
     ensures { IfOk result (WritesFor job (graph_of model)) }
 {
     match job {

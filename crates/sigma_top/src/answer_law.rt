@@ -8,7 +8,9 @@ ghost use Rattle.sigma_top.specs.declared.answer.Answer.{Answer};
 ghost use Rattle.sigma_top.specs.declared.job.Job.{Job};
 ghost use Rattle.sigma_top.specs.Answer.{Answers};
 
-use model_read::one_reading;
+use first_form::acceptance_is_decided;
+use model_read::{one_reading, spelling_is_decided};
+use reducer::{strategies_are_determined, strategies_end};
 
 /// A job has one answer to a text, and so every byte that is written is determined by them. It comes from the
 /// one model that the text reads as, the one list of applications of rules to it, and the one model reduced to.
@@ -20,4 +22,8 @@ pub fn answers_are_determined()
     ensures reduced { (g : EventGraph) (a b : List RuleApplication) (h k : EventGraph) → Strategy g a h → Strategy g b k → h ≡ k }
 {
     one_reading();
+    spelling_is_decided();
+    acceptance_is_decided();
+    strategies_are_determined();
+    strategies_end();
 }

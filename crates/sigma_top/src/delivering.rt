@@ -3,7 +3,7 @@
 ghost use Rattle.std.specs.Prelude.{◌≡◌, ℕ, List, true, false, IfErr};
 ghost use Rattle.sigma_top.specs.declared.status.End.{End};
 ghost use Rattle.sigma_top.specs.Delivery.{Outlet, outlet};
-ghost use Rattle.sigma_top.specs.Frame.{Streams, Answering};
+ghost use Rattle.sigma_top.specs.Inner.Frame.{Streams, Answering};
 
 use crate::answer::Answer;
 use crate::status::{End, Failure, Refusal};

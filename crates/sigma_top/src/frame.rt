@@ -8,7 +8,7 @@ ghost use Rattle.sig_base.specs.Faults.{HasRisen};
 ghost use Rattle.sigma_top.specs.Answer.{refused, too_long, IsWithin, Answers, AnswersJob, KeepsMeaning};
 ghost use Rattle.sigma_top.specs.Ending.{status_of_answer, bytes_of_answer};
 ghost use Rattle.sigma_top.specs.Delivery.{inlet, outlet, text_of, Told, Ends};
-ghost use Rattle.sigma_top.specs.Frame.{Answering, Performs, Runs};
+ghost use Rattle.sigma_top.specs.Inner.Frame.{Answering, Performs, Runs};
 ghost use Rattle.sigma_top.specs.Jobs.{job_of, limit_of, is_streamed};
 ghost use Rattle.sigma_top.specs.declared.answer.Answer.{Answer};
 ghost use Rattle.sigma_top.specs.declared.job.Job.{Job};

@@ -4,7 +4,6 @@
 mod answer;
 mod answer_error;
 mod answer_law;
-mod certificate;
 mod delivering;
 mod frame;
 mod job;
@@ -12,7 +11,6 @@ mod reading;
 mod reduction_law;
 mod spelling;
 mod status;
-mod strategy;
 
 pub use answer_law::answers_are_determined;
 pub use frame::sigma;

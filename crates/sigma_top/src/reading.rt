@@ -1,7 +1,7 @@
 //! The text of a job, from the input.
 
 ghost use Rattle.sigma_top.specs.Delivery.{inlet};
-ghost use Rattle.sigma_top.specs.Frame.{TakesText};
+ghost use Rattle.sigma_top.specs.Inner.Frame.{TakesText};
 
 use crate::status::Failure;
 use sig_base::{Source, TakeError, Text, take_all};

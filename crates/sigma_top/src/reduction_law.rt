@@ -5,13 +5,13 @@ ghost use Rattle.model_core.specs.EventGraph.{EventGraph};
 ghost use Rattle.model_core.specs.Text.Acceptance.{ReadsFirst};
 ghost use Rattle.sigma_top.specs.Answer.{Reduces, KeepsMeaning};
 
-use model_core::reductions_keep_the_meaning;
-use reading_back::reads_back;
+use reading_back::valid_models_read_back;
+use reducer::strategies_keep_the_meaning;
 
 /// What `reduce` writes for a text reads back as the reduced model, which means the same as the model of the text.
 pub fn written_models_mean_the_same()
     ensures { (text out : List ℕ) (original : EventGraph) → ReadsFirst text original → Reduces original out → KeepsMeaning text out }
 {
-    reads_back();
-    reductions_keep_the_meaning();
+    valid_models_read_back();
+    strategies_keep_the_meaning();
 }

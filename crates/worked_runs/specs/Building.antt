@@ -16,40 +16,44 @@ clipped v = record v { clip = true }
 abbrev pub array : ℕ → Variable → Variable
 array size v = record v { size = size }
 
-abbrev pub number : ℕ → Expression
-number n = Number (pos n)
+abbrev pub whole : ℕ → Expression
+whole n = Number (pos n)
 
-abbrev pub scalar : ℕ → Location
-scalar v = record { variable = v; index = None }
+abbrev pub at_variable : ℕ → Location
+at_variable v = record { variable = v; index = None }
 
 -- a cell of an array
-abbrev pub indexed : ℕ → Expression → Location
-indexed v e = record { variable = v; index = Some e }
+abbrev pub at_cell : ℕ → Expression → Location
+at_cell v e = record { variable = v; index = Some e }
 
 abbrev pub set : ℕ → Expression → StateChange
-set v e = Set (scalar v ∷ []) (e ∷ [])
+set v e = Set (at_variable v ∷ []) (e ∷ [])
 
 abbrev pub draw : ℕ → ℕ → ℕ → ℕ → StateChange
-draw v stream lo hi = Draw (scalar v) stream (Uniform (pos lo) (pos hi))
+draw v stream lo hi = Draw (at_variable v) stream (Uniform (pos lo) (pos hi))
 
-abbrev pub edge : EdgeKind → ℕ → List Expression → EventEdge
-edge kind vertex values = record { target = vertex; values = values; condition = Truth true; kind = kind }
+abbrev pub plain_edge : EdgeKind → ℕ → List Expression → EventEdge
+plain_edge kind target values = record { target = target; values = values; condition = Truth true; kind = kind }
 
 abbrev pub schedule : ℕ → Expression → EventEdge
-schedule vertex delay = edge (Schedule delay 5) vertex []
+schedule target delay = plain_edge (Schedule delay 5) target []
 
 abbrev pub schedule_with : ℕ → ℕ → ℕ → EventEdge
-schedule_with vertex carried delay = edge (Schedule (number delay) 5) vertex (number carried ∷ [])
+schedule_with target carried delay = plain_edge (Schedule (whole delay) 5) target (whole carried ∷ [])
+
+-- two numbers that an edge carries
+abbrev pub two_numbers : ℕ → ℕ → List Expression
+two_numbers a b = whole a ∷ whole b ∷ []
 
 abbrev pub urgent : ℕ → EventEdge
-urgent vertex = edge Urgent vertex []
+urgent target = plain_edge Urgent target []
 
 -- the edge under a condition
 abbrev pub only_if : Expression → EventEdge → EventEdge
 only_if condition e = record e { condition = condition }
 
-abbrev pub vertex : List ℕ → List StateChange → List EventEdge → EventVertex
-vertex name changes edges = record { name = name; parameters = []; changes = changes; edges = edges }
+abbrev pub event : List ℕ → List StateChange → List EventEdge → EventVertex
+event name changes edges = record { name = name; parameters = []; changes = changes; edges = edges }
 
 abbrev pub takes : List ℕ → EventVertex → EventVertex
 takes parameters v = record v { parameters = parameters }
@@ -59,28 +63,28 @@ abbrev pub scalars : List ℕ → List (List ℤ)
 scalars values = map (λ x. pos x ∷ []) values
 
 -- what is seen: these notes, and how the run stands
-abbrev pub seen : List Note → Outcome → Look
-seen notes outcome = record { history = notes; outcome = outcome }
+abbrev pub showing : List Note → Outcome → Look
+showing notes outcome = record { history = notes; outcome = outcome }
 
 -- the variable and 1
 abbrev pub plus_one : ℕ → Expression
-plus_one v = Binary Add (Scalar v) (number 1)
+plus_one v = Binary Add (Scalar v) (whole 1)
 
 abbrev pub minus_one : ℕ → Expression
-minus_one v = Binary Subtract (Scalar v) (number 1)
+minus_one v = Binary Subtract (Scalar v) (whole 1)
 
 -- the variable is above 0
 abbrev pub positive : ℕ → Expression
-positive v = Binary Above (Scalar v) (number 0)
+positive v = Binary Above (Scalar v) (whole 0)
 
 abbrev pub minus : ℕ → Expression
-minus n = Negative (number n)
+minus n = Negative (whole n)
 
 abbrev pub one_over_zero : Expression
-one_over_zero = Binary Divide (number 1) (number 0)
+one_over_zero = Binary Divide (whole 1) (whole 0)
 
 abbrev pub is_one_over_zero : Expression
-is_one_over_zero = Binary Equal one_over_zero (number 1)
+is_one_over_zero = Binary Equal one_over_zero (whole 1)
 
 -- how many words were taken before each of the first six
 abbrev pub first_six : List ℕ

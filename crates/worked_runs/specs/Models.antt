@@ -3,7 +3,7 @@ use Rattle.std.specs.Prelude.{ℕ, ℤ, pos, List, [], ◌∷◌, ◌++◌, code
 use Rattle.model_core.specs.EventGraph.{EventGraph, Variable, Expression, Scalar, Binary, Add, Subtract, Divide, Set, StateChange, Draw, ByTable, CancelEqual, CancelAll, EventEdge, EventVertex, WatchedVariable, WatchedVertex, Schedule}
 use Rattle.model_core.specs.Run.State.{initial_state}
 use Rattle.model_core.specs.Run.Value.{OrFault, value_of}
-use Rattle.worked_runs.specs.Building.{ranged, clipped, array, number, scalar, indexed, set, draw, edge, schedule, schedule_with, urgent, only_if, vertex, takes, plus_one, minus_one, positive, one_over_zero}
+use Rattle.worked_runs.specs.Building.{ranged, clipped, array, whole, at_variable, at_cell, set, draw, plain_edge, schedule, schedule_with, urgent, only_if, event, takes, plus_one, minus_one, positive, one_over_zero}
 
 -- N grows by 1 each 5 ticks
 abbrev pub counting : Variable → EventGraph
@@ -13,9 +13,9 @@ counting n = record {
   tables = [];
   watch = WatchedVariable 0 ∷ [];
   vertices =
-      vertex (codes "RUN")
+      event (codes "RUN")
       (set 0 (plus_one 0) ∷ [])
-      (schedule 0 (number 5) ∷ []) ∷
+      (schedule 0 (whole 5) ∷ []) ∷
       [];
 }
 
@@ -28,22 +28,22 @@ abbrev pub strict_clock : EventGraph
 strict_clock = counting (ranged (codes "N") 0 3 0)
 
 abbrev pub bank_run : EventVertex
-bank_run = takes (1 ∷ []) (vertex (codes "RUN") [] (urgent 1 ∷ []))
+bank_run = takes (1 ∷ []) (event (codes "RUN") [] (urgent 1 ∷ []))
 
 abbrev pub bank_enter : EventVertex
 bank_enter =
-    vertex (codes "ENTER")
-    (Set (scalar 0 ∷ scalar 3 ∷ []) (plus_one 0 ∷ plus_one 3 ∷ []) ∷ draw 2 54 1 6 ∷ [])
+    event (codes "ENTER")
+    (Set (at_variable 0 ∷ at_variable 3 ∷ []) (plus_one 0 ∷ plus_one 3 ∷ []) ∷ draw 2 54 1 6 ∷ [])
     (schedule 1 (Scalar 2) ∷ only_if (positive 1) (urgent 2) ∷ [])
 
 abbrev pub bank_start : EventVertex
 bank_start =
-    vertex (codes "START")
-    (Set (scalar 0 ∷ scalar 1 ∷ []) (minus_one 0 ∷ minus_one 1 ∷ []) ∷ [])
-    (schedule 3 (number 7) ∷ [])
+    event (codes "START")
+    (Set (at_variable 0 ∷ at_variable 1 ∷ []) (minus_one 0 ∷ minus_one 1 ∷ []) ∷ [])
+    (schedule 3 (whole 7) ∷ [])
 
 abbrev pub bank_leave : EventVertex
-bank_leave = vertex (codes "LEAVE") (set 1 (plus_one 1) ∷ []) (only_if (positive 0) (urgent 2) ∷ [])
+bank_leave = event (codes "LEAVE") (set 1 (plus_one 1) ∷ []) (only_if (positive 0) (urgent 2) ∷ [])
 
 -- A bank: customers enter after gaps of 1 to 6 ticks, and each idle teller serves one in 7 ticks. The variables are
 -- QUEUE, IDLE, GAP and SEEN, and the vertices RUN, ENTER, START and LEAVE, by their places from 0.
@@ -63,7 +63,7 @@ bank = record {
 
 -- the changes and edges of a customer who enters a bank that doesn't count those it has seen
 abbrev pub entering : List ℕ → EventVertex
-entering name = vertex name (set 0 (plus_one 0) ∷ draw 2 54 1 6 ∷ []) (schedule 1 (Scalar 2) ∷ only_if (positive 1) (urgent 2) ∷ [])
+entering name = event name (set 0 (plus_one 0) ∷ draw 2 54 1 6 ∷ []) (schedule 1 (Scalar 2) ∷ only_if (positive 1) (urgent 2) ∷ [])
 
 -- the bank whose first event lets the first customer in, and which doesn't count those it has seen
 abbrev pub smaller_bank : EventGraph
@@ -87,9 +87,9 @@ loop = record {
   tables = [];
   watch = [];
   vertices =
-      vertex (codes "RUN") [] (urgent 1 ∷ []) ∷
-      vertex (codes "A") [] (urgent 2 ∷ []) ∷
-      vertex (codes "B") [] (urgent 1 ∷ []) ∷
+      event (codes "RUN") [] (urgent 1 ∷ []) ∷
+      event (codes "A") [] (urgent 2 ∷ []) ∷
+      event (codes "B") [] (urgent 1 ∷ []) ∷
       [];
 }
 
@@ -100,7 +100,7 @@ changing changes = record {
   variables = ranged (codes "X") 1 6 1 ∷ ranged (codes "Y") 1 6 1 ∷ [];
   tables = [];
   watch = WatchedVariable 0 ∷ [];
-  vertices = vertex (codes "RUN") changes [] ∷ [];
+  vertices = event (codes "RUN") changes [] ∷ [];
 }
 
 -- Y and then X are drawn, Y from this stream
@@ -115,23 +115,23 @@ cut cancels = record {
   tables = [];
   watch = WatchedVariable 0 ∷ WatchedVertex 1 ∷ [];
   vertices =
-      vertex (codes "RUN") []
+      event (codes "RUN") []
       ((schedule_with 1 3 5 ∷ schedule_with 1 4 5 ∷ schedule_with 1 3 6 ∷ []) ++ cancels) ∷
-      takes (0 ∷ []) (vertex (codes "B") [] []) ∷
+      takes (0 ∷ []) (event (codes "B") [] []) ∷
       [];
 }
 
 -- the next B(3) is cancelled
 abbrev pub cancel_three : EventEdge
-cancel_three = edge CancelEqual 1 (number 3 ∷ [])
+cancel_three = plain_edge CancelEqual 1 (whole 3 ∷ [])
 
 -- B(1 / 0) after 0 - 1 ticks
 abbrev pub late_and_bad : EventEdge
-late_and_bad = edge (Schedule (Binary Subtract (number 0) (number 1)) 5) 1 (one_over_zero ∷ [])
+late_and_bad = plain_edge (Schedule (Binary Subtract (whole 0) (whole 1)) 5) 1 (one_over_zero ∷ [])
 
 -- each B is cancelled
 abbrev pub cancel_all : EventEdge
-cancel_all = edge CancelAll 1 []
+cancel_all = plain_edge CancelAll 1 []
 
 -- one event with these edges to A and B, which are watched
 abbrev pub ordering : List EventEdge → EventGraph
@@ -141,9 +141,38 @@ ordering edges = record {
   tables = [];
   watch = WatchedVertex 1 ∷ WatchedVertex 2 ∷ [];
   vertices =
-      vertex (codes "RUN") [] edges ∷
-      vertex (codes "A") [] [] ∷
-      vertex (codes "B") [] [] ∷
+      event (codes "RUN") [] edges ∷
+      event (codes "A") [] [] ∷
+      event (codes "B") [] [] ∷
+      [];
+}
+
+-- one event with these edges to A and B, which are watched and take X and Y
+abbrev pub carrying : List EventEdge → EventGraph
+carrying edges = record {
+  name = codes "CARRY";
+  variables = ranged (codes "X") 0 9 0 ∷ ranged (codes "Y") 0 9 0 ∷ [];
+  tables = [];
+  watch = WatchedVertex 1 ∷ WatchedVertex 2 ∷ [];
+  vertices =
+      event (codes "RUN") [] edges ∷
+      takes (0 ∷ 1 ∷ []) (event (codes "A") [] []) ∷
+      takes (0 ∷ 1 ∷ []) (event (codes "B") [] []) ∷
+      [];
+}
+
+-- A comes at 2, makes these changes of X and of C, an array of three cells, and has these edges to B, which takes X.
+-- X and B are watched
+abbrev pub at_two : List StateChange → List EventEdge → EventGraph
+at_two changes edges = record {
+  name = codes "TWO";
+  variables = ranged (codes "X") 0 9 0 ∷ array 3 (ranged (codes "C") 0 9 0) ∷ [];
+  tables = [];
+  watch = WatchedVariable 0 ∷ WatchedVertex 2 ∷ [];
+  vertices =
+      event (codes "RUN") [] (schedule 1 (whole 2) ∷ []) ∷
+      event (codes "A") changes edges ∷
+      takes (0 ∷ []) (event (codes "B") [] []) ∷
       [];
 }
 
@@ -154,7 +183,7 @@ backwards = record {
   variables = [];
   tables = [];
   watch = [];
-  vertices = vertex (codes "RUN") [] (schedule 0 (Binary Subtract (number 0) (number 1)) ∷ []) ∷ [];
+  vertices = event (codes "RUN") [] (schedule 0 (Binary Subtract (whole 0) (whole 1)) ∷ []) ∷ [];
 }
 
 -- one event that makes these changes of I and of A, an array of two cells. Both are watched
@@ -164,16 +193,16 @@ cells changes = record {
   variables = ranged (codes "I") 0 9 0 ∷ array 2 (ranged (codes "A") 0 9 0) ∷ [];
   tables = [];
   watch = WatchedVariable 0 ∷ WatchedVariable 1 ∷ [];
-  vertices = vertex (codes "RUN") changes [] ∷ [];
+  vertices = event (codes "RUN") changes [] ∷ [];
 }
 
 -- I := 1 beside A[I] := 7
 abbrev pub index_and_cell : StateChange
-index_and_cell = Set (scalar 0 ∷ indexed 1 (Scalar 0) ∷ []) (number 1 ∷ number 7 ∷ [])
+index_and_cell = Set (at_variable 0 ∷ at_cell 1 (Scalar 0) ∷ []) (whole 1 ∷ whole 7 ∷ [])
 
 -- A[2] := 1 / 0, where A has no cell 2
 abbrev pub bad_index_and_value : StateChange
-bad_index_and_value = Set (indexed 1 (number 2) ∷ []) (Binary Divide (number 1) (number 0) ∷ [])
+bad_index_and_value = Set (at_cell 1 (whole 2) ∷ []) (Binary Divide (whole 1) (whole 0) ∷ [])
 
 -- the first event takes X and makes a change of it
 abbrev pub taking : Variable → StateChange → EventGraph
@@ -182,7 +211,7 @@ taking x change = record {
   variables = x ∷ [];
   tables = [];
   watch = WatchedVariable 0 ∷ [];
-  vertices = takes (0 ∷ []) (vertex (codes "RUN") (change ∷ []) []) ∷ [];
+  vertices = takes (0 ∷ []) (event (codes "RUN") (change ∷ []) []) ∷ [];
 }
 
 -- X := X + X
@@ -191,7 +220,7 @@ doubling x = taking x (set 0 (Binary Add (Scalar 0) (Scalar 0)))
 
 -- X := X - 9
 abbrev pub lowering : Variable → EventGraph
-lowering x = taking x (set 0 (Binary Subtract (Scalar 0) (number 9)))
+lowering x = taking x (set 0 (Binary Subtract (Scalar 0) (whole 9)))
 
 -- X and Y are drawn from a table that gives 1 and 2 each once and 3 twice
 abbrev pub two_rows : EventGraph
@@ -200,7 +229,7 @@ two_rows = record {
   variables = ranged (codes "X") 1 6 1 ∷ ranged (codes "Y") 1 6 1 ∷ [];
   tables = record { name = codes "T"; rows = record { value = pos 1; weight = 1 } ∷ record { value = pos 2; weight = 1 } ∷ record { value = pos 3; weight = 2 } ∷ [] } ∷ [];
   watch = WatchedVariable 0 ∷ WatchedVariable 1 ∷ [];
-  vertices = vertex (codes "RUN") (Draw (scalar 0) 54 (ByTable 0) ∷ Draw (scalar 1) 54 (ByTable 0) ∷ []) [] ∷ [];
+  vertices = event (codes "RUN") (Draw (at_variable 0) 54 (ByTable 0) ∷ Draw (at_variable 1) 54 (ByTable 0) ∷ []) [] ∷ [];
 }
 
 -- the value of an expression at clock 7, beside a scalar I and an array A of two cells

@@ -1,8 +1,8 @@
 -- A model with each part of the language, and its canonical text.
-use Rattle.std.specs.Prelude.{ℕ, pos, negsuc, true, false, List, [], ◌∷◌, ◌++◌, Some, None, codes}
+use Rattle.std.specs.Prelude.{ℕ, pos, negsuc, true, false, List, [], ◌∷◌, ◌++◌, codes}
 use Rattle.model_core.specs.declared.model.Kind.TheVariants as kinds
-use Rattle.model_core.specs.EventGraph.{Expression, Number, Truth, Scalar, Not, Binary, Add, Subtract, Multiply, Variable, Weighted, WeightTable, WatchedVariable, WatchedVertex, Uniform, ByTable, Set, Draw, EventEdge, EdgeKind, Schedule, Urgent, CancelNext, CancelEqual, CancelAll, EventVertex, EventGraph}
-use Rattle.worked_runs.specs.Building.{number, scalar, indexed}
+use Rattle.model_core.specs.EventGraph.{Expression, Truth, Scalar, Not, Binary, Add, Subtract, Multiply, WatchedVariable, WatchedVertex, Uniform, ByTable, Set, Draw, EventEdge, EdgeKind, Schedule, Urgent, CancelNext, CancelEqual, CancelAll, EventVertex, EventGraph}
+use Rattle.worked_runs.specs.Building.{whole, at_variable, at_cell}
 
 -- the expressions that stand in the texts: n is the variable N, and open is OPEN
 abbrev pub n : Expression
@@ -21,19 +21,19 @@ abbrev pub times : Expression → Expression → Expression
 times a b = Binary Multiply a b
 
 abbrev pub edge_when : EdgeKind → ℕ → List Expression → Expression → EventEdge
-edge_when kind vertex values condition = record { target = vertex; values = values; condition = condition; kind = kind }
+edge_when kind target values condition = record { target = target; values = values; condition = condition; kind = kind }
 
 abbrev pub serve : EventVertex
 serve = record {
   name = codes "SERVE";
   parameters = 0 ∷ 1 ∷ [];
   changes =
-      Set (scalar 0 ∷ indexed 2 (plus n (number 1)) ∷ []) (number 12 ∷ n ∷ [])
-      ∷ Draw (scalar 0) 54 (Uniform (negsuc 0) (pos 6))
-      ∷ Draw (indexed 2 (number 3)) 0 (ByTable 0) ∷ [];
+      Set (at_variable 0 ∷ at_cell 2 (plus n (whole 1)) ∷ []) (whole 12 ∷ n ∷ [])
+      ∷ Draw (at_variable 0) 54 (Uniform (negsuc 0) (pos 6))
+      ∷ Draw (at_cell 2 (whole 3)) 0 (ByTable 0) ∷ [];
   edges =
-      edge_when (Schedule (number 0) 5) 0 [] (Truth true)
-      ∷ edge_when (Schedule (number 7) 3) 1 (n ∷ Truth false ∷ []) (Not is_open)
+      edge_when (Schedule (whole 0) 5) 0 [] (Truth true)
+      ∷ edge_when (Schedule (whole 7) 3) 1 (n ∷ Truth false ∷ []) (Not is_open)
       ∷ edge_when Urgent 0 [] (Truth false)
       ∷ edge_when CancelNext 1 [] (Truth true)
       ∷ edge_when CancelEqual 1 (n ∷ is_open ∷ []) (Truth true)

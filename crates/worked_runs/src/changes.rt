@@ -2,32 +2,41 @@
 
 ghost use Rattle.std.specs.Prelude.{◌≡◌, pos, [], ◌∷◌, codes};
 ghost use Rattle.sig_base.specs.declared.fault.FaultKind.TheVariants as faults;
+ghost use Rattle.model_core.specs.EventGraph.{Cell, Set};
 ghost use Rattle.model_core.specs.Run.Machine.{At, Ended, Faulted};
 ghost use Rattle.model_core.specs.Run.History.{look};
-ghost use Rattle.worked_runs.specs.Building.{ranged, clipped, scalars, seen};
-ghost use Rattle.worked_runs.specs.Models.{two_draws, two_rows, cells, index_and_cell, bad_index_and_value, doubling, lowering};
+ghost use Rattle.worked_runs.specs.Building.{ranged, clipped, whole, at_variable, at_cell, one_over_zero, draw, scalars, showing};
+ghost use Rattle.worked_runs.specs.Models.{changing, two_draws, two_rows, cells, index_and_cell, bad_index_and_value, doubling, lowering};
 
 /// Each draw takes the next word of its own stream.
 #[tactic(auto, unfolding(rand_pcg::specs::Lcg::state_after))]
 pub fn variables_are_drawn()
-    ensures second_of_one_stream { look (two_draws 54) 42 [] 100 1000 ≡ seen (At 0 (scalars (3 ∷ [])) ∷ []) (Ended 0) }
-    ensures first_of_another_stream { look (two_draws 53) 42 [] 100 1000 ≡ seen (At 0 (scalars (4 ∷ [])) ∷ []) (Ended 0) }
-    ensures by_weights { look two_rows 42 [] 100 1000 ≡ seen (At 0 (scalars (3 ∷ 2 ∷ [])) ∷ []) (Ended 0) }
+    ensures second_of_one_stream { look (two_draws 54) 42 [] 100 1000 ≡ showing (At 0 (scalars (3 ∷ [])) ∷ []) (Ended 0) }
+    ensures first_of_another_stream { look (two_draws 53) 42 [] 100 1000 ≡ showing (At 0 (scalars (4 ∷ [])) ∷ []) (Ended 0) }
+    ensures second_of_the_last_stream { look (changing (draw 0 63 1 6 ∷ draw 0 63 1 6 ∷ [])) 42 [] 100 1000
+        ≡ showing (At 0 (scalars (6 ∷ [])) ∷ []) (Ended 0) }
+    ensures by_weights { look two_rows 42 [] 100 1000 ≡ showing (At 0 (scalars (3 ∷ 2 ∷ [])) ∷ []) (Ended 0) }
 {}
 
 /// Carried values are stored before the changes are made, and a store under `clip` takes the nearest bound.
 pub fn parameters_come_first()
     ensures changes_see_them { look (doubling (ranged (codes "X") 0 9 0)) 42 (pos 4 ∷ []) 100 1000
-        ≡ seen (At 0 (scalars (8 ∷ [])) ∷ []) (Ended 0) }
+        ≡ showing (At 0 (scalars (8 ∷ [])) ∷ []) (Ended 0) }
     ensures clipped_from_above { look (doubling (clipped (ranged (codes "X") 1 6 1))) 42 (pos 4 ∷ []) 100 1000
-        ≡ seen (At 0 (scalars (6 ∷ [])) ∷ []) (Ended 0) }
+        ≡ showing (At 0 (scalars (6 ∷ [])) ∷ []) (Ended 0) }
     ensures clipped_from_below { look (lowering (clipped (ranged (codes "X") 1 6 1))) 42 (pos 4 ∷ []) 100 1000
-        ≡ seen (At 0 (scalars (1 ∷ [])) ∷ []) (Ended 0) }
+        ≡ showing (At 0 (scalars (1 ∷ [])) ∷ []) (Ended 0) }
 {}
 
 /// Right sides come first, then indexes, both on the state before, and then the stores.
 pub fn cells_are_set()
     ensures index_on_the_state_before { look (cells (index_and_cell ∷ [])) 42 [] 100 1000
-        ≡ seen (At 0 ((pos 1 ∷ []) ∷ (pos 7 ∷ pos 0 ∷ []) ∷ []) ∷ []) (Ended 0) }
-    ensures values_before_indexes { look (cells (bad_index_and_value ∷ [])) 42 [] 100 1000 ≡ seen [] (Faulted 0 faults.DivisionByZero) }
+        ≡ showing (At 0 ((pos 1 ∷ []) ∷ (pos 7 ∷ pos 0 ∷ []) ∷ []) ∷ []) (Ended 0) }
+    ensures stores_from_left_to_right { look
+        (cells (Set (at_cell 1 (whole 0) ∷ at_cell 1 (whole 0) ∷ []) (whole 1 ∷ whole 2 ∷ []) ∷ [])) 42 [] 100 1000
+        ≡ showing (At 0 ((pos 0 ∷ []) ∷ (pos 2 ∷ pos 0 ∷ []) ∷ []) ∷ []) (Ended 0) }
+    ensures values_from_left_to_right { look
+        (cells (Set (at_variable 0 ∷ at_cell 1 (whole 0) ∷ []) (one_over_zero ∷ Cell 1 (whole 2) ∷ []) ∷ [])) 42 [] 100 1000
+        ≡ showing [] (Faulted 0 faults.DivisionByZero) }
+    ensures values_before_indexes { look (cells (bad_index_and_value ∷ [])) 42 [] 100 1000 ≡ showing [] (Faulted 0 faults.DivisionByZero) }
 {}

@@ -2,20 +2,41 @@
 //! The clauses are theorems. The functions that carry them do nothing.
 #![tactic(auto)]
 
+mod alike;
+mod apart;
 mod bank;
 mod changes;
 mod clock;
+mod event_time;
+mod left;
+mod limits;
 mod order;
+mod ranges;
+mod reaching;
+mod rules;
 mod stream;
 mod texts;
 mod tokens;
 mod values;
 
+pub use alike::{later_events_are_unseen, steps_may_be_fewer};
+pub use apart::{declarations_tell_apart, ends_tell_apart, notes_tell_apart, one_run_tells_apart};
 pub use bank::bank_serves;
 pub use changes::{cells_are_set, parameters_come_first, variables_are_drawn};
-pub use clock::{clock_counts, loop_goes_on};
-pub use order::{equal_events_are_cut, events_come_in_order};
-pub use stream::stream_gives;
+pub use clock::{clock_counts, loop_goes_on, runs_are_over};
+pub use event_time::events_see_their_time;
+pub use left::{stores_before_a_fault_stay, words_before_a_fault_are_taken};
+pub use limits::limits_have_these_numbers;
+pub use order::{equal_events_are_cut, events_come_in_order, others_stay};
+pub use ranges::{
+    runs_begin_with_initial_values, starting_values_are_in_range, states_are_in_range,
+};
+pub use reaching::steps_reach_moments;
+pub use rules::{
+    applications_are_made_in_order, conditions_have_numbers, the_first_rule_is_taken,
+    the_strategy_ends,
+};
+pub use stream::{stream_gives, words_are_shared};
 pub use texts::{models_have_texts, operands_stand_in_parentheses};
 pub use tokens::{
     bad_bytes_have_places, blanks_and_comments_are_no_tokens, longest_tokens_are_taken,

@@ -2,34 +2,54 @@
 
 ghost use Rattle.std.specs.Prelude.{◌≡◌, [], ◌∷◌};
 ghost use Rattle.sig_base.specs.declared.fault.FaultKind.TheVariants as faults;
-ghost use Rattle.model_core.specs.EventGraph.{Schedule, CancelNext};
+ghost use Rattle.model_core.specs.EventGraph.{Schedule, CancelNext, CancelEqual, CancelAll};
 ghost use Rattle.model_core.specs.Run.Machine.{At, On, Ended, Faulted};
 ghost use Rattle.model_core.specs.Run.History.{look};
-ghost use Rattle.worked_runs.specs.Building.{scalars, seen, number, edge, schedule, schedule_with, urgent};
-ghost use Rattle.worked_runs.specs.Models.{cut, cancel_three, cancel_all, late_and_bad, ordering};
+ghost use Rattle.worked_runs.specs.Building.{scalars, showing, whole, plain_edge, schedule, schedule_with, two_numbers, urgent};
+ghost use Rattle.worked_runs.specs.Models.{cut, cancel_three, cancel_all, late_and_bad, ordering, carrying};
 
 /// Events come by time, then by priority, then in the order of scheduling.
 pub fn events_come_in_order()
-    ensures lesser_priority_first { look (ordering (edge (Schedule (number 2) 7) 1 [] ∷ schedule 2 (number 2) ∷ [])) 42 [] 100 1000
-        ≡ seen (At 0 [] ∷ On 2 1 [] ∷ On 2 0 [] ∷ []) (Ended 2) }
-    ensures first_scheduled_first { look (ordering (schedule 1 (number 2) ∷ schedule 2 (number 2) ∷ [])) 42 [] 100 1000
-        ≡ seen (At 0 [] ∷ On 2 0 [] ∷ On 2 1 [] ∷ []) (Ended 2) }
-    ensures urgent_first { look (ordering (schedule 1 (number 0) ∷ urgent 2 ∷ [])) 42 [] 100 1000
-        ≡ seen (On 0 1 [] ∷ On 0 0 [] ∷ At 0 [] ∷ []) (Ended 0) }
-    ensures cancel_takes_the_next { look (ordering (schedule 2 (number 3) ∷ schedule 2 (number 2) ∷ edge CancelNext 2 [] ∷ [])) 42 [] 100 1000
-        ≡ seen (At 0 [] ∷ On 3 1 [] ∷ []) (Ended 3) }
+    ensures lesser_priority_first { look (ordering (plain_edge (Schedule (whole 2) 7) 1 [] ∷ schedule 2 (whole 2) ∷ [])) 42 [] 100 1000
+        ≡ showing (At 0 [] ∷ On 2 1 [] ∷ On 2 0 [] ∷ []) (Ended 2) }
+    ensures first_scheduled_first { look (ordering (schedule 1 (whole 2) ∷ schedule 2 (whole 2) ∷ [])) 42 [] 100 1000
+        ≡ showing (At 0 [] ∷ On 2 0 [] ∷ On 2 1 [] ∷ []) (Ended 2) }
+    ensures urgent_first { look (ordering (schedule 1 (whole 0) ∷ urgent 2 ∷ [])) 42 [] 100 1000
+        ≡ showing (On 0 1 [] ∷ On 0 0 [] ∷ At 0 [] ∷ []) (Ended 0) }
+    ensures earlier_time_first { look (ordering (plain_edge (Schedule (whole 3) 1) 1 [] ∷ plain_edge (Schedule (whole 2) 9) 2 [] ∷ [])) 42 [] 100 1000
+        ≡ showing (At 0 [] ∷ On 2 1 [] ∷ On 3 0 [] ∷ []) (Ended 3) }
+    ensures urgent_before_priority_1 { look (ordering (plain_edge (Schedule (whole 0) 1) 1 [] ∷ urgent 2 ∷ [])) 42 [] 100 1000
+        ≡ showing (On 0 1 [] ∷ On 0 0 [] ∷ At 0 [] ∷ []) (Ended 0) }
+    ensures cancel_takes_the_next { look (ordering (schedule 2 (whole 3) ∷ schedule 2 (whole 2) ∷ plain_edge CancelNext 2 [] ∷ [])) 42 [] 100 1000
+        ≡ showing (At 0 [] ∷ On 3 1 [] ∷ []) (Ended 3) }
 {}
 
 /// A cancelling edge with values takes the next event that carries exactly these.
 pub fn equal_events_are_cut()
     ensures once { look (cut (cancel_three ∷ [])) 42 [] 100 1000
-        ≡ seen
+        ≡ showing
         (At 0 (scalars (0 ∷ [])) ∷ On 5 1 (scalars (4 ∷ [])) ∷ At 5 (scalars (4 ∷ []))
         ∷ On 6 1 (scalars (3 ∷ [])) ∷ At 6 (scalars (3 ∷ [])) ∷ []) (Ended 6) }
     ensures three_times { look (cut (cancel_three ∷ cancel_three ∷ cancel_three ∷ [])) 42 [] 100 1000
-        ≡ seen (At 0 (scalars (0 ∷ [])) ∷ On 5 1 (scalars (4 ∷ [])) ∷ At 5 (scalars (4 ∷ [])) ∷ []) (Ended 5) }
+        ≡ showing (At 0 (scalars (0 ∷ [])) ∷ On 5 1 (scalars (4 ∷ [])) ∷ At 5 (scalars (4 ∷ [])) ∷ []) (Ended 5) }
     ensures carried_outside_the_range { look (cut (cancel_all ∷ schedule_with 1 10 5 ∷ [])) 42 [] 100 1000
-        ≡ seen (At 0 (scalars (0 ∷ [])) ∷ []) (Faulted 5 faults.RangeOutside) }
-    ensures delay_before_values { look (cut (late_and_bad ∷ [])) 42 [] 100 1000 ≡ seen [] (Faulted 0 faults.NegativeDelay) }
-    ensures all { look (cut (cancel_all ∷ [])) 42 [] 100 1000 ≡ seen (At 0 (scalars (0 ∷ [])) ∷ []) (Ended 0) }
+        ≡ showing (At 0 (scalars (0 ∷ [])) ∷ []) (Faulted 5 faults.RangeOutside) }
+    ensures delay_before_values { look (cut (late_and_bad ∷ [])) 42 [] 100 1000 ≡ showing [] (Faulted 0 faults.NegativeDelay) }
+    ensures all { look (cut (cancel_all ∷ [])) 42 [] 100 1000 ≡ showing (At 0 (scalars (0 ∷ [])) ∷ []) (Ended 0) }
+{}
+
+/// A cancelling edge takes events of its own vertex alone, however soon the others are due.
+pub fn others_stay()
+    ensures by_cancel { look (ordering (schedule 1 (whole 2) ∷ schedule 2 (whole 3) ∷ plain_edge CancelNext 2 [] ∷ [])) 42 [] 100 1000
+        ≡ showing (At 0 [] ∷ On 2 0 [] ∷ []) (Ended 2) }
+    ensures by_cancel_with_values { look
+        (carrying (plain_edge (Schedule (whole 2) 5) 1 (two_numbers 3 4) ∷ plain_edge (Schedule (whole 3) 5) 2 (two_numbers 3 5)
+        ∷ plain_edge (Schedule (whole 4) 5) 2 (two_numbers 3 4) ∷ plain_edge CancelEqual 2 (two_numbers 3 4) ∷ [])) 42 [] 100 1000
+        ≡ showing (At 0 [] ∷ On 2 0 [] ∷ On 3 1 [] ∷ []) (Ended 3) }
+    ensures by_cancel_all { look
+        (ordering (schedule 2 (whole 1) ∷ schedule 1 (whole 2) ∷ schedule 2 (whole 3) ∷ schedule 1 (whole 4) ∷ plain_edge CancelAll 2 [] ∷ []))
+        42 [] 100 1000
+        ≡ showing (At 0 [] ∷ On 2 0 [] ∷ On 4 0 [] ∷ []) (Ended 4) }
+    ensures where_there_is_none { look (ordering (schedule 1 (whole 2) ∷ plain_edge CancelNext 2 [] ∷ plain_edge CancelAll 2 [] ∷ [])) 42 [] 100 1000
+        ≡ showing (At 0 [] ∷ On 2 0 [] ∷ []) (Ended 2) }
 {}

@@ -16,7 +16,10 @@ use Rattle.model_core.specs.declared.vertex.EdgeForm.{EdgeForm}
 use Rattle.model_core.specs.declared.vertex.EdgeForm.TheVariants as forms
 use Rattle.model_core.specs.declared.expr.Expr.{Expr}
 use Rattle.model_core.specs.declared.expr.Expr.TheVariants as exprs
+use Rattle.model_core.specs.declared.application.Application.{Application}
+use Rattle.model_core.specs.declared.application.Application.TheVariants as applications
 use Rattle.model_core.specs.EventGraph.{EventGraph, EventVertex, EventEdge, EdgeKind, Schedule, StateChange, Set, Location, Expression, Number, Truth, Scalar, Variable, Weighted, WeightTable, Watched, WatchedVariable, WatchedVertex}
+use Rattle.model_core.specs.Rules.Reduction.{RuleApplication, Prune}
 
 abbrev pub expression_of : Expr → Expression
 expression_of (exprs.Int n) = Number n
@@ -54,3 +57,7 @@ watched_of (watched.Event v) = WatchedVertex v
 -- the event graph that a model of the code stands for
 abbrev pub graph_of : Model → EventGraph
 graph_of m = record { name = m.name; variables = map variable_of m.vars; tables = map table_of m.tables; watch = map watched_of m.watch; vertices = map vertex_of m.vertices }
+
+-- the rule application that one of the code stands for
+abbrev pub application_of : Application → RuleApplication
+application_of (applications.Prune vertex edge) = Prune vertex edge

@@ -1,13 +1,7 @@
 -- The certificate: a line for each application of a rule.
 use Rattle.std.specs.Prelude.{ℕ, List, [], ◌∷◌, ◌++◌, map, codes, decimal}
 use Rattle.std.specs.List.{flat_map}
-use Rattle.model_core.specs.declared.application.Application.{Application}
-use Rattle.model_core.specs.declared.application.Application.TheVariants as code
 use Rattle.model_core.specs.Rules.Reduction.{RuleApplication, Prune}
-
--- the rule application that one of the code stands for
-abbrev pub application_of : Application → RuleApplication
-application_of (code.Prune vertex edge) = Prune vertex edge
 
 abbrev pub application_line : RuleApplication → List ℕ
 application_line (Prune vertex edge) = codes "prune " ++ vertex ++ codes " " ++ decimal edge ++ codes "\n"

@@ -1,5 +1,5 @@
 -- Machines whose moves show notes, and what a look at so many moves shows.
-use Rattle.std.specs.Prelude.{ℕ, zero, suc, ℤ, List, [], ◌++◌, Bool, true, false}
+use Rattle.std.specs.Prelude.{ℕ, zero, suc, ℤ, List, [], ◌++◌, Bool, true, false, Option, Some, None, option_map}
 use Rattle.sig_base.specs.declared.fault.FaultKind.{FaultKind}
 
 -- what a history records: the watched values as the clock leaves a time, or an event of the vertex at this place of
@@ -50,3 +50,23 @@ after later (Goes notes s) = ahead notes (later s)
 abbrev pub look_of : {S : Type 0} → (S → Move S) → ℕ → S → Look
 look_of move zero s = before (move s)
 look_of move (suc n) s = after (look_of move n) (move s)
+
+-- where moves that go on lead: the notes that they show, and the moment reached
+pub record Reached (S : Type 0) : Type 0 where
+  pub notes : List Note
+  pub moment : S
+
+-- what is reached, with these notes ahead
+abbrev pub reached_behind : {S : Type 0} → List Note → Reached S → Reached S
+reached_behind notes r = record r { notes = notes ++ r.notes }
+
+-- where a move leads, and then those after it. A rest and a fault lead nowhere
+abbrev pub onward : {S : Type 0} → (S → Option (Reached S)) → Move S → Option (Reached S)
+onward later (Rests notes end) = None
+onward later (Fails notes end) = None
+onward later (Goes notes s) = option_map (reached_behind notes) (later s)
+
+-- where n moves lead, if each of them goes on
+abbrev pub reached : {S : Type 0} → (S → Move S) → ℕ → S → Option (Reached S)
+reached move zero s = Some (record { notes = []; moment = s })
+reached move (suc n) s = onward (reached move n) (move s)

@@ -1,6 +1,7 @@
 -- Which models of the first form are accepted, and which model a text of the first form reads as.
-use Rattle.std.specs.Prelude.{◌≡◌, ℕ, ◌+◌, ◌≤◌, ℤ, pos, negsuc, ◌≤ℤ◌, Bool, false, List, [], ◌∷◌, ◌++◌, length, map, Some, None, IfSome, Ok, nat_eq}
+use Rattle.std.specs.Prelude.{◌≡◌, ℕ, ◌+◌, ◌≤◌, ℤ, neg_ℤ, ◌≤ℤ◌, Bool, false, List, [], ◌∷◌, ◌++◌, length, map, Some, None, IfSome, Ok, nat_eq}
 use Rattle.std.specs.List.{AllByRecursion, IsDistinct}
+use Rattle.sig_base.specs.declared.limits.TheConstants.{TEXT_MAX, NAME_MAX, LITERAL_MAX, VARIABLES_MAX, VERTICES_MAX, CHANGES_MAX, EDGES_MAX}
 use Rattle.model_core.specs.EventGraph.{EventGraph, EventVertex, Variable, WeightTable, Watched, WatchedVariable, WatchedVertex}
 use Rattle.model_core.specs.Text.Written as written
 use Rattle.model_core.specs.Text.Written.{WrittenModel, WrittenKind, WrittenLiteral, WrittenVariable, WrittenExpression, WrittenChange, WrittenEdgeKind, WrittenEdge, WrittenVertex}
@@ -9,19 +10,19 @@ use Rattle.model_core.specs.Text.FirstForm as first_form
 use Rattle.model_core.specs.Text.Numbering.{numbered}
 use Rattle.model_core.specs.Text.Canonical.{canonical}
 
--- a name has at most 32 bytes
+-- a name has few bytes
 abbrev pub IsShort : List ℕ → Type 0
-IsShort name = length name ≤ 32
+IsShort name = length name ≤ NAME_MAX
 
 -- the names that variables, tables and vertices share
 abbrev pub declared_names : EventGraph → List (List ℕ)
 declared_names g = map (λ (v : Variable). v.name) g.variables ++ map (λ (t : WeightTable). t.name) g.tables ++ map (λ (v : EventVertex). v.name) g.vertices
 
--- the bounds are in order and inside -2^62..2^62, and the initial value lies between them
+-- the bounds are in order and inside the literals' limit, and the initial value lies between them
 pub record IsRange (v : Variable) : Type 0 where
-  pub least : negsuc 4611686018427387903 ≤ℤ v.lo
+  pub least : neg_ℤ LITERAL_MAX ≤ℤ v.lo
   pub ordered : v.lo ≤ℤ v.hi
-  pub greatest : v.hi ≤ℤ pos 4611686018427387904
+  pub greatest : v.hi ≤ℤ LITERAL_MAX
   pub from_lo : v.lo ≤ℤ v.initial
   pub to_hi : v.initial ≤ℤ v.hi
 
@@ -35,10 +36,10 @@ abbrev pub IsVariable : Watched → Type 0
 IsVariable (WatchedVariable v) = Unit {0}
 IsVariable (WatchedVertex v) = ⊥
 
--- a vertex has at most 1,000 changes and 1,000 edges
+-- a vertex has few changes and edges
 pub record IsSmall (v : EventVertex) : Type 0 where
-  pub changes : length v.changes ≤ 1000
-  pub edges : length v.edges ≤ 1000
+  pub changes : length v.changes ≤ CHANGES_MAX
+  pub edges : length v.edges ≤ EDGES_MAX
 
 -- ---- the first form, part by part
 
@@ -103,10 +104,10 @@ pub record KeepsRules (g : EventGraph) : Type 0 where
   pub watched_once : IsDistinct nat_eq (map (watched_number (length g.variables)) g.watch)
   pub watches_variables : AllByRecursion IsVariable g.watch
   pub ranges : AllByRecursion IsRange g.variables
-  pub few_variables : length g.variables ≤ 2000
-  pub few_vertices : length g.vertices ≤ 2000
+  pub few_variables : length g.variables ≤ VARIABLES_MAX
+  pub few_vertices : length g.vertices ≤ VERTICES_MAX
   pub small_vertices : AllByRecursion IsSmall g.vertices
-  pub short : length (canonical g) ≤ 4194304
+  pub short : length (canonical g) ≤ TEXT_MAX
 
 -- a written model of the first form is accepted as this model
 pub record AcceptedFirst (m : WrittenModel) (g : EventGraph) : Type 0 where
@@ -118,9 +119,13 @@ pub record AcceptedFirst (m : WrittenModel) (g : EventGraph) : Type 0 where
 abbrev pub SpellsFirst : List ℕ → WrittenModel → Type 0
 SpellsFirst text m = (tokens : List Lexeme) × (tokens_of text ≡ Ok tokens) × first_form.text tokens m []
 
--- a text of at most 4 MiB reads, in the first form, as this model
+-- a text within the limit reads, in the first form, as this model
 pub record ReadsFirst (text : List ℕ) (g : EventGraph) : Type 0 where
-  pub fits : length text ≤ 4194304
+  pub fits : length text ≤ TEXT_MAX
   pub model : WrittenModel
   pub spells : SpellsFirst text model
   pub accepted : AcceptedFirst model g
+
+-- a model is valid where some text reads as it
+abbrev pub IsValid : EventGraph → Type 0
+IsValid g = (text : List ℕ) × ReadsFirst text g

@@ -1,12 +1,9 @@
 -- The tokens of a text: names, reserved words, numbers and symbols, with blanks and comments between them.
-use Rattle.std.specs.Prelude.{ℕ, zero, suc, ◌+◌, ◌-◌, ◌^◌, ℤ, pos, Bool, not, ◌||◌, ◌==◌, nat_eq, nat_lt, if◌then◌else◌, List, [], ◌∷◌, length, map, Option, Some, None, Result, Ok, Err, codes, slice_range}
+use Rattle.std.specs.Prelude.{ℕ, zero, suc, ◌+◌, ◌-◌, ◌^◌, ℤ, pos, Bool, not, ◌||◌, ◌==◌, nat_eq, nat_lt, if◌then◌else◌, List, [], ◌∷◌, length, drop, map, Option, Some, None, Result, Ok, Err, codes}
 use Rattle.std.specs.List.{take_while, starts_with}
 use Rattle.std.specs.Char.{is_ascii_digit, is_ascii_alphabetic}
 use Rattle.std.specs.Int.Digits.{number_from_digits}
 use lib.Pointwise.{pointwise}
-use Rattle.model_core.specs.declared.token.Token.{Token}
-use Rattle.model_core.specs.declared.token.TokenKind.{TokenKind}
-use Rattle.model_core.specs.declared.token.TokenKind.TheVariants as kinds
 use Rattle.model_core.specs.declared.token.Word.{Word}
 use Rattle.model_core.specs.declared.token.Word.TheVariants as words
 use Rattle.model_core.specs.declared.token.Symbol.{Symbol}
@@ -157,23 +154,19 @@ after_front at (Longest n kind) (Ok later) = Ok (record { from = at; to = at + n
 after_front at (Longest n kind) (Err place) = Err place
 after_front at Neither later = Err at
 
--- The tokens of the bytes from the place `at` on, the longest one each time, or the first place of a byte that begins no
--- token. The first `inside` bytes belong to what began before.
+-- A text from the place `at` on is cut front by front: what it begins with is taken off, and comes before what the rest
+-- gives, up to the end or to a byte that begins no token.
+pub data IsCut : ℕ → List ℕ → Result (List Lexeme) ℕ → Type 0 where
+  at_end : (at : ℕ) → IsCut at [] (Ok [])
+  at_front : (at c : ℕ) (s : List ℕ) (later : Result (List Lexeme) ℕ) → IsCut (at + front_length (front c s)) (drop (front_length (front c s)) (c ∷ s)) later → IsCut at (c ∷ s) (after_front at (front c s) later)
+
+-- The same as a function that computes. The first `inside` bytes belong to what began before.
 abbrev pub tokens_from : ℕ → ℕ → List ℕ → Result (List Lexeme) ℕ
 tokens_from at inside [] = Ok []
 tokens_from at (suc inside) (c ∷ s) = tokens_from (at + 1) inside s
 tokens_from at zero (c ∷ s) = after_front at (front c s) (tokens_from (at + 1) (front_length (front c s) - 1) s)
 
--- the tokens of a text, or the place of its first byte that begins no token
+-- The tokens of a text, or the place of its first byte that begins no token: that into which it is cut, by the law
+-- `texts_are_cut` of `model_lex`.
 abbrev pub tokens_of : List ℕ → Result (List Lexeme) ℕ
 tokens_of text = tokens_from 0 0 text
-
--- what a token of the code stands for, in its text
-abbrev pub lexeme_kind_of : List ℕ → TokenKind → LexemeKind
-lexeme_kind_of bytes kinds.Name = NameOf bytes
-lexeme_kind_of bytes (kinds.Word w) = Reserved w
-lexeme_kind_of bytes (kinds.Number value) = NumberOf value
-lexeme_kind_of bytes (kinds.Symbol s) = Mark s
-
-abbrev pub lexeme_of : List ℕ → Token → Lexeme
-lexeme_of text t = record { from = t.from; to = t.to; kind = lexeme_kind_of (slice_range text t.from t.to) t.kind }

@@ -14,11 +14,11 @@ abbrev pub ◌>>=◌ : {A B : Type 0} → Option A → (A → Option B) → Opti
 o >>= f = option_and_then f o
 
 -- the values of a list, or nothing where one is missing
-abbrev pub each : {A B : Type 0} → (A → Option B) → List A → Option (List B)
-each f [] = Some []
-each f (x ∷ xs) = do
+abbrev pub each_numbered : {A B : Type 0} → (A → Option B) → List A → Option (List B)
+each_numbered f [] = Some []
+each_numbered f (x ∷ xs) = do
   y ← f x
-  ys ← each f xs
+  ys ← each_numbered f xs
   Some (y ∷ ys)
 
 -- the value of a part, or the default where the part isn't written
@@ -27,9 +27,9 @@ written_or f default None = Some default
 written_or f default (Some x) = f x
 
 -- the first place of a name
-abbrev pub place_of : List ℕ → List (List ℕ) → Option ℕ
-place_of name [] = None
-place_of name (n ∷ ns) = if same_bytes n name then Some 0 else option_map (λ k. k + 1) (place_of name ns)
+abbrev pub declared_place : List ℕ → List (List ℕ) → Option ℕ
+declared_place name [] = None
+declared_place name (n ∷ ns) = if same_bytes n name then Some 0 else option_map (λ k. k + 1) (declared_place name ns)
 
 -- the names that a model declares
 pub record Declared : Type 0 where
@@ -75,9 +75,9 @@ module _ (d : Declared) where
   expression (written.Number at n) = option_map graph.Number n.value
   expression (written.Truth at b) = Some (graph.Truth b)
   expression (written.Clock at) = Some graph.Clock
-  expression (written.Scalar at n) = option_map graph.Scalar (place_of n.name d.variables)
+  expression (written.Scalar at n) = option_map graph.Scalar (declared_place n.name d.variables)
   expression (written.Cell at n i) = do
-    variable ← place_of n.name d.variables
+    variable ← declared_place n.name d.variables
     index ← expression i
     Some (graph.Cell variable index)
   expression (written.Negative at a) = option_map graph.Negative (expression a)
@@ -94,7 +94,7 @@ module _ (d : Declared) where
 
   abbrev pub location : WrittenTarget → Option graph.Location
   location t = do
-    variable ← place_of t.name.name d.variables
+    variable ← declared_place t.name.name d.variables
     index ← written_or (λ i. option_map Some (expression i)) None t.index
     Some (record { variable = variable; index = index })
 
@@ -103,12 +103,12 @@ module _ (d : Declared) where
     least ← signed lo
     greatest ← signed hi
     Some (graph.Uniform least greatest)
-  choice (written.ByTable t) = option_map graph.ByTable (place_of t.name d.tables)
+  choice (written.ByTable t) = option_map graph.ByTable (declared_place t.name d.tables)
 
   abbrev pub change : WrittenChange → Option graph.StateChange
   change (written.Set at targets values) = do
-    locations ← each location targets
-    expressions ← each expression values
+    locations ← each_numbered location targets
+    expressions ← each_numbered expression values
     Some (graph.Set locations expressions)
   change (written.Draw at target stream from) = do
     drawn ← location target
@@ -130,20 +130,20 @@ module _ (d : Declared) where
   -- no `when` is the condition `true`
   abbrev pub edge : WrittenEdge → Option graph.EventEdge
   edge e = do
-    target ← place_of e.target.name d.vertices
-    values ← written_or (each expression) [] e.values
+    target ← declared_place e.target.name d.vertices
+    values ← written_or (each_numbered expression) [] e.values
     condition ← written_or expression (graph.Truth true) e.condition
     kind ← edge_kind e.kind
     Some (record { target = target; values = values; condition = condition; kind = kind })
 
-  abbrev pub parameter : WrittenName → Option ℕ
-  parameter n = place_of n.name d.variables
+  abbrev pub numbered_parameter : WrittenName → Option ℕ
+  numbered_parameter n = declared_place n.name d.variables
 
   abbrev pub vertex : WrittenVertex → Option graph.EventVertex
   vertex v = do
-    parameters ← written_or (each parameter) [] v.parameters
-    changes ← each change v.changes
-    edges ← each edge v.edges
+    parameters ← written_or (each_numbered numbered_parameter) [] v.parameters
+    changes ← each_numbered change v.changes
+    edges ← each_numbered edge v.edges
     Some (record { name = v.name.name; parameters = parameters; changes = changes; edges = edges })
 
   -- a variable of the name, or else a vertex
@@ -152,7 +152,7 @@ module _ (d : Declared) where
   watched_or None vertex = option_map graph.WatchedVertex vertex
 
   abbrev pub watched : WrittenName → Option graph.Watched
-  watched n = watched_or (place_of n.name d.variables) (place_of n.name d.vertices)
+  watched n = watched_or (declared_place n.name d.variables) (declared_place n.name d.vertices)
 
 -- ---- declarations
 
@@ -183,14 +183,14 @@ row r = do
 
 abbrev pub table : WrittenTable → Option graph.WeightTable
 table t = do
-  rows ← each row t.rows
+  rows ← each_numbered row t.rows
   Some (record { name = t.name.name; rows = rows })
 
 -- the model, or nothing where a name isn't declared as what it is used for, or a number is above 2^63 - 1
 abbrev pub numbered : WrittenModel → Option graph.EventGraph
 numbered m = do
-  variables ← each variable m.variables
-  tables ← each table m.tables
-  watch ← written_or (each (watched (declared_by m))) [] m.watch
-  vertices ← each (vertex (declared_by m)) m.vertices
+  variables ← each_numbered variable m.variables
+  tables ← each_numbered table m.tables
+  watch ← written_or (each_numbered (watched (declared_by m))) [] m.watch
+  vertices ← each_numbered (vertex (declared_by m)) m.vertices
   Some (record { name = m.name.name; variables = variables; tables = tables; watch = watch; vertices = vertices })

@@ -1,7 +1,7 @@
 use Rattle.std.proofs.Common.{◌+◌, drop, map}
 use Rattle.std.proofs.lemmas.Result.{err_from_is_err_and}
 use Rattle.model_core.specs.Code.WrittenViews.{written_variable}
-use Rattle.first_form.specs.Accepting.{variable_names, with_variable}
+use Rattle.first_form.specs.Inner.Accepting.{variable_names, with_variable}
 use Rattle.first_form.proofs.Steps.{goes_on, fails, ends, left_at, left_past}
 use Rattle.first_form.proofs.variable.variable_names_of.Goals as goal
 

@@ -1,6 +1,6 @@
 use Rattle.std.proofs.Common.{◌≡◌, map, drop}
 use Rattle.model_core.specs.Code.WrittenViews.{written_variable}
-use Rattle.first_form.specs.Accepting.{variable_names, with_variable, folded}
+use Rattle.first_form.specs.Inner.Accepting.{variable_names, with_variable, folded}
 use Rattle.first_form.proofs.variable.variable_names_of.Given as goal
 
 abbrev pub invariant-loop-raw : goal.invariant-loop-raw

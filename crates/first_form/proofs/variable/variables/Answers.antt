@@ -4,7 +4,7 @@ use Rattle.std.proofs.lemmas.Result.{err_from_is_err_and}
 use Rattle.std.proofs.lemmas.List.{map_push}
 use Rattle.model_core.specs.Code.Views.{variable_of}
 use Rattle.model_core.specs.Code.WrittenViews.{written_variable}
-use Rattle.first_form.specs.Accepting.{folded, with_value, accepted_variable}
+use Rattle.first_form.specs.Inner.Accepting.{folded, with_value, accepted_variable}
 use Rattle.first_form.proofs.Steps.{goes_on, fails, ends, left_at, left_past, with_value-fails}
 use Rattle.first_form.proofs.variable.variables.Goals as goal
 

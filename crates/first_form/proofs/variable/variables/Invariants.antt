@@ -1,7 +1,7 @@
 use Rattle.std.proofs.Common.{◌≡◌, [], map, drop}
 use Rattle.model_core.specs.Code.Views.{variable_of}
 use Rattle.model_core.specs.Code.WrittenViews.{written_variable}
-use Rattle.first_form.specs.Accepting.{folded, with_value, accepted_variable}
+use Rattle.first_form.specs.Inner.Accepting.{folded, with_value, accepted_variable}
 use Rattle.first_form.proofs.variable.variables.Given as goal
 
 abbrev pub invariant-loop-raw : goal.invariant-loop-raw

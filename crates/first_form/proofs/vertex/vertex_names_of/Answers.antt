@@ -1,7 +1,7 @@
 use Rattle.std.proofs.Common.{◌+◌, drop, map}
 use Rattle.std.proofs.lemmas.Result.{err_from_is_err_and}
 use Rattle.model_core.specs.Code.WrittenViews.{written_vertex}
-use Rattle.first_form.specs.Accepting.{vertex_names, with_vertex}
+use Rattle.first_form.specs.Inner.Accepting.{vertex_names, with_vertex}
 use Rattle.first_form.proofs.Steps.{goes_on, fails, ends, left_at, left_past}
 use Rattle.first_form.proofs.vertex.vertex_names_of.Goals as goal
 

@@ -1,6 +1,6 @@
 use Rattle.std.proofs.Common.{◌≡◌, map, drop}
 use Rattle.model_core.specs.Code.WrittenViews.{written_vertex}
-use Rattle.first_form.specs.Accepting.{vertex_names, with_vertex, folded}
+use Rattle.first_form.specs.Inner.Accepting.{vertex_names, with_vertex, folded}
 use Rattle.first_form.proofs.vertex.vertex_names_of.Given as goal
 
 abbrev pub invariant-loop-raw : goal.invariant-loop-raw

@@ -5,7 +5,7 @@ use Rattle.std.proofs.lemmas.Result.{err_from_is_err_and}
 use Rattle.std.proofs.lemmas.List.{map_push}
 use Rattle.model_core.specs.Code.Views.{vertex_of}
 use Rattle.model_core.specs.Code.WrittenViews.{written_vertex}
-use Rattle.first_form.specs.Accepting.{folded, with_value, accepted_vertex}
+use Rattle.first_form.specs.Inner.Accepting.{folded, with_value, accepted_vertex}
 use Rattle.first_form.proofs.Steps.{goes_on, fails, ends, nothing_left, with_value-fails}
 use Rattle.first_form.proofs.vertex.vertices_of.Goals as goal
 

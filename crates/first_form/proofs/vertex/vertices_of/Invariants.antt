@@ -2,7 +2,7 @@ use Rattle.std.proofs.Common.{◌≡◌, [], map, length}
 use Rattle.std.specs.Vec.Iter.{into_iter_items, into_iter_len}
 use Rattle.model_core.specs.Code.Views.{vertex_of}
 use Rattle.model_core.specs.Code.WrittenViews.{written_vertex}
-use Rattle.first_form.specs.Accepting.{folded, with_value, accepted_vertex}
+use Rattle.first_form.specs.Inner.Accepting.{folded, with_value, accepted_vertex}
 use Rattle.first_form.proofs.vertex.vertices_of.Given as goal
 
 abbrev pub invariant-loop-raw : goal.invariant-loop-raw

@@ -1,6 +1,6 @@
 use Rattle.std.proofs.Common.{◌≡◌, [], map, drop}
 use Rattle.model_core.specs.Code.WrittenViews.{written_name}
-use Rattle.first_form.specs.Accepting.{with_watched, folded}
+use Rattle.first_form.specs.Inner.Accepting.{with_watched, folded}
 use Rattle.first_form.proofs.watch.numbers_of.Given as goal
 
 abbrev pub invariant-loop-raw : goal.invariant-loop-raw

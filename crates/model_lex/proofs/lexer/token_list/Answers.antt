@@ -1,6 +1,7 @@
 use Rattle.std.proofs.Common.{◌≡◌, ◌<◌, ◌+◌, ◌≤◌, length, take, drop, subst, sym, arith}
-use Rattle.model_core.specs.Text.Lexing.{Between, Longest, lexeme_kind_of}
-use Rattle.model_lex.specs.Fronts.{front_at}
+use Rattle.model_core.specs.Text.Lexing.{Between, Longest}
+use Rattle.model_core.specs.Code.TokenViews.{lexeme_kind_of}
+use Rattle.model_lex.specs.Inner.Fronts.{front_at}
 use Rattle.model_lex.specs.declared.front.Front.TheVariants as code
 use Rattle.model_lex.proofs.Cutting.{Cut, seen_here, front_room, cut_between, cut_neither, cut_all, cut_longest}
 use Rattle.model_lex.proofs.lexer.token_list.Goals as goal

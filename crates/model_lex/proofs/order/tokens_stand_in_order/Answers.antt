@@ -1,4 +1,4 @@
-use Rattle.model_lex.proofs.Places.{tokens_of-in_order, tokens_in_text}
+use Rattle.model_lex.proofs.TokenPlaces.{tokens_of-in_order, tokens_in_text}
 use Rattle.model_lex.proofs.order.tokens_stand_in_order.Goals as goal
 
 pub returns-clause-in_order : goal.returns-clause-in_order

@@ -2,7 +2,7 @@
 use Rattle.std.proofs.lemmas.List.{map_more}
 use Rattle.model_core.specs.Text.Canonical.{row_text}
 use Rattle.model_core.specs.Code.Views.{weighted_of}
-use Rattle.model_print.proofs.Loops.{one_more}
+use Rattle.sig_base.proofs.Lists.{one_more}
 use Rattle.model_print.proofs.declarations.put_rows.Goals as goal
 
 pub loop-row-preserved : goal.loop-row-preserved

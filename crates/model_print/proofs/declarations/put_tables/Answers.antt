@@ -1,7 +1,7 @@
 -- the invariant after one element more
 use Rattle.model_core.specs.Text.Canonical.{table_line}
 use Rattle.model_core.specs.Code.Views.{table_of}
-use Rattle.model_print.proofs.Loops.{seen_more, one_more}
+use Rattle.sig_base.proofs.Lists.{seen_more, one_more}
 use Rattle.model_print.proofs.declarations.put_tables.Goals as goal
 
 pub loop-table-preserved : goal.loop-table-preserved

@@ -1,7 +1,7 @@
 -- the invariant after one element more
 use Rattle.model_core.specs.Text.Canonical.{variable_line}
 use Rattle.model_core.specs.Code.Views.{variable_of}
-use Rattle.model_print.proofs.Loops.{seen_more, one_more}
+use Rattle.sig_base.proofs.Lists.{seen_more, one_more}
 use Rattle.model_print.proofs.declarations.put_variables.Goals as goal
 
 pub loop-var-preserved : goal.loop-var-preserved

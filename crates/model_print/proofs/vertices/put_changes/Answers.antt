@@ -1,7 +1,7 @@
 -- the invariant after one element more
 use Rattle.model_core.specs.Text.Canonical.{change_line}
 use Rattle.model_core.specs.Code.Views.{change_of, graph_of}
-use Rattle.model_print.proofs.Loops.{seen_more, one_more}
+use Rattle.sig_base.proofs.Lists.{seen_more, one_more}
 use Rattle.model_print.proofs.vertices.put_changes.Goals as goal
 
 pub loop-change-preserved : goal.loop-change-preserved

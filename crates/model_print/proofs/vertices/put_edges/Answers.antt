@@ -1,7 +1,7 @@
 -- the invariant after one element more
 use Rattle.model_core.specs.Text.Canonical.{edge_line}
 use Rattle.model_core.specs.Code.Views.{edge_of, graph_of}
-use Rattle.model_print.proofs.Loops.{seen_more, one_more}
+use Rattle.sig_base.proofs.Lists.{seen_more, one_more}
 use Rattle.model_print.proofs.vertices.put_edges.Goals as goal
 
 pub loop-edge-preserved : goal.loop-edge-preserved

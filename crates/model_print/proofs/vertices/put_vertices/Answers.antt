@@ -1,7 +1,7 @@
 -- the invariant after one element more
 use Rattle.model_core.specs.Text.Canonical.{vertex_lines}
 use Rattle.model_core.specs.Code.Views.{graph_of, vertex_of}
-use Rattle.model_print.proofs.Loops.{seen_more, one_more}
+use Rattle.sig_base.proofs.Lists.{seen_more, one_more}
 use Rattle.model_print.proofs.vertices.put_vertices.Goals as goal
 
 pub loop-vertex-preserved : goal.loop-vertex-preserved

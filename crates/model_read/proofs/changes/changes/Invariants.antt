@@ -1,6 +1,6 @@
 use Rattle.std.proofs.Common.{map, ◌≡◌, length}
 use Rattle.model_core.specs.Code.WrittenViews.{written_change}
-use Rattle.model_read.specs.Rules.{changes_at}
+use Rattle.model_read.specs.Inner.Rules.{changes_at}
 use Rattle.model_read.proofs.Loop.{with_front}
 use Rattle.model_read.proofs.changes.changes.Given as goal
 

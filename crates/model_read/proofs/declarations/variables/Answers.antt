@@ -2,8 +2,8 @@ use Rattle.std.proofs.Common.{sym, arith}
 use Rattle.std.proofs.lemmas.Result.{err_from_is_err_and}
 use Rattle.model_core.specs.declared.token.Word.TheVariants as words
 use Rattle.model_core.specs.Code.WrittenViews.{written_variable}
-use Rattle.model_read.specs.Reader.{is_word}
-use Rattle.model_read.specs.Rules.{variable_at, variables_at}
+use Rattle.model_read.specs.Inner.Reader.{is_word}
+use Rattle.model_read.specs.Inner.Rules.{variable_at, variables_at}
 use Rattle.model_read.proofs.Loop.{goes_on, ends, is_done}
 use Rattle.model_read.proofs.Parts.{variable_shrinks}
 use Rattle.model_read.proofs.declarations.variables.Goals as goal

@@ -1,6 +1,6 @@
 use Rattle.std.proofs.Common.{map, ◌≡◌, length}
 use Rattle.model_core.specs.Code.WrittenViews.{written_variable}
-use Rattle.model_read.specs.Rules.{variables_at}
+use Rattle.model_read.specs.Inner.Rules.{variables_at}
 use Rattle.model_read.proofs.Loop.{with_front}
 use Rattle.model_read.proofs.declarations.variables.Given as goal
 

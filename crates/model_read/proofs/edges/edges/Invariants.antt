@@ -1,6 +1,6 @@
 use Rattle.std.proofs.Common.{map, ◌≡◌, length}
 use Rattle.model_core.specs.Code.WrittenViews.{written_edge}
-use Rattle.model_read.specs.Rules.{edges_at}
+use Rattle.model_read.specs.Inner.Rules.{edges_at}
 use Rattle.model_read.proofs.Loop.{with_front}
 use Rattle.model_read.proofs.edges.edges.Given as goal
 

@@ -2,8 +2,8 @@
 use Rattle.std.proofs.Common.{sym, refl, rules, ◌∙◌}
 use Rattle.model_core.specs.declared.token.Symbol.TheVariants as symbols
 use Rattle.model_core.specs.Code.WrittenViews.{written_name}
-use Rattle.model_read.specs.Reader.{is_symbol, name_at}
-use Rattle.model_read.specs.Rules.{next_name_at, names_at}
+use Rattle.model_read.specs.Inner.Reader.{is_symbol, name_at}
+use Rattle.model_read.specs.Inner.Rules.{next_name_at, names_at}
 use Rattle.model_read.proofs.Loop.{is_read, comes_again, is_done}
 use Rattle.model_read.proofs.Parts.{next_name_shrinks}
 use Rattle.model_read.proofs.names.names.Goals as goal

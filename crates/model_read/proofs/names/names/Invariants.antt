@@ -1,6 +1,6 @@
 use Rattle.std.proofs.Common.{map, ◌≡◌, length}
 use Rattle.model_core.specs.Code.WrittenViews.{written_name}
-use Rattle.model_read.specs.Rules.{names_at}
+use Rattle.model_read.specs.Inner.Rules.{names_at}
 use Rattle.model_read.proofs.Loop.{with_front}
 use Rattle.model_read.proofs.names.names.Given as goal
 

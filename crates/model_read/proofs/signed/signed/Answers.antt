@@ -1,6 +1,6 @@
 -- With a sign, the parts are read one after the other.
 use Rattle.std.proofs.Common.{sym, refl, ◌∙◌}
-use Rattle.model_read.specs.Rules.{signed_at, negative_signed_at}
+use Rattle.model_read.specs.Inner.Rules.{signed_at, negative_signed_at}
 use Rattle.model_read.proofs.signed.signed.Goals as goal
 
 pub returns-in_ok-number : goal.returns-in_ok-number

@@ -1,5 +1,5 @@
 use Rattle.std.proofs.Common.{◌≡◌, ap, ◌∙◌, map}
-use Rattle.model_core.specs.Text.Lexing.{lexeme_of}
+use Rattle.model_core.specs.Code.TokenViews.{lexeme_of}
 use Rattle.model_lex.specs.Lexemes.{lexemes}
 use Rattle.model_read.proofs.Whole.{read_is_spelled, refused_is_not_spelled}
 use Rattle.model_read.proofs.text.parse.Goals as goal

@@ -1,6 +1,6 @@
 -- The parts are read one after the other.
 use Rattle.std.proofs.Common.{refl}
-use Rattle.model_read.specs.Rules.{vertex_at}
+use Rattle.model_read.specs.Inner.Rules.{vertex_at}
 use Rattle.model_read.proofs.vertices.vertex.Goals as goal
 
 pub returns : goal.returns

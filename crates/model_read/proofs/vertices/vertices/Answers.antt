@@ -2,8 +2,8 @@
 use Rattle.std.proofs.Common.{sym, refl, rules, arith, ◌∙◌}
 use Rattle.model_core.specs.declared.token.Word.TheVariants as words
 use Rattle.model_core.specs.Code.WrittenViews.{written_vertex}
-use Rattle.model_read.specs.Reader.{is_word}
-use Rattle.model_read.specs.Rules.{vertex_at, vertices_at}
+use Rattle.model_read.specs.Inner.Reader.{is_word}
+use Rattle.model_read.specs.Inner.Rules.{vertex_at, vertices_at}
 use Rattle.model_read.proofs.Loop.{is_read, comes_again, is_done}
 use Rattle.model_read.proofs.Parts.{vertex_shrinks}
 use Rattle.model_read.proofs.vertices.vertices.Goals as goal

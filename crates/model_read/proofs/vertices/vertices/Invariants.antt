@@ -1,6 +1,6 @@
 use Rattle.std.proofs.Common.{map, ◌≡◌, length}
 use Rattle.model_core.specs.Code.WrittenViews.{written_vertex}
-use Rattle.model_read.specs.Rules.{vertices_at}
+use Rattle.model_read.specs.Inner.Rules.{vertices_at}
 use Rattle.model_read.proofs.Loop.{with_front}
 use Rattle.model_read.proofs.vertices.vertices.Given as goal
 

@@ -1,11 +1,9 @@
 use Rattle.std.proofs.Common.{inl, Err, ap, ◌∙◌}
 use Rattle.std.proofs.lemmas.Result.{IfOk-weaker}
-use Rattle.model_core.specs.Code.Views.{graph_of}
-use Rattle.sigma_top.proofs.Answering.{vertices_distinct}
 use Rattle.sigma_top.proofs.answer.answer_job.Goals as goal
 
 pub output_of-requires : goal.output_of-requires
-output_of-requires c = vertices_distinct _ (graph_of c.in-Ok.model) c.in-Ok.ensures.ok
+output_of-requires c = (_, c.in-Ok.ensures.ok)
 
 pub returns-in-Err-NotFirstForm : goal.returns-in-Err-NotFirstForm
 returns-in-Err-NotFirstForm c =

@@ -3,7 +3,7 @@ use Rattle.std.proofs.Common.{Ok, Err, ap, ◌∙◌, subst}
 use Rattle.sigma_top.specs.declared.reading.Taken.TheVariants as taken
 use Rattle.sigma_top.specs.Answer.{AnswersJob}
 use Rattle.sigma_top.specs.Delivery.{inlet, outlet}
-use Rattle.sigma_top.specs.Frame.{Answering}
+use Rattle.sigma_top.specs.Inner.Frame.{Answering}
 use Rattle.sigma_top.specs.Jobs.{is_streamed}
 use Rattle.sigma_top.proofs.Performing.{performed, performed_long, not_taken, taken_as}
 use Rattle.sigma_top.proofs.frame.perform.Goals as goal

@@ -4,7 +4,7 @@ use Rattle.sig_base.specs.declared.take_error.TakeError.TheVariants as errors
 use Rattle.sigma_top.specs.declared.reading.Taken.TheVariants as taken
 use Rattle.sigma_top.specs.declared.status.Failure.TheVariants as failures
 use Rattle.sigma_top.specs.Delivery.{inlet}
-use Rattle.sigma_top.specs.Frame.{TakesText}
+use Rattle.sigma_top.specs.Inner.Frame.{TakesText}
 use Rattle.sigma_top.proofs.InputRead.{no_error, other_error, all_taken, taken_to_end, long_taken, taken_past, taken_in_part}
 use Rattle.sigma_top.proofs.reading.take_text.Goals as goal
 

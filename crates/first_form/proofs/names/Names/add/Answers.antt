@@ -1,6 +1,6 @@
 use Rattle.std.proofs.Common.{ℕ, ap, arith, is_none}
 use Rattle.std.specs.Global.{Vec as Bytes}
-use Rattle.model_core.specs.Text.Numbering.{place_of}
+use Rattle.model_core.specs.Text.Numbering.{declared_place as place_of}
 use Rattle.first_form.proofs.Places.{is_none-place_of}
 use Rattle.first_form.proofs.names.Names.add.Goals as goal
 

@@ -1,6 +1,6 @@
 -- Where a token is left, the end isn't there.
 use Rattle.std.proofs.Common.{◌∙◌, sym, ap}
-use Rattle.model_read.specs.Reader.{ended}
+use Rattle.model_read.specs.Inner.Reader.{ended}
 use Rattle.model_read.proofs.FirstToken.{ended-first}
 use Rattle.model_read.proofs.cursor.Cursor.end.Goals as goal
 

@@ -1,6 +1,6 @@
 -- The first token is the name, and the others are left.
 use Rattle.std.proofs.Common.{sym, ap, ◌∙◌}
-use Rattle.model_read.specs.Reader.{name_at}
+use Rattle.model_read.specs.Inner.Reader.{name_at}
 use Rattle.model_read.proofs.FirstToken.{others_in_text, name_at-first}
 use Rattle.model_read.proofs.cursor.Cursor.name.Goals as goal
 

@@ -1,0 +1,54 @@
+-- What the code's values stand for, and the front of a text as the code looks for it.
+use Rattle.std.specs.Prelude.{◌≡◌, ℕ, ◌==◌, if◌then◌else◌, List, length, take, filter, slice_index, Option, Some, None, Result, Ok, Err}
+use Rattle.std.specs.List.{prefix_len}
+use Rattle.std.specs.Char.{is_ascii_digit, is_ascii_alphabetic}
+use Rattle.model_core.specs.Text.Lexing.{Mark, NumberOf, Front, Between, Longest, Neither, is_blank, is_word_byte, is_comment_byte, reserved_words, all_symbols, word_among, symbol_among, literal_value}
+use Rattle.model_core.specs.Code.TokenViews.{lexeme_kind_of}
+use Rattle.model_core.specs.declared.token.Word.{Word}
+use Rattle.model_core.specs.declared.token.Symbol.{Symbol}
+use Rattle.model_lex.specs.declared.front.Front.{Front as CodeFront}
+use Rattle.model_lex.specs.declared.front.Front.TheVariants as code
+use Rattle.model_lex.specs.declared.lex_error.LexError.{LexError}
+use Rattle.model_lex.specs.declared.lex_error.LexError.TheVariants as errors
+
+-- what the code's front stands for, at these bytes
+abbrev pub seen : List ℕ → CodeFront → Front
+seen bytes (code.Between n) = Between n
+seen bytes (code.Longest n kind) = Longest n (lexeme_kind_of (take n bytes) kind)
+seen bytes code.Neither = Neither
+
+-- a symbol of so many bytes, or what there is otherwise
+abbrev pub symbol_front : ℕ → Option Symbol → Front → Front
+symbol_front n (Some s) otherwise = Longest n (Mark s)
+symbol_front n None otherwise = otherwise
+
+-- the symbols of so many bytes
+abbrev pub symbols_of_length : ℕ → List (List ℕ × Symbol)
+symbols_of_length n = filter (λ s. length s.0 == n) all_symbols
+
+-- the reserved words that begin with this byte
+abbrev pub words_with_first : ℕ → List (List ℕ × Word)
+words_with_first c = filter (λ w. slice_index w.0 0 == c) reserved_words
+
+-- the word of so many bytes
+abbrev pub word_at : ℕ → List ℕ → Front
+word_at n bytes = Longest n (word_among reserved_words (take n bytes))
+
+-- the number of so many digits
+abbrev pub number_at : ℕ → List ℕ → Front
+number_at n bytes = Longest n (NumberOf (literal_value (take n bytes)))
+
+-- what bytes that aren't empty begin with
+abbrev pub front_at : List ℕ → Front
+front_at bytes =
+    if is_blank (slice_index bytes 0) then Between 1
+    else (if slice_index bytes 0 == 35 then Between (prefix_len is_comment_byte bytes)
+    else (if is_ascii_alphabetic (slice_index bytes 0) then word_at (prefix_len is_word_byte bytes) bytes
+    else (if is_ascii_digit (slice_index bytes 0) then number_at (prefix_len is_ascii_digit bytes) bytes
+    else symbol_among all_symbols bytes)))
+
+-- What a function returned, seen by view, is what the text gives, unless memory ran out.
+abbrev pub Gives : {X Y : Type 0} → (X → Y) → Result X LexError → Result Y ℕ → Type 0
+Gives view (Ok x) read = read ≡ Ok (view x)
+Gives view (Err (errors.BadByte at)) read = read ≡ Err at
+Gives view (Err errors.NoMemory) read = Unit {0}

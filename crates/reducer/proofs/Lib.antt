@@ -1,0 +1,5 @@
+pub mod DistinctNames
+pub mod StrategyIsChain
+pub mod OneStrategy
+pub mod FirstEdge
+pub mod SweepIsStrategy

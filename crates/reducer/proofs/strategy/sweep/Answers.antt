@@ -1,0 +1,32 @@
+use Rattle.std.proofs.Common.{◌≡◌, ◌∙◌, ◌<◌, sym, ap, map, take, length, get_or, [], ◌∷◌, ◌++◌, add-one, arith}
+use Rattle.std.proofs.lemmas.List.{take_at, map_more}
+use Rattle.model_core.specs.Code.Views.{vertex_of}
+use Rattle.reducer.specs.Inner.Sweep.{swept_vertex, prunes_of}
+use Rattle.sig_base.proofs.Lists.{ChangedTo-at, ChangedTo-step, ChangedTo-all, ChangedTo-length, one_more}
+use Rattle.reducer.proofs.strategy.sweep.Goals as goal
+
+pub loop-vertex-preserved : goal.loop-vertex-preserved
+loop-vertex-preserved c =
+    let i = c.loop-vertex.vertex-index in
+    let xs = c.deref_mut-vertex-items.result.now in
+    let ys = c.loop-vertex.vertex-items in
+    let d = c.vertex-item.result in
+    let same_length = ChangedTo-length vertex_of swept_vertex i xs ys c.loop-vertex.invariant.swept in
+    let below : i < length ys = omega (arith, same_length, c.loop-vertex-test.true) in
+    record {
+      swept = rw add-one (ChangedTo-step vertex_of swept_vertex i xs ys d c.drop_refuted.new.vertex below c.drop_refuted.ensures c.loop-vertex.invariant.swept);
+      pruned = one_more prunes_of _ _ _ _ _ (vertex_of (get_or ys i d))
+          (map_more vertex_of xs i d c.loop-vertex-test.true ∙ ap (λ x. map vertex_of (take i xs) ++ vertex_of x ∷ []) (sym (ChangedTo-at vertex_of swept_vertex i xs ys d c.loop-vertex.invariant.swept)))
+          c.in_ok-note_prunes.ensures c.loop-vertex.invariant.pruned;
+    }
+
+pub returns-clause-swept : goal.returns-clause-swept
+returns-clause-swept c =
+    let i = c.loop-vertex.vertex-index in
+    let xs = c.deref_mut-vertex-items.result.now in
+    let ys = c.loop-vertex.vertex-items in
+    let same_length = ChangedTo-length vertex_of swept_vertex i xs ys c.loop-vertex.invariant.swept in
+    let at_end : length ys ≡ i = omega (arith, same_length) in
+    ap (map vertex_of) (take_at ys _ _ (omega (arith, same_length, c.args.vertices.now.ok.0)))
+    ∙ ChangedTo-all vertex_of swept_vertex i xs ys at_end c.loop-vertex.invariant.swept
+    ∙ ap (λ vs. map swept_vertex (map vertex_of vs)) c.deref_mut-vertex-items.ensures.value

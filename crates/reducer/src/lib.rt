@@ -1,0 +1,8 @@
+//! The reduction strategy: each time the first rule that is applicable, until none is.
+#![tactic(auto)]
+
+mod strategy;
+mod strategy_law;
+
+pub use strategy::{Reduced, reduce};
+pub use strategy_law::{strategies_are_determined, strategies_end, strategies_keep_the_meaning};

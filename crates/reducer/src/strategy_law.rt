@@ -1,0 +1,34 @@
+//! The law of the strategy. The function does nothing: what it ensures holds of all models.
+
+ghost use Rattle.std.specs.Prelude.{◌≡◌, List};
+ghost use Rattle.model_core.specs.EventGraph.{EventGraph};
+ghost use Rattle.model_core.specs.Run.Same.{Same};
+ghost use Rattle.model_core.specs.Text.Acceptance.{IsValid};
+ghost use Rattle.model_core.specs.Rules.Reduction.{RuleApplication, Chain, Strategy};
+
+use reduction_cert::chains_keep_the_meaning;
+
+/// The strategy's applications are a chain, and what they make of a valid model is valid and means the same.
+pub fn strategies_keep_the_meaning()
+    ensures chain { (g : EventGraph) (applications : List RuleApplication) (h : EventGraph)
+        → Strategy g applications h → Chain g applications h }
+    ensures valid { (g : EventGraph) (applications : List RuleApplication) (h : EventGraph)
+        → IsValid g → Strategy g applications h → IsValid h }
+    ensures same { (g : EventGraph) (applications : List RuleApplication) (h : EventGraph)
+        → IsValid g → Strategy g applications h → Same g h }
+{
+    chains_keep_the_meaning();
+}
+
+/// The strategy makes one list of applications of a model, and reaches one model.
+pub fn strategies_are_determined()
+    ensures applications { (g h k : EventGraph) (applications others : List RuleApplication)
+        → Strategy g applications h → Strategy g others k → applications ≡ others }
+    ensures reduced { (g h k : EventGraph) (applications others : List RuleApplication)
+        → Strategy g applications h → Strategy g others k → h ≡ k }
+{}
+
+/// The strategy ends on every valid model.
+pub fn strategies_end()
+    ensures { (g : EventGraph) → IsValid g → (applications : List RuleApplication) × (h : EventGraph) × Strategy g applications h }
+{}

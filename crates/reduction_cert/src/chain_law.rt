@@ -1,0 +1,31 @@
+//! Laws of chains of applications. The functions do nothing: what they ensure holds of all models.
+
+ghost use Rattle.std.specs.Prelude.{◌≡◌, ◌↔◌, ℕ, List, Some, None};
+ghost use Rattle.model_core.specs.EventGraph.{EventGraph};
+ghost use Rattle.model_core.specs.Run.Same.{Same};
+ghost use Rattle.model_core.specs.Text.Acceptance.{IsValid};
+ghost use Rattle.model_core.specs.Rules.Reduction.{RuleApplication, failed_condition, result_of, applied, Chain, first_bad};
+
+use edge_pruning::pruning_keeps_the_meaning;
+
+/// An application gives its result exactly where none of its conditions fails, and a list of applications is
+/// a chain exactly where none of them is bad.
+pub fn applications_have_results()
+    ensures one { (g h : EventGraph) (a : RuleApplication)
+        → (applied g a ≡ Some h) ↔ ((failed_condition g a ≡ None) × (result_of g a ≡ h)) }
+    ensures all { (g : EventGraph) (applications : List RuleApplication)
+        → (first_bad g applications ≡ None) ↔ ((h : EventGraph) × Chain g applications h) }
+{}
+
+/// What an application makes of a valid model is valid and means the same, and so is what a chain of them
+/// reaches.
+pub fn chains_keep_the_meaning()
+    ensures one_valid { (g h : EventGraph) (a : RuleApplication) → IsValid g → applied g a ≡ Some h → IsValid h }
+    ensures one_same { (g h : EventGraph) (a : RuleApplication) → IsValid g → applied g a ≡ Some h → Same g h }
+    ensures valid { (g : EventGraph) (applications : List RuleApplication) (h : EventGraph)
+        → IsValid g → Chain g applications h → IsValid h }
+    ensures same { (g : EventGraph) (applications : List RuleApplication) (h : EventGraph)
+        → IsValid g → Chain g applications h → Same g h }
+{
+    pruning_keeps_the_meaning();
+}

@@ -1,0 +1,96 @@
+-- What is true of any list: the lemmas that std doesn't have.
+use Rattle.std.proofs.Common.{◌≡◌, ℕ, zero, suc, ◌<◌, ◌+◌, Bool, true, false, cond, List, [], ◌∷◌, ◌++◌, map, take, length, get_or, Some, refl, sym, ap, ◌∙◌, subst, append_assoc, arith}
+use Rattle.std.specs.Prelude.{filter, slice_get}
+use Rattle.std.specs.List.{AllByRecursion, flat_map, remove}
+use Rattle.std.proofs.Math.ListN.{set}
+use Rattle.std.proofs.lemmas.List.{append-nil, map_more, flat_map_more}
+
+filter-cons : {A B : Type 0} (f : A → B) (b : Bool) (x : A) (xs : List A) (ys : List B) → map f xs ≡ ys → map f (cond b (x ∷ xs) xs) ≡ cond b (f x ∷ ys) ys
+filter-cons f true x xs ys e = ap (λ zs. f x ∷ zs) e
+filter-cons f false x xs ys e = e
+
+-- a test of the images may be made before the map
+pub map-filter : {A B : Type 0} (f : A → B) (keeps : B → Bool) (xs : List A) → map f (filter (λ x. keeps (f x)) xs) ≡ filter keeps (map f xs)
+map-filter f keeps [] = refl
+map-filter f keeps (x ∷ xs) = filter-cons f (keeps (f x)) x (filter (λ y. keeps (f y)) xs) (filter keeps (map f xs)) (map-filter f keeps xs)
+
+-- ---- the element behind a front
+
+pub get-behind : {A : Type 0} (front : List A) (x : A) (later : List A) → slice_get (front ++ x ∷ later) (length front) ≡ Some x
+get-behind [] x later = refl
+get-behind (y ∷ front) x later = get-behind front x later
+
+pub remove-behind : {A : Type 0} (front : List A) (x : A) (later : List A) → remove (front ++ x ∷ later) (length front) ≡ front ++ later
+remove-behind [] x later = refl
+remove-behind (y ∷ front) x later = ap (λ zs. y ∷ zs) (remove-behind front x later)
+
+-- ---- a loop that changes each element in its place
+
+-- the first i elements of ys are those of xs as g changes them, seen by f, and the others are those of xs
+abbrev pub ChangedTo : {A B : Type 0} → (A → B) → (B → B) → ℕ → List A → List A → Type 0
+ChangedTo f g zero xs ys = xs ≡ ys
+ChangedTo f g (suc i) [] ys = [] ≡ ys
+ChangedTo f g (suc i) (x ∷ xs) [] = ⊥
+ChangedTo f g (suc i) (x ∷ xs) (y ∷ ys) = (f y ≡ g (f x)) × ChangedTo f g i xs ys
+
+module _ {A B : Type 0} (f : A → B) (g : B → B) where
+  -- the element at i is still that of xs
+  pub ChangedTo-at : (i : ℕ) (xs ys : List A) (d : A) → ChangedTo f g i xs ys → get_or ys i d ≡ get_or xs i d
+  ChangedTo-at zero xs ys d h = ap (λ zs. get_or zs 0 d) (sym h)
+  ChangedTo-at (suc i) [] ys d h = ap (λ zs. get_or zs (suc i) d) (sym h)
+  ChangedTo-at (suc i) (x ∷ xs) [] d h = absurd h
+  ChangedTo-at (suc i) (x ∷ xs) (y ∷ ys) d h = ChangedTo-at i xs ys d h.1
+
+  pub ChangedTo-length : (i : ℕ) (xs ys : List A) → ChangedTo f g i xs ys → length ys ≡ length xs
+  ChangedTo-length zero xs ys h = ap length (sym h)
+  ChangedTo-length (suc i) [] ys h = ap length (sym h)
+  ChangedTo-length (suc i) (x ∷ xs) [] h = absurd h
+  ChangedTo-length (suc i) (x ∷ xs) (y ∷ ys) h = ap suc (ChangedTo-length i xs ys h.1)
+
+  first_changed : (xs : List A) (d v : A) → 0 < length xs → f v ≡ g (f (get_or xs 0 d)) → ChangedTo f g 1 xs (set xs 0 v)
+  first_changed [] d v lt e = absurd (omega arith)
+  first_changed (x ∷ xs) d v lt e = (e, refl)
+
+  pub ChangedTo-step : (i : ℕ) (xs ys : List A) (d v : A) → i < length ys → f v ≡ g (f (get_or ys i d)) → ChangedTo f g i xs ys → ChangedTo f g (suc i) xs (set ys i v)
+  ChangedTo-step zero xs ys d v lt e h =
+      subst (λ (zs : List A). ChangedTo f g 1 xs (set zs 0 v)) h (first_changed xs d v (subst (λ (zs : List A). 0 < length zs) (sym h) lt) (e ∙ ap (λ zs. g (f (get_or zs 0 d))) (sym h)))
+  ChangedTo-step (suc i) [] ys d v lt e h = absurd (omega (arith, ap length h))
+  ChangedTo-step (suc i) (x ∷ xs) [] d v lt e h = absurd h
+  ChangedTo-step (suc i) (x ∷ xs) (y ∷ ys) d v lt e h = (h.0, ChangedTo-step i xs ys d v (omega arith) e h.1)
+
+  pub ChangedTo-all : (i : ℕ) (xs ys : List A) → length ys ≡ i → ChangedTo f g i xs ys → map f ys ≡ map g (map f xs)
+  ChangedTo-all zero xs [] len h = ap (λ zs. map g (map f zs)) (sym h)
+  ChangedTo-all zero xs (y ∷ ys) len h = absurd (omega (arith, len))
+  ChangedTo-all (suc i) [] ys len h = ap (map f) (sym h)
+  ChangedTo-all (suc i) (x ∷ xs) [] len h = absurd h
+  ChangedTo-all (suc i) (x ∷ xs) (y ∷ ys) len h = (λ k. h.0 k ∷ ChangedTo-all i xs ys (omega (arith, len)) h.1 k)
+
+-- ---- what a loop has written after one element more
+
+-- the elements seen, with one more
+pub seen_more : {X Y : Type 0} (view : X → Y) (xs : List X) (i : ℕ) (x : X) → i < length xs → x ≡ get_or xs i x → map view (take (i + 1) xs) ≡ map view (take i xs) ++ view x ∷ []
+seen_more view xs i x lt is = rw (map_more view xs i x lt, ← is) refl
+
+-- what is written for an element joins what was written for those before it
+pub one_more : {Y C : Type 0} (text : Y → List C) (start before after : List C) (ys more : List Y) (y : Y) → more ≡ ys ++ y ∷ [] → after ≡ before ++ text y → before ≡ start ++ flat_map text ys → after ≡ start ++ flat_map text more
+one_more text start before after ys more y is wrote so_far = rw (is, wrote, so_far) (flat_map_more text start ys y)
+
+map-push : {A B : Type 0} (f : A → B) (xs : List A) (x : A) (later : List B) → map f (xs ++ x ∷ []) ++ later ≡ map f xs ++ f x ∷ later
+map-push f [] x later = refl
+map-push f (y ∷ xs) x later = ap (λ zs. f y ∷ zs) (map-push f xs x later)
+
+-- an element pushed takes the place of the first of what was to come
+pub pushed : {A B : Type 0} (f : A → B) (before after : List A) (x : A) (y : B) (rest later all : List B) → after ≡ before ++ x ∷ [] → f x ≡ y → rest ≡ y ∷ later → map f before ++ rest ≡ all → map f after ++ later ≡ all
+pushed f before after x y rest later all e same split h =
+    ap (λ xs. map f xs ++ later) e ∙ map-push f before x later ∙ ap (λ z. map f before ++ z ∷ later) same ∙ ap (λ zs. map f before ++ zs) (sym split) ∙ h
+
+-- ---- a fact of every element
+
+pub every-append : {A : Type 0} (P : A → Type 0) (xs : List A) (x : A) → AllByRecursion P xs → P x → AllByRecursion P (xs ++ x ∷ [])
+every-append P [] x all p = (p, tt)
+every-append P (y ∷ ys) x (q, all) p = (q, every-append P ys x all p)
+
+-- what holds of anything holds of every element
+pub every-always : {A : Type 0} (P : A → Type 0) → ((a : A) → P a) → (xs : List A) → AllByRecursion P xs
+every-always P f [] = tt
+every-always P f (x ∷ xs) = (f x, every-always P f xs)

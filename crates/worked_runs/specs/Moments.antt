@@ -1,0 +1,16 @@
+-- Moments of the clock that counts.
+use Rattle.std.specs.Prelude.{ℕ, ◌+◌, pos, List, [], ◌∷◌, replicate, Some}
+use Rattle.model_core.specs.Run.Pending.{Entry}
+use Rattle.model_core.specs.Run.Step.{Configuration}
+use Rattle.model_core.specs.Run.History.{Moment}
+use Rattle.worked_runs.specs.Building.{scalars}
+
+-- the next count is due 5 ticks later
+abbrev pub next_count : ℕ → Entry
+next_count time = record { time = time + 5; priority = 5; vertex = 0; values = [] }
+
+-- at this time N has this value, and the last note told that one
+abbrev pub counted_to : ℕ → ℕ → ℕ → Moment
+counted_to time n last =
+    let now : Configuration = record { clock = time; state = scalars (n ∷ []); taken = replicate 64 0; pending = next_count time ∷ [] } in
+    record { now = now; noted = Some (scalars (last ∷ [])) }
