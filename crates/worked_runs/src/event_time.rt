@@ -7,7 +7,7 @@ ghost use Rattle.model_core.specs.Run.History.{look};
 ghost use Rattle.worked_runs.specs.Building.{whole, at_cell, one_over_zero, set, plain_edge, schedule_with, only_if, scalars, showing};
 ghost use Rattle.worked_runs.specs.Models.{at_two};
 
-/// Changes and edges of an event at clock 2 see 2. An edge whose condition is false evaluates nothing else.
+/// Changes and edges of an event at clock 2 see 2. An edge whose condition isn't 1 evaluates nothing else.
 pub fn events_see_their_time()
     ensures in_a_value { look (at_two (set 0 Clock ∷ []) []) 42 [] 100 1000
         ≡ showing (At 0 (scalars (0 ∷ [])) ∷ At 2 (scalars (2 ∷ [])) ∷ []) (Ended 2) }
@@ -25,5 +25,7 @@ pub fn events_see_their_time()
         ≡ showing (At 0 (scalars (0 ∷ [])) ∷ []) (Ended 2) }
     ensures not_where_it_is_false { look
         (at_two [] (only_if (Truth false) (plain_edge (Schedule one_over_zero 5) 2 (one_over_zero ∷ [])) ∷ [])) 42 [] 100 1000
+        ≡ showing (At 0 (scalars (0 ∷ [])) ∷ []) (Ended 2) }
+    ensures not_where_it_is_2 { look (at_two [] (only_if (whole 2) (schedule_with 2 7 1) ∷ [])) 42 [] 100 1000
         ≡ showing (At 0 (scalars (0 ∷ [])) ∷ []) (Ended 2) }
 {}

@@ -55,6 +55,7 @@ pub fn operators_compare()
 pub fn values_are_lazy()
     ensures if_true { of (If (Truth true) (whole 1) one_over_zero) ≡ Ok (pos 1) }
     ensures if_false { of (If (Truth false) one_over_zero (whole 1)) ≡ Ok (pos 1) }
+    ensures if_1_alone { of (If (whole 2) one_over_zero (whole 1)) ≡ Ok (pos 1) }
     ensures or_true { of (Binary Or (Truth true) is_one_over_zero) ≡ Ok (pos 1) }
     ensures or_false { of (Binary Or (Truth false) is_one_over_zero) ≡ Err faults.DivisionByZero }
     ensures and_false { of (Binary And (Truth false) is_one_over_zero) ≡ Ok (pos 0) }
