@@ -1,5 +1,6 @@
-//! Runs of small models, worked out: what is seen of each follows from the definition of a run by computing.
-//! The clauses are theorems. The functions that carry them do nothing.
+//! Runs of small models, worked out: what is seen of each follows from the definition of a run by computing, and
+//! which of them are the same follows from what is seen. The clauses are theorems. The functions that carry them
+//! do nothing.
 #![tactic(auto)]
 
 mod alike;

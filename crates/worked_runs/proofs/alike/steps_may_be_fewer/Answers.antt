@@ -23,9 +23,9 @@ next vertex = at_0 (record { time = 0; priority = 0; vertex = vertex; values = [
 -- ---- runs that end
 
 -- where the two models stand: as they begin, and where nothing is pending
-data Ending : Moment → Moment → Type 0 where
-  begun : {s t : Moment} → s ≡ first → t ≡ first → Ending s t
-  over : {s t : Moment} → s ≡ at_0 [] → t ≡ at_0 [] → Ending s t
+data UpToTheEnd : Moment → Moment → Type 0 where
+  begun : {s t : Moment} → s ≡ first → t ≡ first → UpToTheEnd s t
+  over : {s t : Moment} → s ≡ at_0 [] → t ≡ at_0 [] → UpToTheEnd s t
 
 two_begin : (seed until : ℕ) → next_move two_events seed until first ≡ Goes [] (next 1)
 two_begin seed until = rw (none_below_0 until) refl
@@ -36,18 +36,18 @@ two_go_on seed until = rw (none_below_0 until) refl
 one_begins : (seed until : ℕ) → next_move one_event seed until first ≡ Goes [] (at_0 [])
 one_begins seed until = rw (none_below_0 until) refl
 
-joined_to_the_end : (seed until : ℕ) (s t : Moment) → Ending s t → Joined (next_move two_events seed until) Ending (next_move two_events seed until s) (next_move one_event seed until t)
+joined_to_the_end : (seed until : ℕ) (s t : Moment) → UpToTheEnd s t → Joined (next_move two_events seed until) UpToTheEnd (next_move two_events seed until s) (next_move one_event seed until t)
 joined_to_the_end seed until s t (begun a b) =
     let f = next_move two_events seed until in
     let g = next_move one_event seed until in
-    joined_by f g Ending s t (ap f a ∙ two_begin seed until) (ap g b ∙ one_begins seed until) (two_go [] [] (next 1) (at_0 []) (at_0 []) (two_go_on seed until) (over refl refl))
+    joined_by f g UpToTheEnd s t (ap f a ∙ two_begin seed until) (ap g b ∙ one_begins seed until) (two_go [] [] (next 1) (at_0 []) (at_0 []) (two_go_on seed until) (over refl refl))
 joined_to_the_end seed until s t (over a b) =
     let f = next_move two_events seed until in
     let g = next_move one_event seed until in
-    joined_by f g Ending s t (ap f a) (ap g b) (one (rests (At 0 [] ∷ []) (Ended 0)))
+    joined_by f g UpToTheEnd s t (ap f a) (ap g b) (one (rests (At 0 [] ∷ []) (Ended 0)))
 
 ending_runs : (seed until : ℕ) (starts : List ℤ) → IsTrue (allowed two_events starts) → SameLooks (λ n. look two_events seed starts until n) (λ n. look one_event seed starts until n)
-ending_runs seed until [] ok = two_for_one (next_move two_events seed until) (next_move one_event seed until) Ending (joined_to_the_end seed until) first first (begun refl refl)
+ending_runs seed until [] ok = two_for_one (next_move two_events seed until) (next_move one_event seed until) UpToTheEnd (joined_to_the_end seed until) first first (begun refl refl)
 ending_runs seed until (x ∷ xs) ok = absurd cc
 
 pub returns-clause-fewer : goal.returns-clause-fewer
