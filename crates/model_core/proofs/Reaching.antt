@@ -3,7 +3,7 @@ use Rattle.std.proofs.Common.{◌≡◌, ℕ, zero, suc, ◌+◌, Bool, true, fa
 use Rattle.model_core.specs.EventGraph.{EventGraph}
 use Rattle.model_core.specs.Run.Pending.{TakenOff, next_entry}
 use Rattle.model_core.specs.Run.Step.{Configuration, Fault, step}
-use Rattle.model_core.specs.Run.Machine.{Note, Outcome, Stopped, Going, finished, Look, Move, Rests, Fails, Goes, ahead, before, after, look_of, Reached, reached_behind, onward, reached}
+use Rattle.model_core.specs.Run.Machine.{Note, Standing, Stopped, Going, finished, Look, Move, Rests, Fails, Goes, ahead, before, after, look_of, Reached, reached_behind, onward, reached}
 use Rattle.model_core.specs.Run.History.{Moment, Noting, leave, leave_for, stepped, comes, next_move, look_from, reached_from}
 
 option_map-Some : {A B : Type 0} (f : A → B) (o : Option A) (b : B) → option_map f o ≡ Some b → (a : A) × (o ≡ Some a) × (f a ≡ b)
@@ -44,9 +44,9 @@ IsOver (Goes notes s) = Unit {0}
 
 -- moves that a look shows going on have all been made
 abbrev Made : {S : Type 0} → Look → Option (Reached S) → Type 0
-Made {S} seen there = seen.outcome ≡ Going → (r : Reached S) × (there ≡ Some r) × (seen.history ≡ r.notes)
+Made {S} seen there = seen.standing ≡ Going → (r : Reached S) × (there ≡ Some r) × (seen.history ≡ r.notes)
 
-not_going : (end : Outcome) → IsTrue (finished end) → end ≡ Going → ⊥
+not_going : (end : Standing) → IsTrue (finished end) → end ≡ Going → ⊥
 not_going end over e =
     let no : finished Going ≡ true = ap finished (sym e) ∙ over in cc
 
@@ -82,5 +82,5 @@ comes-over g seed until m (Some n) = chosen (nat_lt until n.entry.time) where
 pub looks_go_on : (g : EventGraph) (seed until n k : ℕ) (m : Moment) (r : Reached Moment) → reached_from g seed until n m ≡ Some r → look_from g seed until (n + k) m ≡ ahead r.notes (look_from g seed until k r.moment)
 looks_go_on g seed until n k m r there = look_of-reached (next_move g seed until) n k m r there
 
-pub going_is_reached : (g : EventGraph) (seed until n : ℕ) (m : Moment) → (look_from g seed until n m).outcome ≡ Going → (r : Reached Moment) × (reached_from g seed until n m ≡ Some r) × ((look_from g seed until n m).history ≡ r.notes)
+pub going_is_reached : (g : EventGraph) (seed until n : ℕ) (m : Moment) → (look_from g seed until n m).standing ≡ Going → (r : Reached Moment) × (reached_from g seed until n m ≡ Some r) × ((look_from g seed until n m).history ≡ r.notes)
 going_is_reached g seed until n m going = made-going (next_move g seed until) (λ m. comes-over g seed until m (next_entry m.now.pending)) n m going

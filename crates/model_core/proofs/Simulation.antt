@@ -1,13 +1,13 @@
 -- Simulation: a machine whose moves answer those of another shows the same.
 use Rattle.std.proofs.Common.{◌≡◌, ℕ, zero, suc, ◌≤◌, List, [], ◌++◌, refl, sym, ◌∙◌, ap, subst, append_assoc, arith, IsTrue}
 use Rattle.std.proofs.lemmas.List.{append-nil}
-use Rattle.model_core.specs.Run.Machine.{Note, Outcome, Going, Look, finished, Move, Rests, Fails, Goes, before, ahead, after, look_of}
+use Rattle.model_core.specs.Run.Machine.{Note, Standing, Going, Look, finished, Move, Rests, Fails, Goes, before, ahead, after, look_of}
 use Rattle.model_core.specs.Run.Same.{Begins, SameLooks}
 
 -- a move is answered by the same move, which leads to a related moment
 pub data Answers {S T : Type 0} (R : S → T → Type 0) : Move S → Move T → Type 0 where
-  rests : (notes : List Note) (end : Outcome) → Answers R (Rests notes end) (Rests notes end)
-  fails : (notes : List Note) (end : Outcome) → Answers R (Fails notes end) (Fails notes end)
+  rests : (notes : List Note) (end : Standing) → Answers R (Rests notes end) (Rests notes end)
+  fails : (notes : List Note) (end : Standing) → Answers R (Fails notes end) (Fails notes end)
   goes : (notes : List Note) {s : S} {t : T} → R s t → Answers R (Goes notes s) (Goes notes t)
 
 same_before : {S T : Type 0} {R : S → T → Type 0} {m : Move S} {k : Move T} → Answers R m k → before m ≡ before k
@@ -32,12 +32,12 @@ lock_step f g R step (suc n) s t r = same_after (look_of f n) (look_of g n) (ste
 -- doesn't rest between the two.
 pub data Joined {S T : Type 0} (f : S → Move S) (R : S → T → Type 0) : Move S → Move T → Type 0 where
   one : {m : Move S} {k : Move T} → Answers R m k → Joined f R m k
-  two_fail : (notes more : List Note) (end : Outcome) (s : S) → f s ≡ Fails more end → Joined f R (Goes notes s) (Fails (notes ++ more) end)
+  two_fail : (notes more : List Note) (end : Standing) (s : S) → f s ≡ Fails more end → Joined f R (Goes notes s) (Fails (notes ++ more) end)
   two_go : (notes more : List Note) (s s2 : S) (t2 : T) → f s ≡ Goes more s2 → R s2 t2 → Joined f R (Goes notes s) (Goes (notes ++ more) t2)
 
 -- a look shows all that an earlier one shows, and is the same where that one is finished
 record Covers (a b : Look) : Type 0 where
-  same : IsTrue (finished a.outcome) → b ≡ a
+  same : IsTrue (finished a.standing) → b ≡ a
   shown : Begins a.history b.history
 
 all_of : {A : Type 0} (xs : List A) → Begins xs xs
@@ -67,7 +67,7 @@ seen_one f g R n (goes notes {s = s} {t = t} r) later =
     let (i, le, c) = later s t r in (i, le, covers_ahead notes c)
 
 -- between the two moves nothing is finished, and what is shown is shown by the one
-midway : (notes : List Note) {later : Look} → Begins notes later.history → Covers (ahead notes (record { history = []; outcome = Going })) later
+midway : (notes : List Note) {later : Look} → Begins notes later.history → Covers (ahead notes (record { history = []; standing = Going })) later
 midway notes (rest, e) = record { same = λ fin. cc; shown = (rest, ap (λ l. l ++ rest) (append-nil notes) ∙ e) }
 
 ahead_ahead : (notes more : List Note) (a : Look) → ahead notes (ahead more a) ≡ ahead (notes ++ more) a
@@ -76,7 +76,7 @@ ahead_ahead notes more a = ap (λ (h : List Note). record a { history = h }) (sy
 seen_after_one : {S T : Type 0} (f : S → Move S) (g : T → Move T) (R : S → T → Type 0) {m : Move S} {k : Move T} → Joined f R m k → ((s : S) (t : T) → R s t → Seen f g zero s t) → SeenFrom f g zero m k
 seen_after_one f g R (one a) first = seen_one f g R zero a first
 seen_after_one f g R (two_fail notes more end s e) first =
-    (zero, omega arith, subst (λ l. Covers (ahead notes l) (record { history = notes ++ more; outcome = end })) (sym (ap before e)) (midway notes (more, refl)))
+    (zero, omega arith, subst (λ l. Covers (ahead notes l) (record { history = notes ++ more; standing = end })) (sym (ap before e)) (midway notes (more, refl)))
 seen_after_one f g R (two_go notes more s s2 t2 e r) first =
     (zero, omega arith, subst (λ l. Covers (ahead notes l) (ahead (notes ++ more) (look_of g zero t2))) (sym (ap before e)) (midway notes (more ++ (look_of g zero t2).history, sym (append_assoc notes more (look_of g zero t2).history))))
 

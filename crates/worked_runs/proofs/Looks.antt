@@ -11,25 +11,25 @@ use Rattle.worked_runs.specs.Pairs.{Apart}
 -- ---- one machine
 
 -- a run that rests before its next move shows the same after it
-rested : {S : Type 0} (later : S → Look) (move : Move S) → IsTrue (finished (before move).outcome) → after later move ≡ before move
+rested : {S : Type 0} (later : S → Look) (move : Move S) → IsTrue (finished (before move).standing) → after later move ≡ before move
 rested later (Rests notes end) fin = refl
 rested later (Fails notes end) fin = cc
 rested later (Goes notes s) fin = cc
 
-same_after_move : {S : Type 0} (one other : S → Look) (move : Move S) → ((s : S) → IsTrue (finished (one s).outcome) → IsTrue (finished (other s).outcome) → one s ≡ other s) → IsTrue (finished (after one move).outcome) → IsTrue (finished (after other move).outcome) → after one move ≡ after other move
+same_after_move : {S : Type 0} (one other : S → Look) (move : Move S) → ((s : S) → IsTrue (finished (one s).standing) → IsTrue (finished (other s).standing) → one s ≡ other s) → IsTrue (finished (after one move).standing) → IsTrue (finished (after other move).standing) → after one move ≡ after other move
 same_after_move one other (Rests notes end) same a b = refl
 same_after_move one other (Fails notes end) same a b = refl
 same_after_move one other (Goes notes s) same a b = ap (ahead notes) (same s a b)
 
 -- a machine has one finished look
-pub one_end : {S : Type 0} (f : S → Move S) (n k : ℕ) (s : S) → IsTrue (finished (look_of f n s).outcome) → IsTrue (finished (look_of f k s).outcome) → look_of f n s ≡ look_of f k s
+pub one_end : {S : Type 0} (f : S → Move S) (n k : ℕ) (s : S) → IsTrue (finished (look_of f n s).standing) → IsTrue (finished (look_of f k s).standing) → look_of f n s ≡ look_of f k s
 one_end f zero zero s a b = refl
 one_end f zero (suc k) s a b = sym (rested (look_of f k) (f s) a)
 one_end f (suc n) zero s a b = rested (look_of f n) (f s) b
 one_end f (suc n) (suc k) s a b = same_after_move (look_of f n) (look_of f k) (f s) (one_end f n k) a b
 
 -- a machine that comes back to where it stands, and shows nothing, goes on for ever and shows nothing
-pub circles : {S : Type 0} (f : S → Move S) (s : S) → f s ≡ Goes [] s → (n : ℕ) → look_of f n s ≡ record { history = []; outcome = Going }
+pub circles : {S : Type 0} (f : S → Move S) (s : S) → f s ≡ Goes [] s → (n : ℕ) → look_of f n s ≡ record { history = []; standing = Going }
 circles f s e zero = ap before e
 circles f s e (suc n) = ap (after (look_of f n)) e ∙ ap (ahead []) (circles f s e n)
 
@@ -39,19 +39,19 @@ other_notes a b differ e = differ (ap (λ (l : Look). l.history) e)
 
 -- ---- two machines that show the same
 
-unfinished : (l : Look) → l.outcome ≡ Going → IsTrue (finished l.outcome) → ⊥
+unfinished : (l : Look) → l.standing ≡ Going → IsTrue (finished l.standing) → ⊥
 unfinished l going fin = cc
 
 -- one doesn't go on for ever where the other is finished
-pub both_finish : (first second : ℕ → Look) → SameLooks first second → (n : ℕ) → IsTrue (finished (first n).outcome) → ((m : ℕ) → (second m).outcome ≡ Going) → ⊥
+pub both_finish : (first second : ℕ → Look) → SameLooks first second → (n : ℕ) → IsTrue (finished (first n).standing) → ((m : ℕ) → (second m).standing ≡ Going) → ⊥
 both_finish first second same n fin going =
     let (m, le, e) = same.finishes n fin in
-    unfinished (second m) (going m) (subst (λ (l : Look). IsTrue (finished l.outcome)) (sym e) fin)
+    unfinished (second m) (going m) (subst (λ (l : Look). IsTrue (finished l.standing)) (sym e) fin)
 
-pub both_finish_only : (first second : ℕ → Look) → SameLooks first second → (m : ℕ) → IsTrue (finished (second m).outcome) → ((n : ℕ) → (first n).outcome ≡ Going) → ⊥
+pub both_finish_only : (first second : ℕ → Look) → SameLooks first second → (m : ℕ) → IsTrue (finished (second m).standing) → ((n : ℕ) → (first n).standing ≡ Going) → ⊥
 both_finish_only first second same m fin going =
     let (n, e) = same.finishes_only m fin in
-    unfinished (first n) (going n) (subst (λ (l : Look). IsTrue (finished l.outcome)) (sym e) fin)
+    unfinished (first n) (going n) (subst (λ (l : Look). IsTrue (finished l.standing)) (sym e) fin)
 
 -- what one shows isn't missing in each look at the other
 pub both_show : (first second : ℕ → Look) → SameLooks first second → (n : ℕ) → ((m : ℕ) → Begins (first n).history (second m).history → ⊥) → ⊥
@@ -65,22 +65,22 @@ both_show_only first second same m missing =
 -- ---- two models
 
 -- where both are finished, they look the same
-same_end : (g h : EventGraph) → Same g h → (seed : ℕ) → seed < 2 ^ 64 → (starts : List ℤ) → IsTrue (allowed g starts) → (until : ℕ) → until ≤ 2 ^ 48 → (n k : ℕ) → IsTrue (finished (look g seed starts until n).outcome) → IsTrue (finished (look h seed starts until k).outcome) → look g seed starts until n ≡ look h seed starts until k
+same_end : (g h : EventGraph) → Same g h → (seed : ℕ) → seed < 2 ^ 64 → (starts : List ℤ) → IsTrue (allowed g starts) → (until : ℕ) → until ≤ 2 ^ 48 → (n k : ℕ) → IsTrue (finished (look g seed starts until n).standing) → IsTrue (finished (look h seed starts until k).standing) → look g seed starts until n ≡ look h seed starts until k
 same_end g h same seed fits starts ok until early n k a b =
     let (m, le, e) = (same.runs seed fits starts ok until early).finishes n a in
-    sym e ∙ one_end (next_move h seed until) m k (start h starts) (subst (λ (l : Look). IsTrue (finished l.outcome)) (sym e) a) b
+    sym e ∙ one_end (next_move h seed until) m k (start h starts) (subst (λ (l : Look). IsTrue (finished l.standing)) (sym e) a) b
 
 -- models are apart that have ended differently in a run
-pub apart_by_ends : (g h : EventGraph) (seed : ℕ) → seed < 2 ^ 64 → (starts : List ℤ) → IsTrue (allowed g starts) → IsTrue (allowed h starts) → (until : ℕ) → until ≤ 2 ^ 48 → (n k : ℕ) (a b : Look) → look g seed starts until n ≡ a → look h seed starts until k ≡ b → IsTrue (finished a.outcome) → IsTrue (finished b.outcome) → (a ≡ b → ⊥) → Apart g h
+pub apart_by_ends : (g h : EventGraph) (seed : ℕ) → seed < 2 ^ 64 → (starts : List ℤ) → IsTrue (allowed g starts) → IsTrue (allowed h starts) → (until : ℕ) → until ≤ 2 ^ 48 → (n k : ℕ) (a b : Look) → look g seed starts until n ≡ a → look h seed starts until k ≡ b → IsTrue (finished a.standing) → IsTrue (finished b.standing) → (a ≡ b → ⊥) → Apart g h
 apart_by_ends g h seed fits starts ok ok_too until early n k a b at_a at_b fin fin_too differ =
-    let first : IsTrue (finished (look g seed starts until n).outcome) = subst (λ (l : Look). IsTrue (finished l.outcome)) (sym at_a) fin in
-    let second : IsTrue (finished (look h seed starts until k).outcome) = subst (λ (l : Look). IsTrue (finished l.outcome)) (sym at_b) fin_too in (
+    let first : IsTrue (finished (look g seed starts until n).standing) = subst (λ (l : Look). IsTrue (finished l.standing)) (sym at_a) fin in
+    let second : IsTrue (finished (look h seed starts until k).standing) = subst (λ (l : Look). IsTrue (finished l.standing)) (sym at_b) fin_too in (
       λ same. differ (sym at_a ∙ (same_end g h same seed fits starts ok until early n k first second ∙ at_b)),
       λ same. differ (sym at_a ∙ (sym (same_end h g same seed fits starts ok_too until early k n second first) ∙ at_b)),
     )
 
 -- models are apart of which one is finished in a run and the other goes on for ever
-pub apart_by_going_on : (g h : EventGraph) (seed : ℕ) → seed < 2 ^ 64 → (starts : List ℤ) → IsTrue (allowed g starts) → IsTrue (allowed h starts) → (until : ℕ) → until ≤ 2 ^ 48 → (n : ℕ) → IsTrue (finished (look g seed starts until n).outcome) → ((m : ℕ) → (look h seed starts until m).outcome ≡ Going) → Apart g h
+pub apart_by_going_on : (g h : EventGraph) (seed : ℕ) → seed < 2 ^ 64 → (starts : List ℤ) → IsTrue (allowed g starts) → IsTrue (allowed h starts) → (until : ℕ) → until ≤ 2 ^ 48 → (n : ℕ) → IsTrue (finished (look g seed starts until n).standing) → ((m : ℕ) → (look h seed starts until m).standing ≡ Going) → Apart g h
 apart_by_going_on g h seed fits starts ok ok_too until early n fin going = (
   λ same. both_finish (λ n. look g seed starts until n) (λ m. look h seed starts until m) (same.runs seed fits starts ok until early) n fin going,
   λ same. both_finish_only (λ m. look h seed starts until m) (λ n. look g seed starts until n) (same.runs seed fits starts ok_too until early) n fin going,

@@ -2,7 +2,7 @@
 use Rattle.std.specs.Prelude.{ℕ, ℤ, pos, true, false, List, [], ◌∷◌, map, Some, None}
 use Rattle.model_core.specs.declared.model.Kind.TheVariants as kinds
 use Rattle.model_core.specs.EventGraph.{Variable, Location, Expression, Number, Scalar, Negative, Binary, Add, Subtract, Divide, Above, Equal, Truth, StateChange, Set, Draw, Uniform, EventEdge, EdgeKind, Schedule, Urgent, EventVertex}
-use Rattle.model_core.specs.Run.Machine.{Note, Outcome, Look}
+use Rattle.model_core.specs.Run.Machine.{Note, Standing, Look}
 
 -- a range variable lo..hi that is a scalar, and begins with this value
 abbrev pub ranged : List ℕ → ℕ → ℕ → ℕ → Variable
@@ -63,8 +63,8 @@ abbrev pub scalars : List ℕ → List (List ℤ)
 scalars values = map (λ x. pos x ∷ []) values
 
 -- what is seen: these notes, and how the run stands
-abbrev pub showing : List Note → Outcome → Look
-showing notes outcome = record { history = notes; outcome = outcome }
+abbrev pub showing : List Note → Standing → Look
+showing notes standing = record { history = notes; standing = standing }
 
 -- the variable and 1
 abbrev pub plus_one : ℕ → Expression

@@ -54,20 +54,20 @@ pub returns-clause-fewer : goal.returns-clause-fewer
 returns-clause-fewer c = record { watched = refl; started = refl; runs = λ seed fits starts ok until early. ending_runs seed until starts ok }
 
 -- one step isn't enough
-two_take_longer : (m : ℕ) → m ≤ 1 → (look two_events 42 [] 100 m).outcome ≡ Going
+two_take_longer : (m : ℕ) → m ≤ 1 → (look two_events 42 [] 100 m).standing ≡ Going
 two_take_longer zero le = refl
 two_take_longer (suc zero) le = refl
 two_take_longer (suc (suc m)) le = absurd (omega arith)
 
-going_or_ended : (t : ℕ) (a b : Look) → a ≡ b → a.outcome ≡ Going → b.outcome ≡ Ended t → ⊥
-going_or_ended t a b e going ended = cc (ap (λ (l : Look). l.outcome) e)
+going_or_ended : (t : ℕ) (a b : Look) → a ≡ b → a.standing ≡ Going → b.standing ≡ Ended t → ⊥
+going_or_ended t a b e going ended = cc (ap (λ (l : Look). l.standing) e)
 
 pub returns-clause-not_more : goal.returns-clause-not_more
 returns-clause-not_more c = λ same.
     let (m, le, e) = (same.runs 42 (lit< tt) [] refl 100 (lit≤ tt)).finishes 1 refl in
     going_or_ended 0 (look two_events 42 [] 100 m) (look one_event 42 [] 100 1) e (two_take_longer m le) refl
 
-twice_takes_longer : (m : ℕ) → m ≤ 2 → (look comes_twice 42 [] 100 m).outcome ≡ Going
+twice_takes_longer : (m : ℕ) → m ≤ 2 → (look comes_twice 42 [] 100 m).standing ≡ Going
 twice_takes_longer zero le = refl
 twice_takes_longer (suc zero) le = refl
 twice_takes_longer (suc (suc zero)) le = refl

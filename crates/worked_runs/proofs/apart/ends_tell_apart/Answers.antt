@@ -2,7 +2,7 @@
 use Rattle.std.proofs.Common.{◌≡◌, ℕ, zero, suc, pos, Some, IsTrue, [], ◌∷◌, replicate, refl, ap, lit<, lit≤}
 use Rattle.sig_base.specs.declared.fault.FaultKind.TheVariants as faults
 use Rattle.model_core.specs.EventGraph.{EventGraph}
-use Rattle.model_core.specs.Run.Machine.{At, Outcome, Ended, Stopped, Faulted, Look, Going, finished}
+use Rattle.model_core.specs.Run.Machine.{At, Standing, Ended, Stopped, Faulted, Look, Going, finished}
 use Rattle.model_core.specs.Run.History.{Moment, allowed, next_move, look}
 use Rattle.worked_runs.specs.Building.{showing}
 use Rattle.worked_runs.specs.Pairs.{Apart, ends, stops, goes_on, divides, leaves, ends_at_4, divides_at_4}
@@ -10,12 +10,12 @@ use Rattle.worked_runs.proofs.Looks.{apart_by_ends, apart_by_going_on, circles}
 use Rattle.worked_runs.proofs.apart.ends_tell_apart.Goals as goal
 
 -- what is seen, where the clock left 0
-abbrev from_five : Outcome → Look
-from_five outcome = showing (At 0 [] ∷ []) outcome
+abbrev from_five : Standing → Look
+from_five standing = showing (At 0 [] ∷ []) standing
 
-finish_apart : (g h : EventGraph) (a b : Outcome) → look g 42 [] 5 2 ≡ from_five a → look h 42 [] 5 2 ≡ from_five b → IsTrue (finished a) → IsTrue (finished b) → (a ≡ b → ⊥) → IsTrue (allowed g []) → IsTrue (allowed h []) → Apart g h
+finish_apart : (g h : EventGraph) (a b : Standing) → look g 42 [] 5 2 ≡ from_five a → look h 42 [] 5 2 ≡ from_five b → IsTrue (finished a) → IsTrue (finished b) → (a ≡ b → ⊥) → IsTrue (allowed g []) → IsTrue (allowed h []) → Apart g h
 finish_apart g h a b at_a at_b fin fin_too differ ok ok_too =
-    apart_by_ends g h 42 (lit< tt) [] ok ok_too 5 (lit≤ tt) 2 2 (from_five a) (from_five b) at_a at_b fin fin_too (λ e. differ (ap (λ (l : Look). l.outcome) e))
+    apart_by_ends g h 42 (lit< tt) [] ok ok_too 5 (lit≤ tt) 2 2 (from_five a) (from_five b) at_a at_b fin fin_too (λ e. differ (ap (λ (l : Look). l.standing) e))
 
 -- where A comes again at once, and nothing else
 abbrev again : Moment
@@ -24,12 +24,12 @@ again = record {
   noted = Some [];
 }
 
-goes_on_for_ever : (n : ℕ) → (look goes_on 42 [] 5 n).outcome ≡ Going
+goes_on_for_ever : (n : ℕ) → (look goes_on 42 [] 5 n).standing ≡ Going
 goes_on_for_ever zero = refl
 goes_on_for_ever (suc zero) = refl
-goes_on_for_ever (suc (suc n)) = ap (λ (l : Look). l.outcome) (circles (next_move goes_on 42 5) again refl n)
+goes_on_for_ever (suc (suc n)) = ap (λ (l : Look). l.standing) (circles (next_move goes_on 42 5) again refl n)
 
-going_on_apart : (g : EventGraph) → IsTrue (finished (look g 42 [] 5 2).outcome) → IsTrue (allowed g []) → Apart g goes_on
+going_on_apart : (g : EventGraph) → IsTrue (finished (look g 42 [] 5 2).standing) → IsTrue (allowed g []) → Apart g goes_on
 going_on_apart g fin ok = apart_by_going_on g goes_on 42 (lit< tt) [] ok refl 5 (lit≤ tt) 2 fin goes_on_for_ever
 
 pub returns-clause-ended_or_stopped : goal.returns-clause-ended_or_stopped

@@ -11,7 +11,7 @@ use Rattle.worked_runs.proofs.Looks.{circles, other_notes, apart_by_ends, apart_
 use Rattle.worked_runs.proofs.apart.notes_tell_apart.Goals as goal
 
 -- in five steps both are finished
-notes_apart : (g h : EventGraph) (a b : Look) → look g 42 [] 100 5 ≡ a → look h 42 [] 100 5 ≡ b → IsTrue (finished a.outcome) → IsTrue (finished b.outcome) → (a.history ≡ b.history → ⊥) → IsTrue (allowed g []) → IsTrue (allowed h []) → Apart g h
+notes_apart : (g h : EventGraph) (a b : Look) → look g 42 [] 100 5 ≡ a → look h 42 [] 100 5 ≡ b → IsTrue (finished a.standing) → IsTrue (finished b.standing) → (a.history ≡ b.history → ⊥) → IsTrue (allowed g []) → IsTrue (allowed h []) → Apart g h
 notes_apart g h a b at_a at_b fin fin_too differ ok ok_too =
     apart_by_ends g h 42 (lit< tt) [] ok ok_too 100 (lit≤ tt) 5 5 a b at_a at_b fin fin_too (other_notes a b differ)
 
