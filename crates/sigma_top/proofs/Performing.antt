@@ -86,7 +86,7 @@ module _ {S K : Type 0} (job : Job) (i j : Inlet S) (o : Outlet K) where
         record { answer = refused_long job i (Refused why line) h.0 k.0; input_read = h.1; input_steady = h.2; output_untouched = k.1 }
     performed_long h (Err failures.WriteFault) k = absurd (given_is_no_refusal k.answers)
     performed_long h (Err failures.NoMemory) k =
-        record { input_read = read_in_part i j (limit_of job) h.1; input_steady = h.2; output_grown = at_once (λ a. a ≡ refused too_long) k.grown; output_steady = k.faults }
+        record { input_read = read_in_part i j (limit_of job) h.1; input_steady = h.2; output_grown = at_once (λ a. a ≡ refused too_long) k.grown; output_steady = k.steady }
     performed_long h (Err failures.Usage) k = absurd k
     performed_long h (Err failures.ReadFault) k = absurd k
 
@@ -110,7 +110,7 @@ module _ {S K : Type 0} (job : Job) (i j : Inlet S) (o : Outlet K) where
         input_steady = h.3;
         output_grown = k.grown;
         output_settled = k.settled;
-        output_steady = k.faults;
+        output_steady = k.steady;
       }
       performed (Ok (said.Refused why line)) k = record { answer = answers_input (Refused why line) k.0; input_read = through; input_steady = h.3; output_untouched = k.1 }
       performed (Err failures.WriteFault) k = record {
@@ -123,6 +123,6 @@ module _ {S K : Type 0} (job : Job) (i j : Inlet S) (o : Outlet K) where
         output_unsettled = k.unsettled (given_has_bytes job text k.end k.bytes k.answers);
         output_failed = k.failed;
       }
-      performed (Err failures.NoMemory) k = record { input_read = read_in_part i j (limit_of job) through; input_steady = h.3; output_grown = begun k.grown; output_steady = k.faults }
+      performed (Err failures.NoMemory) k = record { input_read = read_in_part i j (limit_of job) through; input_steady = h.3; output_grown = begun k.grown; output_steady = k.steady }
       performed (Err failures.Usage) k = absurd k
       performed (Err failures.ReadFault) k = absurd k

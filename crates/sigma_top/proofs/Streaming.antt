@@ -13,7 +13,7 @@ use Rattle.sigma_top.specs.declared.status.End.{End}
 use Rattle.sigma_top.specs.declared.status.Failure.{Failure}
 use Rattle.sigma_top.specs.declared.status.Failure.TheVariants as failures
 use Rattle.sigma_top.specs.Delivery.{Outlet, GrowsByFront}
-use Rattle.sigma_top.specs.Inner.Frame.{SettledAfter, Streams, Delivers, BreaksOff, Answering}
+use Rattle.sigma_top.specs.Inner.Frame.{SettledAfter, Streamed, Delivers, BreaksOff, Answering}
 
 -- ---- a piece that was written at once
 
@@ -44,16 +44,16 @@ all_in_front o p bytes h = (length bytes, omega arith, subst (λ (b : List ℕ).
 
 -- The bytes of an answer of which P holds are streamed from o to m, and finished to p.
 module _ {K : Type 0} (P : Answer → Type 0) (o m p : Outlet K) (end : End) (bytes : List ℕ) (answers : P (Given end bytes)) where
-  finished : (e : End) → Streams end bytes (Ok e) o m → Stays m.written p.written → p.settled ≡ true → p.faults ≡ m.faults → Delivers P e o p
+  finished : (e : End) → Streamed end bytes (Ok e) o m → Stays m.written p.written → p.settled ≡ true → p.faults ≡ m.faults → Delivers P e o p
   finished e h stays settled steady = record {
     bytes = bytes;
     answers = subst (λ (x : End). P (Given x bytes)) (sym h.0) answers;
     grown = stays_grown o.written m.written p.written bytes h.1 stays;
     settled = settled;
-    faults = steady ∙ h.3;
+    steady = steady ∙ h.3;
   }
 
-  unfinished : (e : End) → Streams end bytes (Ok e) o m → Stays m.written p.written → p.settled ≡ m.settled → HasRisen m.faults p.faults → BreaksOff P o p
+  unfinished : (e : End) → Streamed end bytes (Ok e) o m → Stays m.written p.written → p.settled ≡ m.settled → HasRisen m.faults p.faults → BreaksOff P o p
   unfinished e h stays unchanged failed = record {
     end = end;
     bytes = bytes;
@@ -65,11 +65,11 @@ module _ {K : Type 0} (P : Answer → Type 0) (o m p : Outlet K) (end : End) (by
 
 -- the same, from how the streaming went
 module _ {K : Type 0} (m p : Outlet K) (r : Result End Failure) (e : End) (went : r ≡ Ok e) (stays : Stays m.written p.written) where
-  pub closed : p.settled ≡ true → p.faults ≡ m.faults → (before : Outlet K) (end : End) (bytes : List ℕ) → Streams end bytes r before m → Delivers (λ a. a ≡ Given end bytes) e before p
-  closed settled steady before end bytes h = finished (λ a. a ≡ Given end bytes) before m p end bytes refl e (subst (λ (x : Result End Failure). Streams end bytes x before m) went h) stays settled steady
+  pub closed : p.settled ≡ true → p.faults ≡ m.faults → (before : Outlet K) (end : End) (bytes : List ℕ) → Streamed end bytes r before m → Delivers (λ a. a ≡ Given end bytes) e before p
+  closed settled steady before end bytes h = finished (λ a. a ≡ Given end bytes) before m p end bytes refl e (subst (λ (x : Result End Failure). Streamed end bytes x before m) went h) stays settled steady
 
-  pub unclosed : p.settled ≡ m.settled → HasRisen m.faults p.faults → (before : Outlet K) (end : End) (bytes : List ℕ) → Streams end bytes r before m → BreaksOff (λ a. a ≡ Given end bytes) before p
-  unclosed unchanged failed before end bytes h = unfinished (λ a. a ≡ Given end bytes) before m p end bytes refl e (subst (λ (x : Result End Failure). Streams end bytes x before m) went h) stays unchanged failed
+  pub unclosed : p.settled ≡ m.settled → HasRisen m.faults p.faults → (before : Outlet K) (end : End) (bytes : List ℕ) → Streamed end bytes r before m → BreaksOff (λ a. a ≡ Given end bytes) before p
+  unclosed unchanged failed before end bytes h = unfinished (λ a. a ≡ Given end bytes) before m p end bytes refl e (subst (λ (x : Result End Failure). Streamed end bytes x before m) went h) stays unchanged failed
 
 -- ---- an answer, written at once or as it comes
 
@@ -83,10 +83,10 @@ at_once P (inr begun) = absurd (false_is_not_true begun.0)
 
 -- An answer of which P holds is one of which Q holds; one that is written at once may be taken for one that is streamed.
 pub as_answering : {K : Type 0} (P Q : Answer → Type 0) (streamed later : Bool) (o p : Outlet K) (s : Result Said Failure) → ((a : Answer) → P a → Q a) → (streamed ≡ true → later ≡ true) → Answering P streamed s o p → Answering Q later s o p
-as_answering P Q streamed later o p (Ok (said.Gave end)) f may h = record { bytes = h.bytes; answers = f (Given end h.bytes) h.answers; grown = h.grown; settled = h.settled; faults = h.faults }
+as_answering P Q streamed later o p (Ok (said.Gave end)) f may h = record { bytes = h.bytes; answers = f (Given end h.bytes) h.answers; grown = h.grown; settled = h.settled; steady = h.steady }
 as_answering P Q streamed later o p (Ok (said.Refused why line)) f may h = (f (Refused why line) h.0, h.1)
 as_answering P Q streamed later o p (Err failures.WriteFault) f may h = record { end = h.end; bytes = h.bytes; answers = f (Given h.end h.bytes) h.answers; grown = h.grown; unsettled = h.unsettled; failed = h.failed }
-as_answering {K} P Q streamed later o p (Err failures.NoMemory) f may h = record { grown = begun h.grown; faults = h.faults }
+as_answering {K} P Q streamed later o p (Err failures.NoMemory) f may h = record { grown = begun h.grown; steady = h.steady }
   where
     begun : (p ≡ o) ⊎ ((streamed ≡ true) × (end : End) × (bytes : List ℕ) × P (Given end bytes) × GrowsByFront o p bytes)
         → (p ≡ o) ⊎ ((later ≡ true) × (end : End) × (bytes : List ℕ) × Q (Given end bytes) × GrowsByFront o p bytes)

@@ -3,7 +3,7 @@
 ghost use Rattle.std.specs.Prelude.{◌≡◌, ℕ, List, true, false, IfErr};
 ghost use Rattle.sigma_top.specs.declared.status.End.{End};
 ghost use Rattle.sigma_top.specs.Delivery.{Outlet, outlet};
-ghost use Rattle.sigma_top.specs.Inner.Frame.{Streams, Answering};
+ghost use Rattle.sigma_top.specs.Inner.Frame.{Streamed, Answering};
 
 use crate::answer::Answer;
 use crate::status::{End, Failure, Refusal};
@@ -18,7 +18,7 @@ pub enum Said {
 
 /// Writes all of the bytes, as one piece.
 fn write_all<K: Sink>(output: &mut K, end: End, bytes: &[u8]) -> Result<End, Failure>
-    ensures streams { Streams end bytes.now result
+    ensures streams { Streamed end bytes.now result
         (outlet K.written K.faults K.settled output.old) (outlet K.written K.faults K.settled output.new) }
     ensures error { IfErr result (λ e. e ≡ Failure.WriteFault) }
 {
@@ -32,11 +32,11 @@ fn write_all<K: Sink>(output: &mut K, end: End, bytes: &[u8]) -> Result<End, Fai
 pub fn close<K: Sink>(output: &mut K, streamed: Result<End, Failure>) -> Result<Said, Failure>
     // Bytes that were written as they came are an answer that is delivered as it came.
     ensures as_it_came { (before : Outlet K) (end : End) (bytes : List ℕ)
-        → Streams end bytes streamed before (outlet K.written K.faults K.settled output.old)
+        → Streamed end bytes streamed before (outlet K.written K.faults K.settled output.old)
         → Answering (λ a. a ≡ Answer.Given end bytes) true result before (outlet K.written K.faults K.settled output.new) }
     // So are bytes that were written at once, where only a write can have failed.
     ensures at_once { (before : Outlet K) (end : End) (bytes : List ℕ)
-        → Streams end bytes streamed before (outlet K.written K.faults K.settled output.old)
+        → Streamed end bytes streamed before (outlet K.written K.faults K.settled output.old)
         → IfErr streamed (λ e. e ≡ Failure.WriteFault)
         → Answering (λ a. a ≡ Answer.Given end bytes) false result before (outlet K.written K.faults K.settled output.new) }
 {

@@ -18,6 +18,7 @@ use Rattle.sigma_top.specs.Jobs.{job_of}
 
 -- ---- the text
 
+-- what taking a text, up to a limit, did to the input
 abbrev pub TakesText : {S : Type 0} → Option ℕ → Result Taken Failure → Inlet S → Inlet S → Type 0
 TakesText limit (Ok (taken.Whole text)) i j = IfSome (text_of limit i.left) (λ bytes. text ≡ bytes) × IsWithin limit text × IsReadToEnd limit i j × (j.faults ≡ i.faults)
 TakesText limit (Ok taken.TooLong) i j = IfSome (text_of limit i.left) (IsOver limit) × IsReadThrough limit i j × (j.faults ≡ i.faults)
@@ -34,11 +35,11 @@ SettledAfter (b ∷ bytes) old new = new ≡ false
 
 -- These bytes are written, as they come or at once, and the end is known at last. What was begun isn't finished: that is
 -- the next step.
-abbrev pub Streams : {K A : Type 0} → A → List ℕ → Result A Failure → Outlet K → Outlet K → Type 0
-Streams end bytes (Ok e) o p = (e ≡ end) × GrowsBy o.written p.written bytes × SettledAfter bytes o.settled p.settled × (p.faults ≡ o.faults)
-Streams end bytes (Err failures.WriteFault) o p = GrowsByFront o p bytes × (p.settled ≡ false) × HasRisen o.faults p.faults
-Streams end bytes (Err failures.NoMemory) o p = GrowsByFront o p bytes × (p.faults ≡ o.faults)
-Streams end bytes (Err e) o p = ⊥
+abbrev pub Streamed : {K A : Type 0} → A → List ℕ → Result A Failure → Outlet K → Outlet K → Type 0
+Streamed end bytes (Ok e) o p = (e ≡ end) × GrowsBy o.written p.written bytes × SettledAfter bytes o.settled p.settled × (p.faults ≡ o.faults)
+Streamed end bytes (Err failures.WriteFault) o p = GrowsByFront o p bytes × (p.settled ≡ false) × HasRisen o.faults p.faults
+Streamed end bytes (Err failures.NoMemory) o p = GrowsByFront o p bytes × (p.faults ≡ o.faults)
+Streamed end bytes (Err e) o p = ⊥
 
 -- ---- the answer, of which P holds
 
@@ -48,7 +49,7 @@ pub record Delivers {K : Type 0} (P : Answer → Type 0) (end : End) (o p : Outl
   pub answers : P (Given end bytes)
   pub grown : GrowsBy o.written p.written bytes
   pub settled : p.settled ≡ true
-  pub faults : p.faults ≡ o.faults
+  pub steady : p.faults ≡ o.faults
 
 -- A write failed, or finishing did, after a front of them.
 pub record BreaksOff {K : Type 0} (P : Answer → Type 0) (o p : Outlet K) : Type 0 where
@@ -62,8 +63,9 @@ pub record BreaksOff {K : Type 0} (P : Answer → Type 0) (o p : Outlet K) : Typ
 -- Memory was refused; where the answer is streamed, it may be after a front of its bytes.
 pub record FallsShort {K : Type 0} (P : Answer → Type 0) (streamed : Bool) (o p : Outlet K) : Type 0 where
   pub grown : (p ≡ o) ⊎ ((streamed ≡ true) × (end : End) × (bytes : List ℕ) × P (Given end bytes) × GrowsByFront o p bytes)
-  pub faults : p.faults ≡ o.faults
+  pub steady : p.faults ≡ o.faults
 
+-- what delivering the answer, as it came or at once, did to the output
 abbrev pub Answering : {K : Type 0} → (Answer → Type 0) → Bool → Result Said Failure → Outlet K → Outlet K → Type 0
 Answering P streamed (Ok (said.Gave end)) o p = Delivers P end o p
 Answering P streamed (Ok (said.Refused why line)) o p = P (Refused why line) × (p ≡ o)
@@ -73,6 +75,7 @@ Answering P streamed (Err e) o p = ⊥
 
 -- ---- the job, and the words
 
+-- what doing the job did: a row of the table, but for the line that is told
 abbrev pub Performs : {S K : Type 0} → Job → Result Said Failure → Inlet S → Inlet S → Outlet K → Outlet K → Type 0
 Performs job (Ok (said.Gave end)) i j o p = WritesAnswer job end i j o p
 Performs job (Ok (said.Refused why line)) i j o p = Refuses job why line i j o p
@@ -81,6 +84,7 @@ Performs job (Err failures.WriteFault) i j o p = FailsToWrite job i j o p
 Performs job (Err failures.NoMemory) i j o p = LacksMemory job i j o p
 Performs job (Err failures.Usage) i j o p = ⊥
 
+-- what doing the job of the words did
 abbrev pub Runs : {S K : Type 0} → List (List ℕ) → Result Said Failure → Inlet S → Inlet S → Outlet K → Outlet K → Type 0
 Runs words (Err failures.Usage) i j o p = (job_of words ≡ None) × (j ≡ i) × (p ≡ o)
 Runs words result i j o p = ForJob words (λ job. Performs job result i j o p)
