@@ -1,5 +1,5 @@
 -- One sweep makes the applications that the strategy makes, each time beginning again from the first vertex.
-use Rattle.std.proofs.Common.{◌≡◌, ℕ, suc, ◌+◌, Bool, true, false, ◌&&◌, eqb, eq-eqb, cond, not, add-one, List, [], ◌∷◌, ◌++◌, map, length, Option, Some, None, is_some, refl, sym, ap, ap₂, ◌∙◌, subst, append_assoc, arith}
+use Rattle.std.proofs.Common.{◌≡◌, ℕ, ◌+◌, Bool, true, false, ◌&&◌, eqb, eq-eqb, cond, not, add-one, List, [], ◌∷◌, ◌++◌, map, length, Option, Some, None, is_some, refl, sym, ap, ◌∙◌, subst, append_assoc, arith}
 use Rattle.std.specs.Prelude.{filter, slice_get}
 use Rattle.std.specs.List.{IsDistinct, AllByRecursion, position_from}
 use Rattle.std.specs.Option.{option_map, option_map_or, option_and_then}

@@ -1,5 +1,5 @@
 -- Moments of the clock that counts.
-use Rattle.std.specs.Prelude.{ℕ, ◌+◌, pos, List, [], ◌∷◌, replicate, Some}
+use Rattle.std.specs.Prelude.{ℕ, ◌+◌, [], ◌∷◌, replicate, Some}
 use Rattle.model_core.specs.Run.Pending.{Entry}
 use Rattle.model_core.specs.Run.Step.{Configuration}
 use Rattle.model_core.specs.Run.History.{Moment}

@@ -1,5 +1,5 @@
 -- Which plain value each value of the code stands for, wherever it lies in memory.
-use Rattle.std.specs.Prelude.{ℕ, List, map}
+use Rattle.std.specs.Prelude.{map}
 use Rattle.std.specs.Option.{option_map}
 use Rattle.sig_base.specs.declared.table.Row.{Row}
 use Rattle.sig_base.specs.declared.table.Table.{Table}

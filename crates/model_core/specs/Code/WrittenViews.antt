@@ -1,5 +1,5 @@
 -- Which plain value each value of the code stands for, of a model as it is written.
-use Rattle.std.specs.Prelude.{ℕ, List, map}
+use Rattle.std.specs.Prelude.{ℕ, map}
 use Rattle.std.specs.Option.{option_map}
 use Rattle.model_core.specs.declared.raw.RawName.{RawName}
 use Rattle.model_core.specs.declared.raw.RawNumber.{RawNumber}

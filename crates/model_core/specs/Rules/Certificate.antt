@@ -1,5 +1,5 @@
 -- The certificate: a line for each application of a rule.
-use Rattle.std.specs.Prelude.{ℕ, List, [], ◌∷◌, ◌++◌, map, codes, decimal}
+use Rattle.std.specs.Prelude.{ℕ, List, ◌++◌, codes, decimal}
 use Rattle.std.specs.List.{flat_map}
 use Rattle.model_core.specs.Rules.Reduction.{RuleApplication, Prune}
 

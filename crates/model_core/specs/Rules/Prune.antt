@@ -1,7 +1,7 @@
 -- Prune: an edge whose condition never holds is taken away.
 use Rattle.std.specs.Prelude.{ℕ, zero, suc, ◌+◌, Bool, true, false, List, [], ◌∷◌, Option, Some, None, is_some, slice_get}
 use Rattle.std.specs.List.{remove, position_from}
-use Rattle.std.specs.Option.{option_map, option_map_or, option_and_then}
+use Rattle.std.specs.Option.{option_map_or, option_and_then}
 use Rattle.model_core.specs.EventGraph.{Expression, Truth, EventEdge, EventVertex, EventGraph}
 
 abbrev pub is_literal_false : Expression → Bool

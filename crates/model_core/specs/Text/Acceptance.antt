@@ -1,5 +1,5 @@
 -- Which models of the first form are accepted, and which model a text of the first form reads as.
-use Rattle.std.specs.Prelude.{◌≡◌, ℕ, ◌+◌, ◌≤◌, ℤ, neg_ℤ, ◌≤ℤ◌, Bool, false, List, [], ◌∷◌, ◌++◌, length, map, Some, None, IfSome, Ok, nat_eq}
+use Rattle.std.specs.Prelude.{◌≡◌, ℕ, ◌+◌, ◌≤◌, neg_ℤ, ◌≤ℤ◌, false, List, [], ◌∷◌, ◌++◌, length, map, Some, None, IfSome, Ok, nat_eq}
 use Rattle.std.specs.List.{AllByRecursion, IsDistinct}
 use Rattle.sig_base.specs.declared.limits.TheConstants.{TEXT_MAX, NAME_MAX, LITERAL_MAX, VARIABLES_MAX, VERTICES_MAX, CHANGES_MAX, EDGES_MAX}
 use Rattle.model_core.specs.EventGraph.{EventGraph, EventVertex, Variable, WeightTable, Watched, WatchedVariable, WatchedVertex}

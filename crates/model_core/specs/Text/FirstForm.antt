@@ -8,11 +8,11 @@
 --   vertex = 'vertex' name '{' {change} {edge} '}'
 --   change = 'set' name ':=' (number | name) ';'
 --   edge   = 'schedule' name ['after' number] ['when' 'false'] ';'
-use Rattle.std.specs.Prelude.{◌≡◌, ℕ, Bool, true, false, List, [], ◌∷◌, Option, Some, None}
+use Rattle.std.specs.Prelude.{true, false, List, [], ◌∷◌, None}
 use Rattle.model_core.specs.declared.token.Word.TheVariants as words
 use Rattle.model_core.specs.declared.token.Symbol.TheVariants as symbols
 use Rattle.model_core.specs.Text.Grammar.{Grammar, gives, ◌>>=◌, ◌or◌, optional, many, some, list, word, symbol, name, number}
-use Rattle.model_core.specs.Text.Written.{WrittenName, WrittenNumber, WrittenSigned, RangeKind, SignedLiteral, WrittenExpression, Number, Truth, Scalar, WrittenVariable, WrittenTarget, WrittenChange, Set, WrittenEdge, Schedule, WrittenVertex, WrittenModel}
+use Rattle.model_core.specs.Text.Written.{WrittenName, WrittenSigned, RangeKind, SignedLiteral, WrittenExpression, Number, Truth, Scalar, WrittenVariable, WrittenChange, Set, WrittenEdge, Schedule, WrittenVertex, WrittenModel}
 
 -- ['-'] number, whose place is that of its first token
 abbrev pub negative_signed : Grammar WrittenSigned

@@ -1,5 +1,5 @@
 -- Grammars over token lists: what the front of a token list derives, and which tokens are left.
-use Rattle.std.specs.Prelude.{◌≡◌, ◌⊎◌, ℕ, ℤ, List, [], ◌∷◌, Option, Some, None}
+use Rattle.std.specs.Prelude.{◌≡◌, ◌⊎◌, ℕ, List, [], ◌∷◌, Option, Some, None}
 use Rattle.model_core.specs.declared.token.Word.{Word}
 use Rattle.model_core.specs.declared.token.Symbol.{Symbol}
 use Rattle.model_core.specs.declared.token.Symbol.TheVariants as symbols
