@@ -8,6 +8,7 @@ mod going_on;
 mod left;
 mod model;
 mod raw;
+mod reading_laws;
 mod sameness;
 mod staying;
 mod token;
@@ -22,6 +23,7 @@ pub use raw::{
     RawChange, RawEdge, RawEdgeForm, RawExpr, RawForm, RawKind, RawLiteral, RawModel, RawName,
     RawNumber, RawRow, RawSigned, RawTable, RawTarget, RawVar, RawVertex,
 };
+pub use reading_laws::{texts_have_one_reading, the_reader_reads_texts};
 pub use sameness::sameness_is_a_preorder;
 pub use staying::runs_stay_in_range;
 pub use token::{Symbol, Token, TokenKind, Word};
