@@ -11,7 +11,7 @@ ghost use Rattle.model_core.specs.Inner.LanguageReader.{text_and_rest, text_read
 pub fn texts_have_one_reading()
     ensures one_reading { (tokens : List Lexeme) (m n : WrittenModel) → IsText tokens m → IsText tokens n → m ≡ n }
     ensures one_front { (tokens : List Lexeme) (m n : WrittenModel) (left rest : List Lexeme) → BeginsWithText tokens m left → BeginsWithText tokens n rest → (m ≡ n) × (left ≡ rest) }
-    ensures spelled_or_wrong { (tokens : List Lexeme) → ((m : WrittenModel) × IsText tokens m) ⊎ (((m : WrittenModel) → IsText tokens m → ⊥) × ((rest : List Lexeme) × FirstWrong text_format tokens rest)) }
+    ensures spelled_or_unexpected { (text : List ℕ) (tokens : List Lexeme) → ((m : WrittenModel) × IsText tokens m) ⊎ ((at : ℕ) × IsUnexpectedAt text tokens at) }
     ensures one_first_wrong { (tokens r s : List Lexeme) → FirstWrong text_format tokens r → FirstWrong text_format tokens s → r ≡ s }
     ensures one_place { (text : List ℕ) (tokens : List Lexeme) (i j : ℕ) → IsUnexpectedAt text tokens i → IsUnexpectedAt text tokens j → i ≡ j }
 {}

@@ -55,7 +55,7 @@ left-is_wrong f ok tokens x t rest e =
 
 -- ---- all tokens are one text, or not
 
-none_left : {A : Type 0} (r : Parse A) (x : A) (left : List Lexeme) → and_next whole_read r ≡ took x left → (r ≡ took x []) × (left ≡ [])
+pub none_left : {A : Type 0} (r : Parse A) (x : A) (left : List Lexeme) → and_next whole_read r ≡ took x left → (r ≡ took x []) × (left ≡ [])
 none_left (Ok (y, [])) x left e = let s = same_reading y x [] left e in (ap (λ z. took z []) s.0, sym s.1)
 none_left (Ok (y, t ∷ rest)) x left e = absurd cc
 none_left (Err rest) x left e = absurd cc
@@ -77,12 +77,15 @@ refused-is_wrong tokens rest e = stuck_or_left tokens rest (text_and_rest tokens
 refused-is_none : (tokens rest : List Lexeme) (m : WrittenModel) → text_read tokens ≡ stuck rest → IsText tokens m → ⊥
 refused-is_none tokens rest m e d = let f : text_read tokens ≡ took m [] = spelled-is_whole tokens m d in absurd cc
 
-pub spelled_or_wrong : (tokens : List Lexeme) → ((m : WrittenModel) × IsText tokens m) ⊎ (((m : WrittenModel) → IsText tokens m → ⊥) × ((rest : List Lexeme) × FirstWrong text_format tokens rest))
-spelled_or_wrong tokens = go (text_read tokens) refl
+pub refused-is_unexpected : (text : List ℕ) (tokens rest : List Lexeme) → text_read tokens ≡ stuck rest → IsUnexpectedAt text tokens (told_place text rest)
+refused-is_unexpected text tokens rest e = record { none = λ m d. refused-is_none tokens rest m e d; rest = rest; wrong = refused-is_wrong tokens rest e; told = refl }
+
+pub spelled_or_unexpected : (text : List ℕ) (tokens : List Lexeme) → ((m : WrittenModel) × IsText tokens m) ⊎ ((at : ℕ) × IsUnexpectedAt text tokens at)
+spelled_or_unexpected text tokens = go (text_read tokens) refl
   where
-    go : (r : Parse WrittenModel) → text_read tokens ≡ r → ((m : WrittenModel) × IsText tokens m) ⊎ (((m : WrittenModel) → IsText tokens m → ⊥) × ((rest : List Lexeme) × FirstWrong text_format tokens rest))
+    go : (r : Parse WrittenModel) → text_read tokens ≡ r → ((m : WrittenModel) × IsText tokens m) ⊎ ((at : ℕ) × IsUnexpectedAt text tokens at)
     go (Ok r) e = inl (r.0, whole-is_spelled tokens r.0 r.1 e)
-    go (Err rest) e = inr (λ m d. refused-is_none tokens rest m e d, (rest, refused-is_wrong tokens rest e))
+    go (Err rest) e = inr (told_place text rest, refused-is_unexpected text tokens rest e)
 
 -- ---- there is one first wrong token
 
@@ -119,4 +122,4 @@ one_first_wrong f tokens r s a b = elim (two_fronts a.front r b.front s (sym a.w
 ]
 
 pub one_place : (text : List ℕ) (tokens : List Lexeme) (i j : ℕ) → IsUnexpectedAt text tokens i → IsUnexpectedAt text tokens j → i ≡ j
-one_place text tokens i j (r, a, p) (s, b, q) = sym p ∙ ap (told_place text) (one_first_wrong text_format tokens r s a b) ∙ q
+one_place text tokens i j a b = sym a.told ∙ ap (told_place text) (one_first_wrong text_format tokens a.rest b.rest a.wrong b.wrong) ∙ b.told

@@ -1,9 +1,10 @@
 -- The first token that can't stand where it stands, and the place that is told of it.
 use Rattle.std.specs.Prelude.{◌≡◌, ℕ, List, [], ◌∷◌, ◌++◌, length}
 use Rattle.model_core.specs.Text.Lexing.{Lexeme}
+use Rattle.model_core.specs.Text.Written.{WrittenModel}
 use Rattle.model_core.specs.Text.Format.{Spells}
 use Rattle.model_core.specs.Text.Expressions.{LanguageFormat, level_format}
-use Rattle.model_core.specs.Text.Language.{text_format}
+use Rattle.model_core.specs.Text.Language.{text_format, IsText}
 
 -- some tokens after these make a whole that is spelled
 abbrev pub CanBegin : {A : Type 0} → LanguageFormat A → List Lexeme → Type 0
@@ -27,6 +28,9 @@ abbrev pub told_place : List ℕ → List Lexeme → ℕ
 told_place text [] = length text
 told_place text (t ∷ rest) = t.from
 
--- this is the place at which the tokens of a text stop to begin a model text
-abbrev pub IsUnexpectedAt : List ℕ → List Lexeme → ℕ → Type 0
-IsUnexpectedAt text tokens at = (rest : List Lexeme) × FirstWrong text_format tokens rest × (told_place text rest ≡ at)
+-- the tokens of this text are no model text, and this is the place at which they stop to begin one
+pub record IsUnexpectedAt (text : List ℕ) (tokens : List Lexeme) (at : ℕ) : Type 0 where
+  pub none : (m : WrittenModel) → IsText tokens m → ⊥
+  pub rest : List Lexeme
+  pub wrong : FirstWrong text_format tokens rest
+  pub told : told_place text rest ≡ at

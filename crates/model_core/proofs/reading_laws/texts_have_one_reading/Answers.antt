@@ -7,7 +7,7 @@ pub returns : goal.returns
 returns c = record {
   one_reading = λ tokens m n d e. (laws.one_reading tokens m n [] [] d e).0;
   one_front = laws.one_reading;
-  spelled_or_wrong = laws.spelled_or_wrong;
+  spelled_or_unexpected = laws.spelled_or_unexpected;
   one_first_wrong = laws.one_first_wrong text_format;
   one_place = laws.one_place;
 }
