@@ -34,7 +34,7 @@ pub use grammar::{
 };
 pub use left::{stores_before_a_fault_stay, words_before_a_fault_are_taken};
 pub use limits::limits_have_these_numbers;
-pub use openings::{openings_are_counted, parts_are_apart};
+pub use openings::{a_part_has_256_openings, openings_are_counted, parts_are_apart};
 pub use order::{equal_events_are_cut, events_come_in_order, others_stay};
 pub use ranges::{
     runs_begin_with_initial_values, starting_values_are_in_range, states_are_in_range,
