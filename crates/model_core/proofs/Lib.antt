@@ -12,3 +12,4 @@ pub mod Marks
 pub mod LeastSets
 pub mod SameLaws
 pub mod Formats
+pub mod OpeningLaws

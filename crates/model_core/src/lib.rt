@@ -23,7 +23,10 @@ pub use raw::{
     RawChange, RawEdge, RawEdgeForm, RawExpr, RawForm, RawKind, RawLiteral, RawModel, RawName,
     RawNumber, RawRow, RawSigned, RawTable, RawTarget, RawVar, RawVertex,
 };
-pub use reading_laws::{texts_have_one_reading, the_reader_reads_texts};
+pub use reading_laws::{
+    openings_have_a_limit, texts_end_with_their_word, texts_have_one_reading,
+    the_reader_reads_texts,
+};
 pub use sameness::sameness_is_a_preorder;
 pub use staying::runs_stay_in_range;
 pub use token::{Symbol, Token, TokenKind, Word};
