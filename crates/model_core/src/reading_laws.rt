@@ -6,12 +6,14 @@ ghost use Rattle.model_core.specs.Text.Written.{WrittenModel};
 ghost use Rattle.model_core.specs.Text.Language.{text_format, IsText, BeginsWithText};
 ghost use Rattle.model_core.specs.Text.FirstWrong.{FirstWrong, IsUnexpectedAt};
 ghost use Rattle.model_core.specs.Text.Openings.{front_to_end, too_deep_at, HasFewOpenings};
+ghost use Rattle.model_core.specs.Text.Spelling.{SpellsText};
 ghost use Rattle.model_core.specs.Inner.OpeningCount.{deep_from};
 ghost use Rattle.model_core.specs.Inner.LanguageReader.{text_and_rest, text_read};
 
 /// Tokens spell one text at most, and whether they spell one is decided. Where they don't, there is one first wrong place.
 pub fn texts_have_one_reading()
     ensures one_reading { (tokens : List Lexeme) (m n : WrittenModel) → IsText tokens m → IsText tokens n → m ≡ n }
+    ensures one_model { (text : List ℕ) (m n : WrittenModel) → SpellsText text m → SpellsText text n → m ≡ n }
     ensures one_front { (tokens : List Lexeme) (m n : WrittenModel) (left rest : List Lexeme) → BeginsWithText tokens m left → BeginsWithText tokens n rest → (m ≡ n) × (left ≡ rest) }
     ensures spelled_or_unexpected { (text : List ℕ) (tokens : List Lexeme) → ((m : WrittenModel) × IsText tokens m) ⊎ ((at : ℕ) × IsUnexpectedAt text tokens at) }
     ensures one_first_wrong { (tokens r s : List Lexeme) → FirstWrong text_format tokens r → FirstWrong text_format tokens s → r ≡ s }

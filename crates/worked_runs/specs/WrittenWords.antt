@@ -22,10 +22,6 @@ a_literal at n = SignedLiteral (unsigned at n)
 abbrev pub a_target : ℕ → List ℕ → WrittenTarget
 a_target at bytes = record { at = at; name = a_name at bytes; index = None }
 
--- a cell whose index is a number, right behind the bracket
-abbrev pub a_cell_target : ℕ → List ℕ → ℕ → ℕ → WrittenTarget
-a_cell_target at bytes index n = record { at = at; name = a_name at bytes; index = Some (Number index (a_numeral index n)) }
-
 -- an edge that is the first of its text
 abbrev pub an_edge : WrittenName → Option (List WrittenExpression) → Option WrittenExpression → WrittenEdgeKind → WrittenEdge
 an_edge target values condition kind = record { at = 0; target = target; values = values; condition = condition; kind = kind }
@@ -62,3 +58,9 @@ a_pair at op a b = Binary at op a b
 
 abbrev pub a_choice : ℕ → WrittenExpression → WrittenExpression → WrittenExpression → WrittenExpression
 a_choice at c a b = If at c a b
+
+-- ---- parts with an expression
+
+-- a cell whose index is a number, right behind the bracket
+abbrev pub a_cell_target : ℕ → List ℕ → ℕ → ℕ → WrittenTarget
+a_cell_target at bytes index n = record { at = at; name = a_name at bytes; index = Some (a_number index n) }

@@ -1,12 +1,13 @@
 -- The laws of model texts: what is read is spelled, what is spelled is read, and where the reader is stuck no text goes on.
 use Rattle.std.proofs.Common.{◌≡◌, ℕ, List, [], ◌∷◌, ◌++◌, true, false, ◌⊎◌, inl, inr, refl, sym, ap, ◌∙◌, subst, append_assoc}
-use Rattle.std.specs.Prelude.{Ok, Err}
+use Rattle.std.specs.Prelude.{Result, Ok, Err}
 use Rattle.model_core.specs.Text.Lexing.{Lexeme}
 use Rattle.model_core.specs.Text.Written.{WrittenModel}
 use Rattle.model_core.specs.Text.Format.{Spells, by_rule}
 use Rattle.model_core.specs.Text.Expressions.{LanguageFormat, level_format}
 use Rattle.model_core.specs.Text.Language.{text_format, BeginsWithText, IsText}
 use Rattle.model_core.specs.Text.FirstWrong.{CanBegin, CantGoOn, FirstWrong, told_place, IsUnexpectedAt}
+use Rattle.model_core.specs.Text.Spelling.{SpellsText}
 use Rattle.model_core.specs.Inner.FirstTokens.{begins_among, fine, stop_sorts}
 use Rattle.model_core.specs.Inner.FormatReader.{Parse, took, stuck, and_next, whole_read}
 use Rattle.model_core.specs.Inner.LanguageReader.{level_lookahead, language_reader, text_and_rest, text_read}
@@ -29,6 +30,17 @@ spelled-is_read tokens m left d = complete level_lookahead level_format levels-f
 
 pub one_reading : (tokens : List Lexeme) (m n : WrittenModel) (left rest : List Lexeme) → BeginsWithText tokens m left → BeginsWithText tokens n rest → (m ≡ n) × (left ≡ rest)
 one_reading tokens m n left rest d e = same_reading m n left rest (sym (spelled-is_read tokens m left d) ∙ spelled-is_read tokens n rest e)
+
+abbrev Cut : Type 0
+Cut = Result (List Lexeme) ℕ
+
+same_tokens : (s t : List Lexeme) → ◌≡◌ {A = Cut} (Ok s) (Ok t) → s ≡ t
+same_tokens s t e = cc
+
+pub one_model : (text : List ℕ) (m n : WrittenModel) → SpellsText text m → SpellsText text n → m ≡ n
+one_model text m n a b =
+    let same : b.tokens ≡ a.tokens = same_tokens b.tokens a.tokens (sym b.cut ∙ a.cut) in
+    (one_reading a.tokens m n [] [] a.derived (subst (λ (l : List Lexeme). IsText l n) same b.derived)).0
 
 -- ---- where the reader is stuck
 

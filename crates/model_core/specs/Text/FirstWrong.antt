@@ -1,4 +1,5 @@
--- The first token that can't stand where it stands, and the place that is told of it.
+-- The first token that can't stand where it stands, and the place that is told of it. A text is here whatever the grammar
+-- derives, with any number of openings.
 use Rattle.std.specs.Prelude.{◌≡◌, ℕ, List, [], ◌∷◌, ◌++◌, length}
 use Rattle.model_core.specs.Text.Lexing.{Lexeme}
 use Rattle.model_core.specs.Text.Written.{WrittenModel}

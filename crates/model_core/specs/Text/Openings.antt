@@ -36,12 +36,13 @@ is_opening (Mark symbols.OpenParenthesis) = true
 is_opening (Mark symbols.OpenBracket) = true
 is_opening _ = false
 
--- a token before these parts: it ends a part, or is the first token of the first one
+-- a token before these parts: it ends a part, or is the first token of their first one
 abbrev pub with_token : Lexeme → List (List Lexeme) → List (List Lexeme)
 with_token t [] = (t ∷ []) ∷ []
 with_token t (part ∷ parts) = if ends_part t.kind then [] ∷ part ∷ parts else (t ∷ part) ∷ parts
 
--- the parts of tokens, in order: the longest runs without a token that ends a part
+-- The parts of tokens, in order: the longest runs without a token that ends a part. There is one at least, and a part may
+-- have no token.
 abbrev pub parts_of : List Lexeme → List (List Lexeme)
 parts_of [] = [] ∷ []
 parts_of (t ∷ tokens) = with_token t (parts_of tokens)
@@ -53,7 +54,8 @@ openings_of part = filter (λ t. is_opening t.kind) part
 abbrev pub openings_beyond : ℕ → List Lexeme → List Lexeme
 openings_beyond limit tokens = filter_map (λ part. slice_get (openings_of part) limit) (parts_of tokens)
 
--- the place of the first opening that is one too many, by this limit
+-- The place of the first opening that is one too many, by this limit. It is the least such place, since parts stand in
+-- order.
 abbrev pub too_deep_at : ℕ → List Lexeme → Option ℕ
 too_deep_at limit tokens = option_map (λ (t : Lexeme). t.from) (slice_get (openings_beyond limit tokens) 0)
 
@@ -70,6 +72,6 @@ abbrev pub front_to_end : List Lexeme → List Lexeme
 front_to_end [] = []
 front_to_end (t ∷ tokens) = t ∷ (if is_end_word t.kind then [] else front_to_end tokens)
 
--- the place at which a list of tokens is too deep
+-- the place at which tokens are too deep, if any part of them is
 abbrev pub deep_place : List Lexeme → Option ℕ
 deep_place tokens = too_deep_at OPENINGS_MAX tokens
