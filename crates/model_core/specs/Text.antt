@@ -7,7 +7,7 @@ pub mod Expressions
 pub mod Language
 pub mod FirstWrong
 pub mod Openings
-pub mod Spelling
+pub mod ModelText
 pub mod FirstForm
 pub mod Numbering
 pub mod Canonical

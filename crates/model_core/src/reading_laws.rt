@@ -6,7 +6,7 @@ ghost use Rattle.model_core.specs.Text.Written.{WrittenModel};
 ghost use Rattle.model_core.specs.Text.Language.{text_format, IsText, BeginsWithText};
 ghost use Rattle.model_core.specs.Text.FirstWrong.{FirstWrong, IsUnexpectedAt};
 ghost use Rattle.model_core.specs.Text.Openings.{front_to_end, too_deep_at, HasFewOpenings};
-ghost use Rattle.model_core.specs.Text.Spelling.{SpellsText};
+ghost use Rattle.model_core.specs.Text.ModelText.{SpellsText};
 ghost use Rattle.model_core.specs.Inner.OpeningCount.{deep_from};
 ghost use Rattle.model_core.specs.Inner.LanguageReader.{text_and_rest, text_read};
 

@@ -7,7 +7,7 @@ use Rattle.model_core.specs.Text.Format.{Spells, by_rule}
 use Rattle.model_core.specs.Text.Expressions.{LanguageFormat, level_format}
 use Rattle.model_core.specs.Text.Language.{text_format, BeginsWithText, IsText}
 use Rattle.model_core.specs.Text.FirstWrong.{CanBegin, CantGoOn, FirstWrong, told_place, IsUnexpectedAt}
-use Rattle.model_core.specs.Text.Spelling.{SpellsText}
+use Rattle.model_core.specs.Text.ModelText.{SpellsText}
 use Rattle.model_core.specs.Inner.FirstTokens.{begins_among, fine, stop_sorts}
 use Rattle.model_core.specs.Inner.FormatReader.{Parse, took, stuck, and_next, whole_read}
 use Rattle.model_core.specs.Inner.LanguageReader.{level_lookahead, language_reader, text_and_rest, text_read}
