@@ -11,3 +11,5 @@ pub mod InRange
 pub mod Marks
 pub mod LeastSets
 pub mod SameLaws
+pub mod Formats
+pub mod OpeningLaws

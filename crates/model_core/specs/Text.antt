@@ -2,6 +2,12 @@
 pub mod Lexing
 pub mod Written
 pub mod Grammar
+pub mod Format
+pub mod Expressions
+pub mod Language
+pub mod FirstWrong
+pub mod Openings
+pub mod ModelText
 pub mod FirstForm
 pub mod Numbering
 pub mod Canonical

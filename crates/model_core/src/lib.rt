@@ -8,6 +8,7 @@ mod going_on;
 mod left;
 mod model;
 mod raw;
+mod reading_laws;
 mod sameness;
 mod staying;
 mod token;
@@ -21,6 +22,10 @@ pub use model::{Kind, Model, Var, Watch};
 pub use raw::{
     RawChange, RawEdge, RawEdgeForm, RawExpr, RawForm, RawKind, RawLiteral, RawModel, RawName,
     RawNumber, RawRow, RawSigned, RawTable, RawTarget, RawVar, RawVertex,
+};
+pub use reading_laws::{
+    openings_have_a_limit, texts_end_with_their_word, texts_have_one_reading,
+    the_reader_reads_texts,
 };
 pub use sameness::sameness_is_a_preorder;
 pub use staying::runs_stay_in_range;

@@ -6,3 +6,6 @@ pub mod Reductions
 pub mod Pairs
 pub mod Texts
 pub mod Tokens
+pub mod WrittenWords
+pub mod WrittenModels
+pub mod GrammarTexts

@@ -9,8 +9,10 @@ mod bank;
 mod changes;
 mod clock;
 mod event_time;
+mod grammar;
 mod left;
 mod limits;
+mod openings;
 mod order;
 mod ranges;
 mod reaching;
@@ -26,8 +28,13 @@ pub use bank::bank_serves;
 pub use changes::{cells_are_set, parameters_come_first, variables_are_drawn};
 pub use clock::{clock_counts, loop_goes_on, runs_are_over};
 pub use event_time::events_see_their_time;
+pub use grammar::{
+    expressions_have_places, fronts_are_refused, lines_are_refused, lines_are_spelled,
+    operators_have_levels, texts_are_refused, texts_are_spelled,
+};
 pub use left::{stores_before_a_fault_stay, words_before_a_fault_are_taken};
 pub use limits::limits_have_these_numbers;
+pub use openings::{a_part_has_256_openings, openings_are_counted, parts_are_apart};
 pub use order::{equal_events_are_cut, events_come_in_order, others_stay};
 pub use ranges::{
     runs_begin_with_initial_values, starting_values_are_in_range, states_are_in_range,

@@ -1,0 +1,46 @@
+//! Laws of the grammar of model texts. The functions do nothing: what they ensure holds of all tokens.
+
+ghost use Rattle.std.specs.Prelude.{◌≡◌, ◌⊎◌, ◌++◌, ℕ, List, [], None, Ok, Err};
+ghost use Rattle.model_core.specs.Text.Lexing.{Lexeme};
+ghost use Rattle.model_core.specs.Text.Written.{WrittenModel};
+ghost use Rattle.model_core.specs.Text.Language.{text_format, IsText, BeginsWithText};
+ghost use Rattle.model_core.specs.Text.FirstWrong.{FirstWrong, IsUnexpectedAt};
+ghost use Rattle.model_core.specs.Text.Openings.{front_to_end, too_deep_at, HasFewOpenings};
+ghost use Rattle.model_core.specs.Text.ModelText.{SpellsText};
+ghost use Rattle.model_core.specs.Inner.OpeningCount.{deep_from};
+ghost use Rattle.model_core.specs.Inner.LanguageReader.{text_and_rest, text_read};
+
+/// Tokens spell one text at most, and whether they spell one is decided. Where they don't, there is one first wrong place.
+pub fn texts_have_one_reading()
+    ensures one_reading { (tokens : List Lexeme) (m n : WrittenModel) → IsText tokens m → IsText tokens n → m ≡ n }
+    ensures one_model { (text : List ℕ) (m n : WrittenModel) → SpellsText text m → SpellsText text n → m ≡ n }
+    ensures one_front { (tokens : List Lexeme) (m n : WrittenModel) (left rest : List Lexeme) → BeginsWithText tokens m left → BeginsWithText tokens n rest → (m ≡ n) × (left ≡ rest) }
+    ensures spelled_or_unexpected { (text : List ℕ) (tokens : List Lexeme) → ((m : WrittenModel) × IsText tokens m) ⊎ ((at : ℕ) × IsUnexpectedAt text tokens at) }
+    ensures one_first_wrong { (tokens r s : List Lexeme) → FirstWrong text_format tokens r → FirstWrong text_format tokens s → r ≡ s }
+    ensures one_place { (text : List ℕ) (tokens : List Lexeme) (i j : ℕ) → IsUnexpectedAt text tokens i → IsUnexpectedAt text tokens j → i ≡ j }
+{}
+
+/// The reader that computes takes exactly what is spelled, and is stuck exactly at the first wrong token.
+pub fn the_reader_reads_texts()
+    ensures read_is_spelled { (tokens : List Lexeme) (m : WrittenModel) → text_read tokens ≡ Ok (m, []) → IsText tokens m }
+    ensures spelled_is_read { (tokens : List Lexeme) (m : WrittenModel) → IsText tokens m → text_read tokens ≡ Ok (m, []) }
+    ensures front_is_spelled { (tokens : List Lexeme) (m : WrittenModel) (left : List Lexeme) → text_and_rest tokens ≡ Ok (m, left) → BeginsWithText tokens m left }
+    ensures spelled_front_is_read { (tokens : List Lexeme) (m : WrittenModel) (left : List Lexeme) → BeginsWithText tokens m left → text_and_rest tokens ≡ Ok (m, left) }
+    ensures stuck_is_wrong { (tokens rest : List Lexeme) → text_read tokens ≡ Err rest → FirstWrong text_format tokens rest }
+    ensures stuck_front_is_wrong { (tokens rest : List Lexeme) → text_and_rest tokens ≡ Err rest → FirstWrong text_format tokens rest }
+{}
+
+/// Tokens begin with a text exactly where they are one up to and with their first word `end`, and where they aren't one so
+/// far, the first wrong token is the same.
+pub fn texts_end_with_their_word()
+    ensures text_is_front { (tokens : List Lexeme) (m : WrittenModel) (left : List Lexeme) → BeginsWithText tokens m left → (tokens ≡ front_to_end tokens ++ left) × IsText (front_to_end tokens) m }
+    ensures front_is_text { (tokens : List Lexeme) (m : WrittenModel) (left : List Lexeme) → tokens ≡ front_to_end tokens ++ left → IsText (front_to_end tokens) m → BeginsWithText tokens m left }
+    ensures wrong_in_front { (tokens rest : List Lexeme) → ((m : WrittenModel) → IsText (front_to_end tokens) m → ⊥) → FirstWrong text_format tokens rest → FirstWrong text_format (front_to_end tokens) (front_to_end rest) }
+{}
+
+/// No opening is one too many exactly where each part has at most as many as the limit, and one count finds the first.
+pub fn openings_have_a_limit()
+    ensures counted { (limit : ℕ) (tokens : List Lexeme) → too_deep_at limit tokens ≡ deep_from limit limit tokens }
+    ensures none { (limit : ℕ) (tokens : List Lexeme) → too_deep_at limit tokens ≡ None → HasFewOpenings limit tokens }
+    ensures few { (limit : ℕ) (tokens : List Lexeme) → HasFewOpenings limit tokens → too_deep_at limit tokens ≡ None }
+{}
