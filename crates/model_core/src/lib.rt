@@ -9,6 +9,7 @@ mod left;
 mod model;
 mod raw;
 mod sameness;
+mod static_kind;
 mod staying;
 mod token;
 mod vertex;
@@ -23,6 +24,7 @@ pub use raw::{
     RawNumber, RawRow, RawSigned, RawTable, RawTarget, RawVar, RawVertex,
 };
 pub use sameness::sameness_is_a_preorder;
+pub use static_kind::StaticKind;
 pub use staying::runs_stay_in_range;
 pub use token::{Symbol, Token, TokenKind, Word};
 pub use vertex::{Change, Edge, EdgeForm, Target, Vertex};
