@@ -6,3 +6,5 @@ pub mod Reductions
 pub mod Pairs
 pub mod Texts
 pub mod Tokens
+pub mod WrittenParts
+pub mod WrittenModels

@@ -1,33 +1,17 @@
 -- Which static rules a whole written model breaks, which fault is told, and which models are accepted.
-use Rattle.std.specs.Prelude.{◌≡◌, ℕ, ◌≤◌, List, [], ◌∷◌, ◌++◌, map, Option, Some, None, is_some}
+use Rattle.std.specs.Prelude.{◌≡◌, ℕ, ◌≤◌, List, [], ◌∷◌, ◌++◌, map, Option, Some, None}
 use Rattle.std.specs.List.{flat_map, Contains}
 use Rattle.sig_base.specs.declared.limits.TheConstants.{TEXT_MAX, VARIABLES_MAX, TABLES_MAX, VERTICES_MAX}
 use Rattle.model_core.specs.declared.model.Kind.{Kind}
 use Rattle.model_core.specs.declared.static_kind.StaticKind.{StaticKind}
-use Rattle.model_core.specs.declared.static_kind.StaticKind.TheVariants as rules
 use Rattle.model_core.specs.EventGraph.{EventGraph}
-use Rattle.model_core.specs.Text.Written.{WrittenName, WrittenVariable, WrittenTable, WrittenVertex, WrittenModel}
+use Rattle.model_core.specs.Text.Written.{WrittenName, WrittenModel}
 use Rattle.model_core.specs.Text.Numbering.{numbered}
 use Rattle.model_core.specs.Text.Canonical.{canonical}
-use Rattle.model_core.specs.Static.FaultOrder.{StaticFault, fault_where, table_place, earliest_fault}
-use Rattle.model_core.specs.Static.Meanings.{Meaning, Declaration, declarations, meaning_of, AsWatched}
+use Rattle.model_core.specs.Static.FaultOrder.{StaticFault, table_place, earliest_fault}
+use Rattle.model_core.specs.Static.Meanings.{Meaning, declared_name, declarations, meaning_of, AsWatched}
 use Rattle.model_core.specs.Static.RuleTable.{name_too_long, too_many, model_too_long}
-use Rattle.model_core.specs.Static.PartFaults.{written_items, repeated_names, use_faults, kinds_taken, variable_faults, table_faults, vertex_faults}
-
--- names that are declared again, where these are declared before
-abbrev pub redeclared : List Declaration → List Declaration → List StaticFault
-redeclared earlier [] = []
-redeclared earlier (d ∷ ds) = fault_where (is_some (meaning_of earlier d.name.name)) rules.DuplicateName d.name.at ++ redeclared (earlier ++ d ∷ []) ds
-
--- the byte of a declaration's first word
-abbrev pub variable_word_place : WrittenVariable → ℕ
-variable_word_place v = v.at
-
-abbrev pub table_word_place : WrittenTable → ℕ
-table_word_place t = t.at
-
-abbrev pub vertex_word_place : WrittenVertex → ℕ
-vertex_word_place v = v.at
+use Rattle.model_core.specs.Static.PartFaults.{variable_word_place, table_word_place, vertex_word_place, written_items, repeated_names, use_faults, kinds_taken, variable_faults, table_faults, vertex_faults}
 
 module _ (m : WrittenModel) where
   -- what a name means in the model
@@ -41,17 +25,22 @@ module _ (m : WrittenModel) where
   abbrev pub watch_faults : List WrittenName → List StaticFault
   watch_faults names = flat_map (use_faults model_meaning AsWatched) names ++ repeated_names [] names
 
+  -- declarations beyond their limits
+  abbrev pub faults_of_counts : List StaticFault
+  faults_of_counts =
+      too_many VARIABLES_MAX (map variable_word_place m.variables)
+      ++ too_many TABLES_MAX (map table_word_place m.tables)
+      ++ too_many VERTICES_MAX (map vertex_word_place m.vertices)
+
   -- the faults of all rules but that on the length of the canonical text
   abbrev pub faults_of_parts : List StaticFault
   faults_of_parts =
       name_too_long m.name
-      ++ redeclared [] (declarations m)
-      ++ too_many VARIABLES_MAX (map variable_word_place m.variables)
+      ++ repeated_names [] (map declared_name (declarations m))
+      ++ faults_of_counts
       ++ flat_map variable_faults m.variables
-      ++ too_many TABLES_MAX (map table_word_place m.tables)
       ++ flat_map table_faults m.tables
       ++ watch_faults (written_items m.watch)
-      ++ too_many VERTICES_MAX (map vertex_word_place m.vertices)
       ++ flat_map (vertex_faults model_meaning model_takes) m.vertices
 
   -- these faults, or where there are none, that the canonical text is longer than a limit

@@ -21,10 +21,10 @@ abbrev pub written_items : {A : Type 0} → Option (List A) → List A
 written_items None = []
 written_items (Some xs) = xs
 
--- the names of a list that stand in it before, where these stand before the list
+-- names that stand earlier in their list, behind these names
 abbrev pub repeated_names : List (List ℕ) → List WrittenName → List StaticFault
 repeated_names earlier [] = []
-repeated_names earlier (n ∷ ns) = duplicate_name earlier n ++ repeated_names (earlier ++ n.name ∷ []) ns
+repeated_names earlier (n ∷ ns) = duplicate_name earlier n ++ repeated_names (n.name ∷ earlier) ns
 
 -- ---- the byte at which a part's first token begins
 
@@ -51,6 +51,15 @@ target_place t = t.at
 
 abbrev pub edge_place : WrittenEdge → ℕ
 edge_place e = e.at
+
+abbrev pub variable_word_place : WrittenVariable → ℕ
+variable_word_place v = v.at
+
+abbrev pub table_word_place : WrittenTable → ℕ
+table_word_place t = t.at
+
+abbrev pub vertex_word_place : WrittenVertex → ℕ
+vertex_word_place v = v.at
 
 abbrev pub row_place : WrittenRow → ℕ
 row_place r = r.at
