@@ -11,3 +11,7 @@ pub mod InRange
 pub mod Marks
 pub mod LeastSets
 pub mod SameLaws
+pub mod ToldFaults
+pub mod NumberedNames
+pub mod NumberedParts
+pub mod OneFaultTold

@@ -10,6 +10,7 @@ mod model;
 mod raw;
 mod sameness;
 mod static_kind;
+mod static_law;
 mod staying;
 mod token;
 mod vertex;
@@ -25,6 +26,7 @@ pub use raw::{
 };
 pub use sameness::sameness_is_a_preorder;
 pub use static_kind::StaticKind;
+pub use static_law::one_fault_is_told;
 pub use staying::runs_stay_in_range;
 pub use token::{Symbol, Token, TokenKind, Word};
 pub use vertex::{Change, Edge, EdgeForm, Target, Vertex};
