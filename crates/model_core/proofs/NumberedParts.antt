@@ -17,7 +17,7 @@ use Rattle.model_core.specs.Static.Meanings.{Meaning, MeansVariable, MeansTable,
 use Rattle.model_core.specs.Static.Kinds.{operand_kind, right_operand_kind, expression_kind}
 use Rattle.model_core.specs.Static.RuleTable.{certain_value, name_too_long, unknown_name, wrong_use, number_too_large, literal_too_large, weight_outside, stream_outside, kind_mismatch, too_many, empty_range, initial_outside, draw_outside, priority_outside, size_outside}
 use Rattle.model_core.specs.Static.PartFaults as faults
-use Rattle.model_core.specs.Static.PartFaults.{if_written, written_items, use_faults, mismatch, expression_faults, operand_faults, values_faults, target_role, target_kind, target_faults}
+use Rattle.model_core.specs.Static.PartFaults.{if_written, written_items, use_faults, kind_faults, expression_faults, operand_faults, values_faults, target_role, target_kind, target_faults}
 use Rattle.model_core.specs.Static.ModelFaults.{faults_of_parts, model_meaning, model_takes, watch_faults, faults_of_counts}
 use Rattle.model_core.proofs.NumberedNames.{Given, left_empty, right_empty, one_given, two_given, three_given, four_given, each_given, given_or, given_items, unbroken, given_value, given_natural, given_signed, DeclaredAs, declared_as}
 
@@ -171,7 +171,7 @@ module _ (means : List ℕ → Option Meaning) (d : Declared) (declared : Declar
       front = left_empty (operand_faults means (Some kinds.Truth) c ++ expression_faults means a) (operand_faults means (expression_kind means a) b) e
 
   operand_given : (wanted : Option Kind) (e : WrittenExpression) → operand_faults means wanted e ≡ [] → Given (numbering.expression d e)
-  operand_given wanted e h = expression_given e (left_empty (expression_faults means e) (mismatch means wanted e) h)
+  operand_given wanted e h = expression_given e (left_empty (expression_faults means e) (kind_faults means wanted e) h)
 
   values_given : (wanted : List (Option Kind)) (es : List WrittenExpression) → values_faults means wanted es ≡ [] → Given (each_numbered (numbering.expression d) es)
   values_given wanted [] e = ([], refl)

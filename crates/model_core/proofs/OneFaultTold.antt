@@ -6,7 +6,7 @@ use Rattle.model_core.specs.declared.static_kind.StaticKind.{StaticKind}
 use Rattle.model_core.specs.declared.static_kind.StaticKind.TheVariants as rules
 use Rattle.model_core.specs.EventGraph.{EventGraph}
 use Rattle.model_core.specs.Text.Written.{WrittenModel}
-use Rattle.model_core.specs.Static.FaultOrder.{StaticFault, table_place}
+use Rattle.model_core.specs.Static.FaultOrder.{StaticFault, rule_row}
 use Rattle.model_core.specs.Static.ModelFaults.{faults_of_parts, or_too_long, model_faults, Broken, IsTold, told_fault, Accepted}
 use Rattle.model_core.proofs.ToldFaults.{IsLeast, not_before_place, not_before_row, earliest_is_least, none_told}
 use Rattle.model_core.proofs.NumberedParts.{model_given}
@@ -18,7 +18,7 @@ rules_in_order =
     rules.NameTooLong ∷ rules.UnknownName ∷ rules.DuplicateName ∷ rules.WrongUse ∷ rules.KindMismatch ∷ rules.ValueCount ∷ rules.LiteralTooLarge ∷ rules.EmptyRange
     ∷ rules.InitialOutside ∷ rules.SizeOutside ∷ rules.PriorityOutside ∷ rules.StreamOutside ∷ rules.DrawOutside ∷ rules.WeightOutside ∷ rules.TooMany ∷ rules.ModelTooLong ∷ []
 
-at_its_place : (kind : StaticKind) → slice_get rules_in_order (table_place kind) ≡ Some kind
+at_its_place : (kind : StaticKind) → slice_get rules_in_order (rule_row kind) ≡ Some kind
 unfolding rules_in_order
 at_its_place rules.NameTooLong = refl
 at_its_place rules.UnknownName = refl
@@ -40,7 +40,7 @@ at_its_place rules.ModelTooLong = refl
 some_same : {A : Type 0} {a b : A} → Some a ≡ Some b → a ≡ b
 some_same e = cc
 
-one_place : (j k : StaticKind) → table_place j ≡ table_place k → j ≡ k
+one_place : (j k : StaticKind) → rule_row j ≡ rule_row k → j ≡ k
 one_place j k e = some_same (sym (at_its_place j) ∙ ap (slice_get rules_in_order) e ∙ at_its_place k)
 
 -- ---- the fault that is told
@@ -58,8 +58,8 @@ module _ (m : WrittenModel) where
   earliest_told : (f : StaticFault) → told_fault m ≡ Some f → IsTold m f.kind f.at
   earliest_told f e = record {
     broken = least.among;
-    least = λ other place b. not_before_place f.at (table_place f.kind) place (table_place other) (least.least (record { at = place; kind = other }) b);
-    first = λ other b. not_before_row f.at (table_place f.kind) (table_place other) (least.least (record { at = f.at; kind = other }) b);
+    least = λ other place b. not_before_place f.at (rule_row f.kind) place (rule_row other) (least.least (record { at = place; kind = other }) b);
+    first = λ other b. not_before_row f.at (rule_row f.kind) (rule_row other) (least.least (record { at = f.at; kind = other }) b);
   }
     where
       least : IsLeast (model_faults m) f
@@ -73,7 +73,7 @@ module _ (m : WrittenModel) where
       one_byte = both_ways f.at g.at (t.least g.kind g.at u.broken) (u.least f.kind f.at t.broken)
 
       one_kind : f.kind ≡ g.kind
-      one_kind = one_place f.kind g.kind (both_ways (table_place f.kind) (table_place g.kind)
+      one_kind = one_place f.kind g.kind (both_ways (rule_row f.kind) (rule_row g.kind)
           (t.first g.kind (subst (Broken m g.kind) (sym one_byte) u.broken))
           (u.first f.kind (subst (Broken m f.kind) one_byte t.broken)))
 

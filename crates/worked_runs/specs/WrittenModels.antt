@@ -1,7 +1,8 @@
 -- Written models, each with its text above it. Most break a static rule.
-use Rattle.std.specs.Prelude.{ℕ, true, false, [], ◌∷◌, Some, None, codes, replicate}
+use Rattle.std.specs.Prelude.{List, ℕ, true, false, [], ◌∷◌, Some, None, codes, replicate}
 use Rattle.model_core.specs.EventGraph as graph
-use Rattle.model_core.specs.Text.Written.{Number, Truth, Negative, Not, Binary, If, SignedLiteral, TruthLiteral, Uniform, ByTable, Set, Draw, Schedule, Urgent, CancelNext, CancelEqual, CancelAll, WrittenVariable, WrittenVertex, WrittenModel}
+use Rattle.model_core.specs.EventGraph.{Operator}
+use Rattle.model_core.specs.Text.Written.{Number, Truth, Negative, Not, Cell, Binary, If, SignedLiteral, TruthLiteral, Uniform, ByTable, Set, Draw, Schedule, Urgent, CancelNext, CancelEqual, CancelAll, WrittenVariable, WrittenVertex, WrittenModel}
 use Rattle.worked_runs.specs.WrittenParts.{spelled, figure, huge, plain_figure, minus_figure, plain_huge, minus_huge, constant, reading, ranging, ranging_clip, truth_valued, sized, row_of, tabled, storing, to_index, leading, with_carried, with_condition, occurring, run_at, with_parameters, composed, with_tables, with_watch, with_own_name}
 
 -- var N : 0..3 = 0; at byte 9
@@ -149,6 +150,30 @@ kind_of_result = composed
     [] ∷ [])
     82
 
+-- the operators, by what they do
+abbrev pub arithmetic : List Operator
+arithmetic = graph.Add ∷ graph.Subtract ∷ graph.Multiply ∷ graph.Divide ∷ graph.Remainder ∷ graph.Least ∷ graph.Greatest ∷ []
+
+abbrev pub comparisons : List Operator
+comparisons = graph.Below ∷ graph.AtMost ∷ graph.Above ∷ graph.AtLeast ∷ []
+
+abbrev pub equalities : List Operator
+equalities = graph.Equal ∷ graph.NotEqual ∷ []
+
+abbrev pub connectives : List Operator
+connectives = graph.And ∷ graph.Or ∷ []
+
+-- model M; var N : 0..3 = 0; var A[2] : bool = true; vertex RUN { set N := A[0]; draw A[1] from 0 in 0..1; set A[0], N := true, 1; } end
+abbrev pub kinds_of_cells : WrittenModel
+kinds_of_cells = composed
+    (n_variable ∷ sized (figure 2 33) (truth_valued 27 (spelled (codes "A") 31) (TruthLiteral 45 true)) ∷ [])
+    (run_at 51
+    (Set 64 (storing (codes "N") 68 ∷ []) (Cell 73 (spelled (codes "A") 73) (constant 0 75) ∷ [])
+    ∷ Draw 79 (to_index (spelled (codes "A") 84) (constant 1 86)) (figure 0 94) (Uniform (plain_figure 0 99) (plain_figure 1 102))
+    ∷ Set 105 (to_index (spelled (codes "A") 109) (constant 0 111) ∷ storing (codes "N") 115 ∷ []) (Truth 120 true ∷ constant 1 126 ∷ []) ∷ [])
+    [] ∷ [])
+    131
+
 -- ---- counts of values
 
 -- model M; vertex RUN { schedule RUN(1); } end
@@ -181,6 +206,15 @@ too_few_right_sides = composed
     (Set 61 (storing (codes "N") 65 ∷ storing (codes "B") 68 ∷ []) (Truth 73 true ∷ []) ∷ [])
     [] ∷ [])
     81
+
+-- model M; vertex RUN { schedule Q(R, true + 1); } end
+abbrev pub values_for_unknown : WrittenModel
+values_for_unknown = composed
+    []
+    (run_at 9
+    []
+    (with_carried (reading (codes "R") 33 ∷ Binary 36 graph.Add (Truth 36 true) (constant 1 43) ∷ []) (leading 22 (spelled (codes "Q") 31) (Schedule None None)) ∷ []) ∷ [])
+    49
 
 -- ---- numbers
 
@@ -261,6 +295,35 @@ no_weight = with_tables (tabled 9 (spelled (codes "T") 15) (row_of (plain_figure
 -- model M; table T { 1 : 4294967295; 2 : 1; 3 : 1; } vertex RUN { } end
 abbrev pub heavy_table : WrittenModel
 heavy_table = with_tables (tabled 9 (spelled (codes "T") 15) (row_of (plain_figure 1 19) (figure 4294967295 23) ∷ row_of (plain_figure 2 35) (figure 1 39) ∷ row_of (plain_figure 3 42) (figure 1 46) ∷ []) ∷ []) (composed [] (run_at 51 [] [] ∷ []) 66)
+
+-- model M; var N : 0..4611686018427387904 = 4611686018427387905; vertex RUN { } end
+abbrev pub large_initial : WrittenModel
+large_initial = composed
+    (ranging 9 (spelled (codes "N") 13) (plain_figure 0 17) (plain_figure 4611686018427387904 20) (SignedLiteral (plain_figure 4611686018427387905 42)) ∷ [])
+    (run_at 63 [] [] ∷ [])
+    78
+
+-- model M; table T { -4611686018427387905 : 99999999999999999999; } vertex RUN { } end
+abbrev pub large_row : WrittenModel
+large_row = with_tables (tabled 9 (spelled (codes "T") 15) (row_of (minus_figure 4611686018427387905 19) (huge 42) ∷ []) ∷ []) (composed [] (run_at 66 [] [] ∷ []) 81)
+
+-- model M; var N : 0..3 = 0; vertex RUN { draw N from 99999999999999999999 in -4611686018427387905..3; } end
+abbrev pub large_draw : WrittenModel
+large_draw = composed
+    (n_variable ∷ [])
+    (run_at 27
+    (Draw 40 (storing (codes "N") 45) (huge 52) (Uniform (minus_figure 4611686018427387905 76) (plain_figure 3 98)) ∷ [])
+    [] ∷ [])
+    103
+
+-- model M; var N : 0..3 = 0; vertex RUN { draw N from 0 in 3..2; } end
+abbrev pub empty_draw : WrittenModel
+empty_draw = composed
+    (n_variable ∷ [])
+    (run_at 27
+    (Draw 40 (storing (codes "N") 45) (figure 0 52) (Uniform (plain_figure 3 57) (plain_figure 2 60)) ∷ [])
+    [] ∷ [])
+    65
 
 -- ---- counts
 

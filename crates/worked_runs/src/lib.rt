@@ -42,7 +42,7 @@ pub use static_rules::{
     counts_have_limits, draws_are_within_limits, kinds_match, limits_on_counts_are_exact,
     long_models_are_told_last, models_break_no_rule, names_are_declared, names_are_declared_once,
     names_are_rightly_used, names_are_short, numbers_are_within_limits,
-    numbers_beyond_are_compared, the_least_place_is_told, values_are_counted,
+    numbers_beyond_are_compared, operators_have_kinds, the_least_place_is_told, values_are_counted,
 };
 pub use stream::{stream_gives, words_are_shared};
 pub use texts::{models_have_texts, operands_stand_in_parentheses};

@@ -1,11 +1,12 @@
 //! Static rules: written models that break them, each with what is broken at which byte, and the fault that is told.
 //! The texts stand beside the models in `specs/WrittenModels.antt`.
 
-ghost use Rattle.std.specs.Prelude.{◌≡◌, Some, None, [], ◌∷◌, codes, replicate};
-ghost use Rattle.sig_base.specs.declared.limits.TheConstants.{VARIABLES_MAX, TABLES_MAX, VERTICES_MAX, CHANGES_MAX, EDGES_MAX, ROWS_MAX};
+ghost use Rattle.std.specs.Prelude.{◌≡◌, Some, None, [], ◌∷◌, map, codes, replicate};
+ghost use Rattle.model_core.specs.declared.model.Kind.TheVariants as kinds;
 ghost use Rattle.model_core.specs.declared.static_kind.StaticKind.TheVariants as rules;
 ghost use Rattle.model_core.specs.Text.Numbering.{numbered};
 ghost use Rattle.model_core.specs.Static.FaultOrder.{earliest_fault};
+ghost use Rattle.model_core.specs.Static.Kinds.{operand_kind, result_kind};
 ghost use Rattle.model_core.specs.Static.RuleTable.{name_too_long, literal_too_large, stream_outside, draw_outside, too_many};
 ghost use Rattle.model_core.specs.Static.PartFaults.{size_faults, priority_faults};
 ghost use Rattle.model_core.specs.Static.ModelFaults.{faults_of_counts, faults_of_parts, or_too_long, model_faults, told_fault};
@@ -59,6 +60,7 @@ pub fn kinds_match()
         ∷ static_fault rules.KindMismatch 136 ∷ static_fault rules.KindMismatch 158 ∷ static_fault rules.KindMismatch 173 ∷ static_fault rules.KindMismatch 187
         ∷ static_fault rules.KindMismatch 203 ∷ static_fault rules.KindMismatch 219 ∷ static_fault rules.KindMismatch 250 ∷ static_fault rules.KindMismatch 259
         ∷ static_fault rules.KindMismatch 266 ∷ [] }
+    ensures cells { model_faults texts.kinds_of_cells ≡ static_fault rules.KindMismatch 73 ∷ static_fault rules.KindMismatch 84 ∷ [] }
     ensures kind_of_else { model_faults texts.kind_of_else ≡ static_fault rules.UnknownName 80 ∷ static_fault rules.KindMismatch 70 ∷ [] }
     ensures before_its_operand { told_fault texts.kind_of_else ≡ Some (static_fault rules.KindMismatch 70) }
     ensures kind_of_result { model_faults texts.kind_of_result
@@ -66,10 +68,25 @@ pub fn kinds_match()
     ensures unknown_first { told_fault texts.kind_of_result ≡ Some (static_fault rules.UnknownName 70) }
 {}
 
+/// Operators that count take and give whole numbers, those that compare give truth values, and both sides of `=` and
+/// `<>` need only have one kind.
+pub fn operators_have_kinds()
+    ensures arithmetic_takes { map operand_kind texts.arithmetic ≡ replicate 7 (Some kinds.Range) }
+    ensures arithmetic_gives { map result_kind texts.arithmetic ≡ replicate 7 kinds.Range }
+    ensures comparisons_take { map operand_kind texts.comparisons ≡ replicate 4 (Some kinds.Range) }
+    ensures comparisons_give { map result_kind texts.comparisons ≡ replicate 4 kinds.Truth }
+    ensures equalities_take { map operand_kind texts.equalities ≡ replicate 2 None }
+    ensures equalities_give { map result_kind texts.equalities ≡ replicate 2 kinds.Truth }
+    ensures connectives_take { map operand_kind texts.connectives ≡ replicate 2 (Some kinds.Truth) }
+    ensures connectives_give { map result_kind texts.connectives ≡ replicate 2 kinds.Truth }
+{}
+
 /// There are as many values as parameters, and as many right sides as targets. Kinds are compared as far as both go.
 pub fn values_are_counted()
     ensures too_many { model_faults texts.too_many_values ≡ static_fault rules.ValueCount 31 ∷ [] }
     ensures too_few { model_faults texts.too_few_values ≡ static_fault rules.ValueCount 74 ∷ static_fault rules.KindMismatch 78 ∷ static_fault rules.ValueCount 92 ∷ [] }
+    ensures for_an_unknown_vertex { model_faults texts.values_for_unknown
+        ≡ static_fault rules.UnknownName 31 ∷ static_fault rules.UnknownName 33 ∷ static_fault rules.KindMismatch 36 ∷ [] }
     ensures right_sides { model_faults texts.too_few_right_sides ≡ static_fault rules.ValueCount 61 ∷ static_fault rules.KindMismatch 73 ∷ [] }
 {}
 
@@ -82,6 +99,7 @@ pub fn numbers_are_within_limits()
     ensures number { model_faults texts.large_number ≡ static_fault rules.LiteralTooLarge 49 ∷ [] }
     ensures empty_range { model_faults texts.bounds_exchanged ≡ static_fault rules.EmptyRange 17 ∷ static_fault rules.InitialOutside 24 ∷ [] }
     ensures initial { model_faults texts.initial_before_unknown ≡ static_fault rules.InitialOutside 24 ∷ static_fault rules.UnknownName 44 ∷ [] }
+    ensures large_initial { model_faults texts.large_initial ≡ static_fault rules.LiteralTooLarge 42 ∷ static_fault rules.InitialOutside 42 ∷ [] }
     ensures size { model_faults texts.no_cells ≡ static_fault rules.SizeOutside 15 ∷ [] }
     ensures least_size { size_faults (figure 1 15) ≡ [] }
     ensures last_size { size_faults (figure 4096 15) ≡ [] }
@@ -98,6 +116,11 @@ pub fn draws_are_within_limits()
     ensures last_stream { stream_outside (figure 63 52) ≡ [] }
     ensures uniform { model_faults texts.wide_uniform ≡ static_fault rules.DrawOutside 57 ∷ [] }
     ensures widest { draw_outside (minus_figure 1 57) (plain_figure 4294967294 61) ≡ [] }
+    ensures large_draw { model_faults texts.large_draw
+        ≡ static_fault rules.LiteralTooLarge 52 ∷ static_fault rules.StreamOutside 52 ∷ static_fault rules.LiteralTooLarge 76 ∷ static_fault rules.DrawOutside 76 ∷ [] }
+    ensures empty_draw { model_faults texts.empty_draw ≡ static_fault rules.EmptyRange 57 ∷ [] }
+    ensures large_row { model_faults texts.large_row
+        ≡ static_fault rules.LiteralTooLarge 19 ∷ static_fault rules.LiteralTooLarge 42 ∷ static_fault rules.WeightOutside 42 ∷ [] }
     ensures no_weight { model_faults texts.no_weight ≡ static_fault rules.WeightOutside 23 ∷ [] }
     ensures sum_of_weights { model_faults texts.heavy_table ≡ static_fault rules.WeightOutside 46 ∷ [] }
 {}

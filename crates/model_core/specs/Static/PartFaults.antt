@@ -21,7 +21,7 @@ abbrev pub written_items : {A : Type 0} → Option (List A) → List A
 written_items None = []
 written_items (Some xs) = xs
 
--- names that stand earlier in their list, behind these names
+-- the names of a list that stand earlier in it, or among these names before it
 abbrev pub repeated_names : List (List ℕ) → List WrittenName → List StaticFault
 repeated_names earlier [] = []
 repeated_names earlier (n ∷ ns) = duplicate_name earlier n ++ repeated_names (n.name ∷ earlier) ns
@@ -117,28 +117,28 @@ module _ (means : List ℕ → Option Meaning) where
   use_faults role n = name_too_long n ++ unknown_name (means n.name) n ++ wrong_use role (means n.name) n
 
   -- a part whose kind must be this one, where both are known
-  abbrev pub mismatch : Option Kind → WrittenExpression → List StaticFault
-  mismatch wanted e = kind_mismatch wanted (expression_kind means e) (expression_place e)
+  abbrev pub kind_faults : Option Kind → WrittenExpression → List StaticFault
+  kind_faults wanted e = kind_mismatch wanted (expression_kind means e) (expression_place e)
 
   abbrev pub expression_faults : WrittenExpression → List StaticFault
   expression_faults (written.Number at n) = number_too_large n
   expression_faults (written.Truth at b) = []
   expression_faults (written.Clock at) = []
   expression_faults (written.Scalar at n) = use_faults AsScalar n
-  expression_faults (written.Cell at n i) = use_faults AsArray n ++ (expression_faults i ++ mismatch (Some kinds.Range) i)
-  expression_faults (written.Negative at a) = expression_faults a ++ mismatch (Some kinds.Range) a
-  expression_faults (written.Not at a) = expression_faults a ++ mismatch (Some kinds.Truth) a
+  expression_faults (written.Cell at n i) = use_faults AsArray n ++ (expression_faults i ++ kind_faults (Some kinds.Range) i)
+  expression_faults (written.Negative at a) = expression_faults a ++ kind_faults (Some kinds.Range) a
+  expression_faults (written.Not at a) = expression_faults a ++ kind_faults (Some kinds.Truth) a
   expression_faults (written.Binary at op a b) =
-      (expression_faults a ++ mismatch (operand_kind op) a)
-      ++ (expression_faults b ++ mismatch (right_operand_kind op (expression_kind means a)) b)
+      (expression_faults a ++ kind_faults (operand_kind op) a)
+      ++ (expression_faults b ++ kind_faults (right_operand_kind op (expression_kind means a)) b)
   expression_faults (written.If at c a b) =
-      (expression_faults c ++ mismatch (Some kinds.Truth) c)
+      (expression_faults c ++ kind_faults (Some kinds.Truth) c)
       ++ expression_faults a
-      ++ (expression_faults b ++ mismatch (expression_kind means a) b)
+      ++ (expression_faults b ++ kind_faults (expression_kind means a) b)
 
   -- an expression whose kind must be this one, where both are known
   abbrev pub operand_faults : Option Kind → WrittenExpression → List StaticFault
-  operand_faults wanted e = expression_faults e ++ mismatch wanted e
+  operand_faults wanted e = expression_faults e ++ kind_faults wanted e
 
   -- values beside the kinds that they must have, as far as both lists go
   abbrev pub values_faults : List (Option Kind) → List WrittenExpression → List StaticFault
