@@ -177,7 +177,7 @@ pub fn limits_on_counts_are_exact()
 pub fn long_models_are_told_last()
     ensures fits { or_too_long texts.plain_text 28 (faults_of_parts texts.plain_text) ≡ [] }
     ensures too_long { or_too_long texts.plain_text 27 (faults_of_parts texts.plain_text) ≡ static_fault rules.ModelTooLong 24 ∷ [] }
-    ensures only_then { or_too_long texts.unknown_target 27 (faults_of_parts texts.unknown_target) ≡ static_fault rules.UnknownName 26 ∷ [] }
+    ensures only_then { or_too_long texts.declared_twice 27 (faults_of_parts texts.declared_twice) ≡ static_fault rules.DuplicateName 31 ∷ [] }
 {}
 
 /// A text with each part of the language breaks no rule, and names the model whose canonical text it is.
