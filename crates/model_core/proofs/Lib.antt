@@ -12,6 +12,8 @@ pub mod Marks
 pub mod LeastSets
 pub mod SameLaws
 pub mod ToldFaults
+pub mod EmptyLists
+pub mod GivenValues
 pub mod NumberedNames
 pub mod NumberedParts
 pub mod OneFaultTold

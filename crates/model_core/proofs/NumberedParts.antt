@@ -19,7 +19,9 @@ use Rattle.model_core.specs.Static.RuleTable.{certain_value, name_too_long, unkn
 use Rattle.model_core.specs.Static.PartFaults as faults
 use Rattle.model_core.specs.Static.PartFaults.{if_written, written_items, use_faults, kind_faults, expression_faults, operand_faults, values_faults, target_role, target_kind, target_faults}
 use Rattle.model_core.specs.Static.ModelFaults.{faults_of_parts, model_meaning, model_takes, watch_faults, faults_of_counts}
-use Rattle.model_core.proofs.NumberedNames.{Given, left_empty, right_empty, one_given, two_given, three_given, four_given, each_given, given_or, given_items, unbroken, given_value, given_natural, given_signed, DeclaredAs, declared_as}
+use Rattle.model_core.proofs.EmptyLists.{left_empty, right_empty}
+use Rattle.model_core.proofs.GivenValues.{Given, one_given, two_given, three_given, four_given, each_given, given_or, given_items}
+use Rattle.model_core.proofs.NumberedNames.{unbroken, given_value, given_natural, given_signed, DeclaredAs, declared_as}
 
 -- ---- declarations
 
