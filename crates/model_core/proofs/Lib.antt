@@ -13,3 +13,9 @@ pub mod LeastSets
 pub mod SameLaws
 pub mod Formats
 pub mod OpeningLaws
+pub mod ToldFaults
+pub mod EmptyLists
+pub mod GivenValues
+pub mod NumberedNames
+pub mod NumberedParts
+pub mod OneFaultTold

@@ -10,6 +10,8 @@ mod model;
 mod raw;
 mod reading_laws;
 mod sameness;
+mod static_kind;
+mod static_law;
 mod staying;
 mod token;
 mod vertex;
@@ -28,6 +30,8 @@ pub use reading_laws::{
     the_reader_reads_texts,
 };
 pub use sameness::sameness_is_a_preorder;
+pub use static_kind::StaticKind;
+pub use static_law::one_fault_is_told;
 pub use staying::runs_stay_in_range;
 pub use token::{Symbol, Token, TokenKind, Word};
 pub use vertex::{Change, Edge, EdgeForm, Target, Vertex};

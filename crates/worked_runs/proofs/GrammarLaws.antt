@@ -21,8 +21,8 @@ whole (Ok (y, [])) x e = ap (λ z. took z []) (some_is y x e)
 whole (Ok (y, t ∷ rest)) x e = absurd cc
 whole (Err rest) x e = absurd cc
 
-pub spelled : {A : Type 0} {f : LanguageFormat A} {text : List ℕ} {x : A} → read_as f text ≡ Some x → IsSpelled f text x
-spelled {A} {f} {text} {x} e = go (tokens_of text) refl e
+pub is_spelled : {A : Type 0} {f : LanguageFormat A} {text : List ℕ} {x : A} → read_as f text ≡ Some x → IsSpelled f text x
+is_spelled {A} {f} {text} {x} e = go (tokens_of text) refl e
   where
     go : (r : Result (List Lexeme) ℕ) → tokens_of text ≡ r → value_of_tokens f r ≡ Some x → IsSpelled f text x
     go (Ok tokens) cut e = record { tokens = tokens; cut = cut; spelled = sound level_lookahead level_format f tokens x [] (whole (language_reader f tokens) x e) }
@@ -32,7 +32,7 @@ pub is_model : {text : List ℕ} → is_some (read_as text_format text) ≡ true
 is_model {text} e = go (read_as text_format text) refl e
   where
     go : (r : Option WrittenModel) → read_as text_format text ≡ r → is_some r ≡ true → IsModelText text
-    go (Some m) same e = record { model = m; spelled = spelled same }
+    go (Some m) same e = record { model = m; spelled = is_spelled same }
     go None same e = absurd cc
 
 refusal : (text : List ℕ) (tokens : List Lexeme) (at : ℕ) → place_stuck text (text_read tokens) ≡ Some at → IsUnexpectedAt text tokens at

@@ -2,47 +2,47 @@
 
 ghost use Rattle.std.specs.Prelude.{◌≡◌, true, false, List, [], ◌∷◌, Some, None, codes};
 ghost use Rattle.model_core.specs.EventGraph.{Subtract, Divide, Add, Multiply, Equal, Below, And, Or, Least, Greatest};
-ghost use Rattle.model_core.specs.Text.Written.{TruthKind, TruthLiteral, Set, Draw, Uniform, Schedule, Urgent, CancelNext, CancelEqual, CancelAll};
+ghost use Rattle.model_core.specs.Text.Written.{Truth, Clock, Scalar, Cell, Negative, Not, Binary, If, TruthKind, TruthLiteral, Set, Draw, Uniform, Schedule, Urgent, CancelNext, CancelEqual, CancelAll};
 ghost use Rattle.model_core.specs.Text.Expressions.{expression_format};
 ghost use Rattle.model_core.specs.Text.Language.{variable_format, change_format, edge_format, text_format};
 ghost use Rattle.worked_runs.specs.GrammarTexts.{IsSpelled, IsModelText, IsRefusedAt, IsFrontRefusedAt};
-ghost use Rattle.worked_runs.specs.WrittenWords.{a_name, a_numeral, unsigned, a_target, a_cell_target, an_edge, a_number, a_truth, a_clock, a_scalar, a_scalar_inside, a_cell, a_negative, a_not, a_pair, a_choice};
-ghost use Rattle.worked_runs.specs.WrittenModels.{stock, stock_text};
+ghost use Rattle.worked_runs.specs.WrittenParts.{spelled, figure, plain_figure, constant, reading, storing, to_index, leading, with_carried, with_condition};
+ghost use Rattle.worked_runs.specs.StockText.{stock, stock_text};
 
 /// Chains group to the left, and each operator takes as its operands what its level says.
 pub fn operators_have_levels()
-    ensures differences { IsSpelled expression_format (codes "1 - 2 - 3") (a_pair 0 Subtract (a_pair 0 Subtract (a_number 0 1) (a_number 4 2)) (a_number 8 3)) }
-    ensures quotients { IsSpelled expression_format (codes "8 / 4 / 2") (a_pair 0 Divide (a_pair 0 Divide (a_number 0 8) (a_number 4 4)) (a_number 8 2)) }
-    ensures disjunctions { IsSpelled expression_format (codes "A or B or C") (a_pair 0 Or (a_pair 0 Or (a_scalar 0 (codes "A")) (a_scalar 5 (codes "B"))) (a_scalar 10 (codes "C"))) }
-    ensures product_in_a_sum { IsSpelled expression_format (codes "1 + 2 * 3") (a_pair 0 Add (a_number 0 1) (a_pair 4 Multiply (a_number 4 2) (a_number 8 3))) }
-    ensures sum_in_a_comparison { IsSpelled expression_format (codes "1 < 2 + 3") (a_pair 0 Below (a_number 0 1) (a_pair 4 Add (a_number 4 2) (a_number 8 3))) }
-    ensures not_of_a_comparison { IsSpelled expression_format (codes "not A = B") (a_not 0 (a_pair 4 Equal (a_scalar 4 (codes "A")) (a_scalar 8 (codes "B")))) }
-    ensures not_in_a_conjunction { IsSpelled expression_format (codes "not A and B") (a_pair 0 And (a_not 0 (a_scalar 4 (codes "A"))) (a_scalar 10 (codes "B"))) }
-    ensures conjunction_in_a_disjunction { IsSpelled expression_format (codes "A or B and C") (a_pair 0 Or (a_scalar 0 (codes "A")) (a_pair 5 And (a_scalar 5 (codes "B")) (a_scalar 11 (codes "C")))) }
-    ensures minus_of_a_cell { IsSpelled expression_format (codes "-X[1] * 2") (a_pair 0 Multiply (a_negative 0 (a_cell 1 (codes "X") (a_number 3 1))) (a_number 8 2)) }
-    ensures else_goes_on { IsSpelled expression_format (codes "if A then 1 else B or C") (a_choice 0 (a_scalar 3 (codes "A")) (a_number 10 1) (a_pair 17 Or (a_scalar 17 (codes "B")) (a_scalar 22 (codes "C")))) }
+    ensures differences { IsSpelled expression_format (codes "1 - 2 - 3") (Binary 0 Subtract (Binary 0 Subtract (constant 1 0) (constant 2 4)) (constant 3 8)) }
+    ensures quotients { IsSpelled expression_format (codes "8 / 4 / 2") (Binary 0 Divide (Binary 0 Divide (constant 8 0) (constant 4 4)) (constant 2 8)) }
+    ensures disjunctions { IsSpelled expression_format (codes "A or B or C") (Binary 0 Or (Binary 0 Or (reading (codes "A") 0) (reading (codes "B") 5)) (reading (codes "C") 10)) }
+    ensures product_in_a_sum { IsSpelled expression_format (codes "1 + 2 * 3") (Binary 0 Add (constant 1 0) (Binary 4 Multiply (constant 2 4) (constant 3 8))) }
+    ensures sum_in_a_comparison { IsSpelled expression_format (codes "1 < 2 + 3") (Binary 0 Below (constant 1 0) (Binary 4 Add (constant 2 4) (constant 3 8))) }
+    ensures not_of_a_comparison { IsSpelled expression_format (codes "not A = B") (Not 0 (Binary 4 Equal (reading (codes "A") 4) (reading (codes "B") 8))) }
+    ensures not_in_a_conjunction { IsSpelled expression_format (codes "not A and B") (Binary 0 And (Not 0 (reading (codes "A") 4)) (reading (codes "B") 10)) }
+    ensures conjunction_in_a_disjunction { IsSpelled expression_format (codes "A or B and C") (Binary 0 Or (reading (codes "A") 0) (Binary 5 And (reading (codes "B") 5) (reading (codes "C") 11))) }
+    ensures minus_of_a_cell { IsSpelled expression_format (codes "-X[1] * 2") (Binary 0 Multiply (Negative 0 (Cell 1 (spelled (codes "X") 1) (constant 1 3))) (constant 2 8)) }
+    ensures else_goes_on { IsSpelled expression_format (codes "if A then 1 else B or C") (If 0 (reading (codes "A") 3) (constant 1 10) (Binary 17 Or (reading (codes "B") 17) (reading (codes "C") 22))) }
 {}
 
 /// A part stands where its first token begins, and a parenthesis counts as a token of its expression.
 pub fn expressions_have_places()
-    ensures parentheses { IsSpelled expression_format (codes "((X))") (a_scalar_inside 0 2 (codes "X")) }
-    ensures group { IsSpelled expression_format (codes "(1 - 2) - 3") (a_pair 0 Subtract (a_pair 0 Subtract (a_number 1 1) (a_number 5 2)) (a_number 10 3)) }
-    ensures group_behind { IsSpelled expression_format (codes "1 - (2 - 3)") (a_pair 0 Subtract (a_number 0 1) (a_pair 4 Subtract (a_number 5 2) (a_number 9 3))) }
-    ensures call { IsSpelled expression_format (codes " min(X, max(clk, 1))") (a_pair 1 Least (a_scalar 5 (codes "X")) (a_pair 8 Greatest (a_clock 12) (a_number 17 1))) }
-    ensures truths { IsSpelled expression_format (codes "true = false") (a_pair 0 Equal (a_truth 0 true) (a_truth 7 false)) }
+    ensures parentheses { IsSpelled expression_format (codes "((X))") (Scalar 0 (spelled (codes "X") 2)) }
+    ensures group { IsSpelled expression_format (codes "(1 - 2) - 3") (Binary 0 Subtract (Binary 0 Subtract (constant 1 1) (constant 2 5)) (constant 3 10)) }
+    ensures group_behind { IsSpelled expression_format (codes "1 - (2 - 3)") (Binary 0 Subtract (constant 1 0) (Binary 4 Subtract (constant 2 5) (constant 3 9))) }
+    ensures call { IsSpelled expression_format (codes " min(X, max(clk, 1))") (Binary 1 Least (reading (codes "X") 5) (Binary 8 Greatest (Clock 12) (constant 1 17))) }
+    ensures truths { IsSpelled expression_format (codes "true = false") (Binary 0 Equal (Truth 0 true) (Truth 7 false)) }
 {}
 
 /// What declarations, changes and edges are written down as.
 pub fn lines_are_spelled()
-    ensures truth_variable { IsSpelled variable_format (codes "var B : bool = true;") (record { at = 0; name = a_name 4 (codes "B"); size = None; kind = TruthKind; initial = TruthLiteral 15 true }) }
-    ensures set { IsSpelled change_format (codes "set X, Y[1] := 2, clk;") (Set 0 (a_target 4 (codes "X") ∷ a_cell_target 7 (codes "Y") 9 1 ∷ []) (a_number 15 2 ∷ a_clock 18 ∷ [])) }
-    ensures draw { IsSpelled change_format (codes "draw X from 3 in 0..5;") (Draw 0 (a_target 5 (codes "X")) (a_numeral 12 3) (Uniform (unsigned 17 0) (unsigned 20 5))) }
-    ensures schedule { IsSpelled edge_format (codes "schedule A(1) after 2 priority 3 when X;") (an_edge (a_name 9 (codes "A")) (Some (a_number 11 1 ∷ [])) (Some (a_scalar 38 (codes "X"))) (Schedule (Some (a_number 20 2)) (Some (a_numeral 31 3)))) }
-    ensures bare_schedule { IsSpelled edge_format (codes "schedule A;") (an_edge (a_name 9 (codes "A")) None None (Schedule None None)) }
-    ensures urgent { IsSpelled edge_format (codes "urgent A(1);") (an_edge (a_name 7 (codes "A")) (Some (a_number 9 1 ∷ [])) None Urgent) }
-    ensures cancel_next { IsSpelled edge_format (codes "cancel A;") (an_edge (a_name 7 (codes "A")) None None CancelNext) }
-    ensures cancel_equal { IsSpelled edge_format (codes "cancel A(1);") (an_edge (a_name 7 (codes "A")) (Some (a_number 9 1 ∷ [])) None CancelEqual) }
-    ensures cancel_all { IsSpelled edge_format (codes "cancel all A when X;") (an_edge (a_name 11 (codes "A")) None (Some (a_scalar 18 (codes "X"))) CancelAll) }
+    ensures truth_variable { IsSpelled variable_format (codes "var B : bool = true;") (record { at = 0; name = spelled (codes "B") 4; size = None; kind = TruthKind; initial = TruthLiteral 15 true }) }
+    ensures set { IsSpelled change_format (codes "set X, Y[1] := 2, clk;") (Set 0 (storing (codes "X") 4 ∷ to_index (spelled (codes "Y") 7) (constant 1 9) ∷ []) (constant 2 15 ∷ Clock 18 ∷ [])) }
+    ensures draw { IsSpelled change_format (codes "draw X from 3 in 0..5;") (Draw 0 (storing (codes "X") 5) (figure 3 12) (Uniform (plain_figure 0 17) (plain_figure 5 20))) }
+    ensures schedule { IsSpelled edge_format (codes "schedule A(1) after 2 priority 3 when X;") (with_carried (constant 1 11 ∷ []) (with_condition (reading (codes "X") 38) (leading 0 (spelled (codes "A") 9) (Schedule (Some (constant 2 20)) (Some (figure 3 31)))))) }
+    ensures bare_schedule { IsSpelled edge_format (codes "schedule A;") (leading 0 (spelled (codes "A") 9) (Schedule None None)) }
+    ensures urgent { IsSpelled edge_format (codes "urgent A(1);") (with_carried (constant 1 9 ∷ []) (leading 0 (spelled (codes "A") 7) Urgent)) }
+    ensures cancel_next { IsSpelled edge_format (codes "cancel A;") (leading 0 (spelled (codes "A") 7) CancelNext) }
+    ensures cancel_equal { IsSpelled edge_format (codes "cancel A(1);") (with_carried (constant 1 9 ∷ []) (leading 0 (spelled (codes "A") 7) CancelEqual)) }
+    ensures cancel_all { IsSpelled edge_format (codes "cancel all A when X;") (with_condition (reading (codes "X") 18) (leading 0 (spelled (codes "A") 11) CancelAll)) }
 {}
 
 /// What whole texts are written down as.

@@ -17,6 +17,7 @@ mod order;
 mod ranges;
 mod reaching;
 mod rules;
+mod static_rules;
 mod stream;
 mod texts;
 mod tokens;
@@ -43,6 +44,12 @@ pub use reaching::steps_reach_moments;
 pub use rules::{
     applications_are_made_in_order, conditions_have_numbers, the_first_rule_is_taken,
     the_strategy_ends,
+};
+pub use static_rules::{
+    counts_have_limits, draws_are_within_limits, kinds_match, limits_on_counts_are_exact,
+    long_models_are_told_last, models_break_no_rule, names_are_declared, names_are_declared_once,
+    names_are_rightly_used, names_are_short, numbers_are_within_limits,
+    numbers_beyond_are_compared, operators_have_kinds, the_least_place_is_told, values_are_counted,
 };
 pub use stream::{stream_gives, words_are_shared};
 pub use texts::{models_have_texts, operands_stand_in_parentheses};

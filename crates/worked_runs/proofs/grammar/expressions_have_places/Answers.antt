@@ -2,15 +2,15 @@ use Rattle.std.proofs.Common.{refl}
 use Rattle.model_core.specs.Text.Expressions.{level_format}
 use Rattle.model_core.specs.Inner.FormatReader.{read_within, rule_at, many_within, many_at}
 use Rattle.model_core.specs.Inner.LanguageReader.{level_lookahead}
-use Rattle.worked_runs.proofs.GrammarLaws.{spelled}
+use Rattle.worked_runs.proofs.GrammarLaws.{is_spelled}
 use Rattle.worked_runs.proofs.grammar.expressions_have_places.Goals as goal
 
 pub returns : goal.returns
 unfolding level_format read_within rule_at many_within many_at level_lookahead
 returns c = record {
-  parentheses = spelled refl;
-  group = spelled refl;
-  group_behind = spelled refl;
-  call = spelled refl;
-  truths = spelled refl;
+  parentheses = is_spelled refl;
+  group = is_spelled refl;
+  group_behind = is_spelled refl;
+  call = is_spelled refl;
+  truths = is_spelled refl;
 }

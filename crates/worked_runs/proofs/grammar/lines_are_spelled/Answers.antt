@@ -3,19 +3,19 @@ use Rattle.model_core.specs.Text.Expressions.{level_format}
 use Rattle.model_core.specs.Text.Language.{signed_format, literal_format, kind_format, variable_format, row_format, table_format, watch_format, target_format, choice_format, change_format, values_format, when_format, timing_format, schedule_format, urgent_format, cancelled_format, cancel_format, edge_format, vertex_format, text_format}
 use Rattle.model_core.specs.Inner.FormatReader.{read_within, rule_at, many_within, many_at}
 use Rattle.model_core.specs.Inner.LanguageReader.{level_lookahead}
-use Rattle.worked_runs.proofs.GrammarLaws.{spelled}
+use Rattle.worked_runs.proofs.GrammarLaws.{is_spelled}
 use Rattle.worked_runs.proofs.grammar.lines_are_spelled.Goals as goal
 
 pub returns : goal.returns
 unfolding level_format read_within rule_at many_within many_at level_lookahead signed_format literal_format kind_format variable_format row_format table_format watch_format target_format choice_format change_format values_format when_format timing_format schedule_format urgent_format cancelled_format cancel_format edge_format vertex_format text_format
 returns c = record {
-  truth_variable = spelled refl;
-  set = spelled refl;
-  draw = spelled refl;
-  schedule = spelled refl;
-  bare_schedule = spelled refl;
-  urgent = spelled refl;
-  cancel_next = spelled refl;
-  cancel_equal = spelled refl;
-  cancel_all = spelled refl;
+  truth_variable = is_spelled refl;
+  set = is_spelled refl;
+  draw = is_spelled refl;
+  schedule = is_spelled refl;
+  bare_schedule = is_spelled refl;
+  urgent = is_spelled refl;
+  cancel_next = is_spelled refl;
+  cancel_equal = is_spelled refl;
+  cancel_all = is_spelled refl;
 }
