@@ -7,6 +7,7 @@ mod expr;
 mod going_on;
 mod left;
 mod model;
+mod op;
 mod raw;
 mod sameness;
 mod staying;
@@ -18,6 +19,7 @@ pub use expr::Expr;
 pub use going_on::runs_go_on;
 pub use left::changes_leave_their_result;
 pub use model::{Kind, Model, Var, Watch};
+pub use op::Op;
 pub use raw::{
     RawChange, RawEdge, RawEdgeForm, RawExpr, RawForm, RawKind, RawLiteral, RawModel, RawName,
     RawNumber, RawRow, RawSigned, RawTable, RawTarget, RawVar, RawVertex,
@@ -25,4 +27,4 @@ pub use raw::{
 pub use sameness::sameness_is_a_preorder;
 pub use staying::runs_stay_in_range;
 pub use token::{Symbol, Token, TokenKind, Word};
-pub use vertex::{Change, Edge, EdgeForm, Target, Vertex};
+pub use vertex::{Change, Choice, Edge, EdgeForm, Target, Vertex};
