@@ -11,3 +11,4 @@ pub mod InRange
 pub mod Marks
 pub mod LeastSets
 pub mod SameLaws
+mod SameParts

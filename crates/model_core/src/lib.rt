@@ -3,11 +3,15 @@
 #![tactic(auto)]
 
 mod application;
+mod copying;
+mod equality;
 mod expr;
 mod going_on;
 mod left;
 mod model;
 mod op;
+mod part;
+mod parts;
 mod raw;
 mod sameness;
 mod staying;
@@ -15,6 +19,8 @@ mod token;
 mod vertex;
 
 pub use application::Application;
+pub use copying::{copy_expr, copy_model};
+pub use equality::{same_expr, same_model};
 pub use expr::Expr;
 pub use going_on::runs_go_on;
 pub use left::changes_leave_their_result;
