@@ -3,6 +3,7 @@
 #![tactic(auto)]
 
 mod application;
+mod bounds;
 mod copying;
 mod equality;
 mod expr;
@@ -13,12 +14,15 @@ mod op;
 mod part;
 mod parts;
 mod raw;
+mod rule_error;
+mod rule_refused;
 mod sameness;
 mod staying;
 mod token;
 mod vertex;
 
 pub use application::Application;
+pub use bounds::Bounds;
 pub use copying::{copy_expr, copy_model};
 pub use equality::{same_expr, same_model};
 pub use expr::Expr;
@@ -30,6 +34,8 @@ pub use raw::{
     RawChange, RawEdge, RawEdgeForm, RawExpr, RawForm, RawKind, RawLiteral, RawModel, RawName,
     RawNumber, RawRow, RawSigned, RawTable, RawTarget, RawVar, RawVertex,
 };
+pub use rule_error::RuleError;
+pub use rule_refused::RuleRefused;
 pub use sameness::sameness_is_a_preorder;
 pub use staying::runs_stay_in_range;
 pub use token::{Symbol, Token, TokenKind, Word};
