@@ -31,8 +31,8 @@ pub use left::changes_leave_their_result;
 pub use model::{Kind, Model, Var, Watch};
 pub use op::Op;
 pub use raw::{
-    RawChange, RawEdge, RawEdgeForm, RawExpr, RawForm, RawKind, RawLiteral, RawModel, RawName,
-    RawNumber, RawRow, RawSigned, RawTable, RawTarget, RawVar, RawVertex,
+    RawChange, RawChoice, RawEdge, RawEdgeForm, RawExpr, RawForm, RawKind, RawLiteral, RawModel,
+    RawName, RawNumber, RawRow, RawSigned, RawTable, RawTarget, RawVar, RawVertex,
 };
 pub use rule_error::RuleError;
 pub use rule_refused::RuleRefused;
