@@ -1,8 +1,8 @@
 //! Copies of models and of their parts. A copy stands for the same as what it was made of.
 
-ghost use Rattle.std.specs.Prelude.{◌≡◌, IfOk, map};
+ghost use Rattle.std.specs.Prelude.{◌≡◌, IfOk};
 ghost use Rattle.std.specs.Option.{option_map};
-ghost use Rattle.model_core.specs.Code.Views.{expression_of, location_of, change_of, edge_kind_of, edge_of, vertex_of, variable_of, weighted_of, table_of, graph_of};
+ghost use Rattle.model_core.specs.Code.Views.{expression_of, location_of, change_of, edge_kind_of, edge_of, vertex_of, variable_of, table_of, graph_of};
 
 use crate::expr::Expr;
 use crate::model::{Model, Var};

@@ -1,6 +1,6 @@
 //! Equality of models and of their parts: two are the same where they stand for the same.
 
-ghost use Rattle.std.specs.Prelude.{◌≡◌, ◌↔◌, map};
+ghost use Rattle.std.specs.Prelude.{◌≡◌, ◌↔◌};
 ghost use Rattle.std.specs.Bool.{IsTrue};
 ghost use Rattle.std.specs.Option.{option_map};
 ghost use Rattle.model_core.specs.Code.Views.{operator_of, expression_of, location_of, choice_of, change_of, edge_kind_of, edge_of, vertex_of, variable_of, weighted_of, table_of, watched_of, graph_of};

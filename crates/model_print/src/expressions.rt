@@ -58,6 +58,21 @@ fn put_operand(out: &mut Vec<u8>, model: &Model, asked: u8, expr: &Expr) -> Resu
     }
 }
 
+/// Adds an operand behind a sign or a word.
+#[cycle(printing)]
+fn put_behind(
+    out: &mut Vec<u8>,
+    model: &Model,
+    sign: &[u8],
+    asked: u8,
+    expr: &Expr,
+) -> Result<(), NoMemory>
+    ensures { OnOk result (out.new.items ≡ out.old.items ++ (sign.now ++ operand asked (expression_of expr.now) (expression_text (graph_of model.now) (expression_of expr.now)))) }
+{
+    put_bytes(out, sign)?;
+    put_operand(out, model, asked, expr)
+}
+
 /// Adds an expression.
 #[cycle(printing)]
 pub fn put_expression(out: &mut Vec<u8>, model: &Model, expr: &Expr) -> Result<(), NoMemory>
@@ -74,14 +89,8 @@ pub fn put_expression(out: &mut Vec<u8>, model: &Model, expr: &Expr) -> Result<(
             put_expression(out, model, index)?;
             put_bytes(out, b"]")
         }
-        Expr::Neg(number) => {
-            put_bytes(out, b"-")?;
-            put_operand(out, model, NEGATIVE_LEVEL, number)
-        }
-        Expr::Not(truth) => {
-            put_bytes(out, b"not ")?;
-            put_operand(out, model, NOT_LEVEL, truth)
-        }
+        Expr::Neg(number) => put_behind(out, model, b"-", NEGATIVE_LEVEL, number),
+        Expr::Not(truth) => put_behind(out, model, b"not ", NOT_LEVEL, truth),
         Expr::Binary(op, left, right) => {
             if operator_level(*op) == CALL_LEVEL {
                 put_operator(out, *op)?;
