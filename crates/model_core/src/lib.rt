@@ -1,5 +1,5 @@
-//! The types of a model, of a model as it is written, of tokens and of rule applications. The definitions
-//! that all contracts rest on stand in `specs/`, over plain data of their own.
+//! The types of a model, of a model as it is written, of tokens and of rule applications, with copies and
+//! equality of models. The definitions that all contracts rest on stand in `specs/`, over plain data of their own.
 #![tactic(auto)]
 
 mod application;
