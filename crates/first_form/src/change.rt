@@ -42,7 +42,10 @@ pub fn change(alloc: Global, variables: &Names, raw: &RawChange) -> Result<Chang
         targets,
         values,
         ..
-    } = raw;
+    } = raw
+    else {
+        return Err(FirstFormError::NotFirstForm);
+    };
     match (targets.as_slice(), values.as_slice()) {
         ([target], [raw]) => set_one(alloc, variables, target, raw),
         _ => Err(FirstFormError::NotFirstForm),

@@ -49,7 +49,9 @@ fn condition_of(raw: &Option<RawExpr>) -> Option<Expr>
 fn form_of(raw: &RawEdgeForm) -> Option<EdgeForm>
     ensures { option_map edge_kind_of result ≡ accepted_edge_kind (written_edge_kind raw.now) }
 {
-    let RawEdgeForm::Schedule { delay, priority } = raw;
+    let RawEdgeForm::Schedule { delay, priority } = raw else {
+        return None;
+    };
     if priority.is_some() {
         return None;
     }

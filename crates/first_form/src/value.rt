@@ -16,6 +16,12 @@ pub fn value(variables: &Names, raw: &RawExpr) -> Option<Expr>
     match &raw.form {
         RawForm::Int(number) => Some(Expr::Int(number.value?)),
         RawForm::Scalar(name) => Some(Expr::Scalar(variables.place(name.name.as_slice())?)),
-        RawForm::Truth(_) => None,
+        RawForm::Truth(_)
+        | RawForm::Clk
+        | RawForm::Cell(..)
+        | RawForm::Neg(_)
+        | RawForm::Not(_)
+        | RawForm::Binary(..)
+        | RawForm::If(..) => None,
     }
 }

@@ -29,6 +29,7 @@ fn initial_of(raw: &RawLiteral) -> Option<i64>
 {
     match raw {
         RawLiteral::Signed(signed) => number_of(signed),
+        RawLiteral::Truth { .. } => None,
     }
 }
 
@@ -60,7 +61,7 @@ fn range_of(kind: &RawKind, literal: &RawLiteral) -> Option<Range>
             hi,
             clip: false,
         } => ordered(number_of(lo)?, number_of(hi)?, initial_of(literal)?),
-        RawKind::Range { clip: true, .. } => None,
+        RawKind::Range { clip: true, .. } | RawKind::Truth => None,
     }
 }
 

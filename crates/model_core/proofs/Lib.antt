@@ -19,3 +19,4 @@ pub mod GivenValues
 pub mod NumberedNames
 pub mod NumberedParts
 pub mod OneFaultTold
+mod SameParts

@@ -2,6 +2,7 @@
 //!
 //! `at` is the byte at which the part's first token begins. An optional part that isn't written is `None`.
 
+use crate::op::Op;
 use sig_base::{List, Name};
 
 /// A name where it is declared or used.
@@ -52,6 +53,7 @@ pub struct RawVar {
 /// What a variable is declared to hold.
 #[derive(Clone, Copy)]
 pub enum RawKind {
+    Truth,
     Range {
         lo: RawSigned,
         hi: RawSigned,
@@ -63,6 +65,7 @@ pub enum RawKind {
 #[derive(Clone, Copy)]
 pub enum RawLiteral {
     Signed(RawSigned),
+    Truth { at: usize, value: bool },
 }
 
 /// A declaration of a table.
@@ -99,6 +102,13 @@ pub struct RawTarget {
     pub index: Option<RawExpr>,
 }
 
+/// What a draw takes its value from.
+#[derive(Drop)]
+pub enum RawChoice {
+    Uniform { lo: RawSigned, hi: RawSigned },
+    ByTable { table: RawName },
+}
+
 /// A change of the state.
 #[derive(Drop)]
 pub enum RawChange {
@@ -106,6 +116,12 @@ pub enum RawChange {
         at: usize,
         targets: List<RawTarget>,
         values: List<RawExpr>,
+    },
+    Draw {
+        at: usize,
+        target: RawTarget,
+        stream: RawNumber,
+        choice: RawChoice,
     },
 }
 
@@ -126,9 +142,14 @@ pub enum RawEdgeForm {
         delay: Option<RawExpr>,
         priority: Option<RawNumber>,
     },
+    Urgent,
+    CancelNext,
+    CancelEqual,
+    CancelAll,
 }
 
-/// An expression.
+/// An expression. A parenthesis before it counts as its first token.
+#[cycle(written)]
 #[derive(Drop)]
 pub struct RawExpr {
     pub at: usize,
@@ -136,9 +157,16 @@ pub struct RawExpr {
 }
 
 /// The form of an expression.
+#[cycle(written)]
 #[derive(Drop)]
 pub enum RawForm {
     Int(RawNumber),
     Truth(bool),
+    Clk,
     Scalar(RawName),
+    Cell(RawName, Box<RawExpr>),
+    Neg(Box<RawExpr>),
+    Not(Box<RawExpr>),
+    Binary(Op, Box<RawExpr>, Box<RawExpr>),
+    If(Box<RawExpr>, Box<RawExpr>, Box<RawExpr>),
 }

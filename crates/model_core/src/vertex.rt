@@ -3,7 +3,7 @@
 use crate::expr::Expr;
 use sig_base::{List, Name};
 
-/// An event: what it changes, and which events it schedules.
+/// An event: what it changes, and which events it schedules or cancels.
 #[derive(Drop)]
 pub struct Vertex {
     pub name: Name,
@@ -29,13 +29,28 @@ pub enum Change {
         targets: List<Target>,
         values: List<Expr>,
     },
+    /// The target takes a value that is drawn from a random stream, 0 to 63.
+    Draw {
+        target: Target,
+        stream: u8,
+        choice: Choice,
+    },
+}
+
+/// What a draw takes its value from.
+#[derive(Clone, Copy, Debug, PartialEq, Eq)]
+pub enum Choice {
+    /// Each whole number from `lo` to `hi` alike.
+    Uniform { lo: i64, hi: i64 },
+    /// The values of the table at this place, by their weights.
+    ByTable { table: usize },
 }
 
 /// An edge to another event, or to the same one.
 #[derive(Drop)]
 pub struct Edge {
     pub target: usize,
-    /// The values that the scheduled event carries.
+    /// The values that the scheduled event carries, or that the cancelled one must carry.
     pub values: List<Expr>,
     /// The edge does nothing where this is false.
     pub condition: Expr,
@@ -47,4 +62,12 @@ pub struct Edge {
 pub enum EdgeForm {
     /// Schedules the target after a delay in ticks. Of events at one time that of least priority is first.
     Schedule { delay: Expr, priority: u8 },
+    /// Schedules the target at once, before any event of another priority.
+    Urgent,
+    /// Cancels the next pending event of the target.
+    CancelNext,
+    /// Cancels the next pending event of the target that carries exactly the edge's values.
+    CancelEqual,
+    /// Cancels every pending event of the target.
+    CancelAll,
 }

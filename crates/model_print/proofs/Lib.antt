@@ -1,1 +1,2 @@
+mod Infix
 pub mod Loops

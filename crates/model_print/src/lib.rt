@@ -5,6 +5,7 @@ mod declarations;
 mod expressions;
 mod model;
 mod names;
+mod operators;
 mod vertices;
 
 pub use model::print;

@@ -2,13 +2,13 @@
 
 ghost use Rattle.std.specs.Prelude.{◌≡◌, ◌++◌, OnOk, map, option_map};
 ghost use Rattle.std.specs.List.{flat_map};
-ghost use Rattle.model_core.specs.Text.Canonical.{index_text, location_text, change_line, delay_text, priority_text, condition_text, edge_line, vertex_lines, variable_name, joined, in_parentheses};
-ghost use Rattle.model_core.specs.Code.Views.{graph_of, expression_of, location_of, change_of, edge_of, vertex_of};
+ghost use Rattle.model_core.specs.Text.Canonical.{index_text, location_text, choice_text, change_line, delay_text, priority_text, edge_word, timing_text, condition_text, edge_line, vertex_lines, variable_name, joined, in_parentheses};
+ghost use Rattle.model_core.specs.Code.Views.{graph_of, expression_of, location_of, choice_of, change_of, edge_kind_of, edge_of, vertex_of};
 
 use crate::expressions::{put_expression, put_expressions, put_passed};
-use crate::names::{put_variable_name, put_vertex_name};
-use model_core::{Change, Edge, EdgeForm, Expr, Model, Target, Vertex};
-use sig_base::{NoMemory, put_bytes, put_comma, put_number};
+use crate::names::{put_table_name, put_variable_name, put_vertex_name};
+use model_core::{Change, Choice, Edge, EdgeForm, Expr, Model, Target, Vertex};
+use sig_base::{NoMemory, put_bytes, put_comma, put_number, put_signed};
 
 /// The priority that an edge has where none is written.
 const PLAIN_PRIORITY: u8 = 5;
@@ -48,6 +48,24 @@ fn put_targets(out: &mut Vec<u8>, model: &Model, targets: &[Target]) -> Result<(
     Ok(())
 }
 
+/// Adds what a draw takes its value from.
+fn put_choice(out: &mut Vec<u8>, model: &Model, choice: Choice) -> Result<(), NoMemory>
+    ensures { OnOk result (out.new.items ≡ out.old.items ++ choice_text (graph_of model.now) (choice_of choice)) }
+{
+    match choice {
+        Choice::Uniform { lo, hi } => {
+            put_bytes(out, b" in ")?;
+            put_signed(out, lo)?;
+            put_bytes(out, b"..")?;
+            put_signed(out, hi)
+        }
+        Choice::ByTable { table } => {
+            put_bytes(out, b" by ")?;
+            put_table_name(out, model, table)
+        }
+    }
+}
+
 /// Adds the line of a change.
 fn put_change(out: &mut Vec<u8>, model: &Model, change: &Change) -> Result<(), NoMemory>
     ensures { OnOk result (out.new.items ≡ out.old.items ++ change_line (graph_of model.now) (change_of change.now)) }
@@ -58,6 +76,18 @@ fn put_change(out: &mut Vec<u8>, model: &Model, change: &Change) -> Result<(), N
             put_targets(out, model, targets.as_slice())?;
             put_bytes(out, b" := ")?;
             put_expressions(out, model, values.as_slice())?;
+            put_bytes(out, b";\n")
+        }
+        Change::Draw {
+            target,
+            stream,
+            choice,
+        } => {
+            put_bytes(out, b"  draw ")?;
+            put_target(out, model, target)?;
+            put_bytes(out, b" from ")?;
+            put_number(out, u64::from(*stream))?;
+            put_choice(out, model, *choice)?;
             put_bytes(out, b";\n")
         }
     }
@@ -96,19 +126,41 @@ fn put_condition(out: &mut Vec<u8>, model: &Model, condition: &Expr) -> Result<(
     put_expression(out, model, condition)
 }
 
+/// Adds the word for what an edge does.
+fn put_edge_word(out: &mut Vec<u8>, form: &EdgeForm) -> Result<(), NoMemory>
+    ensures { OnOk result (out.new.items ≡ out.old.items ++ edge_word (edge_kind_of form.now)) }
+{
+    match form {
+        EdgeForm::Schedule { .. } => put_bytes(out, b"  schedule "),
+        EdgeForm::Urgent => put_bytes(out, b"  urgent "),
+        EdgeForm::CancelNext | EdgeForm::CancelEqual => put_bytes(out, b"  cancel "),
+        EdgeForm::CancelAll => put_bytes(out, b"  cancel all "),
+    }
+}
+
+/// Adds the delay and the priority of an edge that schedules.
+fn put_timing(out: &mut Vec<u8>, model: &Model, form: &EdgeForm) -> Result<(), NoMemory>
+    ensures { OnOk result (out.new.items ≡ out.old.items ++ timing_text (graph_of model.now) (edge_kind_of form.now)) }
+{
+    match form {
+        EdgeForm::Schedule { delay, priority } => {
+            put_delay(out, model, delay)?;
+            put_priority(out, *priority)
+        }
+        EdgeForm::Urgent | EdgeForm::CancelNext | EdgeForm::CancelEqual | EdgeForm::CancelAll => Ok(
+            (),
+        ),
+    }
+}
+
 /// Adds the line of an edge.
 fn put_edge(out: &mut Vec<u8>, model: &Model, edge: &Edge) -> Result<(), NoMemory>
     ensures { OnOk result (out.new.items ≡ out.old.items ++ edge_line (graph_of model.now) (edge_of edge.now)) }
 {
-    match &edge.form {
-        EdgeForm::Schedule { delay, priority } => {
-            put_bytes(out, b"  schedule ")?;
-            put_vertex_name(out, model, edge.target)?;
-            put_passed(out, model, edge.values.as_slice())?;
-            put_delay(out, model, delay)?;
-            put_priority(out, *priority)?;
-        }
-    }
+    put_edge_word(out, &edge.form)?;
+    put_vertex_name(out, model, edge.target)?;
+    put_passed(out, model, edge.values.as_slice())?;
+    put_timing(out, model, &edge.form)?;
     put_condition(out, model, &edge.condition)?;
     put_bytes(out, b";\n")
 }

@@ -4,6 +4,8 @@
 #[cfg(test)]
 mod adapters;
 #[cfg(test)]
+mod copies;
+#[cfg(test)]
 mod memory;
 #[cfg(test)]
 mod places;

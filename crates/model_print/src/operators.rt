@@ -1,0 +1,72 @@
+//! Operators: how each is written, and how tightly it binds.
+
+ghost use Rattle.std.specs.Prelude.{◌≡◌, ◌++◌, OnOk, codes};
+ghost use Rattle.model_core.specs.Text.Canonical.{operator_level as level_of, left_level as left_level_of, right_level as right_level_of, operator_text};
+ghost use Rattle.model_core.specs.Code.Views.{operator_of};
+
+use model_core::Op;
+use sig_base::{NoMemory, put_bytes};
+
+/// How tightly an operator binds.
+pub fn operator_level(op: Op) -> u8
+    ensures { result ≡ level_of (operator_of op) }
+{
+    match op {
+        Op::Or => 1,
+        Op::And => 2,
+        Op::Eq | Op::Ne | Op::Lt | Op::Le | Op::Gt | Op::Ge => 4,
+        Op::Add | Op::Sub => 5,
+        Op::Mul | Op::Div | Op::Rem => 6,
+        Op::Min | Op::Max => 8,
+    }
+}
+
+/// How tightly the left operand has to bind. Comparisons don't chain.
+pub fn left_level(op: Op) -> u8
+    ensures { result ≡ left_level_of (operator_of op) }
+{
+    match op {
+        Op::Eq | Op::Ne | Op::Lt | Op::Le | Op::Gt | Op::Ge => 5,
+        _ => operator_level(op),
+    }
+}
+
+/// How tightly the right operand has to bind. Chains group to the left.
+pub fn right_level(op: Op) -> u8
+    ensures { result ≡ right_level_of (operator_of op) }
+{
+    operator_level(op) + 1
+}
+
+/// Adds an operator's sign or word.
+pub fn put_operator(out: &mut Vec<u8>, op: Op) -> Result<(), NoMemory>
+    ensures { OnOk result (out.new.items ≡ out.old.items ++ operator_text (operator_of op)) }
+{
+    let text: &[u8] = match op {
+        Op::Add => b"+",
+        Op::Sub => b"-",
+        Op::Mul => b"*",
+        Op::Div => b"/",
+        Op::Rem => b"%",
+        Op::Min => b"min",
+        Op::Max => b"max",
+        Op::Eq => b"=",
+        Op::Ne => b"<>",
+        Op::Lt => b"<",
+        Op::Le => b"<=",
+        Op::Gt => b">",
+        Op::Ge => b">=",
+        Op::And => b"and",
+        Op::Or => b"or",
+    };
+    put_bytes(out, text)
+}
+
+/// Adds an operator with a space before and behind it.
+pub fn put_spaced_operator(out: &mut Vec<u8>, op: Op) -> Result<(), NoMemory>
+    ensures { OnOk result (out.new.items ≡ out.old.items ++ (codes " " ++ operator_text (operator_of op) ++ codes " ")) }
+{
+    put_bytes(out, b" ")?;
+    put_operator(out, op)?;
+    put_bytes(out, b" ")
+}
