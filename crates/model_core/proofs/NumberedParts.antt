@@ -7,9 +7,8 @@ use Rattle.model_core.specs.declared.model.Kind.{Kind}
 use Rattle.model_core.specs.declared.model.Kind.TheVariants as kinds
 use Rattle.model_core.specs.declared.static_kind.StaticKind.TheVariants as rules
 use Rattle.model_core.specs.EventGraph as graph
-use Rattle.model_core.specs.EventGraph.{EventGraph, Location, EventVertex}
 use Rattle.model_core.specs.Text.Written as written
-use Rattle.model_core.specs.Text.Written.{WrittenName, WrittenNumber, WrittenSigned, WrittenKind, WrittenLiteral, WrittenExpression, WrittenVariable, WrittenRow, WrittenTable, WrittenTarget, WrittenChoice, WrittenChange, WrittenEdgeKind, WrittenEdge, WrittenVertex, WrittenModel}
+use Rattle.model_core.specs.Text.Written.{WrittenName, WrittenSigned, WrittenKind, WrittenLiteral, WrittenExpression, WrittenVariable, WrittenRow, WrittenTable, WrittenTarget, WrittenChoice, WrittenChange, WrittenEdgeKind, WrittenEdge, WrittenVertex, WrittenModel}
 use Rattle.model_core.specs.Text.Numbering as numbering
 use Rattle.model_core.specs.Text.Numbering.{◌>>=◌, each_numbered, written_or, declared_place, Declared, declared_by, signed, natural, numbered}
 use Rattle.model_core.specs.Static.FaultOrder.{StaticFault}
