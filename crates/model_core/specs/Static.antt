@@ -5,3 +5,4 @@ pub mod Kinds
 pub mod RuleTable
 pub mod PartFaults
 pub mod ModelFaults
+pub mod Reading

@@ -45,7 +45,7 @@ pub use rule_error::RuleError;
 pub use rule_refused::RuleRefused;
 pub use sameness::sameness_is_a_preorder;
 pub use static_kind::StaticKind;
-pub use static_law::one_fault_is_told;
+pub use static_law::{one_fault_is_told, texts_read_as_one_model};
 pub use staying::runs_stay_in_range;
 pub use token::{Symbol, Token, TokenKind, Word};
 pub use vertex::{Change, Choice, Edge, EdgeForm, Target, Vertex};
