@@ -10,3 +10,4 @@ pub mod WrittenParts
 pub mod WrittenModels
 pub mod StockText
 pub mod GrammarTexts
+pub mod WholeTexts

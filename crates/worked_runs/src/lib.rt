@@ -22,6 +22,7 @@ mod stream;
 mod texts;
 mod tokens;
 mod values;
+mod whole_texts;
 
 pub use alike::{later_events_are_unseen, steps_may_be_fewer};
 pub use apart::{declarations_tell_apart, ends_tell_apart, notes_tell_apart, one_run_tells_apart};
@@ -58,3 +59,4 @@ pub use tokens::{
     numbers_have_a_limit,
 };
 pub use values::{operators_compare, values_are_exact, values_are_lazy};
+pub use whole_texts::{texts_are_printed, texts_have_their_faults_told};

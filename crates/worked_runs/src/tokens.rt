@@ -38,5 +38,7 @@ pub fn bad_bytes_have_places()
     ensures three_points { tokens_of (codes "a...b") ≡ Err 3 }
     ensures low_line { tokens_of (codes "_a") ≡ Err 0 }
     ensures first_of_two { tokens_of (codes "or ! @") ≡ Err 3 }
+    ensures at_the_end { tokens_of (codes "model ; $") ≡ Err 8 }
+    ensures point_in_a_bound { tokens_of (codes "model M; var X : 0.5 = 0;") ≡ Err 18 }
     ensures behind_a_comment { tokens_of (35 ∷ 255 ∷ 10 ∷ 255 ∷ []) ≡ Err 3 }
 {}
