@@ -1,1 +1,2 @@
 pub mod PruneLemmas
+pub mod ValidPruned

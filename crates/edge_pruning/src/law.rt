@@ -5,11 +5,11 @@ ghost use Rattle.model_core.specs.EventGraph.{EventGraph, EventEdge};
 ghost use Rattle.model_core.specs.Run.State.{State, in_range, initial_state};
 ghost use Rattle.model_core.specs.Run.Value.{value_of};
 ghost use Rattle.model_core.specs.Run.Same.{Same};
-ghost use Rattle.model_core.specs.Text.Acceptance.{IsValid};
+ghost use Rattle.model_core.specs.Static.Reading.{IsValid};
 ghost use Rattle.model_core.specs.Rules.Conditions.{first_failed};
 ghost use Rattle.model_core.specs.Rules.Prune.{edge_at, prune_conditions, pruned};
 
-use reading_back::valid_models_read_back;
+use round_trip::validity_is_by_parts;
 
 /// Where no condition of prune fails on a valid model, the result is valid and means the same. So it is of
 /// each edge whose condition is 0 in every state in range, at each clock up to the last stop time.
@@ -25,5 +25,5 @@ pub fn pruning_keeps_the_meaning()
         → (clk : ℕ) → clk ≤ 2 ^ 48 → value_of g s clk e.condition ≡ Ok (pos 0))
         → Same g (pruned g vertex edge) }
 {
-    valid_models_read_back();
+    validity_is_by_parts();
 }

@@ -1,11 +1,12 @@
 -- Each change keeps a state in range.
-use Rattle.std.proofs.Common.{◌≡◌, ℕ, zero, suc, ℤ, pos, negsuc, Bool, true, false, cond, ◌&&◌, int_le, int_lt, List, [], ◌∷◌, replicate, slice_index_or, slice_set, zip, Ok, Err, refl, sym, ap₂, subst, arith, All, IsTrue, map}
+use Rattle.std.proofs.Common.{◌≡◌, ℕ, zero, suc, ℤ, pos, negsuc, Bool, true, false, cond, ◌&&◌, int_le, int_lt, List, [], ◌∷◌, replicate, slice_index_or, slice_set, zip, Ok, Err, refl, sym, ap₂, subst, arith, All, IsTrue, map, length, ◌<◌, ◌∙◌}
 use Rattle.std.proofs.lemmas.Bool.Decides.{nat_tests}
-use lib.Pointwise.{pointwise}
+use Rattle.std.proofs.lemmas.List.{length-replicate}
+use lib.Pointwise.{pointwise, pointwise_long}
 use Rattle.sig_base.specs.declared.fault.FaultKind.{FaultKind}
 use Rattle.sig_base.specs.Stream.{word}
 use Rattle.model_core.specs.EventGraph.{EventGraph, Variable, StateChange, Set, Draw}
-use Rattle.model_core.specs.Run.State.{State, Place, variable_at, cell_count, within, in_ranges, in_range, initial_state, cells_of, with_cell}
+use Rattle.model_core.specs.Run.State.{State, Place, no_variable, variable_at, cell_count, within, in_ranges, in_range, initial_state, cells_of, cell_at, with_cell}
 use Rattle.model_core.specs.Run.Value.{OrFault, each, value_of, place_of}
 use Rattle.model_core.specs.Run.Changes.{Drawn, kept, store, set_all, taken_from, picked, one_more, make_change}
 use Rattle.model_core.specs.Run.Machine.{Note, Goes}
@@ -58,7 +59,7 @@ pointwise-set E (a ∷ xs) (b ∷ ys) zero y d c e passes =
 pointwise-set E (a ∷ xs) (b ∷ ys) (suc k) y d c e passes =
     ap₂ (λ s t. s && t) (and_first (E a b) (pointwise E xs ys) e) (pointwise-set E xs ys k y d c (and_second (E a b) (pointwise E xs ys) e) passes)
 
-replicate-get : {A : Type 0} (n k : ℕ) (a : A) → slice_index_or (replicate n a) k a ≡ a
+pub replicate-get : {A : Type 0} (n k : ℕ) (a : A) → slice_index_or (replicate n a) k a ≡ a
 replicate-get zero k a = refl
 replicate-get (suc n) zero a = refl
 replicate-get (suc n) (suc k) a = replicate-get n k a
@@ -108,3 +109,36 @@ begin_in_range (v ∷ vs) inside =
 
 pub starts_in_range : (g : EventGraph) → All (λ v. IsTrue (within v.lo v.hi v.initial)) g.variables → IsTrue (in_range g (initial_state g))
 starts_in_range g inside = begin_in_range g.variables inside
+
+-- ---- what a state in range holds
+
+pub states_have_variables : (g : EventGraph) (s : State) → IsTrue (in_range g s) → length s ≡ length g.variables
+states_have_variables g s inside = sym (pointwise_long (λ (v : Variable) (values : List ℤ). in_ranges (replicate (cell_count v) v) values) g.variables s inside)
+
+each-long : (vs : List Variable) (s : State) (d : Variable) → pointwise (λ (v : Variable) (values : List ℤ). in_ranges (replicate (cell_count v) v) values) vs s ≡ true → (v : ℕ) → v < length vs → length (slice_index_or s v []) ≡ cell_count (slice_index_or vs v d)
+each-long [] s d e v below = absurd (omega (arith, below))
+each-long (w ∷ vs) [] d e v below = cc
+each-long (w ∷ vs) (values ∷ s) d e zero below =
+    sym (pointwise_long (λ (v : Variable) (x : ℤ). within v.lo v.hi x) (replicate (cell_count w) w) values (and_first (in_ranges (replicate (cell_count w) w) values) _ e)) ∙ length-replicate (cell_count w) w
+each-long (w ∷ vs) (values ∷ s) d e (suc v) below = each-long vs s d (and_second (in_ranges (replicate (cell_count w) w) values) _ e) v (omega (arith, below))
+
+-- as many values as the variable declares
+pub cells_are_declared : (g : EventGraph) (s : State) (v : ℕ) → IsTrue (in_range g s) → v < length g.variables → length (cells_of s v) ≡ cell_count (variable_at g v)
+cells_are_declared g s v inside below = each-long g.variables s _ inside v below
+
+same-within : (n i : ℕ) (w : Variable) (values : List ℤ) → i < n → in_ranges (replicate n w) values ≡ true → within w.lo w.hi (slice_index_or values i (pos 0)) ≡ true
+same-within zero i w values below e = absurd (omega arith)
+same-within (suc n) i w [] below e = cc
+same-within (suc n) zero w (x ∷ values) below e = and_first (within w.lo w.hi x) _ e
+same-within (suc n) (suc i) w (x ∷ values) below e = same-within n i w values (omega arith) (and_second (within w.lo w.hi x) _ e)
+
+each-within : (vs : List Variable) (s : State) → pointwise (λ (v : Variable) (values : List ℤ). in_ranges (replicate (cell_count v) v) values) vs s ≡ true → (v i : ℕ) → i < cell_count (slice_index_or vs v no_variable) → within (slice_index_or vs v no_variable).lo (slice_index_or vs v no_variable).hi (slice_index_or (slice_index_or s v []) i (pos 0)) ≡ true
+each-within [] [] e v i below = refl
+each-within [] (values ∷ s) e v i below = cc
+each-within (w ∷ vs) [] e v i below = cc
+each-within (w ∷ vs) (values ∷ s) e zero i below = same-within (cell_count w) i w values below (and_first (in_ranges (replicate (cell_count w) w) values) _ e)
+each-within (w ∷ vs) (values ∷ s) e (suc v) i below = each-within vs s (and_second (in_ranges (replicate (cell_count w) w) values) _ e) v i below
+
+-- each cell lies in its variable's range, and what names no variable holds 0
+pub cells_lie_in_range : (g : EventGraph) (s : State) (v i : ℕ) → IsTrue (in_range g s) → i < cell_count (variable_at g v) → within (variable_at g v).lo (variable_at g v).hi (cell_at s (record { variable = v; index = i })) ≡ true
+cells_lie_in_range g s v i inside below = each-within g.variables s inside v i below

@@ -15,8 +15,8 @@ pub mod Formats
 pub mod OpeningLaws
 pub mod ToldFaults
 pub mod EmptyLists
-pub mod GivenValues
-pub mod NumberedNames
-pub mod NumberedParts
+pub mod NamedPlaces
+pub mod StaticTwins
 pub mod OneFaultTold
+pub mod SameNames
 mod SameParts

@@ -9,7 +9,7 @@ use Rattle.model_core.specs.Text.Written.{WrittenModel}
 use Rattle.model_core.specs.Static.FaultOrder.{StaticFault, rule_row}
 use Rattle.model_core.specs.Static.ModelFaults.{faults_of_parts, or_too_long, model_faults, Broken, IsTold, told_fault, Accepted}
 use Rattle.model_core.proofs.ToldFaults.{IsLeast, not_before_place, not_before_row, earliest_is_least, none_told}
-use Rattle.model_core.proofs.NumberedParts.{model_given}
+use Rattle.model_core.proofs.StaticTwins.ModelTwin.{parts_kept}
 
 -- ---- each rule has a place of its own in the table
 
@@ -104,7 +104,7 @@ module _ (m : WrittenModel) where
   accepted_unless_told : told_fault m ≡ None → (g : EventGraph) × Accepted m g
   accepted_unless_told e =
       let nothing = none_told (model_faults m) e in
-      let (g, numbers) = model_given m (no_fault_of_parts _ (faults_of_parts m) nothing) in
+      let (g, numbers, keeps, by_kind) = parts_kept m (no_fault_of_parts _ (faults_of_parts m) nothing) in
       (g, record { unbroken = nothing_broken nothing; numbers = numbers })
 
   pub accepted_or_told : told_fault m ≡ None ↔ ((g : EventGraph) × Accepted m g)

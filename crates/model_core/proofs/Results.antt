@@ -1,5 +1,5 @@
 -- Results and faults: what a chain of steps does is known from what its parts do.
-use Rattle.std.proofs.Common.{◌≡◌, ℕ, zero, suc, Bool, true, false, cond, List, [], ◌∷◌, slice_get, Some, Ok, Err, refl, ap, subst}
+use Rattle.std.proofs.Common.{◌≡◌, ℕ, zero, suc, List, [], ◌∷◌, slice_get, Some, Ok, Err, refl, ap, subst}
 use Rattle.std.specs.List.{remove}
 use Rattle.model_core.specs.Run.Value.{OrFault, ◌>>=◌, in_turn}
 
@@ -10,10 +10,6 @@ bind_ok (Err k) f y e = cc
 pub bind_same : {A B : Type 0} (r : OrFault A) (f h : A → OrFault B) → ((x : A) → r ≡ Ok x → f x ≡ h x) → (r >>= f) ≡ (r >>= h)
 bind_same (Ok x) f h e = e x refl
 bind_same (Err k) f h e = refl
-
-pub cond_same : {A : Type 0} (b : Bool) (x y z : A) → (b ≡ false → y ≡ z) → cond b x y ≡ cond b x z
-cond_same true x y z e = refl
-cond_same false x y z e = e refl
 
 -- a fact that each part keeps is kept
 pub in_turn-keeps : {A S : Type 0} (Q : S → Type 0) (f : A → S → OrFault S) → ((a : A) (s t : S) → Q s → f a s ≡ Ok t → Q t) → (as_ : List A) (s t : S) → Q s → in_turn f as_ s ≡ Ok t → Q t

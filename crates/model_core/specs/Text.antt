@@ -8,7 +8,6 @@ pub mod Language
 pub mod FirstWrong
 pub mod Openings
 pub mod ModelText
-pub mod FirstForm
 pub mod Numbering
 pub mod Canonical
-pub mod Acceptance
+pub mod Spellable

@@ -45,7 +45,9 @@ pub use rule_error::RuleError;
 pub use rule_refused::RuleRefused;
 pub use sameness::sameness_is_a_preorder;
 pub use static_kind::StaticKind;
-pub use static_law::{one_fault_is_told, texts_read_as_one_model};
+pub use static_law::{
+    accepted_models_keep_their_rules, one_fault_is_told, texts_read_as_one_model,
+};
 pub use staying::runs_stay_in_range;
 pub use token::{Symbol, Token, TokenKind, Word};
 pub use vertex::{Change, Choice, Edge, EdgeForm, Target, Vertex};

@@ -1,2 +1,2 @@
-mod Infix
-pub mod Loops
+mod WrittenOperators
+pub mod Putting

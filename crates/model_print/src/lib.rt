@@ -3,9 +3,13 @@
 
 mod declarations;
 mod expressions;
+mod lengths;
 mod model;
 mod names;
 mod operators;
+mod pen;
+mod printed;
 mod vertices;
 
-pub use model::print;
+pub use lengths::{change_length, edge_length, expr_length, printed_length};
+pub use printed::{print, print_expr};

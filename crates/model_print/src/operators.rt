@@ -1,11 +1,11 @@
 //! Operators: how each is written, and how tightly it binds.
 
-ghost use Rattle.std.specs.Prelude.{◌≡◌, ◌++◌, OnOk, codes};
+ghost use Rattle.std.specs.Prelude.{◌≡◌};
 ghost use Rattle.model_core.specs.Text.Canonical.{operator_level as level_of, left_level as left_level_of, right_level as right_level_of, operator_text};
 ghost use Rattle.model_core.specs.Code.Views.{operator_of};
 
+use crate::pen::Pen;
 use model_core::Op;
-use sig_base::{NoMemory, put_bytes};
 
 /// How tightly an operator binds.
 pub fn operator_level(op: Op) -> u8
@@ -38,9 +38,9 @@ pub fn right_level(op: Op) -> u8
     operator_level(op) + 1
 }
 
-/// Adds an operator's sign or word.
-pub fn put_operator(out: &mut Vec<u8>, op: Op) -> Result<(), NoMemory>
-    ensures { OnOk result (out.new.items ≡ out.old.items ++ operator_text (operator_of op)) }
+/// Puts an operator's sign or word.
+pub fn put_operator<P: Pen>(out: &mut P, op: Op)
+    ensures { P.adds out.old out.new (operator_text (operator_of op)) }
 {
     let text: &[u8] = match op {
         Op::Add => b"+",
@@ -59,14 +59,5 @@ pub fn put_operator(out: &mut Vec<u8>, op: Op) -> Result<(), NoMemory>
         Op::And => b"and",
         Op::Or => b"or",
     };
-    put_bytes(out, text)
-}
-
-/// Adds an operator with a space before and behind it.
-pub fn put_spaced_operator(out: &mut Vec<u8>, op: Op) -> Result<(), NoMemory>
-    ensures { OnOk result (out.new.items ≡ out.old.items ++ (codes " " ++ operator_text (operator_of op) ++ codes " ")) }
-{
-    put_bytes(out, b" ")?;
-    put_operator(out, op)?;
-    put_bytes(out, b" ")
+    out.put_bytes(text);
 }

@@ -1,13 +1,16 @@
 -- The first token of those that are left, and the others.
-use Rattle.std.proofs.Common.{◌≡◌, ℕ, suc, ◌-◌, ◌≤◌, List, [], ◌∷◌, length, get_or, map, take, drop, Some, None, refl, sym, ap, subst, arith}
+use Rattle.std.proofs.Common.{◌≡◌, ℕ, suc, ◌-◌, ◌≤◌, List, [], ◌∷◌, length, get_or, map, take, drop, refl, sym, ap, subst, arith}
 use Rattle.std.specs.Prelude.{slice_range}
 use Rattle.std.proofs.lemmas.List.{take_rest}
 use Rattle.model_core.specs.declared.token.Token.{Token}
 use Rattle.model_core.specs.declared.token.TokenKind.TheVariants as kinds
 use Rattle.model_core.specs.Text.Lexing.{Lexeme}
+use Rattle.model_core.specs.Text.Format.{any_name}
 use Rattle.model_core.specs.Code.TokenViews.{lexeme_of}
+use Rattle.model_core.specs.Inner.FormatReader.{took}
+use Rattle.model_core.specs.Inner.LanguageReader.{language_reader}
 use Rattle.model_read.specs.InText.{AreInText}
-use Rattle.model_read.specs.Inner.Reader.{name_at, ended}
+use Rattle.model_read.specs.Inner.Ladder.{infix_of_kind, infix_at}
 
 -- what the other tokens stand for
 abbrev pub others : List ℕ → List Token → List Lexeme
@@ -24,10 +27,9 @@ pub first_and_others : (text : List ℕ) (tokens : List Token) (d : Token) → 1
 first_and_others text [] d some = absurd (omega arith)
 first_and_others text (t ∷ tokens) d some = ap (λ rest. lexeme_of text t ∷ map (lexeme_of text) rest) (sym (take_rest (t ∷ tokens) 1))
 
-pub name_at-first : (text : List ℕ) (tokens : List Token) (d : Token) (bytes : List ℕ) → 1 ≤ length tokens → (get_or tokens 0 d).kind ≡ kinds.Name → bytes ≡ slice_range text (get_or tokens 0 d).from (get_or tokens 0 d).to
-    → name_at (map (lexeme_of text) tokens) ≡ Some (record { name = bytes; at = (get_or tokens 0 d).from }, others text tokens)
-name_at-first text tokens d bytes some kind are = rw (first_and_others text tokens d some, kind, are) refl
+pub name-first : (text : List ℕ) (tokens : List Token) (d : Token) (bytes : List ℕ) → 1 ≤ length tokens → (get_or tokens 0 d).kind ≡ kinds.Name → bytes ≡ slice_range text (get_or tokens 0 d).from (get_or tokens 0 d).to
+    → language_reader any_name (map (lexeme_of text) tokens) ≡ took (record { name = bytes; at = (get_or tokens 0 d).from }) (others text tokens)
+name-first text tokens d bytes some kind are = rw (first_and_others text tokens d some, kind, are) refl
 
-pub ended-first : {A : Type 0} (text : List ℕ) (tokens : List Token) (x : A) → 1 ≤ length tokens → ended x (map (lexeme_of text) tokens) ≡ None
-ended-first text [] x some = absurd (omega arith)
-ended-first text (t ∷ tokens) x some = refl
+pub infix-first : (text : List ℕ) (tokens : List Token) (d : Token) → 1 ≤ length tokens → infix_at (map (lexeme_of text) tokens) ≡ infix_of_kind (lexeme_of text (get_or tokens 0 d)).kind
+infix-first text tokens d some = ap infix_at (first_and_others text tokens d some)

@@ -1,6 +1,8 @@
-pub mod Decides
-pub mod FirstFormDecides
-pub mod FirstToken
-pub mod Loop
-pub mod Parts
-pub mod Whole
+mod FirstToken
+mod ReadLoop
+mod FirstOperator
+mod OperandLevels
+mod LevelOperators
+mod OperatorsInTurn
+mod OpeningSteps
+mod WholeText

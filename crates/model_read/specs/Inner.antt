@@ -1,3 +1,7 @@
 -- The code of this crate, restated for its proofs. No public clause cites these, and nobody has to believe them.
-pub mod Reader
-pub mod Rules
+pub mod ReadCalls
+pub mod Ladder
+pub mod Infixes
+pub mod SomeTokens
+pub mod LineFormats
+pub mod Cancels

@@ -1,37 +1,47 @@
 //! The changes of a vertex.
 
-ghost use Rattle.std.specs.Prelude.{map};
-ghost use Rattle.model_core.specs.Code.WrittenViews.{written_change};
-ghost use Rattle.model_read.specs.Inner.Reader.{Gives};
-ghost use Rattle.model_read.specs.Inner.Rules.{change_at, changes_at};
+ghost use Rattle.std.specs.Prelude.{refl};
+ghost use Rattle.model_core.specs.Code.WrittenViews.{written_expression, written_target, written_choice, written_change};
+ghost use Rattle.model_core.specs.Text.Written.{WrittenExpression, WrittenTarget, WrittenChange};
+ghost use Rattle.model_core.specs.Text.Expressions.{expression_format};
+ghost use Rattle.model_core.specs.Text.Language.{target_format, choice_format, change_format};
+ghost use Rattle.model_core.specs.Inner.LanguageReader.{language_reader};
+ghost use Rattle.model_read.specs.Inner.ReadCalls.{Returned};
+ghost use Rattle.model_read.specs.Inner.LineFormats.{set_format, draw_format};
+ghost use Rattle.model_read.specs.Inner.SomeTokens.{target-some, change-some};
 
 use crate::cursor::Cursor;
-use crate::expression::expression;
-use crate::lists::packed;
-use model_core::{RawChange, RawTarget, Symbol, Word};
-use model_lex::ParseError;
-use sig_base::List;
+use crate::expressions::{expression, index};
+use crate::phrase::{Phrase, Repeated, separated};
+use crate::signed::signed;
+use crate::stop::Stop;
+use model_core::{RawChange, RawChoice, RawExpr, RawTarget, Symbol, Word};
 use std::alloc::Global;
 
-/// Reads a change.
-#[tactic(auto, unfolding(crate::specs::Inner::Rules::change_at))]
-fn change(alloc: Global, cursor: &mut Cursor<'_>) -> Result<RawChange, ParseError>
-    ensures { Gives written_change result cursor.new (change_at cursor.old) }
+/// Reads a variable or a cell that takes a value.
+#[tactic(auto, unfolding(model_core::specs::Text::Language::target_format))]
+fn target(alloc: Global, cursor: &mut Cursor<'_>) -> Result<RawTarget, Stop>
+    ensures { Returned written_target result cursor.new (language_reader target_format cursor.old) }
+{
+    let name = cursor.name(alloc)?;
+    let index = index(alloc, cursor)?;
+    Ok(RawTarget {
+        at: name.at,
+        name,
+        index,
+    })
+}
+
+/// Reads a change that computes values.
+#[tactic(auto, unfolding(crate::specs::Inner::LineFormats::set_format))]
+fn set(alloc: Global, cursor: &mut Cursor<'_>) -> Result<RawChange, Stop>
+    ensures { Returned written_change result cursor.new (language_reader set_format cursor.old) }
 {
     let at = cursor.word(Word::Set)?;
-    let name = cursor.name(alloc)?;
+    let targets = separated(alloc, cursor)?;
     cursor.symbol(Symbol::Becomes)?;
-    let value = expression(alloc, cursor)?;
+    let values = separated(alloc, cursor)?;
     cursor.symbol(Symbol::Semicolon)?;
-    let targets = List::of_one(
-        alloc,
-        RawTarget {
-            at: name.at,
-            name,
-            index: None,
-        },
-    )?;
-    let values = List::of_one(alloc, value)?;
     Ok(RawChange::Set {
         at,
         targets,
@@ -39,13 +49,99 @@ fn change(alloc: Global, cursor: &mut Cursor<'_>) -> Result<RawChange, ParseErro
     })
 }
 
-/// Reads all changes of a vertex.
-pub fn changes(alloc: Global, cursor: &mut Cursor<'_>) -> Result<List<RawChange>, ParseError>
-    ensures { Gives (map written_change) result cursor.new (changes_at cursor.old) }
+/// Reads what a draw takes its value from.
+#[tactic(auto, unfolding(model_core::specs::Text::Language::choice_format))]
+fn choice(alloc: Global, cursor: &mut Cursor<'_>) -> Result<RawChoice, Stop>
+    ensures { Returned written_choice result cursor.new (language_reader choice_format cursor.old) }
 {
-    let mut changes = Vec::new(alloc);
-    while cursor.begins_word(Word::Set) {
-        changes.push(change(alloc, cursor)?)?;
+    if cursor.begins_word(Word::In) {
+        cursor.word(Word::In)?;
+        let lo = signed(cursor)?;
+        cursor.symbol(Symbol::To)?;
+        let hi = signed(cursor)?;
+        return Ok(RawChoice::Uniform { lo, hi });
     }
-    Ok(packed(changes))
+    cursor.word(Word::By)?;
+    let table = cursor.name(alloc)?;
+    Ok(RawChoice::ByTable { table })
+}
+
+/// Reads a change that draws a value.
+#[tactic(auto, unfolding(crate::specs::Inner::LineFormats::draw_format))]
+fn draw(alloc: Global, cursor: &mut Cursor<'_>) -> Result<RawChange, Stop>
+    ensures { Returned written_change result cursor.new (language_reader draw_format cursor.old) }
+{
+    let at = cursor.word(Word::Draw)?;
+    let target = target(alloc, cursor)?;
+    cursor.word(Word::From)?;
+    let stream = cursor.number()?;
+    let choice = choice(alloc, cursor)?;
+    cursor.symbol(Symbol::Semicolon)?;
+    Ok(RawChange::Draw {
+        at,
+        target,
+        stream,
+        choice,
+    })
+}
+
+/// Reads a change.
+#[tactic(auto, unfolding(model_core::specs::Text::Language::change_format, crate::specs::Inner::LineFormats::set_format, crate::specs::Inner::LineFormats::draw_format))]
+fn change(alloc: Global, cursor: &mut Cursor<'_>) -> Result<RawChange, Stop>
+    ensures { Returned written_change result cursor.new (language_reader change_format cursor.old) }
+{
+    if cursor.begins_word(Word::Set) {
+        set(alloc, cursor)
+    } else {
+        draw(alloc, cursor)
+    }
+}
+
+impl Phrase for RawExpr {
+    ghost Plain = { WrittenExpression };
+
+    ghost plain = { written_expression };
+
+    ghost format = { expression_format };
+
+    fn read(alloc: Global, cursor: &mut Cursor<'_>) -> Result<RawExpr, Stop> {
+        expression(alloc, cursor)
+    }
+
+    ghost some_tokens = { refl };
+}
+
+impl Phrase for RawTarget {
+    ghost Plain = { WrittenTarget };
+
+    ghost plain = { written_target };
+
+    ghost format = { target_format };
+
+    fn read(alloc: Global, cursor: &mut Cursor<'_>) -> Result<RawTarget, Stop> {
+        target(alloc, cursor)
+    }
+
+    ghost some_tokens = { target-some };
+}
+
+impl Phrase for RawChange {
+    ghost Plain = { WrittenChange };
+
+    ghost plain = { written_change };
+
+    ghost format = { change_format };
+
+    fn read(alloc: Global, cursor: &mut Cursor<'_>) -> Result<RawChange, Stop> {
+        change(alloc, cursor)
+    }
+
+    ghost some_tokens = { change-some };
+}
+
+impl Repeated for RawChange {
+    #[tactic(auto, unfolding(model_core::specs::Text::Language::change_format))]
+    fn begins(cursor: &Cursor<'_>) -> bool {
+        cursor.begins_word(Word::Set) || cursor.begins_word(Word::Draw)
+    }
 }

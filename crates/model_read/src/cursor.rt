@@ -1,18 +1,27 @@
 //! What is left to read of a text's tokens.
 
-ghost use Rattle.std.specs.Prelude.{◌≡◌, [], map};
+ghost use Rattle.std.specs.Prelude.{◌≡◌, ◌≢◌, ℕ, ◌+◌, ◌≤◌, true, false, None, List, [], drop, length, map, IfOk};
+ghost use Rattle.std.specs.Option.{option_map, IfSome};
 ghost use Rattle.model_core.specs.Code.WrittenViews.{written_name, written_number};
-ghost use Rattle.model_read.specs.Inner.Reader.{Gives, begins, is_word, is_symbol, is_number, word_at, symbol_at, name_at, number_at, ended};
+ghost use Rattle.model_core.specs.Text.Format.{AName, ANumber, AWord, ASymbol, reserved, mark, any_name, any_number};
+ghost use Rattle.model_core.specs.Text.FirstWrong.{told_place};
+ghost use Rattle.model_core.specs.Inner.FirstTokens.{begins_as};
+ghost use Rattle.model_core.specs.Inner.FormatReader.{whole_read};
+ghost use Rattle.model_core.specs.Inner.LanguageReader.{language_reader};
+ghost use Rattle.model_read.specs.Inner.ReadCalls.{Returned};
+ghost use Rattle.model_read.specs.Inner.Ladder.{infix_at, at_levels, behind};
+ghost use Rattle.model_read.specs.Inner.Infixes.{infix_of};
 
+use crate::operators::{Infix, infix_of};
+use crate::stop::Stop;
 use model_core::{RawName, RawNumber, Symbol, Token, TokenKind, Word};
-use model_lex::ParseError;
 use sig_base::Name;
 use std::alloc::Global;
 use std::marker::Model;
 
 /// The tokens of a text that are left to read, which contracts see as the plain list of what they stand for.
 #[derive(Drop)]
-pub struct Cursor<'t> {
+pub(crate) struct Cursor<'t> {
     text: &'t [u8],
     tokens: &'t [Token],
 }
@@ -43,31 +52,40 @@ impl<'t> Cursor<'t> {
         Cursor { text, tokens }
     }
 
-    /// The byte at which the next token begins, or the text's length.
-    fn place(&self) -> usize {
+    /// The byte at which the next token begins, or where none is left the number `end`.
+    pub fn place(&self, end: usize) -> usize
+        ensures { (text : List ℕ) → end ≡ length text → result ≡ told_place text self.now }
+    {
         match self.tokens {
-            [] => self.text.len(),
+            [] => end,
             [first, ..] => first.from,
         }
     }
 
+    /// How many tokens are left.
+    pub fn len(&self) -> usize
+        ensures { result ≡ length self.now }
+    {
+        self.tokens.len()
+    }
+
     /// Whether the next token is the reserved word.
     pub fn begins_word(&self, word: Word) -> bool
-        ensures { result ≡ begins (is_word word) self.now }
+        ensures { result ≡ begins_as (AWord word) self.now }
     {
         matches!(self.tokens, [first, ..] if first.kind == TokenKind::Word(word))
     }
 
     /// Whether the next token is the symbol.
     pub fn begins_symbol(&self, symbol: Symbol) -> bool
-        ensures { result ≡ begins (is_symbol symbol) self.now }
+        ensures { result ≡ begins_as (ASymbol symbol) self.now }
     {
         matches!(self.tokens, [first, ..] if first.kind == TokenKind::Symbol(symbol))
     }
 
     /// Whether the next token is a number.
     pub fn begins_number(&self) -> bool
-        ensures { result ≡ begins is_number self.now }
+        ensures { result ≡ begins_as ANumber self.now }
     {
         matches!(
             self.tokens,
@@ -81,45 +99,109 @@ impl<'t> Cursor<'t> {
         )
     }
 
+    /// Whether the next token is a name.
+    pub fn begins_name(&self) -> bool
+        ensures { result ≡ begins_as AName self.now }
+    {
+        matches!(
+            self.tokens,
+            [
+                Token {
+                    kind: TokenKind::Name,
+                    ..
+                },
+                ..
+            ]
+        )
+    }
+
     /// Sees that no token is left.
-    pub fn end(&self) -> Result<(), ParseError>
-        ensures { Gives (λ u. u) result [] (ended record {} self.now) }
+    pub fn end(&self) -> Result<(), Stop>
+        ensures { Returned (λ u. u) result self.now (whole_read record {} self.now) }
     {
         match self.tokens {
             [] => Ok(()),
-            [first, ..] => Err(ParseError::Unexpected { at: first.from }),
+            [_, ..] => Err(Stop::Unexpected),
         }
     }
 
     /// Takes the reserved word, and gives its place.
-    pub fn word(&mut self, word: Word) -> Result<usize, ParseError>
-        ensures { Gives (λ at. at) result self.new (word_at word self.old) }
+    pub fn word(&mut self, word: Word) -> Result<usize, Stop>
+        ensures reads { Returned (λ at. at) result self.new (language_reader (reserved word) self.old) }
+        ensures shorter { IfOk result (λ at. length self.new + 1 ≤ length self.old) }
     {
         match self.tokens {
             [first, rest @ ..] if first.kind == TokenKind::Word(word) => {
                 self.tokens = rest;
                 Ok(first.from)
             }
-            _ => Err(ParseError::Unexpected { at: self.place() }),
+            _ => Err(Stop::Unexpected),
         }
     }
 
     /// Takes the symbol, and gives its place.
-    pub fn symbol(&mut self, symbol: Symbol) -> Result<usize, ParseError>
-        ensures { Gives (λ at. at) result self.new (symbol_at symbol self.old) }
+    pub fn symbol(&mut self, symbol: Symbol) -> Result<usize, Stop>
+        ensures reads { Returned (λ at. at) result self.new (language_reader (mark symbol) self.old) }
+        ensures shorter { IfOk result (λ at. length self.new + 1 ≤ length self.old) }
     {
         match self.tokens {
             [first, rest @ ..] if first.kind == TokenKind::Symbol(symbol) => {
                 self.tokens = rest;
                 Ok(first.from)
             }
-            _ => Err(ParseError::Unexpected { at: self.place() }),
+            _ => Err(Stop::Unexpected),
         }
     }
 
+    /// The operator between two operands that comes next, if one does.
+    fn next_infix(&self) -> Option<Infix>
+        ensures { option_map infix_of result ≡ infix_at self.now }
+    {
+        match self.tokens {
+            [] => None,
+            [first, ..] => infix_of(first.kind),
+        }
+    }
+
+    /// Whether an operator between two operands comes next, of a level below `under`.
+    pub fn goes_on(&self, under: usize) -> bool
+        ensures yes { result ≡ true → at_levels 0 under (infix_at self.now) ≢ None }
+        ensures no { result ≡ false → at_levels 0 under (infix_at self.now) ≡ None }
+    {
+        match self.next_infix() {
+            None => false,
+            Some(infix) => infix.level < under,
+        }
+    }
+
+    /// Leaves out the next token.
+    fn skip(&mut self)
+        ensures { self.new ≡ drop 1 self.old }
+    {
+        if let [_, rest @ ..] = self.tokens {
+            self.tokens = rest;
+        }
+    }
+
+    /// Takes the operator between two operands that comes next, if its level is `least` or higher, and below `under`.
+    pub fn infix(&mut self, least: usize, under: usize) -> Option<Infix>
+        ensures takes { option_map infix_of result ≡ at_levels least under (infix_at self.old) }
+        ensures leaves { self.new ≡ behind (at_levels least under (infix_at self.old)) self.old }
+        ensures below { IfSome result (λ i. i.level + 1 ≤ under) }
+        ensures shorter { IfSome result (λ i. length self.new + 1 ≤ length self.old) }
+    {
+        let infix = self.next_infix()?;
+        if infix.level < least || infix.level >= under {
+            return None;
+        }
+        self.skip();
+        Some(infix)
+    }
+
     /// Takes a number.
-    pub fn number(&mut self) -> Result<RawNumber, ParseError>
-        ensures { Gives written_number result self.new (number_at self.old) }
+    pub fn number(&mut self) -> Result<RawNumber, Stop>
+        ensures reads { Returned written_number result self.new (language_reader any_number self.old) }
+        ensures shorter { IfOk result (λ n. length self.new + 1 ≤ length self.old) }
     {
         if let [first, rest @ ..] = self.tokens
             && let TokenKind::Number(value) = first.kind
@@ -130,12 +212,13 @@ impl<'t> Cursor<'t> {
                 at: first.from,
             });
         }
-        Err(ParseError::Unexpected { at: self.place() })
+        Err(Stop::Unexpected)
     }
 
     /// Takes a name.
-    pub fn name(&mut self, alloc: Global) -> Result<RawName, ParseError>
-        ensures { Gives written_name result self.new (name_at self.old) }
+    pub fn name(&mut self, alloc: Global) -> Result<RawName, Stop>
+        ensures reads { Returned written_name result self.new (language_reader any_name self.old) }
+        ensures shorter { IfOk result (λ n. length self.new + 1 ≤ length self.old) }
     {
         if let [first, rest @ ..] = self.tokens
             && let TokenKind::Name = first.kind
@@ -147,6 +230,6 @@ impl<'t> Cursor<'t> {
                 at: first.from,
             });
         }
-        Err(ParseError::Unexpected { at: self.place() })
+        Err(Stop::Unexpected)
     }
 }

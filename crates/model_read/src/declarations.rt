@@ -1,70 +1,175 @@
-//! What stands before the vertices: variables and the watch list.
+//! What stands before the vertices: variables, tables and the watch list.
 
-ghost use Rattle.std.specs.Prelude.{map};
+ghost use Rattle.std.specs.Prelude.{refl, map};
 ghost use Rattle.std.specs.Option.{option_map};
-ghost use Rattle.model_core.specs.Code.WrittenViews.{written_name, written_variable};
-ghost use Rattle.model_read.specs.Inner.Reader.{Gives, is_word, optional_at};
-ghost use Rattle.model_read.specs.Inner.Rules.{variable_at, variables_at, watch_at};
-ghost use Rattle.model_core.specs.declared.token.Word.TheVariants as words;
+ghost use Rattle.model_core.specs.declared.token.Symbol.TheVariants.{OpenBracket, CloseBracket};
+ghost use Rattle.model_core.specs.Code.WrittenViews.{written_name, written_number, written_variable, written_row, written_table};
+ghost use Rattle.model_core.specs.Text.Written.{WrittenName, WrittenVariable, WrittenRow, WrittenTable};
+ghost use Rattle.model_core.specs.Text.Format.{mark, any_name, any_number, ◌*>◌, ◌<*◌, maybe};
+ghost use Rattle.model_core.specs.Text.Language.{variable_format, row_format, table_format, watch_format};
+ghost use Rattle.model_core.specs.Inner.LanguageReader.{language_reader};
+ghost use Rattle.model_read.specs.Inner.ReadCalls.{Returned};
+ghost use Rattle.model_read.specs.Inner.SomeTokens.{variable-some, row-some, table-some};
 
 use crate::cursor::Cursor;
-use crate::names::names;
-use crate::signed::signed;
-use model_core::{RawKind, RawLiteral, RawName, RawVar, Symbol, Word};
-use model_lex::ParseError;
+use crate::phrase::{Phrase, Repeated, at_least_one, separated};
+use crate::signed::{kind, literal, signed};
+use crate::stop::Stop;
+use model_core::{RawName, RawNumber, RawRow, RawTable, RawVar, Symbol, Word};
 use sig_base::List;
 use std::alloc::Global;
 
+/// Reads the number of cells of an array, where one is written.
+fn size(cursor: &mut Cursor<'_>) -> Result<Option<RawNumber>, Stop>
+    ensures { Returned (option_map written_number) result cursor.new (language_reader (maybe (mark OpenBracket *> any_number <* mark CloseBracket)) cursor.old) }
+{
+    if !cursor.begins_symbol(Symbol::OpenBracket) {
+        return Ok(None);
+    }
+    cursor.symbol(Symbol::OpenBracket)?;
+    let size = cursor.number()?;
+    cursor.symbol(Symbol::CloseBracket)?;
+    Ok(Some(size))
+}
+
 /// Reads the declaration of a variable.
-#[tactic(auto, unfolding(crate::specs::Inner::Rules::variable_at))]
-fn variable(alloc: Global, cursor: &mut Cursor<'_>) -> Result<RawVar, ParseError>
-    ensures { Gives written_variable result cursor.new (variable_at cursor.old) }
+#[tactic(auto, unfolding(model_core::specs::Text::Language::variable_format))]
+fn variable(alloc: Global, cursor: &mut Cursor<'_>) -> Result<RawVar, Stop>
+    ensures { Returned written_variable result cursor.new (language_reader variable_format cursor.old) }
 {
     let at = cursor.word(Word::Var)?;
     let name = cursor.name(alloc)?;
+    let size = size(cursor)?;
     cursor.symbol(Symbol::Colon)?;
-    let lo = signed(cursor)?;
-    cursor.symbol(Symbol::To)?;
-    let hi = signed(cursor)?;
+    let kind = kind(cursor)?;
     cursor.symbol(Symbol::Equal)?;
-    let initial = signed(cursor)?;
+    let initial = literal(cursor)?;
     cursor.symbol(Symbol::Semicolon)?;
-    let kind = RawKind::Range {
-        lo,
-        hi,
-        clip: false,
-    };
-    let initial = RawLiteral::Signed(initial);
     Ok(RawVar {
         at,
         name,
-        size: None,
+        size,
         kind,
         initial,
     })
 }
 
-/// Reads the declarations of all variables.
-pub fn variables(alloc: Global, cursor: &mut Cursor<'_>) -> Result<List<RawVar>, ParseError>
-    ensures { Gives (map written_variable) result cursor.new (variables_at cursor.old) }
+/// Reads a row of a table.
+#[tactic(auto, unfolding(model_core::specs::Text::Language::row_format))]
+fn row(cursor: &mut Cursor<'_>) -> Result<RawRow, Stop>
+    ensures { Returned written_row result cursor.new (language_reader row_format cursor.old) }
 {
-    let mut variables = List::new(alloc);
-    while cursor.begins_word(Word::Var) {
-        variables.push(variable(alloc, cursor)?)?;
-    }
-    Ok(variables)
+    let value = signed(cursor)?;
+    cursor.symbol(Symbol::Colon)?;
+    let weight = cursor.number()?;
+    cursor.symbol(Symbol::Semicolon)?;
+    Ok(RawRow {
+        at: value.at,
+        value,
+        weight,
+    })
+}
+
+/// Reads the declaration of a table.
+#[tactic(auto, unfolding(model_core::specs::Text::Language::table_format))]
+fn table(alloc: Global, cursor: &mut Cursor<'_>) -> Result<RawTable, Stop>
+    ensures { Returned written_table result cursor.new (language_reader table_format cursor.old) }
+{
+    let at = cursor.word(Word::Table)?;
+    let name = cursor.name(alloc)?;
+    cursor.symbol(Symbol::OpenBrace)?;
+    let rows = at_least_one(alloc, cursor)?;
+    cursor.symbol(Symbol::CloseBrace)?;
+    Ok(RawTable { at, name, rows })
 }
 
 /// Reads the watch list, where one is written.
-#[tactic(auto, unfolding(crate::specs::Inner::Rules::watch_at))]
-pub fn watch(alloc: Global, cursor: &mut Cursor<'_>) -> Result<Option<List<RawName>>, ParseError>
-    ensures { Gives (option_map (map written_name)) result cursor.new (optional_at (is_word words.Watch) watch_at cursor.old) }
+#[tactic(auto, unfolding(model_core::specs::Text::Language::watch_format))]
+pub(crate) fn watch(alloc: Global, cursor: &mut Cursor<'_>) -> Result<Option<List<RawName>>, Stop>
+    ensures { Returned (option_map (map written_name)) result cursor.new (language_reader (maybe watch_format) cursor.old) }
 {
     if !cursor.begins_word(Word::Watch) {
         return Ok(None);
     }
     cursor.word(Word::Watch)?;
-    let names = names(alloc, cursor)?;
+    let names = separated(alloc, cursor)?;
     cursor.symbol(Symbol::Semicolon)?;
     Ok(Some(names))
+}
+
+impl Phrase for RawName {
+    ghost Plain = { WrittenName };
+
+    ghost plain = { written_name };
+
+    ghost format = { any_name };
+
+    fn read(alloc: Global, cursor: &mut Cursor<'_>) -> Result<RawName, Stop> {
+        cursor.name(alloc)
+    }
+
+    ghost some_tokens = { refl };
+}
+
+impl Phrase for RawVar {
+    ghost Plain = { WrittenVariable };
+
+    ghost plain = { written_variable };
+
+    ghost format = { variable_format };
+
+    fn read(alloc: Global, cursor: &mut Cursor<'_>) -> Result<RawVar, Stop> {
+        variable(alloc, cursor)
+    }
+
+    ghost some_tokens = { variable-some };
+}
+
+impl Repeated for RawVar {
+    #[tactic(auto, unfolding(model_core::specs::Text::Language::variable_format))]
+    fn begins(cursor: &Cursor<'_>) -> bool {
+        cursor.begins_word(Word::Var)
+    }
+}
+
+impl Phrase for RawRow {
+    ghost Plain = { WrittenRow };
+
+    ghost plain = { written_row };
+
+    ghost format = { row_format };
+
+    fn read(_alloc: Global, cursor: &mut Cursor<'_>) -> Result<RawRow, Stop> {
+        row(cursor)
+    }
+
+    ghost some_tokens = { row-some };
+}
+
+impl Repeated for RawRow {
+    #[tactic(auto, unfolding(model_core::specs::Text::Language::row_format, model_core::specs::Text::Language::signed_format))]
+    fn begins(cursor: &Cursor<'_>) -> bool {
+        cursor.begins_symbol(Symbol::Minus) || cursor.begins_number()
+    }
+}
+
+impl Phrase for RawTable {
+    ghost Plain = { WrittenTable };
+
+    ghost plain = { written_table };
+
+    ghost format = { table_format };
+
+    fn read(alloc: Global, cursor: &mut Cursor<'_>) -> Result<RawTable, Stop> {
+        table(alloc, cursor)
+    }
+
+    ghost some_tokens = { table-some };
+}
+
+impl Repeated for RawTable {
+    #[tactic(auto, unfolding(model_core::specs::Text::Language::table_format))]
+    fn begins(cursor: &Cursor<'_>) -> bool {
+        cursor.begins_word(Word::Table)
+    }
 }

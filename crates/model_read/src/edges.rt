@@ -2,77 +2,215 @@
 
 ghost use Rattle.std.specs.Prelude.{map};
 ghost use Rattle.std.specs.Option.{option_map};
-ghost use Rattle.model_core.specs.declared.token.Word.TheVariants as words;
-ghost use Rattle.model_core.specs.Code.WrittenViews.{written_expression, written_edge};
-ghost use Rattle.model_read.specs.Inner.Reader.{Gives, is_word, optional_at};
-ghost use Rattle.model_read.specs.Inner.Rules.{delay_at, never_at, edge_at, edges_at};
+ghost use Rattle.model_core.specs.declared.token.Word.TheVariants.{After, Priority};
+ghost use Rattle.model_core.specs.Code.WrittenViews.{written_number, written_expression, written_edge_kind, written_edge};
+ghost use Rattle.model_core.specs.Text.Written.{WrittenEdge};
+ghost use Rattle.model_core.specs.Text.Format.{reserved, any_number, ◌*>◌, maybe};
+ghost use Rattle.model_core.specs.Text.Expressions.{expression_format};
+ghost use Rattle.model_core.specs.Text.Language.{values_format, when_format, timing_format, schedule_format, urgent_format, cancelled_format, cancel_format, edge_format};
+ghost use Rattle.model_core.specs.Inner.LanguageReader.{language_reader};
+ghost use Rattle.model_read.specs.Inner.ReadCalls.{Returned};
+ghost use Rattle.model_read.specs.Inner.Cancels.{written_cancel};
+ghost use Rattle.model_read.specs.Inner.SomeTokens.{edge-some};
 
 use crate::cursor::Cursor;
-use crate::expression::number;
-use crate::lists::packed;
-use model_core::{RawEdge, RawEdgeForm, RawExpr, RawForm, Symbol, Word};
-use model_lex::ParseError;
+use crate::expressions::expression;
+use crate::phrase::{Phrase, Repeated, separated};
+use crate::stop::Stop;
+use model_core::{RawEdge, RawEdgeForm, RawExpr, RawName, RawNumber, Symbol, Word};
 use sig_base::List;
 use std::alloc::Global;
 
-/// Reads the delay of an edge, where one is written.
-#[tactic(auto, unfolding(crate::specs::Inner::Rules::delay_at))]
-fn delay(cursor: &mut Cursor<'_>) -> Result<Option<RawExpr>, ParseError>
-    ensures { Gives (option_map written_expression) result cursor.new (optional_at (is_word words.After) delay_at cursor.old) }
+/// Reads the values that an edge carries, where they are written.
+#[tactic(auto, unfolding(model_core::specs::Text::Language::values_format))]
+fn values(alloc: Global, cursor: &mut Cursor<'_>) -> Result<Option<List<RawExpr>>, Stop>
+    ensures { Returned (option_map (map written_expression)) result cursor.new (language_reader (maybe values_format) cursor.old) }
 {
-    if !cursor.begins_word(Word::After) {
+    if !cursor.begins_symbol(Symbol::OpenParenthesis) {
         return Ok(None);
     }
-    cursor.word(Word::After)?;
-    Ok(Some(number(cursor)?))
+    cursor.symbol(Symbol::OpenParenthesis)?;
+    let values = separated(alloc, cursor)?;
+    cursor.symbol(Symbol::CloseParenthesis)?;
+    Ok(Some(values))
 }
 
-/// Reads the condition of an edge, where one is written. It is the word `false`.
-#[tactic(auto, unfolding(crate::specs::Inner::Rules::never_at))]
-fn condition(cursor: &mut Cursor<'_>) -> Result<Option<RawExpr>, ParseError>
-    ensures { Gives (option_map written_expression) result cursor.new (optional_at (is_word words.When) never_at cursor.old) }
+/// Reads the condition of an edge, where one is written.
+#[tactic(auto, unfolding(model_core::specs::Text::Language::when_format))]
+fn condition(alloc: Global, cursor: &mut Cursor<'_>) -> Result<Option<RawExpr>, Stop>
+    ensures { Returned (option_map written_expression) result cursor.new (language_reader (maybe when_format) cursor.old) }
 {
     if !cursor.begins_word(Word::When) {
         return Ok(None);
     }
     cursor.word(Word::When)?;
-    let at = cursor.word(Word::False)?;
-    Ok(Some(RawExpr {
-        at,
-        form: RawForm::Truth(false),
-    }))
+    Ok(Some(expression(alloc, cursor)?))
 }
 
-/// Reads an edge.
-#[tactic(auto, unfolding(crate::specs::Inner::Rules::edge_at))]
-fn edge(alloc: Global, cursor: &mut Cursor<'_>) -> Result<RawEdge, ParseError>
-    ensures { Gives written_edge result cursor.new (edge_at cursor.old) }
+/// Reads the delay of an edge, where one is written.
+fn delay(alloc: Global, cursor: &mut Cursor<'_>) -> Result<Option<RawExpr>, Stop>
+    ensures { Returned (option_map written_expression) result cursor.new (language_reader (maybe (reserved After *> expression_format)) cursor.old) }
+{
+    if !cursor.begins_word(Word::After) {
+        return Ok(None);
+    }
+    cursor.word(Word::After)?;
+    Ok(Some(expression(alloc, cursor)?))
+}
+
+/// Reads the priority of an edge, where one is written.
+fn priority(cursor: &mut Cursor<'_>) -> Result<Option<RawNumber>, Stop>
+    ensures { Returned (option_map written_number) result cursor.new (language_reader (maybe (reserved Priority *> any_number)) cursor.old) }
+{
+    if !cursor.begins_word(Word::Priority) {
+        return Ok(None);
+    }
+    cursor.word(Word::Priority)?;
+    Ok(Some(cursor.number()?))
+}
+
+/// Reads the delay and the priority of an edge.
+#[tactic(auto, unfolding(model_core::specs::Text::Language::timing_format))]
+fn timing(alloc: Global, cursor: &mut Cursor<'_>) -> Result<RawEdgeForm, Stop>
+    ensures { Returned written_edge_kind result cursor.new (language_reader timing_format cursor.old) }
+{
+    let delay = delay(alloc, cursor)?;
+    let priority = priority(cursor)?;
+    Ok(RawEdgeForm::Schedule { delay, priority })
+}
+
+/// Reads an edge that schedules.
+#[tactic(auto, unfolding(model_core::specs::Text::Language::schedule_format))]
+fn schedule(alloc: Global, cursor: &mut Cursor<'_>) -> Result<RawEdge, Stop>
+    ensures { Returned written_edge result cursor.new (language_reader schedule_format cursor.old) }
 {
     let at = cursor.word(Word::Schedule)?;
     let target = cursor.name(alloc)?;
-    let delay = delay(cursor)?;
-    let condition = condition(cursor)?;
+    let values = values(alloc, cursor)?;
+    let form = timing(alloc, cursor)?;
+    let condition = condition(alloc, cursor)?;
     cursor.symbol(Symbol::Semicolon)?;
-    let form = RawEdgeForm::Schedule {
-        delay,
-        priority: None,
-    };
     Ok(RawEdge {
         at,
         target,
-        values: None,
+        values,
         condition,
         form,
     })
 }
 
-/// Reads all edges of a vertex.
-pub fn edges(alloc: Global, cursor: &mut Cursor<'_>) -> Result<List<RawEdge>, ParseError>
-    ensures { Gives (map written_edge) result cursor.new (edges_at cursor.old) }
+/// Reads an urgent edge.
+#[tactic(auto, unfolding(model_core::specs::Text::Language::urgent_format))]
+fn urgent(alloc: Global, cursor: &mut Cursor<'_>) -> Result<RawEdge, Stop>
+    ensures { Returned written_edge result cursor.new (language_reader urgent_format cursor.old) }
 {
-    let mut edges = Vec::new(alloc);
-    while cursor.begins_word(Word::Schedule) {
-        edges.push(edge(alloc, cursor)?)?;
+    let at = cursor.word(Word::Urgent)?;
+    let target = cursor.name(alloc)?;
+    let values = values(alloc, cursor)?;
+    let condition = condition(alloc, cursor)?;
+    cursor.symbol(Symbol::Semicolon)?;
+    Ok(RawEdge {
+        at,
+        target,
+        values,
+        condition,
+        form: RawEdgeForm::Urgent,
+    })
+}
+
+/// What stands between `cancel` and the condition.
+#[derive(Drop)]
+struct Cancellation {
+    target: RawName,
+    values: Option<List<RawExpr>>,
+    form: RawEdgeForm,
+}
+
+/// Reads what stands between `cancel` and the condition.
+#[tactic(auto, unfolding(model_core::specs::Text::Language::cancelled_format))]
+fn cancelled(alloc: Global, cursor: &mut Cursor<'_>) -> Result<Cancellation, Stop>
+    ensures { Returned written_cancel result cursor.new (language_reader cancelled_format cursor.old) }
+{
+    if cursor.begins_word(Word::All) {
+        cursor.word(Word::All)?;
+        let target = cursor.name(alloc)?;
+        return Ok(Cancellation {
+            target,
+            values: None,
+            form: RawEdgeForm::CancelAll,
+        });
     }
-    Ok(packed(edges))
+    let target = cursor.name(alloc)?;
+    match values(alloc, cursor)? {
+        None => Ok(Cancellation {
+            target,
+            values: None,
+            form: RawEdgeForm::CancelNext,
+        }),
+        Some(values) => Ok(Cancellation {
+            target,
+            values: Some(values),
+            form: RawEdgeForm::CancelEqual,
+        }),
+    }
+}
+
+/// Reads an edge that cancels.
+#[tactic(auto, unfolding(model_core::specs::Text::Language::cancel_format))]
+fn cancel(alloc: Global, cursor: &mut Cursor<'_>) -> Result<RawEdge, Stop>
+    ensures { Returned written_edge result cursor.new (language_reader cancel_format cursor.old) }
+{
+    let at = cursor.word(Word::Cancel)?;
+    let cancelled = cancelled(alloc, cursor)?;
+    let condition = condition(alloc, cursor)?;
+    cursor.symbol(Symbol::Semicolon)?;
+    let Cancellation {
+        target,
+        values,
+        form,
+    } = cancelled;
+    Ok(RawEdge {
+        at,
+        target,
+        values,
+        condition,
+        form,
+    })
+}
+
+/// Reads an edge.
+#[tactic(auto, unfolding(model_core::specs::Text::Language::edge_format, model_core::specs::Text::Language::schedule_format, model_core::specs::Text::Language::urgent_format))]
+fn edge(alloc: Global, cursor: &mut Cursor<'_>) -> Result<RawEdge, Stop>
+    ensures { Returned written_edge result cursor.new (language_reader edge_format cursor.old) }
+{
+    if cursor.begins_word(Word::Schedule) {
+        schedule(alloc, cursor)
+    } else if cursor.begins_word(Word::Urgent) {
+        urgent(alloc, cursor)
+    } else {
+        cancel(alloc, cursor)
+    }
+}
+
+impl Phrase for RawEdge {
+    ghost Plain = { WrittenEdge };
+
+    ghost plain = { written_edge };
+
+    ghost format = { edge_format };
+
+    fn read(alloc: Global, cursor: &mut Cursor<'_>) -> Result<RawEdge, Stop> {
+        edge(alloc, cursor)
+    }
+
+    ghost some_tokens = { edge-some };
+}
+
+impl Repeated for RawEdge {
+    #[tactic(auto, unfolding(model_core::specs::Text::Language::edge_format, model_core::specs::Text::Language::schedule_format, model_core::specs::Text::Language::urgent_format, model_core::specs::Text::Language::cancel_format))]
+    fn begins(cursor: &Cursor<'_>) -> bool {
+        cursor.begins_word(Word::Schedule)
+            || cursor.begins_word(Word::Urgent)
+            || cursor.begins_word(Word::Cancel)
+    }
 }

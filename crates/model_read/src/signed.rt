@@ -1,32 +1,76 @@
-//! Numbers with a sign.
+//! Numbers with a sign, what a variable is declared to hold, and initial values.
 
-ghost use Rattle.model_core.specs.Code.WrittenViews.{written_signed};
-ghost use Rattle.model_read.specs.Inner.Reader.{Gives};
-ghost use Rattle.model_read.specs.Inner.Rules.{signed_at, negative_signed_at, plain_signed_at};
+ghost use Rattle.model_core.specs.declared.token.Word.TheVariants.{Clip};
+ghost use Rattle.model_core.specs.Code.WrittenViews.{written_signed, written_kind, written_literal};
+ghost use Rattle.model_core.specs.Text.Format.{reserved, maybe};
+ghost use Rattle.model_core.specs.Text.Language.{signed_format, kind_format, literal_format};
+ghost use Rattle.model_core.specs.Inner.LanguageReader.{language_reader};
+ghost use Rattle.model_read.specs.Inner.ReadCalls.{Returned};
 
 use crate::cursor::Cursor;
-use model_core::{RawSigned, Symbol};
-use model_lex::ParseError;
+use crate::stop::Stop;
+use model_core::{RawKind, RawLiteral, RawSigned, Symbol, Word};
 
-/// Reads a number that may have a `-` before it.
-#[tactic(auto, unfolding(crate::specs::Inner::Rules::signed_at, crate::specs::Inner::Rules::negative_signed_at, crate::specs::Inner::Rules::plain_signed_at))]
-pub fn signed(cursor: &mut Cursor<'_>) -> Result<RawSigned, ParseError>
-    ensures { Gives written_signed result cursor.new (signed_at cursor.old) }
+/// Reads a number with an optional `-` before it.
+#[tactic(auto, unfolding(model_core::specs::Text::Language::signed_format))]
+pub(crate) fn signed(cursor: &mut Cursor<'_>) -> Result<RawSigned, Stop>
+    ensures { Returned written_signed result cursor.new (language_reader signed_format cursor.old) }
 {
     if cursor.begins_symbol(Symbol::Minus) {
         let at = cursor.symbol(Symbol::Minus)?;
         let number = cursor.number()?;
-        Ok(RawSigned {
+        return Ok(RawSigned {
             at,
             negative: true,
             number,
-        })
-    } else {
-        let number = cursor.number()?;
-        Ok(RawSigned {
-            at: number.at,
-            negative: false,
-            number,
-        })
+        });
     }
+    let number = cursor.number()?;
+    Ok(RawSigned {
+        at: number.at,
+        negative: false,
+        number,
+    })
+}
+
+/// Reads the word `clip`, where it comes.
+fn clip(cursor: &mut Cursor<'_>) -> Result<Option<usize>, Stop>
+    ensures { Returned (λ at. at) result cursor.new (language_reader (maybe (reserved Clip)) cursor.old) }
+{
+    if !cursor.begins_word(Word::Clip) {
+        return Ok(None);
+    }
+    Ok(Some(cursor.word(Word::Clip)?))
+}
+
+/// Reads what a variable is declared to hold.
+#[tactic(auto, unfolding(model_core::specs::Text::Language::kind_format))]
+pub(crate) fn kind(cursor: &mut Cursor<'_>) -> Result<RawKind, Stop>
+    ensures { Returned written_kind result cursor.new (language_reader kind_format cursor.old) }
+{
+    if cursor.begins_word(Word::Bool) {
+        cursor.word(Word::Bool)?;
+        return Ok(RawKind::Truth);
+    }
+    let lo = signed(cursor)?;
+    cursor.symbol(Symbol::To)?;
+    let hi = signed(cursor)?;
+    let clip = clip(cursor)?.is_some();
+    Ok(RawKind::Range { lo, hi, clip })
+}
+
+/// Reads an initial value.
+#[tactic(auto, unfolding(model_core::specs::Text::Language::literal_format))]
+pub(crate) fn literal(cursor: &mut Cursor<'_>) -> Result<RawLiteral, Stop>
+    ensures { Returned written_literal result cursor.new (language_reader literal_format cursor.old) }
+{
+    if cursor.begins_word(Word::True) {
+        let at = cursor.word(Word::True)?;
+        return Ok(RawLiteral::Truth { at, value: true });
+    }
+    if cursor.begins_word(Word::False) {
+        let at = cursor.word(Word::False)?;
+        return Ok(RawLiteral::Truth { at, value: false });
+    }
+    Ok(RawLiteral::Signed(signed(cursor)?))
 }

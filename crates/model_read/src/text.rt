@@ -1,34 +1,40 @@
 //! A whole model text.
 
-ghost use Rattle.std.specs.Prelude.{◌≡◌, ◌≢◌, ℕ, [], IfOk};
-ghost use Rattle.model_core.specs.Text.Written.{WrittenModel};
+ghost use Rattle.std.specs.Prelude.{◌≡◌, ℕ, ◌≤◌, List, None, Some, length, drop, IfOk};
+ghost use Rattle.sig_base.specs.declared.limits.TheConstants.{OPENINGS_MAX};
 ghost use Rattle.model_core.specs.Code.WrittenViews.{written_model};
-ghost use Rattle.model_core.specs.Text.FirstForm.{text};
+ghost use Rattle.model_core.specs.Text.Language.{IsText, BeginsWithText};
+ghost use Rattle.model_core.specs.Text.FirstWrong.{IsUnexpectedAt};
+ghost use Rattle.model_core.specs.Text.Openings.{front_to_end, too_deep_at, HasFewOpenings};
+ghost use Rattle.model_core.specs.Text.Written.{WrittenModel};
+ghost use Rattle.model_core.specs.Inner.FormatReader.{Parse};
+ghost use Rattle.model_core.specs.Inner.LanguageReader.{text_and_rest, text_read};
 ghost use Rattle.model_lex.specs.Lexemes.{lexemes};
-ghost use Rattle.model_read.specs.Inner.Reader.{Gives, all_at};
-ghost use Rattle.model_read.specs.Inner.Rules.{text_at};
+ghost use Rattle.model_read.specs.Inner.ReadCalls.{Returned, Tells};
 
 use crate::cursor::Cursor;
-use crate::declarations::{variables, watch};
-use crate::vertices::vertices;
+use crate::declarations::watch;
+use crate::openings::{first_too_deep, front_length};
+use crate::phrase::{at_least_one, many};
+use crate::stop::Stop;
 use model_core::{RawModel, Symbol, Word};
 use model_lex::{ParseError, Tokens, tokens_stand_in_order};
-use sig_base::List;
+use sig_base::OPENINGS_MAX;
 use std::alloc::Global;
 
 /// Reads a model text.
-#[tactic(auto, unfolding(crate::specs::Inner::Rules::text_at))]
-fn model(alloc: Global, cursor: &mut Cursor<'_>) -> Result<RawModel, ParseError>
-    ensures { Gives written_model result cursor.new (text_at cursor.old) }
+#[tactic(auto, unfolding(model_core::specs::Text::Language::text_format))]
+fn model(alloc: Global, cursor: &mut Cursor<'_>) -> Result<RawModel, Stop>
+    ensures { Returned written_model result cursor.new (text_and_rest cursor.old) }
 {
     let at = cursor.word(Word::Model)?;
     let name = cursor.name(alloc)?;
     cursor.symbol(Symbol::Semicolon)?;
-    let vars = variables(alloc, cursor)?;
+    let vars = many(alloc, cursor)?;
+    let tables = many(alloc, cursor)?;
     let watch = watch(alloc, cursor)?;
-    let vertices = vertices(alloc, cursor)?;
+    let vertices = at_least_one(alloc, cursor)?;
     let end_at = cursor.word(Word::End)?;
-    let tables = List::new(alloc);
     Ok(RawModel {
         at,
         name,
@@ -41,25 +47,80 @@ fn model(alloc: Global, cursor: &mut Cursor<'_>) -> Result<RawModel, ParseError>
 }
 
 /// Reads a model text after which no token is left.
-fn all(alloc: Global, cursor: &mut Cursor<'_>) -> Result<RawModel, ParseError>
-    ensures { Gives written_model result [] (all_at text_at cursor.old) }
+fn whole(alloc: Global, cursor: &mut Cursor<'_>) -> Result<RawModel, Stop>
+    ensures { Returned written_model result cursor.new (text_read cursor.old) }
 {
     let model = model(alloc, cursor)?;
     cursor.end()?;
     Ok(model)
 }
 
+/// What was read, or why not, with the place of the next token. The text has so many bytes.
+fn placed(
+    read: Result<RawModel, Stop>,
+    cursor: &Cursor<'_>,
+    bytes: usize,
+) -> Result<RawModel, ParseError>
+    ensures { (text : List ℕ) (parse : Parse WrittenModel) → bytes ≡ length text → Returned written_model read cursor.now parse → Tells written_model text result cursor.now parse }
+{
+    match read {
+        Ok(model) => Ok(model),
+        Err(Stop::Unexpected) => Err(ParseError::Unexpected {
+            at: cursor.place(bytes),
+        }),
+        Err(Stop::NoMemory) => Err(ParseError::NoMemory),
+    }
+}
+
 /// The model that all of the tokens spell, with its names, numbers and places as they are written.
-/// `Unexpected` tells the first token that can't stand where it stands, or the text's length.
+///
+/// `TooDeep` comes first: it tells the first opening that is more than a part may have. `Unexpected` tells the first byte
+/// from which no continuation makes a model text: that of a token, or the text's length.
 pub fn parse(alloc: Global, tokens: &Tokens<'_>) -> Result<RawModel, ParseError>
-    // What is read is spelled.
-    ensures ok { IfOk result (λ m. text (lexemes tokens.now) (written_model m) []) }
-    // What is refused is spelled by no model.
+    // What is read is spelled, with few openings.
+    ensures ok { IfOk result (λ m. IsText (lexemes tokens.now) (written_model m) × HasFewOpenings OPENINGS_MAX (lexemes tokens.now)) }
+    // What is refused is spelled by no model, and this is where the tokens stop to begin one.
     ensures unexpected { (at : ℕ) → result ≡ Err (ParseError.Unexpected at)
-        → (w : WrittenModel) → text (lexemes tokens.now) w [] → ⊥ }
-    ensures never_deep { (at : ℕ) → result ≢ Err (ParseError.TooDeep at) }
+        → (too_deep_at OPENINGS_MAX (lexemes tokens.now) ≡ None) × IsUnexpectedAt tokens.now.text.now (lexemes tokens.now) at }
+    ensures too_deep { (at : ℕ) → result ≡ Err (ParseError.TooDeep at) → too_deep_at OPENINGS_MAX (lexemes tokens.now) ≡ Some at }
 {
     tokens_stand_in_order();
-    let mut cursor = Cursor::new(tokens.text, tokens.list.as_slice());
-    all(alloc, &mut cursor)
+    let list = tokens.list.as_slice();
+    if let Some(at) = first_too_deep(list, OPENINGS_MAX) {
+        return Err(ParseError::TooDeep { at });
+    }
+    let mut cursor = Cursor::new(tokens.text, list);
+    let read = whole(alloc, &mut cursor);
+    placed(read, &cursor, tokens.text.len())
+}
+
+/// The model that the tokens from the place on begin with, and the place after its word `end`. A place is here the number
+/// of tokens before it.
+///
+/// The errors are those of `parse`, for the tokens from the place up to and with the first word `end` there, or for all
+/// of them where there is none.
+pub fn parse_front(
+    alloc: Global,
+    tokens: &Tokens<'_>,
+    from: usize,
+) -> Result<(RawModel, usize), ParseError>
+    requires { from ≤ length tokens.now.list }
+    // What is read stands there, with few openings, and what is left are the tokens from the answer's place on.
+    ensures ok { IfOk result (λ r. BeginsWithText (drop from (lexemes tokens.now)) (written_model r.0) (drop r.1 (lexemes tokens.now)) × HasFewOpenings OPENINGS_MAX (front_to_end (drop from (lexemes tokens.now)))) }
+    ensures inside { IfOk result (λ r. r.1 ≤ length tokens.now.list) }
+    ensures unexpected { (at : ℕ) → result ≡ Err (ParseError.Unexpected at)
+        → (too_deep_at OPENINGS_MAX (front_to_end (drop from (lexemes tokens.now))) ≡ None) × IsUnexpectedAt tokens.now.text.now (front_to_end (drop from (lexemes tokens.now))) at }
+    ensures too_deep { (at : ℕ) → result ≡ Err (ParseError.TooDeep at)
+        → too_deep_at OPENINGS_MAX (front_to_end (drop from (lexemes tokens.now))) ≡ Some at }
+{
+    tokens_stand_in_order();
+    let some = &tokens.list.as_slice()[from..];
+    if let Some(at) = first_too_deep(&some[..front_length(some)], OPENINGS_MAX) {
+        return Err(ParseError::TooDeep { at });
+    }
+    let mut cursor = Cursor::new(tokens.text, some);
+    let read = model(alloc, &mut cursor);
+    let left = cursor.len();
+    let model = placed(read, &cursor, tokens.text.len())?;
+    Ok((model, tokens.list.len() - left))
 }

@@ -1,48 +1,74 @@
 //! Vertices.
 
 ghost use Rattle.std.specs.Prelude.{map};
-ghost use Rattle.model_core.specs.Code.WrittenViews.{written_vertex};
-ghost use Rattle.model_read.specs.Inner.Reader.{Gives};
-ghost use Rattle.model_read.specs.Inner.Rules.{vertex_at, vertices_at};
+ghost use Rattle.std.specs.Option.{option_map};
+ghost use Rattle.model_core.specs.declared.token.Symbol.TheVariants.{OpenParenthesis, CloseParenthesis};
+ghost use Rattle.model_core.specs.Code.WrittenViews.{written_name, written_vertex};
+ghost use Rattle.model_core.specs.Text.Written.{WrittenVertex};
+ghost use Rattle.model_core.specs.Text.Format.{mark, any_name, ◌*>◌, ◌<*◌, maybe, separated};
+ghost use Rattle.model_core.specs.Text.Language.{vertex_format};
+ghost use Rattle.model_core.specs.Inner.LanguageReader.{language_reader};
+ghost use Rattle.model_read.specs.Inner.ReadCalls.{Returned};
+ghost use Rattle.model_read.specs.Inner.SomeTokens.{vertex-some};
 
-use crate::changes::changes;
 use crate::cursor::Cursor;
-use crate::edges::edges;
-use model_core::{RawVertex, Symbol, Word};
-use model_lex::ParseError;
+use crate::phrase::{Phrase, Repeated, many, separated};
+use crate::stop::Stop;
+use model_core::{RawName, RawVertex, Symbol, Word};
 use sig_base::List;
 use std::alloc::Global;
 
+/// Reads the parameters of a vertex, where they are written.
+fn parameters(alloc: Global, cursor: &mut Cursor<'_>) -> Result<Option<List<RawName>>, Stop>
+    ensures { Returned (option_map (map written_name)) result cursor.new (language_reader (maybe (mark OpenParenthesis *> separated any_name <* mark CloseParenthesis)) cursor.old) }
+{
+    if !cursor.begins_symbol(Symbol::OpenParenthesis) {
+        return Ok(None);
+    }
+    cursor.symbol(Symbol::OpenParenthesis)?;
+    let names = separated(alloc, cursor)?;
+    cursor.symbol(Symbol::CloseParenthesis)?;
+    Ok(Some(names))
+}
+
 /// Reads a vertex.
-#[tactic(auto, unfolding(crate::specs::Inner::Rules::vertex_at))]
-fn vertex(alloc: Global, cursor: &mut Cursor<'_>) -> Result<RawVertex, ParseError>
-    ensures { Gives written_vertex result cursor.new (vertex_at cursor.old) }
+#[tactic(auto, unfolding(model_core::specs::Text::Language::vertex_format))]
+fn vertex(alloc: Global, cursor: &mut Cursor<'_>) -> Result<RawVertex, Stop>
+    ensures { Returned written_vertex result cursor.new (language_reader vertex_format cursor.old) }
 {
     let at = cursor.word(Word::Vertex)?;
     let name = cursor.name(alloc)?;
+    let params = parameters(alloc, cursor)?;
     cursor.symbol(Symbol::OpenBrace)?;
-    let changes = changes(alloc, cursor)?;
-    let edges = edges(alloc, cursor)?;
+    let changes = many(alloc, cursor)?;
+    let edges = many(alloc, cursor)?;
     cursor.symbol(Symbol::CloseBrace)?;
     Ok(RawVertex {
         at,
         name,
-        params: None,
+        params,
         changes,
         edges,
     })
 }
 
-/// Reads all vertices, of which there is one at least.
-#[tactic(auto, unfolding(crate::specs::Inner::Rules::vertices_at))]
-pub fn vertices(alloc: Global, cursor: &mut Cursor<'_>) -> Result<List<RawVertex>, ParseError>
-    ensures { Gives (map written_vertex) result cursor.new (vertices_at cursor.old) }
-{
-    let mut vertices = List::new(alloc);
-    loop {
-        vertices.push(vertex(alloc, cursor)?)?;
-        if !cursor.begins_word(Word::Vertex) {
-            return Ok(vertices);
-        }
+impl Phrase for RawVertex {
+    ghost Plain = { WrittenVertex };
+
+    ghost plain = { written_vertex };
+
+    ghost format = { vertex_format };
+
+    fn read(alloc: Global, cursor: &mut Cursor<'_>) -> Result<RawVertex, Stop> {
+        vertex(alloc, cursor)
+    }
+
+    ghost some_tokens = { vertex-some };
+}
+
+impl Repeated for RawVertex {
+    #[tactic(auto, unfolding(model_core::specs::Text::Language::vertex_format))]
+    fn begins(cursor: &Cursor<'_>) -> bool {
+        cursor.begins_word(Word::Vertex)
     }
 }

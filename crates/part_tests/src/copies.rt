@@ -13,7 +13,7 @@ fn name(alloc: Global, bytes: &[u8]) -> Result<Name, NoMemory> {
 }
 
 /// The expression `if N < 3 then N else -limit`.
-fn limited(alloc: Global, limit: i64) -> Result<Expr, NoMemory> {
+pub fn limited(alloc: Global, limit: i64) -> Result<Expr, NoMemory> {
     let three = Box::new(alloc, Expr::Int(3))?;
     let test = Expr::Binary(Op::Lt, Box::new(alloc, Expr::Scalar(0))?, three);
     let other = Expr::Neg(Box::new(alloc, Expr::Int(limit))?);
@@ -24,7 +24,8 @@ fn limited(alloc: Global, limit: i64) -> Result<Expr, NoMemory> {
     ))
 }
 
-fn drawing_vertex(alloc: Global, limit: i64) -> Result<Vertex, NoMemory> {
+/// A vertex `RUN` with a parameter, a draw and an edge that cancels.
+pub fn drawing_vertex(alloc: Global, limit: i64) -> Result<Vertex, NoMemory> {
     let draw = Change::Draw {
         target: Target {
             var: 0,
@@ -48,7 +49,7 @@ fn drawing_vertex(alloc: Global, limit: i64) -> Result<Vertex, NoMemory> {
 }
 
 /// A model of one variable, one table and one vertex.
-fn drawing_model(alloc: Global, limit: i64) -> Result<Model, NoMemory> {
+pub fn drawing_model(alloc: Global, limit: i64) -> Result<Model, NoMemory> {
     let var = Var {
         name: name(alloc, b"N")?,
         size: 0,

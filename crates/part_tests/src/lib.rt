@@ -4,10 +4,22 @@
 #[cfg(test)]
 mod adapters;
 #[cfg(test)]
+mod agenda;
+#[cfg(test)]
 mod copies;
+#[cfg(test)]
+mod draws;
 #[cfg(test)]
 mod memory;
 #[cfg(test)]
-mod places;
+mod printing;
+#[cfg(test)]
+mod reading;
+#[cfg(test)]
+mod runs;
+#[cfg(test)]
+mod static_rules;
 #[cfg(test)]
 mod steps;
+#[cfg(test)]
+mod values;

@@ -1,10 +1,9 @@
 //! The strategy's result in one sweep over the vertices and their edges.
 
 ghost use Rattle.std.specs.Prelude.{◌≡◌, ◌++◌, map, OnOk, IfOk};
-ghost use Rattle.model_core.specs.Text.Acceptance.{IsValid};
-ghost use Rattle.model_core.specs.Code.Views.{graph_of, vertex_of};
+ghost use Rattle.model_core.specs.Static.Reading.{IsValid};
+ghost use Rattle.model_core.specs.Code.Views.{graph_of, vertex_of, application_of};
 ghost use Rattle.model_core.specs.Rules.Reduction.{Strategy};
-ghost use Rattle.model_core.specs.Code.Views.{application_of};
 ghost use Rattle.reducer.specs.Inner.Sweep.{swept_vertex, prunes_of, prunes_of_all};
 
 use edge_pruning::is_literal_false;

@@ -3,7 +3,7 @@
 ghost use Rattle.std.specs.Prelude.{◌≡◌, List};
 ghost use Rattle.model_core.specs.EventGraph.{EventGraph};
 ghost use Rattle.model_core.specs.Run.Same.{Same};
-ghost use Rattle.model_core.specs.Text.Acceptance.{IsValid};
+ghost use Rattle.model_core.specs.Static.Reading.{IsValid};
 ghost use Rattle.model_core.specs.Rules.Reduction.{RuleApplication, Chain, Strategy};
 
 use reduction_cert::chains_keep_the_meaning;

@@ -3,7 +3,7 @@ use Rattle.std.proofs.Common.{◌≡◌, ◌↔◌, ℕ, suc, List, [], ◌∷�
 use Rattle.std.specs.Option.{option_map, option_map_or}
 use Rattle.model_core.specs.EventGraph.{EventGraph}
 use Rattle.model_core.specs.Run.Same.{Same}
-use Rattle.model_core.specs.Text.Acceptance.{IsValid}
+use Rattle.model_core.specs.Static.Reading.{IsValid}
 use Rattle.model_core.specs.Rules.Conditions.{first_failed}
 use Rattle.model_core.specs.Rules.Prune.{prune_conditions, pruned}
 use Rattle.model_core.specs.Rules.Reduction.{RuleApplication, Prune, edge_named, failed_condition, result_of, unless_failed, applied, Chain, first_bad}

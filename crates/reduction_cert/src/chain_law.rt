@@ -3,7 +3,7 @@
 ghost use Rattle.std.specs.Prelude.{◌≡◌, ◌↔◌, ℕ, List, Some, None};
 ghost use Rattle.model_core.specs.EventGraph.{EventGraph};
 ghost use Rattle.model_core.specs.Run.Same.{Same};
-ghost use Rattle.model_core.specs.Text.Acceptance.{IsValid};
+ghost use Rattle.model_core.specs.Static.Reading.{IsValid};
 ghost use Rattle.model_core.specs.Rules.Reduction.{RuleApplication, failed_condition, result_of, applied, Chain, first_bad};
 
 use edge_pruning::pruning_keeps_the_meaning;

@@ -86,10 +86,6 @@ pushed f before after x y rest later all e same split h =
 
 -- ---- a fact of every element
 
-pub every-append : {A : Type 0} (P : A → Type 0) (xs : List A) (x : A) → AllByRecursion P xs → P x → AllByRecursion P (xs ++ x ∷ [])
-every-append P [] x all p = (p, tt)
-every-append P (y ∷ ys) x (q, all) p = (q, every-append P ys x all p)
-
 -- what holds of anything holds of every element
 pub every-always : {A : Type 0} (P : A → Type 0) → ((a : A) → P a) → (xs : List A) → AllByRecursion P xs
 every-always P f [] = tt

@@ -21,3 +21,8 @@ pub record Store : Type 0 where
   pub calls : ℕ
   pub faults : ℕ
   pub settled : Bool
+
+-- A source over memory that never fails: the bytes not yet read, and the most that a read gives.
+pub record SureSupply : Type 0 where
+  pub left : List ℕ
+  pub piece : ℕ

@@ -1,7 +1,6 @@
 //! Adding bytes and numbers to a text that grows in memory.
 
-ghost use Rattle.std.specs.Prelude.{◌≡◌, ◌++◌, OnOk, codes, decimal};
-ghost use Rattle.std.specs.Fmt.{signed_decimal};
+ghost use Rattle.std.specs.Prelude.{◌≡◌, ◌++◌, OnOk, decimal};
 
 use crate::no_memory::NoMemory;
 use itoa::Buffer;
@@ -14,24 +13,9 @@ pub fn put_bytes(out: &mut Vec<u8>, bytes: &[u8]) -> Result<(), NoMemory>
     Ok(())
 }
 
-/// Adds a comma and a space.
-pub fn put_comma(out: &mut Vec<u8>) -> Result<(), NoMemory>
-    ensures { OnOk result (out.new.items ≡ out.old.items ++ codes ", ") }
-{
-    put_bytes(out, b", ")
-}
-
 /// Adds a number in decimal, without leading zeros.
 pub fn put_number(out: &mut Vec<u8>, number: u64) -> Result<(), NoMemory>
     ensures { OnOk result (out.new.items ≡ out.old.items ++ decimal number) }
-{
-    let mut buffer = Buffer::new();
-    put_bytes(out, buffer.format(number).as_bytes())
-}
-
-/// Adds a number in decimal, with a `-` where it is below 0.
-pub fn put_signed(out: &mut Vec<u8>, number: i64) -> Result<(), NoMemory>
-    ensures { OnOk result (out.new.items ≡ out.old.items ++ signed_decimal number) }
 {
     let mut buffer = Buffer::new();
     put_bytes(out, buffer.format(number).as_bytes())

@@ -29,33 +29,95 @@ const WIDEST: &[u8] =
 const WIDEST_WRITTEN: &[u8] =
     b"model W;\nvar A2345678901234567890123456789012 : -4611686018427387904..4611686018427387904 = -4611686018427387904;\nvertex RUN {\n  set A2345678901234567890123456789012 := 9223372036854775807;\n}\nend\ncertificate\nend\n";
 
-/// Texts that read, in the first form, as no model, each for one reason.
-const REFUSED: [&[u8]; 19] = [
-    // no model, and bytes that begin no token
-    b"",
-    b"\xff\x00",
-    // beyond the first form
-    b"model M; var N : 0..9 clip = 0; vertex RUN { } end",
-    b"model M; vertex RUN { } end end",
-    b"model M; end",
-    b"model M; vertex RUN { schedule RUN; set N := 1; } end",
-    // a name of 33 bytes
-    b"model M; vertex A23456789012345678901234567890123 { } end",
-    // names that are unknown, declared twice or wrongly used
-    b"model M; vertex RUN { set N := 1; } end",
-    b"model M; vertex RUN { schedule STOP; } end",
-    b"model M; var N : 0..9 = 0; var N : 0..9 = 0; vertex RUN { } end",
-    b"model M; var RUN : 0..9 = 0; vertex RUN { } end",
-    b"model M; var N : 0..9 = 0; watch N, N; vertex RUN { } end",
-    b"model M; watch RUN; vertex RUN { } end",
-    b"model M; var N : 0..9 = 0; vertex RUN { set RUN := N; } end",
-    b"model M; var N : 0..9 = 0; vertex RUN { schedule N; } end",
-    // bounds out of order, an initial value outside, and numbers too large
-    b"model M; var N : 9..0 = 9; vertex RUN { } end",
-    b"model M; var N : 0..9 = -1; vertex RUN { } end",
-    b"model M; var N : 0..4611686018427387905 = 0; vertex RUN { } end",
-    b"model M; vertex RUN { schedule RUN after 9223372036854775808; } end",
+/// Texts that read as no model, each with the line that is told.
+const REFUSED: [(&[u8], &[u8]); 21] = [
+    // tokens, and the grammar
+    (b"", b"sigma: byte 0: unexpected\n"),
+    (b"\xff\x00", b"sigma: byte 0: bad byte\n"),
+    (b"model ONE; ver", b"sigma: byte 11: unexpected\n"),
+    (
+        b"model M; var N : 0..3 = 5; vertex RUN { set Q := 1; }",
+        b"sigma: byte 53: unexpected\n",
+    ),
+    (
+        b"model M; vertex RUN { } end end",
+        b"sigma: byte 28: unexpected\n",
+    ),
+    // static rules: of two that are broken the one with the least place
+    (
+        b"model M; var N : 0..3 = 5; vertex RUN { set Q := 1; } end",
+        b"sigma: byte 24: initial outside\n",
+    ),
+    // and each but that on the length of the model
+    (
+        b"model M; var A_NAME_OF_MORE_THAN_32_BYTES_IN_ALL : 0..9 = 0; vertex V { } end",
+        b"sigma: byte 13: name too long\n",
+    ),
+    (
+        b"model M; vertex V { schedule W; } end",
+        b"sigma: byte 29: unknown name\n",
+    ),
+    (
+        b"model M; var V : 0..9 = 0; vertex V { } end",
+        b"sigma: byte 34: duplicate name\n",
+    ),
+    (
+        b"model M; var N[4] : 0..9 = 0; vertex V { set N := 1; } end",
+        b"sigma: byte 45: wrong use\n",
+    ),
+    (
+        b"model M; var N : 0..9 = 0; vertex V { schedule V when N; } end",
+        b"sigma: byte 54: kind mismatch\n",
+    ),
+    (
+        b"model M; var N : 0..9 = 0; vertex V(N) { schedule V; } end",
+        b"sigma: byte 50: value count\n",
+    ),
+    (
+        b"model M; var N : 0..4611686018427387905 = 0; vertex V { } end",
+        b"sigma: byte 20: literal too large\n",
+    ),
+    (
+        b"model M; var N : 9..0 = 0; vertex V { } end",
+        b"sigma: byte 17: empty range\n",
+    ),
+    (
+        b"model M; var N : 0..9 = 10; vertex V { } end",
+        b"sigma: byte 24: initial outside\n",
+    ),
+    (
+        b"model M; var N[0] : 0..9 = 0; vertex V { } end",
+        b"sigma: byte 15: size outside\n",
+    ),
+    (
+        b"model M; vertex V { schedule V priority 256; } end",
+        b"sigma: byte 40: priority outside\n",
+    ),
+    (
+        b"model M; var N : 0..9 = 0; vertex V { draw N from 64 in 0..9; } end",
+        b"sigma: byte 50: stream outside\n",
+    ),
+    (
+        b"model M; var N : 0..9 = 0; vertex V { draw N from 1 in 0..4294967296; } end",
+        b"sigma: byte 55: draw outside\n",
+    ),
+    (
+        b"model M; table T { 1 : 0; } vertex V { } end",
+        b"sigma: byte 23: weight outside\n",
+    ),
+    (
+        b"model M; var P : 0..9 = 0; vertex V { set P, P, P, P, P, P, P, P, P := 1, 1, 1, 1, 1, 1, 1, 1, 1; } end",
+        b"sigma: byte 66: too many\n",
+    ),
 ];
+
+/// A model of the whole language that isn't of the first form.
+const CLIPPED: &[u8] = b"model M; var N : 0..9 clip = 0; vertex RUN { } end";
+
+/// A text, and the one in its canonical form.
+const LOOSE: &[u8] = b"model M;vertex RUN{schedule RUN after(0)priority 5 when true;}end";
+
+const LOOSE_WRITTEN: &[u8] = b"model M;\nvertex RUN {\n  schedule RUN;\n}\nend\n";
 
 const NOT_FIRST_FORM: &[u8] = b"sigma: not of the first form\n";
 
@@ -130,15 +192,27 @@ fn run(
     })
 }
 
-/// What is seen of `reduce` with this text.
-fn reduced(
+/// What is seen of a command, which is one word, with this text.
+fn commanded(
     alloc: Global,
-    text: Vec<u8>,
+    word: &str,
+    text: &[u8],
     failing: Failing,
     wanted: Answer<'_>,
 ) -> Result<Seen, NoMemory> {
-    let reduce = String::from_str(alloc, "reduce")?;
-    run(alloc, &[reduce], text, failing, wanted)
+    let command = String::from_str(alloc, word)?;
+    let text = Vec::from_slice(alloc, text)?;
+    run(alloc, &[command], text, failing, wanted)
+}
+
+/// What is seen of `reduce` with this text.
+fn reduced(
+    alloc: Global,
+    text: &[u8],
+    failing: Failing,
+    wanted: Answer<'_>,
+) -> Result<Seen, NoMemory> {
+    commanded(alloc, "reduce", text, failing, wanted)
 }
 
 #[test]
@@ -149,30 +223,33 @@ fn models_are_reduced(rt: HostRuntime) -> Result<(), Fail> {
         (LASTING, LASTING_WRITTEN),
         (WIDEST, WIDEST_WRITTEN),
     ] {
-        let text = Vec::from_slice(rt.alloc(), text)?;
         assert!(rt; reduced(rt.alloc(), text, SOUND, done(written))?.is_wanted);
+    }
+    let refused = told(Status::Refused, NOT_FIRST_FORM);
+    assert!(rt; reduced(rt.alloc(), CLIPPED, SOUND, refused)?.is_wanted);
+    Ok(())
+}
+
+#[test]
+fn models_are_checked_and_printed(rt: HostRuntime) -> Result<(), Fail> {
+    for (word, text, written) in [
+        ("check", ONE, b"accepted ONE\n".as_slice()),
+        ("check", CLIPPED, b"accepted M\n".as_slice()),
+        ("print", ONE, ONE),
+        ("print", LOOSE, LOOSE_WRITTEN),
+    ] {
+        assert!(rt; commanded(rt.alloc(), word, text, SOUND, done(written))?.is_wanted);
     }
     Ok(())
 }
 
 #[test]
 fn other_texts_are_refused(rt: HostRuntime) -> Result<(), Fail> {
-    let refused = told(Status::Refused, NOT_FIRST_FORM);
-    for text in REFUSED {
-        let text = Vec::from_slice(rt.alloc(), text)?;
-        assert!(rt; reduced(rt.alloc(), text, SOUND, refused)?.is_wanted);
-    }
-    Ok(())
-}
-
-#[test]
-fn a_text_that_is_cut_is_refused(rt: HostRuntime) -> Result<(), Fail> {
-    let refused = told(Status::Refused, NOT_FIRST_FORM);
-    // Of the worked text only the line feed behind the last word may be missing.
-    for length in 0..ONE.len() - 1 {
-        let mut text = Vec::from_slice(rt.alloc(), ONE)?;
-        text.truncate(length);
-        assert!(rt; reduced(rt.alloc(), text, SOUND, refused)?.is_wanted);
+    for (text, line) in REFUSED {
+        for word in ["check", "print", "reduce"] {
+            let refused = told(Status::Refused, line);
+            assert!(rt; commanded(rt.alloc(), word, text, SOUND, refused)?.is_wanted);
+        }
     }
     Ok(())
 }
@@ -210,22 +287,20 @@ fn a_text_ends_at_its_limit(rt: HostRuntime) -> Result<(), Fail> {
     ] {
         let mut text = Vec::from_slice(rt.alloc(), ONE)?;
         text.resize(length, b' ')?;
-        assert!(rt; reduced(rt.alloc(), text, SOUND, wanted)?.is_wanted);
+        assert!(rt; reduced(rt.alloc(), &text, SOUND, wanted)?.is_wanted);
     }
     Ok(())
 }
 
 #[test]
 fn a_failed_read_is_the_last(rt: HostRuntime) -> Result<(), Fail> {
-    let text = Vec::from_slice(rt.alloc(), ONE)?;
     // Pieces of 7 bytes, and a last read that finds the end.
     let reads = ONE.len() as u64 / 7 + 2;
     assert_eq!(rt;
-        reduced(rt.alloc(), text, SOUND, done(ONE_WRITTEN))?.reads,
+        reduced(rt.alloc(), ONE, SOUND, done(ONE_WRITTEN))?.reads,
         reads
     );
     for read in 1..reads + 1 {
-        let text = Vec::from_slice(rt.alloc(), ONE)?;
         let failing = Failing { read, ..SOUND };
         let wanted = told(Status::ReadFault, b"sigma: cannot read\n");
         let last = Seen {
@@ -233,7 +308,7 @@ fn a_failed_read_is_the_last(rt: HostRuntime) -> Result<(), Fail> {
             reads: read,
             writes: 0,
         };
-        assert_eq!(rt; reduced(rt.alloc(), text, failing, wanted)?, last);
+        assert_eq!(rt; reduced(rt.alloc(), ONE, failing, wanted)?, last);
     }
     Ok(())
 }
@@ -245,8 +320,7 @@ fn write_fails(alloc: Global, write: u64, written: &[u8]) -> Result<Seen, NoMemo
         output: written,
         errors: b"sigma: cannot write\n",
     };
-    let text = Vec::from_slice(alloc, ONE)?;
-    reduced(alloc, text, Failing { write, ..SOUND }, wanted)
+    reduced(alloc, ONE, Failing { write, ..SOUND }, wanted)
 }
 
 #[test]
@@ -262,8 +336,7 @@ fn a_failed_write_is_the_last(rt: HostRuntime) -> Result<(), Fail> {
     let finish = ONE_WRITTEN.len() as u64 + 1;
     let answer = write_fails(rt.alloc(), finish, ONE_WRITTEN)?;
     assert_eq!(rt; (answer.is_wanted, answer.writes), (true, finish));
-    let text = Vec::from_slice(rt.alloc(), ONE)?;
-    let answer = reduced(rt.alloc(), text, SOUND, done(ONE_WRITTEN))?;
+    let answer = reduced(rt.alloc(), ONE, SOUND, done(ONE_WRITTEN))?;
     assert_eq!(rt; answer.writes, finish);
     Ok(())
 }
@@ -272,6 +345,6 @@ fn a_failed_write_is_the_last(rt: HostRuntime) -> Result<(), Fail> {
 fn a_failing_error_output_changes_no_status(rt: HostRuntime) -> Result<(), Fail> {
     let failing = Failing { error: 1, ..SOUND };
     let refused = told(Status::Refused, b"");
-    assert!(rt; reduced(rt.alloc(), Vec::new(rt.alloc()), failing, refused)?.is_wanted);
+    assert!(rt; reduced(rt.alloc(), b"", failing, refused)?.is_wanted);
     Ok(())
 }

@@ -1,7 +1,7 @@
 -- From the text that was taken, and the answer to it, to how the job ended.
-use Rattle.std.proofs.Common.{◌≡◌, ◌⊎◌, inl, inr, ℕ, zero, suc, ◌+◌, ◌<◌, true, false, List, [], ◌∷◌, ◌++◌, length, Option, Some, None, Result, Ok, Err, refl, sym, subst, arith}
+use Rattle.std.proofs.Common.{◌≡◌, ◌⊎◌, inl, inr, ℕ, zero, suc, ◌+◌, ◌<◌, Bool, true, false, List, [], ◌∷◌, ◌++◌, length, Option, Some, None, Result, Ok, Err, refl, sym, subst, ◌∙◌, arith}
 use Rattle.std.specs.Prelude.{IfSome, codes}
-use Rattle.std.proofs.lemmas.List.{length-append}
+use Rattle.std.proofs.lemmas.List.{length-append, append-nil}
 use Rattle.model_core.specs.EventGraph.{EventGraph}
 use Rattle.model_core.specs.Text.Canonical.{canonical}
 use Rattle.model_core.specs.Rules.Certificate.{certificate}
@@ -17,7 +17,7 @@ use Rattle.sigma_top.specs.declared.status.End.{End}
 use Rattle.sigma_top.specs.declared.status.Refusal.{Refusal}
 use Rattle.sigma_top.specs.declared.status.Failure.{Failure}
 use Rattle.sigma_top.specs.declared.status.Failure.TheVariants as failures
-use Rattle.sigma_top.specs.Answer.{refused, too_long, Reduces, AnswersJob, IsOver}
+use Rattle.sigma_top.specs.Answer.{refused, too_long, accepted_line, Reduces, WritesFor, is_taken, OfTaken, AnswersJob, IsOver}
 use Rattle.sigma_top.specs.Delivery.{Inlet, Outlet, text_of, IsReadThrough, AnswersInput, HasBegun, GrowsByFront}
 use Rattle.sigma_top.specs.Inner.Frame.{TakesText, Answering, Performs}
 use Rattle.sigma_top.specs.Jobs.{limit_of, is_streamed}
@@ -42,9 +42,22 @@ canonical_has_bytes g behind = begins_with (codes "model ") _ behind (omega arit
 reduced_has_bytes : (g : EventGraph) (out : List ℕ) → Reduces g out → 0 < length out
 reduced_has_bytes g out r = subst (λ (bytes : List ℕ). 0 < length bytes) (sym r.written) (canonical_has_bytes r.reduced (certificate r.applications))
 
+accepted_has_bytes : (g : EventGraph) → 0 < length (accepted_line g)
+accepted_has_bytes g = begins_with (codes "accepted ") g.name (codes "\n") (omega arith)
+
+-- of whatever model a job writes at least a byte
+written_has_bytes : (job : Job) (g : EventGraph) (out : List ℕ) → WritesFor job g out → 0 < length out
+written_has_bytes jobs.Check g out e = subst (λ (bytes : List ℕ). 0 < length bytes) (sym e) (accepted_has_bytes g)
+written_has_bytes jobs.Print g out e = subst (λ (bytes : List ℕ). 0 < length bytes) (append-nil (canonical g) ∙ sym e) (canonical_has_bytes g [])
+written_has_bytes jobs.Reduce g out r = reduced_has_bytes g out r
+
+taken_has_bytes : (job : Job) (g : EventGraph) (b : Bool) (end : End) (bytes : List ℕ) → OfTaken b (WritesFor job g) (Given end bytes) → 0 < length bytes
+taken_has_bytes job g true end bytes h = subst (λ (b : List ℕ). 0 < length b) (sym (given_bytes h.2)) (written_has_bytes job g h.0 h.1)
+taken_has_bytes job g false end bytes h = absurd (given_is_no_refusal h)
+
 given_has_bytes : (job : Job) (text : List ℕ) (end : End) (bytes : List ℕ) → AnswersJob job text (Given end bytes) → 0 < length bytes
-given_has_bytes jobs.Reduce text end bytes (inl none) = absurd (given_is_no_refusal none.1)
-given_has_bytes jobs.Reduce text end bytes (inr h) = subst (λ (b : List ℕ). 0 < length b) (sym (given_bytes h.2.2)) (reduced_has_bytes h.0 h.2.0 h.2.1)
+given_has_bytes job text end bytes (inl h) = absurd (given_is_no_refusal h.told)
+given_has_bytes job text end bytes (inr h) = taken_has_bytes job h.0 (is_taken job h.0) end bytes h.2
 
 -- ---- the answer to the text is that to the input
 

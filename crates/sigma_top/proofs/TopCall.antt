@@ -1,11 +1,11 @@
 -- From the job to the call, and from its table of statuses to its other clauses.
-use Rattle.std.proofs.Common.{◌≡◌, ◌⊎◌, inl, inr, ℕ, List, [], Option, Some, None, Result, Ok, Err, refl, ap, sym, subst, ◌∙◌}
+use Rattle.std.proofs.Common.{◌≡◌, ◌⊎◌, inl, inr, ℕ, Bool, true, false, List, [], Option, Some, None, Result, Ok, Err, refl, ap, sym, subst, ◌∙◌}
 use Rattle.std.specs.Prelude.{IfSome}
 use Rattle.std.proofs.lemmas.List.{append-nil}
 use Rattle.sig_base.specs.Faults.{HasRisen}
 use Rattle.sig_base.specs.Sink.{GrowsBy}
 use Rattle.model_core.specs.EventGraph.{EventGraph}
-use Rattle.model_core.specs.Text.Acceptance.{ReadsFirst}
+use Rattle.model_core.specs.Static.Reading.{Reads}
 use Rattle.sigma_top.specs.declared.answer.Answer.{Answer}
 use Rattle.sigma_top.specs.declared.answer.Answer.TheVariants.{Given, Refused}
 use Rattle.sigma_top.specs.declared.delivering.Said.{Said}
@@ -20,7 +20,7 @@ use Rattle.sigma_top.specs.declared.status.Failure.{Failure}
 use Rattle.sigma_top.specs.declared.status.Failure.TheVariants as failures
 use Rattle.sigma_top.specs.declared.status.Status.{Status}
 use Rattle.sigma_top.specs.declared.status.Status.TheVariants as statuses
-use Rattle.sigma_top.specs.Answer.{Answers, AnswersJob, Reduces, KeepsMeaning}
+use Rattle.sigma_top.specs.Answer.{Answers, AnswersJob, WritesFor, is_taken, OfTaken, Reduces, KeepsMeaning}
 use Rattle.sigma_top.specs.Delivery.{Inlet, Outlet, text_of, Told, WritesAnswer, Refuses, AnswersInput, ForJob, Ends}
 use Rattle.sigma_top.specs.Ending.{status_of_answer, bytes_of_answer, status_of_end, status_of_refusal, status_of_failure, failure_line}
 use Rattle.sigma_top.specs.Inner.Frame.{Performs, Runs}
@@ -30,15 +30,19 @@ use Rattle.sigma_top.proofs.Performing.{given_is_no_refusal, given_bytes}
 -- ---- what `reduce` gives
 
 abbrev pub MeansTheSame : Type 0
-MeansTheSame = (text out : List ℕ) (g : EventGraph) → ReadsFirst text g → Reduces g out → KeepsMeaning text out
+MeansTheSame = (text out : List ℕ) (g : EventGraph) → Reads text g → Reduces g out → KeepsMeaning text out
 
 same_job : {a b : Job} → Some a ≡ Some b → a ≡ b
 same_job e = cc
 
 module _ (law : MeansTheSame) (text bytes : List ℕ) (end : End) where
+  taken_means : (g : EventGraph) → Reads text g → (b : Bool) → OfTaken b (WritesFor jobs.Reduce g) (Given end bytes) → KeepsMeaning text bytes
+  taken_means g reads true h = subst (λ (b : List ℕ). KeepsMeaning text b) (sym (given_bytes h.2)) (law text h.0 g reads h.1)
+  taken_means g reads false h = absurd (given_is_no_refusal h)
+
   model_means : AnswersJob jobs.Reduce text (Given end bytes) → KeepsMeaning text bytes
-  model_means (inl none) = absurd (given_is_no_refusal none.1)
-  model_means (inr h) = subst (λ (b : List ℕ). KeepsMeaning text b) (sym (given_bytes h.2.2)) (law text h.2.0 h.0 h.1 h.2.1)
+  model_means (inl h) = absurd (given_is_no_refusal h.told)
+  model_means (inr h) = taken_means h.0 h.1 (is_taken jobs.Reduce h.0) h.2
 
   text_means : Answers jobs.Reduce text (Given end bytes) → KeepsMeaning text bytes
   text_means (inl over) = absurd (given_is_no_refusal over.1)

@@ -1,17 +1,20 @@
 -- What each job answers to a text. Nothing is said here of where the text comes from or where the answer goes.
-use Rattle.std.specs.Prelude.{◌≡◌, ◌≤◌, ◌<◌, ◌⊎◌, ℕ, List, ◌++◌, codes, length, Option, Some, None}
+use Rattle.std.specs.Prelude.{◌≡◌, ◌≤◌, ◌<◌, ◌⊎◌, ℕ, Bool, true, false, List, ◌++◌, codes, length, Option, Some, None}
 use Rattle.model_core.specs.EventGraph.{EventGraph}
-use Rattle.model_core.specs.Text.Acceptance.{ReadsFirst}
+use Rattle.model_core.specs.Static.Reading.{Reads}
 use Rattle.model_core.specs.Text.Canonical.{canonical}
 use Rattle.model_core.specs.Rules.Reduction.{RuleApplication, Strategy}
 use Rattle.model_core.specs.Rules.Certificate.{certificate}
 use Rattle.model_core.specs.Run.Same.{Same}
 use Rattle.sigma_top.specs.declared.answer.Answer.{Answer}
 use Rattle.sigma_top.specs.declared.answer.Answer.TheVariants.{Given, Refused}
+use Rattle.sigma_top.specs.declared.complaint.Complaint.{Complaint}
 use Rattle.sigma_top.specs.declared.job.Job.{Job}
 use Rattle.sigma_top.specs.declared.job.Job.TheVariants as jobs
 use Rattle.sigma_top.specs.declared.status.End.TheVariants as ends
 use Rattle.sigma_top.specs.declared.status.Refusal.TheVariants as refusals
+use Rattle.sigma_top.specs.Complaints.{IsComplaint, message_of, byte_line}
+use Rattle.sigma_top.specs.FirstForm.{is_first_form}
 use Rattle.sigma_top.specs.Jobs.{limit_of}
 
 -- ---- the forms of an answer
@@ -39,26 +42,41 @@ pub record Reduces (original : EventGraph) (out : List ℕ) : Type 0 where
   pub strategy : Strategy original applications reduced
   pub written : out ≡ canonical reduced ++ certificate applications
 
+abbrev pub accepted_line : EventGraph → List ℕ
+accepted_line g = codes "accepted " ++ g.name ++ codes "\n"
+
+-- `check` says that the model is accepted, and `print` writes its canonical text
 abbrev pub WritesFor : Job → EventGraph → List ℕ → Type 0
+WritesFor jobs.Check g out = out ≡ accepted_line g
+WritesFor jobs.Print g out = out ≡ canonical g
 WritesFor jobs.Reduce g out = Reduces g out
 
+-- whether a job takes a model: `reduce` takes those of the first form alone so far
+abbrev pub is_taken : Job → EventGraph → Bool
+is_taken jobs.Reduce g = is_first_form g
+is_taken job g = true
+
 -- ---- the answer to a text
-
--- no model reads, in the first form, from the text
-abbrev pub ReadsAsNone : List ℕ → Type 0
-ReadsAsNone text = (g : EventGraph) → ReadsFirst text g → ⊥
-
--- the text is refused, or it reads as a model that has this answer
-abbrev pub OfModel : List ℕ → (EventGraph → Answer → Type 0) → Answer → Type 0
-OfModel text AnswersModel a = (ReadsAsNone text × (a ≡ refused not_first_form)) ⊎ ((g : EventGraph) × ReadsFirst text g × AnswersModel g a)
 
 -- the job is done, and these are its bytes
 abbrev pub IsDone : (List ℕ → Type 0) → Answer → Type 0
 IsDone AreWritten a = (out : List ℕ) × AreWritten out × (a ≡ done out)
 
--- the answer of a job to a text within its limit
+-- of a model that is taken this is written, and any other is refused
+abbrev pub OfTaken : Bool → (List ℕ → Type 0) → Answer → Type 0
+OfTaken true AreWritten a = IsDone AreWritten a
+OfTaken false AreWritten a = a ≡ refused not_first_form
+
+-- the text is refused with a line that tells what there is to complain of
+pub record IsRefused (text : List ℕ) (a : Answer) : Type 0 where
+  pub what : Complaint
+  pub at : ℕ
+  pub complaint : IsComplaint text what at
+  pub told : a ≡ refused (byte_line at (message_of what))
+
+-- the answer of a job to a text within its limit: the text is refused, or it reads as a model that has this answer
 abbrev pub AnswersJob : Job → List ℕ → Answer → Type 0
-AnswersJob job text a = OfModel text (λ g b. IsDone (WritesFor job g) b) a
+AnswersJob job text a = IsRefused text a ⊎ ((g : EventGraph) × Reads text g × OfTaken (is_taken job g) (WritesFor job g) a)
 
 -- the text has at most so many bytes
 abbrev pub IsWithin : Option ℕ → List ℕ → Type 0
@@ -80,8 +98,8 @@ pub record KeepsMeaning (text out : List ℕ) : Type 0 where
   pub original : EventGraph
   pub applications : List RuleApplication
   pub reduced : EventGraph
-  pub reads : ReadsFirst text original
+  pub reads : Reads text original
   pub strategy : Strategy original applications reduced
   pub written : out ≡ canonical reduced ++ certificate applications
-  pub reads_back : ReadsFirst (canonical reduced) reduced
+  pub reads_back : Reads (canonical reduced) reduced
   pub same : Same original reduced

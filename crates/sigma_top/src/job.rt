@@ -9,6 +9,10 @@ use sig_base::TEXT_MAX;
 /// A job of the program.
 #[derive(Clone, Copy, Debug, PartialEq, Eq)]
 pub enum Job {
+    /// Whether the model is accepted.
+    Check,
+    /// The model in its canonical form.
+    Print,
     /// The model made smaller, and the certificate of that.
     Reduce,
 }
@@ -19,7 +23,7 @@ impl Job {
         ensures { result ≡ limit_of self }
     {
         match self {
-            Job::Reduce => Some(TEXT_MAX),
+            Job::Check | Job::Print | Job::Reduce => Some(TEXT_MAX),
         }
     }
 }
@@ -30,7 +34,12 @@ pub fn job_of(words: &[String]) -> Option<Job>
 {
     match words {
         [word] => {
-            if word.as_str() == "reduce" {
+            let word = word.as_str();
+            if word == "check" {
+                Some(Job::Check)
+            } else if word == "print" {
+                Some(Job::Print)
+            } else if word == "reduce" {
                 Some(Job::Reduce)
             } else {
                 None

@@ -6,6 +6,7 @@ pub mod Reductions
 pub mod Pairs
 pub mod Texts
 pub mod Tokens
+pub mod LineOpenings
 pub mod WrittenParts
 pub mod WrittenModels
 pub mod StockText

@@ -17,6 +17,7 @@ mod order;
 mod ranges;
 mod reaching;
 mod rules;
+mod spellable;
 mod static_rules;
 mod stream;
 mod texts;
@@ -46,6 +47,7 @@ pub use rules::{
     applications_are_made_in_order, conditions_have_numbers, the_first_rule_is_taken,
     the_strategy_ends,
 };
+pub use spellable::{openings_are_those_of_the_text, some_parts_are_not_written};
 pub use static_rules::{
     counts_have_limits, draws_are_within_limits, kinds_match, limits_on_counts_are_exact,
     long_models_are_told_last, models_break_no_rule, names_are_declared, names_are_declared_once,

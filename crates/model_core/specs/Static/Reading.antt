@@ -12,3 +12,7 @@ pub record Reads (text : List ℕ) (g : EventGraph) : Type 0 where
   pub model : WrittenModel
   pub spells : SpellsText text model
   pub accepted : Accepted model g
+
+-- a model is valid where some text reads as it
+abbrev pub IsValid : EventGraph → Type 0
+IsValid g = (text : List ℕ) × Reads text g

@@ -45,12 +45,13 @@ declared_by m = record {
 
 -- ---- numbers
 
-abbrev pub natural_of : ℤ → ℕ
-natural_of (pos n) = n
-natural_of (negsuc n) = 0
+-- a number that isn't negative
+abbrev pub natural_of : ℤ → Option ℕ
+natural_of (pos n) = Some n
+natural_of (negsuc n) = None
 
 abbrev pub natural : WrittenNumber → Option ℕ
-natural n = option_map natural_of n.value
+natural n = n.value >>= natural_of
 
 abbrev pub with_sign : Bool → ℤ → ℤ
 with_sign true n = neg_ℤ n

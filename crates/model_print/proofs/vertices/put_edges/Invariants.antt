@@ -1,8 +1,8 @@
-use Rattle.std.proofs.Common.{◌≡◌, ◌++◌, map, take}
+use Rattle.std.proofs.Common.{map, take}
 use Rattle.std.specs.List.{flat_map}
 use Rattle.model_core.specs.Text.Canonical.{edge_line}
-use Rattle.model_core.specs.Code.Views.{graph_of, edge_of}
+use Rattle.model_core.specs.Code.Views.{edge_of, graph_of}
 use Rattle.model_print.proofs.vertices.put_edges.Given as goal
 
 abbrev pub invariant-loop-edge : goal.invariant-loop-edge
-invariant-loop-edge l = l.out.items ≡ l.initial.out.items ++ flat_map (edge_line (graph_of l.model)) (map edge_of (take l.edge-index l.edges))
+invariant-loop-edge g l = g.P.Pen.adds l.initial.out l.out (flat_map (edge_line (graph_of l.model)) (map edge_of (take l.edge-index l.edges)))

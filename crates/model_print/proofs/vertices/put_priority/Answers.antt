@@ -1,10 +1,7 @@
--- what is written, from what the calls write
-use Rattle.std.proofs.Common.{arith}
-use Rattle.std.proofs.lemmas.Grind.{common_steps}
+-- what is put, piece by piece
+use Rattle.std.proofs.Common.{rules}
+use Rattle.model_print.proofs.Putting.{put_as, two}
 use Rattle.model_print.proofs.vertices.put_priority.Goals as goal
 
 pub returns : goal.returns
-returns c = grind (arith, common_steps)
-
-pub returns-then-priority-eq-PLAIN_PRIORITY : goal.returns-then-priority-eq-PLAIN_PRIORITY
-returns-then-priority-eq-PLAIN_PRIORITY c = grind (arith, common_steps)
+returns g c = put_as g.met.P.Pen.both _ (search rules) (two g.met.P.Pen.both c.put_bytes.ensures c.put_number.ensures)

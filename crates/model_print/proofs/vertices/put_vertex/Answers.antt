@@ -1,7 +1,6 @@
--- what is written, from what the calls write
-use Rattle.std.proofs.Common.{arith}
-use Rattle.std.proofs.lemmas.Grind.{common_steps}
+-- what is put, piece by piece
+use Rattle.model_print.proofs.Putting.{seven}
 use Rattle.model_print.proofs.vertices.put_vertex.Goals as goal
 
 pub returns : goal.returns
-returns c = grind (arith, common_steps)
+returns g c = rw (← c.as_slice.ensures, ← c.as_slice-2.ensures, ← c.as_slice-3.ensures, ← c.as_slice-4.ensures) (seven g.met.P.Pen.both c.put_bytes.ensures c.put_bytes-2.ensures c.put_parameters.ensures c.put_bytes-3.ensures c.put_changes.ensures c.put_edges.ensures c.put_bytes-4.ensures)

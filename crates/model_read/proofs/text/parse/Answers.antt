@@ -1,15 +1,32 @@
-use Rattle.std.proofs.Common.{◌≡◌, ap, ◌∙◌, map}
+-- The openings are counted, and then the reader of the grammar tells.
+use Rattle.std.proofs.Common.{◌≡◌, refl, ap, ◌∙◌, map}
+use Rattle.sig_base.specs.declared.limits.TheConstants.{OPENINGS_MAX}
 use Rattle.model_core.specs.Code.TokenViews.{lexeme_of}
+use Rattle.model_core.specs.Inner.LanguageReader.{text_read}
 use Rattle.model_lex.specs.Lexemes.{lexemes}
-use Rattle.model_read.proofs.Whole.{read_is_spelled, refused_is_not_spelled}
+use Rattle.model_read.proofs.WholeText.{is_deep, is_few, deep-place, whole-ok, whole-unexpected, never_deep}
 use Rattle.model_read.proofs.text.parse.Goals as goal
+
+pub returns-in-Some-clause-too_deep : goal.returns-in-Some-clause-too_deep
+returns-in-Some-clause-too_deep c = λ at e. deep-place OPENINGS_MAX (lexemes c.args.tokens.now) c.first_too_deep.result c.in-Some.at at (rw c.as_slice-list.ensures at (c.first_too_deep.ensures c.args.tokens.now.text.now)) c.in-Some.is e
 
 pub returns-clause-ok : goal.returns-clause-ok
 returns-clause-ok c =
-    let e : c.new-cursor.result ≡ lexemes c.args.tokens.now = c.new-cursor.ensures ∙ ap (map (lexeme_of c.args.tokens.now.text.now)) c.as_slice.ensures in
-    read_is_spelled c.all.result (lexemes c.args.tokens.now) (rw e at c.all.ensures)
+    let are : c.new-cursor.result ≡ lexemes c.args.tokens.now = c.new-cursor.ensures ∙ ap (map (lexeme_of c.args.tokens.now.text.now)) c.as_slice-list.ensures in
+    whole-ok c.args.tokens.now.text.now (lexemes c.args.tokens.now) c.whole-read.new.cursor OPENINGS_MAX c.placed.result
+    (c.placed.ensures c.args.tokens.now.text.now (text_read (lexemes c.args.tokens.now)) refl (rw are at c.whole-read.ensures))
+    (is_few OPENINGS_MAX (lexemes c.args.tokens.now) c.first_too_deep.result (rw c.as_slice-list.ensures at (c.first_too_deep.ensures c.args.tokens.now.text.now)) c.in_default.is)
 
 pub returns-clause-unexpected : goal.returns-clause-unexpected
-returns-clause-unexpected c =
-    let e : c.new-cursor.result ≡ lexemes c.args.tokens.now = c.new-cursor.ensures ∙ ap (map (lexeme_of c.args.tokens.now.text.now)) c.as_slice.ensures in
-    refused_is_not_spelled c.all.result (lexemes c.args.tokens.now) (rw e at c.all.ensures)
+returns-clause-unexpected c = λ at e.
+    let are : c.new-cursor.result ≡ lexemes c.args.tokens.now = c.new-cursor.ensures ∙ ap (map (lexeme_of c.args.tokens.now.text.now)) c.as_slice-list.ensures in (
+      is_deep OPENINGS_MAX (lexemes c.args.tokens.now) c.first_too_deep.result (rw c.as_slice-list.ensures at (c.first_too_deep.ensures c.args.tokens.now.text.now)) ∙ c.in_default.is,
+      whole-unexpected c.args.tokens.now.text.now (lexemes c.args.tokens.now) c.whole-read.new.cursor c.placed.result at
+          (c.placed.ensures c.args.tokens.now.text.now (text_read (lexemes c.args.tokens.now)) refl (rw are at c.whole-read.ensures)) e,
+    )
+
+pub returns-clause-too_deep : goal.returns-clause-too_deep
+returns-clause-too_deep c = λ at e.
+    let are : c.new-cursor.result ≡ lexemes c.args.tokens.now = c.new-cursor.ensures ∙ ap (map (lexeme_of c.args.tokens.now.text.now)) c.as_slice-list.ensures in
+    absurd (never_deep c.args.tokens.now.text.now (lexemes c.args.tokens.now) c.whole-read.new.cursor c.placed.result at
+    (c.placed.ensures c.args.tokens.now.text.now (text_read (lexemes c.args.tokens.now)) refl (rw are at c.whole-read.ensures)) e)

@@ -2,10 +2,9 @@
 use Rattle.std.proofs.Common.{◌≡◌, ℕ, suc, ◌+◌, ◌<◌, Bool, true, false, List, ◌∷◌, ◌++◌, map, length, get_or, drop, add-one, sym, ap, ◌∙◌, arith}
 use Rattle.std.proofs.Math.Seq.{drop-cons}
 use Rattle.model_core.specs.declared.vertex.Edge.{Edge}
-use Rattle.model_core.specs.Code.Views.{edge_of}
+use Rattle.model_core.specs.Code.Views.{edge_of, application_of}
 use Rattle.model_core.specs.Rules.Prune.{is_literal_false}
 use Rattle.model_core.specs.Rules.Reduction.{Prune}
-use Rattle.model_core.specs.Code.Views.{application_of}
 use Rattle.reducer.specs.Inner.Sweep.{prunes_with, prunes_after}
 use Rattle.sig_base.proofs.Lists.{pushed}
 use Rattle.reducer.proofs.strategy.note_prunes.Goals as goal

@@ -1,6 +1,5 @@
 use Rattle.std.proofs.Common.{◌≡◌, ◌++◌, ◌≤◌, map, drop}
-use Rattle.model_core.specs.Code.Views.{vertex_of, edge_of}
-use Rattle.model_core.specs.Code.Views.{application_of}
+use Rattle.model_core.specs.Code.Views.{vertex_of, edge_of, application_of}
 use Rattle.reducer.specs.Inner.Sweep.{prunes_of, prunes_after}
 use Rattle.reducer.proofs.strategy.note_prunes.Given as goal
 

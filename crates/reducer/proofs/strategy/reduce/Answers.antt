@@ -1,6 +1,5 @@
 use Rattle.std.proofs.Common.{◌∙◌, ◌++◌, ap, map}
-use Rattle.model_core.specs.Code.Views.{graph_of, vertex_of}
-use Rattle.model_core.specs.Code.Views.{application_of}
+use Rattle.model_core.specs.Code.Views.{graph_of, vertex_of, application_of}
 use Rattle.reducer.specs.Inner.Sweep.{swept_vertex, prunes_of_all}
 use Rattle.reducer.proofs.DistinctNames.{vertices_distinct}
 use Rattle.reducer.proofs.SweepIsStrategy.{strategy_from_sweep}

@@ -1,6 +1,5 @@
 use Rattle.std.proofs.Common.{◌≡◌, ◌++◌, map, take}
-use Rattle.model_core.specs.Code.Views.{vertex_of}
-use Rattle.model_core.specs.Code.Views.{application_of}
+use Rattle.model_core.specs.Code.Views.{vertex_of, application_of}
 use Rattle.reducer.specs.Inner.Sweep.{swept_vertex, prunes_of_all}
 use Rattle.sig_base.proofs.Lists.{ChangedTo}
 use Rattle.reducer.proofs.strategy.sweep.Given as goal

@@ -1,4 +1,4 @@
-use Rattle.model_core.specs.Text.Acceptance.{IsValid}
+use Rattle.model_core.specs.Static.Reading.{IsValid}
 use Rattle.sigma_top.proofs.reduction_law.written_models_mean_the_same.Goals as goal
 
 pub returns : goal.returns
@@ -11,6 +11,6 @@ returns c = λ text out original reads reduces.
       reads = reads;
       strategy = reduces.strategy;
       written = reduces.written;
-      reads_back = c.valid_models_read_back.ensures.canonical reduces.reduced (c.strategies_keep_the_meaning.ensures.valid original reduces.applications reduces.reduced valid reduces.strategy);
+      reads_back = c.validity_is_by_parts.ensures.reads_back reduces.reduced (c.strategies_keep_the_meaning.ensures.valid original reduces.applications reduces.reduced valid reduces.strategy);
       same = c.strategies_keep_the_meaning.ensures.same original reduces.applications reduces.reduced valid reduces.strategy;
     }

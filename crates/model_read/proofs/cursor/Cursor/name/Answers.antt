@@ -1,13 +1,14 @@
 -- The first token is the name, and the others are left.
 use Rattle.std.proofs.Common.{sym, ap, ◌∙◌}
-use Rattle.model_read.specs.Inner.Reader.{name_at}
-use Rattle.model_read.proofs.FirstToken.{others_in_text, name_at-first}
+use Rattle.model_core.specs.Text.Format.{any_name}
+use Rattle.model_core.specs.Inner.LanguageReader.{language_reader}
+use Rattle.model_read.proofs.FirstToken.{others_in_text, name-first}
 use Rattle.model_read.proofs.cursor.Cursor.name.Goals as goal
 
 pub invariant_of-self : goal.invariant_of-self
 invariant_of-self c = others_in_text c.self.inside.text.now c.self.inside.tokens.now c.self.invariant
 
-pub returns : goal.returns
-returns c =
-    ap name_at (sym c.self.view_is)
-    ∙ name_at-first c.self.inside.text.now c.self.inside.tokens.now _ c.from_vec.result c.in-len1-up.len_at_least c.in-Name.is (c.from_vec.ensures ∙ c.in_ok-bytes.ensures.items)
+pub returns-clause-reads : goal.returns-clause-reads
+returns-clause-reads c =
+    ap (language_reader any_name) (sym c.self.view_is)
+    ∙ name-first c.self.inside.text.now c.self.inside.tokens.now _ c.from_vec.result c.in-len1-up.len_at_least c.in-Name.is (c.from_vec.ensures ∙ c.in_ok-bytes.ensures.items)

@@ -1,0 +1,25 @@
+-- What pens keep of the texts that are put, and that two texts are put one after the other.
+use Rattle.std.proofs.Common.{◌≡◌, ℕ, ◌+◌, ◌-◌, ◌≤◌, ◌^◌, List, [], ◌++◌, length, min, arith, append_assoc, append-nil, sym, length-append, ◌∙◌, ap}
+
+-- a count of bytes that stands still at the last value
+abbrev pub Counts : ℕ → ℕ → List ℕ → Type 0
+Counts old new text = min new (2 ^ 64 - 1) ≡ min (old + length text) (2 ^ 64 - 1)
+
+pub counts_nothing : (s : ℕ) → Counts s s []
+counts_nothing s = omega arith
+
+pub counts_both : (s t u : ℕ) (a b : List ℕ) → Counts s t a → Counts t u b → Counts s u (a ++ b)
+counts_both s t u a b first second = omega (arith, first, second, length-append a b)
+
+-- a page with room for the text has it behind what it had, and has no less room
+abbrev pub Fills : List ℕ → ℕ → List ℕ → ℕ → List ℕ → Type 0
+Fills old room new left text = length old + length text ≤ room → (new ≡ old ++ text) × (room ≤ left)
+
+pub fills_nothing : (s : List ℕ) (room : ℕ) → Fills s room s room []
+fills_nothing s room fits = (sym (append-nil s), omega arith)
+
+pub fills_both : (s : List ℕ) (i : ℕ) (t : List ℕ) (j : ℕ) (u : List ℕ) (k : ℕ) (a b : List ℕ) → Fills s i t j a → Fills t j u k b → Fills s i u k (a ++ b)
+fills_both s i t j u k a b first second fits =
+    let had = first (omega (arith, fits, length-append a b)) in
+    let has = second (omega (arith, fits, had.1, length-append a b, length-append s a, ap length had.0)) in
+    (has.0 ∙ ap (λ (x : List ℕ). x ++ b) had.0 ∙ append_assoc s a b, omega (arith, had.1, has.1))

@@ -1,0 +1,47 @@
+//! Canonical texts in memory.
+
+ghost use Rattle.std.specs.Prelude.{◌≡◌, ◌≤◌, ◌<◌, ◌-◌, ◌^◌, [], vec_capacity, IfOk};
+ghost use Rattle.model_core.specs.Text.Canonical.{canonical, expression_text};
+ghost use Rattle.model_core.specs.Code.Views.{graph_of, expression_of};
+
+use crate::expressions::put_expression;
+use crate::lengths::{expr_length, printed_length};
+use crate::model::put_model;
+use crate::pen::Page;
+use model_core::{Expr, Model};
+use sig_base::{NoMemory, Text};
+use std::alloc::Global;
+
+/// An empty page with room for a text of this length.
+fn page_for(alloc: Global, length: u64) -> Result<Page, NoMemory>
+    ensures empty { IfOk result (λ page. page.bytes.items ≡ []) }
+    ensures room { IfOk result (λ page. length ≤ vec_capacity page.bytes) }
+    ensures exact { IfOk result (λ page. length < 2 ^ 64 - 1) }
+{
+    if length == u64::MAX {
+        return Err(NoMemory);
+    }
+    Page::with_room(alloc, length as usize)
+}
+
+/// The canonical text of a model: one line for each declaration, change and edge, in the model's order.
+///
+/// A number that names nothing prints as nothing. All memory is taken at once.
+pub fn print(alloc: Global, model: &Model) -> Result<Text, NoMemory>
+    ensures { IfOk result (λ t. t ≡ canonical (graph_of model.now)) }
+{
+    let mut page = page_for(alloc, printed_length(model))?;
+    put_model(&mut page, model);
+    Ok(Text::from_vec(page.bytes))
+}
+
+/// The canonical text of an expression of the model, with parentheses exactly where they are needed.
+///
+/// A number that names nothing prints as nothing. All memory is taken at once.
+pub fn print_expr(alloc: Global, expr: &Expr, model: &Model) -> Result<Text, NoMemory>
+    ensures { IfOk result (λ t. t ≡ expression_text (graph_of model.now) (expression_of expr.now)) }
+{
+    let mut page = page_for(alloc, expr_length(expr, model))?;
+    put_expression(&mut page, model, expr);
+    Ok(Text::from_vec(page.bytes))
+}

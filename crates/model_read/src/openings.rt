@@ -1,0 +1,75 @@
+//! How deep the parts of a text go, counted before its grammar is tried.
+
+ghost use Rattle.std.specs.Prelude.{◌≡◌, ◌≤◌, ℕ, List, length, map, take};
+ghost use Rattle.model_core.specs.Code.TokenViews.{lexeme_kind_of, lexeme_of};
+ghost use Rattle.model_core.specs.Text.Openings.{ends_part, is_opening, front_to_end};
+ghost use Rattle.model_core.specs.Inner.OpeningCount.{deep_from};
+
+use model_core::{Symbol, Token, TokenKind, Word};
+
+/// Whether a token of the kind ends a part of a text.
+fn ends_part(kind: TokenKind) -> bool
+    ensures { (bytes : List ℕ) → result ≡ ends_part (lexeme_kind_of bytes kind) }
+{
+    match kind {
+        TokenKind::Symbol(Symbol::Semicolon | Symbol::OpenBrace | Symbol::CloseBrace) => true,
+        _ => false,
+    }
+}
+
+/// Whether a token of the kind counts as an opening.
+fn is_opening(kind: TokenKind) -> bool
+    ensures { (bytes : List ℕ) → result ≡ is_opening (lexeme_kind_of bytes kind) }
+{
+    match kind {
+        TokenKind::Word(Word::Or | Word::And | Word::Not | Word::If | Word::Min | Word::Max) =>
+            true,
+        TokenKind::Symbol(
+            Symbol::Equal
+            | Symbol::NotEqual
+            | Symbol::Below
+            | Symbol::AtMost
+            | Symbol::Above
+            | Symbol::AtLeast
+            | Symbol::Plus
+            | Symbol::Minus
+            | Symbol::Times
+            | Symbol::Over
+            | Symbol::Percent
+            | Symbol::OpenParenthesis
+            | Symbol::OpenBracket,
+        ) => true,
+        _ => false,
+    }
+}
+
+/// The place of the first opening that is one too many, where a part may have so many.
+pub(crate) fn first_too_deep(tokens: &[Token], limit: usize) -> Option<usize>
+    ensures { (text : List ℕ) → result ≡ deep_from limit limit (map (lexeme_of text) tokens.now) }
+{
+    let mut room = limit;
+    for token in tokens {
+        if ends_part(token.kind) {
+            room = limit;
+        } else if is_opening(token.kind) {
+            if room == 0 {
+                return Some(token.from);
+            }
+            room -= 1;
+        }
+    }
+    None
+}
+
+/// How many tokens there are up to and with the first word `end`, or in all where there is none.
+pub(crate) fn front_length(tokens: &[Token]) -> usize
+    ensures inside { result ≤ length tokens.now }
+    ensures front { (text : List ℕ) → map (lexeme_of text) (take result tokens.now) ≡ front_to_end (map (lexeme_of text) tokens.now) }
+{
+    for (place, token) in tokens.iter().enumerate() {
+        if token.kind == TokenKind::Word(Word::End) {
+            return place + 1;
+        }
+    }
+    tokens.len()
+}

@@ -1,0 +1,113 @@
+//! Phrases: the parts of a text that stand in lists. Reading such lists is proved here, once for all of them.
+
+ghost use Rattle.std.specs.Prelude.{◌≡◌, false, map};
+ghost use Rattle.model_core.specs.declared.token.Symbol.TheVariants.{Comma};
+ghost use Rattle.model_core.specs.Text.Format.{Many, mark, ◌*>◌, at_least_one, separated};
+ghost use Rattle.model_core.specs.Text.Expressions.{LanguageFormat};
+ghost use Rattle.model_core.specs.Inner.FirstTokens.{nullable, first_sorts, begins_among};
+ghost use Rattle.model_core.specs.Inner.LanguageReader.{level_lookahead, language_reader};
+ghost use Rattle.model_read.specs.Inner.ReadCalls.{Returned, with_front};
+
+use crate::cursor::Cursor;
+use crate::stop::Stop;
+use model_core::Symbol;
+use sig_base::List;
+use std::alloc::Global;
+
+/// A part of a text that a list may have many of.
+pub(crate) trait Phrase: Drop {
+    // What is written.
+    ghost Plain: { Type 0 };
+
+    // What a phrase stands for.
+    ghost plain: { Self → Plain };
+
+    // Which tokens spell it.
+    ghost format: { LanguageFormat Plain };
+
+    /// Reads a phrase.
+    fn read(alloc: Global, cursor: &mut Cursor<'_>) -> Result<Self, Stop>
+        ensures { Returned plain result cursor.new (language_reader format cursor.old) };
+
+    ghost some_tokens: { nullable format ≡ false };
+}
+
+/// A phrase whose first token tells that it comes.
+pub(crate) trait Repeated: Phrase {
+    /// Whether a phrase comes.
+    fn begins(cursor: &Cursor<'_>) -> bool
+        ensures { result ≡ begins_among (first_sorts level_lookahead Self.format) cursor.now };
+}
+
+/// The list of the items, with no room for more.
+fn packed<T>(items: List<T>) -> List<T>
+    ensures { result ≡ items }
+{
+    let mut items = items.into_vec();
+    items.shrink_to_fit();
+    List::from_vec(items)
+}
+
+/// Reads phrases as long as one comes, behind those that were read.
+fn and_more<T: Repeated>(
+    alloc: Global,
+    cursor: &mut Cursor<'_>,
+    items: List<T>,
+) -> Result<List<T>, Stop>
+    ensures { Returned (map T.plain) result cursor.new (with_front (map T.plain items) (language_reader (Many T.format) cursor.old)) }
+{
+    let mut all = items;
+    while T::begins(cursor) {
+        all.push(T::read(alloc, cursor)?)?;
+    }
+    Ok(packed(all))
+}
+
+/// Reads any number of phrases.
+pub(crate) fn many<T: Repeated>(alloc: Global, cursor: &mut Cursor<'_>) -> Result<List<T>, Stop>
+    ensures { Returned (map T.plain) result cursor.new (language_reader (Many T.format) cursor.old) }
+{
+    and_more(alloc, cursor, List::new(alloc))
+}
+
+/// Reads one or more phrases.
+pub(crate) fn at_least_one<T: Repeated>(
+    alloc: Global,
+    cursor: &mut Cursor<'_>,
+) -> Result<List<T>, Stop>
+    ensures { Returned (map T.plain) result cursor.new (language_reader (at_least_one T.format) cursor.old) }
+{
+    let first = List::of_one(alloc, T::read(alloc, cursor)?)?;
+    and_more(alloc, cursor, first)
+}
+
+/// Reads a comma and the phrase behind it.
+fn next<T: Phrase>(alloc: Global, cursor: &mut Cursor<'_>) -> Result<T, Stop>
+    ensures { Returned T.plain result cursor.new (language_reader (mark Comma *> T.format) cursor.old) }
+{
+    cursor.symbol(Symbol::Comma)?;
+    T::read(alloc, cursor)
+}
+
+/// Reads a comma and a phrase as long as a comma comes, behind the phrases that were read.
+fn and_others<T: Phrase>(
+    alloc: Global,
+    cursor: &mut Cursor<'_>,
+    items: List<T>,
+) -> Result<List<T>, Stop>
+    ensures { Returned (map T.plain) result cursor.new (with_front (map T.plain items) (language_reader (Many (mark Comma *> T.format)) cursor.old)) }
+{
+    let mut all = items;
+    while cursor.begins_symbol(Symbol::Comma) {
+        all.push(next(alloc, cursor)?)?;
+    }
+    Ok(packed(all))
+}
+
+/// Reads one or more phrases, separated by commas.
+pub(crate) fn separated<T: Phrase>(alloc: Global, cursor: &mut Cursor<'_>) -> Result<List<T>, Stop>
+    ensures { Returned (map T.plain) result cursor.new (language_reader (separated T.format) cursor.old) }
+{
+    let first = List::of_one(alloc, T::read(alloc, cursor)?)?;
+    and_others(alloc, cursor, first)
+}

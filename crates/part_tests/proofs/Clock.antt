@@ -1,0 +1,39 @@
+-- The clock can be run.
+use Rattle.std.proofs.Common.{◌≡◌, ℕ, zero, suc, ◌<◌, List, [], ◌∷◌, length, refl, arith, All, IsTrue}
+use Rattle.model_core.specs.EventGraph.{Variable, EventVertex, EventEdge, StateChange, Location, Expression}
+use Rattle.model_core.specs.Run.State.{within}
+use Rattle.sig_expr.specs.Possible.{PossibleExpression, PossibleLocation, PossibleChange}
+use Rattle.run_control.specs.PossibleModel.{PossibleEdge, PossibleVertex, PossibleModel}
+use Rattle.part_tests.specs.TriedModels.{ticking}
+
+all-none : {A : Type 0} (P : A → Type 0) → All P []
+all-none P k d below = absurd (omega (arith, below))
+
+all-one : {A : Type 0} (P : A → Type 0) (x : A) → P x → All P (x ∷ [])
+all-one P x p zero d below = p
+all-one P x p (suc k) d below = absurd (omega (arith, below))
+
+pub clock_possible : PossibleModel ticking
+clock_possible = record {
+  begins = omega arith;
+  initial = all-one (λ (v : Variable). IsTrue (within v.lo v.hi v.initial)) _ refl;
+  vertices = all-one (PossibleVertex ticking) _ (record {
+    few_parameters = omega arith;
+    parameters = all-none _;
+    few_changes = omega arith;
+    changes = all-one (PossibleChange ticking) _ (record {
+      few = omega arith;
+      matched = refl;
+      locations = all-one (PossibleLocation ticking) _ (record { declared = omega arith; index = tt });
+      expressions = all-one (PossibleExpression ticking) _ (omega arith, tt);
+    });
+    few_edges = omega arith;
+    edges = all-one (PossibleEdge ticking) _ (record {
+      declared = omega arith;
+      few = omega arith;
+      carries = all-none _;
+      asks = tt;
+      form = tt;
+    });
+  });
+}

@@ -1,0 +1,92 @@
+//! A pending list through its trait, with ample memory.
+
+ghost use Rattle.std.specs.Prelude.{◌≡◌, ◌<◌};
+
+use event_list::{Entry, First, Pending, PlainPending};
+use sig_base::{Carried, NoMemory, Steps};
+use std::alloc::Global;
+use std::marker::Brand;
+use std::sync::ledger::{Blank, Ledger};
+use std::test::*;
+
+/// Schedules an event that carries one value, where there is room for it.
+fn put<P: Pending, L: Ledger>(pending: &mut P, told: First, value: i64, steps: &mut Steps<L>) {
+    if pending.spare() == 0 || pending.numbered() > 100 || told.vertex >= pending.vertices() {
+        return;
+    }
+    let mut values = Carried::new();
+    values.push(value);
+    let entry = Entry {
+        time: told.time,
+        priority: told.priority,
+        vertex: told.vertex,
+        values,
+    };
+    pending.schedule(&entry, steps);
+}
+
+/// What is told of the next event, and the value that it carries. It is taken off.
+fn taken<P: Pending, L: Ledger>(pending: &mut P, steps: &mut Steps<L>) -> Option<(First, i64)> {
+    let first = pending.first()?;
+    let entry = pending.take_first(steps)?;
+    Some((first, *entry.values.as_slice().first()?))
+}
+
+/// Six events at two times, of which two are cancelled; what is next is asked four times.
+fn order<P: Pending, L: Ledger>(
+    pending: &mut P,
+    blank: Blank,
+) -> Result<[Option<(First, i64)>; 4], NoMemory>
+    requires name { blank.name ≡ L.name }
+    requires parts { blank.parts ≡ L.parts }
+    requires some { 0 < blank.parts }
+{
+    let mut steps: Steps<L> = Steps::begin(blank);
+    pending.reserve(6)?;
+    for (time, priority, vertex, value) in [
+        (2, 7, 0, 1),
+        (2, 5, 1, 2),
+        (2, 5, 1, 3),
+        (1, 9, 2, 4),
+        (2, 5, 2, 5),
+        (2, 6, 2, 6),
+    ] {
+        let told = First {
+            time,
+            priority,
+            vertex,
+        };
+        put(pending, told, value, &mut steps);
+    }
+    let mut six = Carried::new();
+    six.push(6);
+    pending.cancel_equal(2, &six, &mut steps);
+    pending.cancel_next(1, &mut steps);
+    Ok([
+        taken(pending, &mut steps),
+        taken(pending, &mut steps),
+        taken(pending, &mut steps),
+        taken(pending, &mut steps),
+    ])
+}
+
+fn told(time: u64, priority: u8, vertex: usize, value: i64) -> Option<(First, i64)> {
+    let first = First {
+        time,
+        priority,
+        vertex,
+    };
+    Some((first, value))
+}
+
+#[test]
+fn the_next_event_is_first_by_time_priority_and_scheduling(rt: HostRuntime) -> Result<(), Fail> {
+    let mut pending = PlainPending::begin(rt.alloc(), 3);
+    let order = order::<PlainPending, Brand>(&mut pending, Blank::new(1))?;
+    assert!(rt; order[0] == told(1, 9, 2, 4));
+    assert!(rt; order[1] == told(2, 5, 1, 3));
+    assert!(rt; order[2] == told(2, 5, 2, 5));
+    assert!(rt; order[3] == told(2, 7, 0, 1));
+    assert_eq!(rt; pending.count(), 0);
+    Ok(())
+}

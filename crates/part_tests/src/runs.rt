@@ -1,0 +1,153 @@
+//! A run of a small model over the plain list, with ample memory.
+
+ghost use Rattle.std.specs.Prelude.{◌≡◌, ◌<◌, ◌≤◌, ◌^◌, pos, true, [], ◌∷◌, None, IfOk};
+ghost use Rattle.model_core.specs.EventGraph.{Set, Binary, Add, Scalar, Number, Truth, Schedule};
+ghost use Rattle.model_core.specs.Code.Views.{graph_of, change_of, edge_of};
+ghost use Rattle.part_tests.specs.TriedModels.{ticking};
+
+use event_list::{Pending, PlainPending};
+use model_core::{Change, Edge, EdgeForm, Expr, Kind, Model, Op, Target, Var, Vertex};
+use run_control::{BeginError, Run, Turn};
+use sig_base::{List, Name, NoMemory, Steps};
+use std::alloc::Global;
+use std::marker::Brand;
+use std::sync::ledger::{Blank, Ledger};
+use std::test::*;
+
+fn no_name(alloc: Global) -> Name
+    ensures { result ≡ [] }
+{
+    Name::from_vec(Vec::new(alloc))
+}
+
+/// The variable's value and 1 more.
+fn raising(alloc: Global) -> Result<Change, NoMemory>
+    ensures { IfOk result (λ change. change_of change ≡ Set (record { variable = 0; index = None } ∷ []) (Binary Add (Scalar 0) (Number (pos 1)) ∷ [])) }
+{
+    let left = Box::new(alloc, Expr::Scalar(0))?;
+    let right = Box::new(alloc, Expr::Int(1))?;
+    let target = Target {
+        var: 0,
+        index: None,
+    };
+    Ok(Change::Set {
+        targets: List::of_one(alloc, target)?,
+        values: List::of_one(alloc, Expr::Binary(Op::Add, left, right))?,
+    })
+}
+
+/// The event again, after 5 ticks.
+fn again(alloc: Global) -> Edge
+    ensures { edge_of result ≡ record { target = 0; values = []; condition = Truth true; kind = Schedule (Number (pos 5)) 5 } }
+{
+    Edge {
+        target: 0,
+        values: List::new(alloc),
+        condition: Expr::Truth(true),
+        form: EdgeForm::Schedule {
+            delay: Expr::Int(5),
+            priority: 5,
+        },
+    }
+}
+
+/// An event that raises a clipped variable, and schedules itself again after 5 ticks.
+fn clock(alloc: Global) -> Result<Model, NoMemory>
+    ensures { IfOk result (λ model. graph_of model ≡ ticking) }
+{
+    let var = Var {
+        name: no_name(alloc),
+        size: 0,
+        kind: Kind::Range,
+        lo: 0,
+        hi: 3,
+        clip: true,
+        initial: 0,
+    };
+    let vertex = Vertex {
+        name: no_name(alloc),
+        params: List::new(alloc),
+        changes: List::of_one(alloc, raising(alloc)?)?,
+        edges: List::of_one(alloc, again(alloc))?,
+    };
+    Ok(Model {
+        name: no_name(alloc),
+        vars: List::of_one(alloc, var)?,
+        tables: List::new(alloc),
+        watch: List::new(alloc),
+        vertices: List::of_one(alloc, vertex)?,
+    })
+}
+
+/// What each of four steps up to a stop time comes to.
+fn turns<P: Pending, L: Ledger>(
+    run: &mut Run<'_, P>,
+    until: u64,
+    blank: Blank,
+) -> Result<[Turn; 4], NoMemory>
+    requires name { blank.name ≡ L.name }
+    requires parts { blank.parts ≡ L.parts }
+    requires some { 0 < blank.parts }
+    requires soon { until ≤ 2 ^ 48 }
+{
+    let mut steps: Steps<L> = Steps::begin(blank);
+    let mut turns = [Turn::Stopped; 4];
+    for i in 0..4 {
+        if run.turns() < 100 {
+            turns[i] = run.step(until, &mut steps)?;
+        }
+    }
+    Ok(turns)
+}
+
+/// A run of the clock with as many starting values.
+fn begun<'m>(
+    alloc: Global,
+    model: &'m Model,
+    starts: &List<i64>,
+) -> Result<Run<'m, PlainPending>, BeginError>
+    requires { graph_of model.now ≡ ticking }
+{
+    let pending = PlainPending::begin(alloc, model.vertices.len());
+    Run::begin(alloc, model, pending, 42, starts, 2)
+}
+
+#[test]
+fn a_clock_runs_until_it_is_stopped(rt: HostRuntime) -> Result<(), Fail> {
+    let alloc = rt.alloc();
+    let model = clock(alloc)?;
+    let none = List::new(alloc);
+    let mut run = begun(alloc, &model, &none)?;
+    let turns = turns::<PlainPending, Brand>(&mut run, 12, Blank::new(1))?;
+    assert_eq!(rt; turns[0], Turn::Ran { vertex: 0, time: 0 });
+    assert_eq!(rt; turns[1], Turn::Ran { vertex: 0, time: 5 });
+    assert_eq!(rt;
+        turns[2],
+        Turn::Ran {
+            vertex: 0,
+            time: 10
+        }
+    );
+    assert_eq!(rt; turns[3], Turn::Stopped);
+    assert_eq!(rt; (run.clock(), run.turns()), (10, 3));
+    Ok(())
+}
+
+#[test]
+fn a_clock_takes_no_starting_values(rt: HostRuntime) -> Result<(), Fail> {
+    let alloc = rt.alloc();
+    let model = clock(alloc)?;
+    let one = List::of_one(alloc, 7)?;
+    let refused = match begun(alloc, &model, &one) {
+        Ok(_run) => None,
+        Err(error) => Some(error),
+    };
+    assert_eq!(rt;
+        refused,
+        Some(BeginError::StartCount {
+            needed: 0,
+            given: 1
+        })
+    );
+    Ok(())
+}

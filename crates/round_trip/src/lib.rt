@@ -1,0 +1,31 @@
+//! What a text spells can be written again: laws of the definitions of model texts alone, with no code.
+#![tactic(auto)]
+
+ghost use Rattle.std.specs.Prelude.{◌≡◌, ◌↔◌, ℕ, List, Some};
+ghost use Rattle.model_core.specs.EventGraph.{EventGraph};
+ghost use Rattle.model_core.specs.Text.Written.{WrittenModel};
+ghost use Rattle.model_core.specs.Text.Numbering.{numbered};
+ghost use Rattle.model_core.specs.Text.Canonical.{canonical};
+ghost use Rattle.model_core.specs.Text.ModelText.{SpellsText};
+ghost use Rattle.model_core.specs.Static.OwnRules.{KeepsStaticRules};
+ghost use Rattle.model_core.specs.Static.Reading.{Reads, IsValid};
+ghost use Rattle.model_core.specs.Static.WrittenByKind.{VariablesByKind};
+ghost use Rattle.model_core.specs.Text.Spellable.{IsSpellable, ReadsBack};
+
+/// The model that a text spells is one that a text can write, and keeps its limit on openings in its canonical text too.
+pub fn spelled_models_are_spellable()
+    ensures spellable { (text : List ℕ) (w : WrittenModel) (g : EventGraph) → SpellsText text w → numbered w ≡ Some g → IsSpellable g }
+{}
+
+/// The canonical text of a model that a text can write spells that model, where each name is declared once and truth
+/// values begin as false or true. Each variable is written there as its kind has it.
+pub fn canonical_texts_read_back()
+    ensures read_back { (g : EventGraph) → IsSpellable g → ReadsBack g → (w : WrittenModel) × SpellsText (canonical g) w × (numbered w ≡ Some g) × VariablesByKind w }
+{}
+
+/// A model is valid exactly where it keeps the static rules by itself and its parts are what a text can write. The canonical
+/// text of a valid model reads back as that model.
+pub fn validity_is_by_parts()
+    ensures by_parts { (g : EventGraph) → IsValid g ↔ KeepsStaticRules g × IsSpellable g }
+    ensures reads_back { (g : EventGraph) → IsValid g → Reads (canonical g) g }
+{}

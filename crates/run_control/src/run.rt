@@ -1,0 +1,223 @@
+//! A run of a model.
+
+ghost use Rattle.std.specs.Prelude.{◌≡◌, ◌+◌, ◌<◌, ◌≤◌, ◌^◌, [], length, IfOk, IfErr, IsOk, IsTrue, OnErr, None, slice_index_or};
+ghost use Rattle.model_core.specs.Run.State.{in_range};
+ghost use Rattle.model_core.specs.Run.Pending.{next_entry};
+ghost use Rattle.model_core.specs.Code.Views.{graph_of};
+
+use crate::begin_error::BeginError;
+use crate::occurrence::occur;
+use crate::room::make_room;
+use crate::starts::{at_least_one, carried, check_starts, schedule_first};
+use crate::turn::Turn;
+use event_list::{Entry, First, Pending};
+use model_core::{Model as Graph, Vertex, runs_stay_in_range};
+use random_streams::Streams;
+use sig_base::{FaultKind, List, NoMemory, Steps};
+use sig_expr::State;
+use std::alloc::Global;
+use std::marker::{Brand, Model};
+use std::sync::ledger::{Blank, Ledger};
+
+/// What ended a run, and at which time.
+#[derive(Clone, Copy)]
+struct Fault {
+    time: u64,
+    kind: FaultKind,
+}
+
+/// A run of a model over a pending list. Its parts fit together at all times: it is sound.
+#[derive(Drop)]
+pub struct Run<'m, P: Pending> {
+    model: &'m Graph,
+    pending: P,
+    state: State,
+    streams: Streams,
+    clock: u64,
+    turns: u64,
+    fault: Option<Fault>,
+}
+
+impl<'m, P: Pending> Model for Run<'m, P> {
+    ghost use Rattle.std.specs.Option.{option_map};
+    ghost use Rattle.model_core.specs.Code.Views.{graph_of};
+    ghost use Rattle.std.specs.Coded.{codes};
+    ghost use Rattle.model_core.specs.contracts.expr.Expr as expressions;
+    ghost use Rattle.run_control.specs.Running.{Running};
+    ghost use Rattle.run_control.specs.SoundRun.{SoundRun};
+
+    ghost Value = { Running };
+
+    ghost coded = { Prim.hlevel (codes, expressions.the_row.coded) };
+
+    ghost view = { λ r. record {
+      model = r.model.now;
+      seed = r.streams.seed;
+      now = record { clock = r.clock; state = r.state; taken = r.streams.taken; pending = P.entries r.pending };
+      spare = P.spare r.pending;
+      turns = r.turns;
+      faulted = option_map (λ f. record { time = f.time; kind = f.kind }) r.fault;
+    } };
+
+    ghost invariant = { λ r. SoundRun (graph_of r.model.now) r.state r.streams.taken r.turns (P.numbered r.pending) (P.vertices r.pending) (P.entries r.pending) };
+}
+
+/// A vertex of a model.
+fn vertex_at(model: &Graph, place: usize) -> &Vertex
+    requires { place < length model.now.vertices }
+    ensures { result.now ≡ slice_index_or model.now.vertices place result.now }
+{
+    &model.vertices.as_slice()[place]
+}
+
+impl<'m, P: Pending> Run<'m, P> {
+    ghost use Rattle.run_control.specs.Running.{told_next};
+    ghost use Rattle.run_control.specs.PossibleModel.{PossibleModel};
+    ghost use Rattle.run_control.specs.Beginning.{BegunRun, RefusesStart};
+    ghost use Rattle.run_control.specs.Turns.{Turns, ComesNext, StepKeeps, HasRoom};
+
+    /// A run of a model as it begins: at clock 0 with the initial values, no words taken, and the first vertex's event,
+    /// which carries the starting values. The list is given empty, and room for so many events and for 1 is made in it.
+    pub fn begin(
+        alloc: Global,
+        model: &'m Graph,
+        pending: P,
+        seed: u64,
+        starts: &List<i64>,
+        room: usize,
+    ) -> Result<Run<'m, P>, BeginError>
+    where
+        P: Drop,
+        requires possible { PossibleModel (graph_of model.now) }
+        requires empty { P.entries pending ≡ [] }
+        requires fresh { P.numbered pending ≡ 0 }
+        requires made_for { P.vertices pending ≡ length model.now.vertices }
+        ensures ok { IfOk result (BegunRun model.now seed starts.now room) }
+        ensures err { IfErr result (RefusesStart (graph_of model.now) starts.now) }
+    {
+        check_starts(model, starts.as_slice())?;
+        let state = State::begin(alloc, model)?;
+        let mut pending = pending;
+        pending.reserve(at_least_one(room))?;
+        let first = Entry {
+            time: 0,
+            priority: 5,
+            vertex: 0,
+            values: carried(starts.as_slice()),
+        };
+        schedule_first::<P, Brand>(&mut pending, &first, Blank::new(1));
+        runs_stay_in_range();
+        Ok(Run {
+            model,
+            pending,
+            state,
+            streams: Streams::begin(seed),
+            clock: 0,
+            turns: 0,
+            fault: None,
+        })
+    }
+
+    /// What is told of the next event: `None` where nothing is pending, or the run has faulted.
+    pub fn next(&self) -> Option<First>
+        ensures { result ≡ told_next self.now self.now.faulted }
+    {
+        match &self.fault {
+            Some(_) => None,
+            None => self.pending.first(),
+        }
+    }
+
+    /// The clock's time in ticks.
+    pub fn clock(&self) -> u64
+        ensures { result ≡ self.now.now.clock }
+    {
+        self.clock
+    }
+
+    /// How many steps were made. A step that faulted is one of them.
+    pub fn turns(&self) -> u64
+        ensures { result ≡ self.now.turns }
+    {
+        self.turns
+    }
+
+    /// What each variable holds, a value in its range.
+    pub fn state(&self) -> &State
+        ensures value { result.now ≡ self.now.now.state }
+        ensures inside { IsTrue (in_range (graph_of self.now.model) result.now) }
+    {
+        &self.state
+    }
+
+    /// The pending events.
+    pub fn pending(&self) -> &P
+        ensures entries { P.entries result.now ≡ self.now.now.pending }
+        ensures spare { P.spare result.now ≡ self.now.spare }
+    {
+        &self.pending
+    }
+
+    /// Makes one step up to a stop time in ticks: the next event occurs. Room for what it schedules is made before
+    /// anything changes.
+    pub fn step<L: Ledger>(&mut self, until: u64, steps: &mut Steps<L>) -> Result<Turn, NoMemory>
+        requires soon { until ≤ 2 ^ 48 }
+        requires budget { self.old.turns < 2 ^ 40 }
+        ensures ok { IfOk result (λ turn. Turns self.old until turn self.new self.old.faulted) }
+        ensures err { OnErr result (self.new ≡ self.old) }
+        ensures enough { HasRoom self.old (next_entry self.old.now.pending) → IsOk result }
+        ensures keeps { StepKeeps self.old self.new }
+    {
+        match self.fault {
+            Some(fault) => Ok(Turn::Faulted {
+                time: fault.time,
+                kind: fault.kind,
+            }),
+            None => self.go_on(until, steps),
+        }
+    }
+
+    /// Makes one step of a run that hasn't faulted.
+    fn go_on<L: Ledger>(&mut self, until: u64, steps: &mut Steps<L>) -> Result<Turn, NoMemory>
+        requires goes_on { self.old.faulted ≡ None }
+        requires soon { until ≤ 2 ^ 48 }
+        requires budget { self.old.turns < 2 ^ 40 }
+        ensures ok { IfOk result (λ turn. ComesNext self.old until turn self.new (next_entry self.old.now.pending)) }
+        ensures err { OnErr result (self.new ≡ self.old) }
+        ensures enough { HasRoom self.old (next_entry self.old.now.pending) → IsOk result }
+        ensures keeps { StepKeeps self.old self.new }
+    {
+        let Some(first) = self.pending.first() else {
+            return Ok(Turn::Ended { time: self.clock });
+        };
+        let (vertex, time) = (first.vertex, first.time);
+        if until < time {
+            return Ok(Turn::Stopped);
+        }
+        let model = self.model;
+        let happening = vertex_at(model, vertex);
+        make_room(&mut self.pending, happening.edges.as_slice())?;
+        let Some(entry) = self.pending.take_first(steps) else {
+            unreachable!()
+        };
+        self.clock = time;
+        self.turns += 1;
+        let state = &mut self.state;
+        let streams = &mut self.streams;
+        match occur(
+            model,
+            happening,
+            &entry,
+            state,
+            streams,
+            &mut self.pending,
+            steps,
+        ) {
+            Ok(()) => Ok(Turn::Ran { vertex, time }),
+            Err(kind) => {
+                self.fault = Some(Fault { time, kind });
+                Ok(Turn::Faulted { time, kind })
+            }
+        }
+    }
+}

@@ -1,0 +1,3 @@
+-- What restates the code for its proofs: nobody has to believe it.
+pub mod Pieces
+pub mod Placed

@@ -1,0 +1,171 @@
+//! What the changes of an event do to the state, and which words they take.
+
+ghost use Rattle.std.specs.Prelude.{◌≡◌, ℕ, [], ◌∷◌, ◌+◌, ◌<◌, ◌≤◌, ◌^◌, All, IsTrue, length, map};
+ghost use Rattle.random_streams.specs.Draws.{next_word, after_word};
+ghost use Rattle.model_core.specs.EventGraph.{Set, Draw};
+ghost use Rattle.model_core.specs.Run.State.{in_range};
+ghost use Rattle.model_core.specs.Run.Value.{in_turn};
+ghost use Rattle.model_core.specs.Run.Changes.{Drawn, set_all, picked, make_change, taken_from, left_by_set, left_by_draw, left_by_change, left_by_changes};
+ghost use Rattle.model_core.specs.Code.Views.{graph_of, expression_of, location_of, choice_of, change_of};
+ghost use Rattle.sig_expr.specs.Outcomes.{with_ok};
+ghost use Rattle.sig_expr.specs.Possible.{PossibleExpression, PossibleLocation, PossibleChoice, PossibleSet, PossibleDraw, PossibleChange};
+
+use crate::evaluation::value;
+use crate::lists::{place, put_places, put_values};
+use crate::state::State;
+use crate::storing::{store_all, store_at};
+use arrayvec::ArrayVec;
+use model_core::{Change, Choice, Expr, Model, Target};
+use random_streams::Streams;
+use sig_base::{Carried, FaultKind, List};
+
+/// Makes a `set` of one target.
+fn set_one(
+    model: &Model,
+    target: &Target,
+    right: &Expr,
+    state: &mut State,
+    clk: u64,
+) -> Result<(), FaultKind>
+    requires location { PossibleLocation (graph_of model.now) (location_of target.now) }
+    requires expression { PossibleExpression (graph_of model.now) (expression_of right.now) }
+    requires inside { IsTrue (in_range (graph_of model.now) state.old) }
+    requires soon { clk ≤ 2 ^ 48 }
+    ensures sets { with_ok state.new result ≡ set_all (graph_of model.now) clk (location_of target.now ∷ []) (expression_of right.now ∷ []) state.old }
+    ensures left { state.new ≡ left_by_set (graph_of model.now) clk (location_of target.now ∷ []) (expression_of right.now ∷ []) state.old }
+    ensures stays { IsTrue (in_range (graph_of model.now) state.new) }
+{
+    let value = value(model, right, state, clk)?;
+    let place = place(model, target, state, clk)?;
+    store_at(model, place, value, state)
+}
+
+/// Makes a `set`: all right sides, then all indexes, then the stores.
+fn set(
+    model: &Model,
+    targets: &[Target],
+    rights: &[Expr],
+    state: &mut State,
+    clk: u64,
+) -> Result<(), FaultKind>
+    requires possible { PossibleSet (graph_of model.now) (map location_of targets.now) (map expression_of rights.now) }
+    requires inside { IsTrue (in_range (graph_of model.now) state.old) }
+    requires soon { clk ≤ 2 ^ 48 }
+    ensures sets { with_ok state.new result ≡ set_all (graph_of model.now) clk (map location_of targets.now) (map expression_of rights.now) state.old }
+    ensures left { state.new ≡ left_by_set (graph_of model.now) clk (map location_of targets.now) (map expression_of rights.now) state.old }
+    ensures stays { IsTrue (in_range (graph_of model.now) state.new) }
+{
+    if let ([target], [right]) = (targets, rights) {
+        return set_one(model, target, right, state, clk);
+    }
+    let mut values = Carried::new();
+    put_values(model, rights, state, clk, &mut values)?;
+    let mut places = ArrayVec::new();
+    put_places(model, targets, state, clk, &mut places)?;
+    store_all(model, places.as_slice(), values.as_slice(), state)
+}
+
+/// Draws a value by the next word of a stream.
+fn pick(model: &Model, stream: u8, choice: Choice, streams: &mut Streams) -> i64
+    requires known { stream < 64 }
+    requires possible { PossibleChoice (graph_of model.now) (choice_of choice) }
+    requires countable { taken_from streams.old.taken stream < 2 ^ 62 }
+    ensures value { result ≡ picked (graph_of model.now) (choice_of choice) (next_word streams.old stream) }
+    ensures moved { streams.new ≡ after_word streams.old stream }
+{
+    match choice {
+        Choice::Uniform { lo, hi } => streams.uniform(stream, lo, hi),
+        Choice::ByTable { table } => streams.table(stream, &model.tables.as_slice()[table]),
+    }
+}
+
+/// Makes a `draw`: the target's index, then a word, then the store.
+fn draw(
+    model: &Model,
+    target: &Target,
+    stream: u8,
+    choice: Choice,
+    state: &mut State,
+    streams: &mut Streams,
+    clk: u64,
+) -> Result<(), FaultKind>
+    requires possible { PossibleDraw (graph_of model.now) (location_of target.now) stream (choice_of choice) }
+    requires inside { IsTrue (in_range (graph_of model.now) state.old) }
+    requires countable { taken_from streams.old.taken stream < 2 ^ 62 }
+    requires soon { clk ≤ 2 ^ 48 }
+    ensures makes { with_ok (record { state = state.new; taken = streams.new.taken }) result
+        ≡ make_change (graph_of model.now) streams.old.seed clk (Draw (location_of target.now) stream (choice_of choice)) (record { state = state.old; taken = streams.old.taken }) }
+    ensures left { record { state = state.new; taken = streams.new.taken }
+        ≡ left_by_draw (graph_of model.now) streams.old.seed clk (location_of target.now) stream (choice_of choice) (record { state = state.old; taken = streams.old.taken }) }
+    ensures stays { IsTrue (in_range (graph_of model.now) state.new) }
+    ensures seed { streams.new.seed ≡ streams.old.seed }
+    ensures counted { (stream : ℕ) → taken_from streams.new.taken stream ≤ taken_from streams.old.taken stream + 1 }
+{
+    let place = place(model, target, state, clk)?;
+    let value = pick(model, stream, choice, streams);
+    store_at(model, place, value, state)
+}
+
+/// Makes one change.
+fn make(
+    model: &Model,
+    change: &Change,
+    state: &mut State,
+    streams: &mut Streams,
+    clk: u64,
+) -> Result<(), FaultKind>
+    requires possible { PossibleChange (graph_of model.now) (change_of change.now) }
+    requires inside { IsTrue (in_range (graph_of model.now) state.old) }
+    requires countable { (stream : ℕ) → taken_from streams.old.taken stream < 2 ^ 62 }
+    requires soon { clk ≤ 2 ^ 48 }
+    ensures makes { with_ok (record { state = state.new; taken = streams.new.taken }) result
+        ≡ make_change (graph_of model.now) streams.old.seed clk (change_of change.now) (record { state = state.old; taken = streams.old.taken }) }
+    ensures left { record { state = state.new; taken = streams.new.taken }
+        ≡ left_by_change (graph_of model.now) streams.old.seed clk (change_of change.now) (record { state = state.old; taken = streams.old.taken }) }
+    ensures stays { IsTrue (in_range (graph_of model.now) state.new) }
+    ensures seed { streams.new.seed ≡ streams.old.seed }
+    ensures counted { (stream : ℕ) → taken_from streams.new.taken stream ≤ taken_from streams.old.taken stream + 1 }
+{
+    match change {
+        Change::Set { targets, values } => set(
+            model,
+            targets.as_slice(),
+            values.as_slice(),
+            state,
+            clk,
+        ),
+        Change::Draw {
+            target,
+            stream,
+            choice,
+        } => draw(model, target, *stream, *choice, state, streams, clk),
+    }
+}
+
+/// Makes changes in order, at a clock's time in ticks, up to the first that faults. The state then holds the stores made
+/// before the fault, and the streams have given the words taken up to it, that of a draw whose store faults among them.
+pub fn apply(
+    model: &Model,
+    changes: &List<Change>,
+    state: &mut State,
+    streams: &mut Streams,
+    clk: u64,
+) -> Result<(), FaultKind>
+    requires few { length changes.now ≤ 1000 }
+    requires possible { All (PossibleChange (graph_of model.now)) (map change_of changes.now) }
+    requires inside { IsTrue (in_range (graph_of model.now) state.old) }
+    requires countable { (stream : ℕ) → taken_from streams.old.taken stream < 2 ^ 61 }
+    requires soon { clk ≤ 2 ^ 48 }
+    ensures makes { with_ok (record { state = state.new; taken = streams.new.taken }) result
+        ≡ in_turn (make_change (graph_of model.now) streams.old.seed clk) (map change_of changes.now) (record { state = state.old; taken = streams.old.taken }) }
+    ensures left { record { state = state.new; taken = streams.new.taken }
+        ≡ left_by_changes (graph_of model.now) streams.old.seed clk (map change_of changes.now) (record { state = state.old; taken = streams.old.taken }) }
+    ensures stays { IsTrue (in_range (graph_of model.now) state.new) }
+    ensures seed { streams.new.seed ≡ streams.old.seed }
+    ensures counted { (stream : ℕ) → taken_from streams.new.taken stream ≤ taken_from streams.old.taken stream + length changes.now }
+{
+    for change in changes.as_slice() {
+        make(model, change, state, streams, clk)?;
+    }
+    Ok(())
+}

@@ -1,0 +1,103 @@
+//! The value of an expression.
+
+ghost use Rattle.std.specs.Prelude.{◌≡◌, ◌<◌, ◌≤◌, ◌^◌, ◌-ℤ◌, pos, IsTrue, Ok, length};
+ghost use Rattle.model_core.specs.Run.State.{in_range, cell_at};
+ghost use Rattle.model_core.specs.Run.Value.{◌>>=◌ as and_then, value_of, indexed};
+ghost use Rattle.model_core.specs.Code.Views.{graph_of, expression_of};
+ghost use Rattle.sig_expr.specs.Outcomes.{map_ok};
+ghost use Rattle.sig_expr.specs.Possible.{PossibleExpression, IsTruth};
+
+use crate::arithmetic::{is_decided, negative, operate};
+use crate::state::State;
+use model_core::{Expr, Model};
+use sig_base::FaultKind;
+
+/// The value of a scalar.
+fn scalar(model: &Model, var: usize, state: &State) -> i64
+    requires known { var < length model.now.vars }
+    requires inside { IsTrue (in_range (graph_of model.now) state.now) }
+    ensures { result ≡ cell_at state.now (record { variable = var; index = 0 }) }
+{
+    state.cell(var, 0)
+}
+
+/// The place of a cell of an array, whose index is from 0 up to the array's size.
+pub fn cell_index(model: &Model, var: usize, index: i64) -> Result<usize, FaultKind>
+    requires known { var < length model.now.vars }
+    ensures { map_ok (λ i. record { variable = var; index = i }) result ≡ indexed (graph_of model.now) var index }
+{
+    let size = model.vars.as_slice()[var].size;
+    if index < 0 || index as usize >= size {
+        return Err(FaultKind::IndexOutside);
+    }
+    Ok(index as usize)
+}
+
+/// The value of a cell of an array.
+fn cell(model: &Model, var: usize, index: i64, state: &State) -> Result<i64, FaultKind>
+    requires known { var < length model.now.vars }
+    requires inside { IsTrue (in_range (graph_of model.now) state.now) }
+    ensures { result ≡ and_then (indexed (graph_of model.now) var index) (λ p. Ok (cell_at state.now p)) }
+{
+    let index = cell_index(model, var, index)?;
+    Ok(state.cell(var, index))
+}
+
+/// The other truth value.
+fn other_truth(a: i64) -> i64
+    requires { IsTruth a }
+    ensures { result ≡ pos 1 -ℤ a }
+{
+    1 - a
+}
+
+/// The value of an expression in a state and at a clock's time in ticks, or its first fault from left to right. Mostly
+/// it is a number or a scalar.
+#[cycle(evaluation)]
+#[inline(always)]
+pub fn value(model: &Model, expr: &Expr, state: &State, clk: u64) -> Result<i64, FaultKind>
+    requires possible { PossibleExpression (graph_of model.now) (expression_of expr.now) }
+    requires inside { IsTrue (in_range (graph_of model.now) state.now) }
+    requires soon { clk ≤ 2 ^ 48 }
+    ensures { result ≡ value_of (graph_of model.now) state.now clk (expression_of expr.now) }
+{
+    match expr {
+        Expr::Int(n) => Ok(*n),
+        Expr::Truth(b) => Ok(i64::from(*b)),
+        Expr::Scalar(var) => Ok(scalar(model, *var, state)),
+        _ => evaluate(model, expr, state, clk),
+    }
+}
+
+/// The value of an expression with parts, and of any other.
+#[cycle(evaluation)]
+fn evaluate(model: &Model, expr: &Expr, state: &State, clk: u64) -> Result<i64, FaultKind>
+    requires possible { PossibleExpression (graph_of model.now) (expression_of expr.now) }
+    requires inside { IsTrue (in_range (graph_of model.now) state.now) }
+    requires soon { clk ≤ 2 ^ 48 }
+    ensures { result ≡ value_of (graph_of model.now) state.now clk (expression_of expr.now) }
+{
+    match expr {
+        Expr::Int(n) => Ok(*n),
+        Expr::Truth(b) => Ok(i64::from(*b)),
+        Expr::Clk => Ok(clk as i64),
+        Expr::Scalar(var) => Ok(scalar(model, *var, state)),
+        Expr::Cell(var, index) => cell(model, *var, value(model, index, state, clk)?, state),
+        Expr::Neg(a) => negative(value(model, a, state, clk)?),
+        Expr::Not(a) => Ok(other_truth(value(model, a, state, clk)?)),
+        Expr::Binary(op, left, right) => {
+            let a = value(model, left, state, clk)?;
+            if is_decided(*op, a) {
+                return Ok(a);
+            }
+            operate(*op, a, value(model, right, state, clk)?)
+        }
+        Expr::If(test, yes, no) => {
+            if value(model, test, state, clk)? == 1 {
+                value(model, yes, state, clk)
+            } else {
+                value(model, no, state, clk)
+            }
+        }
+    }
+}

@@ -1,0 +1,16 @@
+//! Values of expressions, stores and changes: the arithmetic of each event of a run.
+#![tactic(auto)]
+
+mod arithmetic;
+mod changes;
+mod evaluation;
+mod lists;
+mod place;
+mod state;
+mod storing;
+
+pub use changes::apply;
+pub use evaluation::value;
+pub use lists::put_values;
+pub use state::State;
+pub use storing::store;

@@ -1,0 +1,92 @@
+//! The state of a run.
+
+ghost use Rattle.std.specs.Prelude.{◌≡◌, ◌<◌, ◌++◌, length, replicate, IfOk, OnOk};
+ghost use Rattle.model_core.specs.Run.State.{cells_of, cell_at, with_cell, cell_count, initial_state};
+ghost use Rattle.model_core.specs.Code.Views.{graph_of, variable_of};
+
+use model_core::{Model as Graph, Var};
+use sig_base::NoMemory;
+use std::alloc::Global;
+use std::marker::Model;
+
+/// Where the cells of a variable stand.
+#[derive(Clone, Copy)]
+struct Span {
+    from: usize,
+    size: usize,
+}
+
+/// What each variable of a model holds, in one list of cells. Contracts see a list of values for each variable, a
+/// scalar's a list of one.
+#[derive(Drop)]
+pub struct State {
+    cells: Vec<i64>,
+    spans: Vec<Span>,
+}
+
+impl Model for State {
+    ghost use Rattle.std.specs.Prelude.{List, ℤ, length};
+    ghost use Rattle.sig_expr.specs.Inner.Pieces.{pieces, Laid};
+
+    ghost Value = { List (List ℤ) };
+
+    ghost view = { λ s. pieces s.cells.items s.spans.items };
+
+    ghost invariant = { λ s. Laid 0 s.spans.items (length s.cells.items) };
+}
+
+/// How many cells a variable has.
+fn cell_count(var: &Var) -> usize
+    ensures { result ≡ cell_count (variable_of var.now) }
+{
+    if var.size == 0 { 1 } else { var.size }
+}
+
+/// Adds so many cells that hold `value`.
+fn add_cells(cells: &mut Vec<i64>, count: usize, value: i64) -> Result<(), NoMemory>
+    ensures { OnOk result (cells.new.items ≡ cells.old.items ++ replicate count value) }
+{
+    for _ in 0..count {
+        cells.push(value)?;
+    }
+    Ok(())
+}
+
+impl State {
+    /// The initial values of a model.
+    pub fn begin(alloc: Global, model: &Graph) -> Result<State, NoMemory>
+        ensures { IfOk result (λ state. state ≡ initial_state (graph_of model.now)) }
+    {
+        let vars = model.vars.as_slice();
+        let mut spans = Vec::with_capacity(alloc, vars.len())?;
+        let mut cells = Vec::with_capacity(alloc, vars.len())?;
+        for var in vars {
+            let span = Span {
+                from: cells.len(),
+                size: cell_count(var),
+            };
+            add_cells(&mut cells, span.size, var.initial)?;
+            spans.push(span)?;
+        }
+        Ok(State { cells, spans })
+    }
+
+    /// The value of a cell, of which index 0 is a scalar's.
+    pub fn cell(&self, var: usize, index: usize) -> i64
+        requires exists { var < length self.now }
+        requires inside { index < length (cells_of self.now var) }
+        ensures { result ≡ cell_at self.now (record { variable = var; index = index }) }
+    {
+        self.cells[self.spans[var].from + index]
+    }
+
+    /// Puts a value into a cell.
+    pub(crate) fn put(&mut self, var: usize, index: usize, value: i64)
+        requires exists { var < length self.old }
+        requires inside { index < length (cells_of self.old var) }
+        ensures { self.new ≡ with_cell self.old (record { variable = var; index = index }) value }
+    {
+        let at = self.spans[var].from + index;
+        self.cells[at] = value;
+    }
+}

@@ -1,0 +1,50 @@
+-- The check of an edge from those of its target, values, delay, priority and condition.
+use Rattle.std.proofs.Common.{◌≡◌, ℕ, true, pos, List, [], Option, Some, None, refl, sym, ap, ◌∙◌}
+use Rattle.std.specs.Option.{option_map, unwrap_or}
+use Rattle.model_core.specs.declared.model.Kind.{Kind}
+use Rattle.model_core.specs.declared.model.Kind.TheVariants as kinds
+use Rattle.model_core.specs.EventGraph as graph
+use Rattle.model_core.specs.Text.Written as written
+use Rattle.model_core.specs.Text.Written.{WrittenName, WrittenNumber, WrittenExpression, WrittenEdge}
+use Rattle.model_core.specs.Text.Numbering as numbering
+use Rattle.model_core.specs.Text.Numbering.{each_numbered, written_or, declared_place, expression, natural}
+use Rattle.model_core.specs.Static.FaultOrder.{StaticFault}
+use Rattle.model_core.specs.Static.Meanings.{Meaning, MeansVariable, MeansTable, MeansVertex, AsVertex}
+use Rattle.model_core.specs.Static.PartFaults.{if_written, use_faults, operand_faults, priority_faults, target_takes, carried_faults, schedule_faults, edge_faults}
+use Rattle.sig_types.specs.Inner.Checked.{CheckedPart, CheckedPlain}
+use Rattle.sig_types.specs.Inner.Seen.{vertex_meant}
+use Rattle.sig_types.specs.Inner.Wanted.{taken_by}
+use Rattle.sig_types.proofs.Checks.{both, made, two_numbered, four_numbered}
+
+takes_by_place : (means : List ℕ → Option Meaning) (taken : List (List (Option Kind))) (w : Option Meaning) → target_takes means taken w ≡ taken_by taken (vertex_meant w)
+takes_by_place means taken None = refl
+takes_by_place means taken (Some (MeansVariable k kind array)) = refl
+takes_by_place means taken (Some (MeansTable k)) = refl
+takes_by_place means taken (Some (MeansVertex k)) = refl
+
+module _ (means : List ℕ → Option Meaning) (taken : List (List (Option Kind))) where
+  pub schedule_checked : (t0 t1 t2 : Option StaticFault) (after : Option WrittenExpression) (priority : Option WrittenNumber) (x : graph.Expression) (n : ℕ)
+      → CheckedPart means t0 t1 (if_written (operand_faults means (Some kinds.Range)) after) (λ d. written_or (expression d) (graph.Number (pos 0)) after) x
+      → CheckedPlain t1 t2 (if_written priority_faults priority) (written_or natural 5 priority) n
+      → CheckedPart means t0 t2 (schedule_faults means taken (written.Schedule after priority)) (λ d. numbering.edge_kind d (written.Schedule after priority)) (graph.Schedule x n)
+  schedule_checked t0 t1 t2 after priority x n c p =
+      made (λ h. two_numbered means graph.Schedule (λ d. written_or (expression d) (graph.Number (pos 0)) after) (λ d. written_or natural 5 priority) h.0 (λ d q. h.1)) (both c p)
+
+  there : (o : Option ℕ) (k : Option ℕ) (n : ℕ) → option_map (λ j. Some j) o ≡ Some k → n ≡ unwrap_or k 0 → o ≡ Some n
+  there None k n e h = cc
+  there (Some j) k n e h = let is : k ≡ Some j = cc in ap Some (sym (h ∙ ap (λ p. unwrap_or p 0) is))
+
+  pub edge_checked : (t0 t1 t2 t3 t4 : Option StaticFault) (e : WrittenEdge) (k : Option ℕ) (n : ℕ) (xs : List graph.Expression) (f : graph.EdgeKind) (x : graph.Expression)
+      → k ≡ vertex_meant (means e.target.name) → n ≡ unwrap_or k 0
+      → CheckedPart means t0 t1 (use_faults means AsVertex e.target) (λ d. option_map (λ j. Some j) (declared_place e.target.name d.vertices)) k
+      → CheckedPart means t1 t2 (carried_faults means taken e (taken_by taken k)) (λ d. written_or (each_numbered (expression d)) [] e.values) xs
+      → CheckedPart means t2 t3 (schedule_faults means taken e.kind) (λ d. numbering.edge_kind d e.kind) f
+      → CheckedPart means t3 t4 (if_written (operand_faults means (Some kinds.Truth)) e.condition) (λ d. written_or (expression d) (graph.Truth true) e.condition) x
+      → CheckedPart means t0 t4 (edge_faults means taken e) (λ d. numbering.edge d e) (record { target = n; values = xs; condition = x; kind = f })
+  edge_checked t0 t1 t2 t3 t4 e k n xs f x is place target values form condition =
+      let named : taken_by taken k ≡ target_takes means taken (means e.target.name) = ap (taken_by taken) is ∙ sym (takes_by_place means taken (means e.target.name)) in
+      let values2 : CheckedPart means t1 t2 (carried_faults means taken e (target_takes means taken (means e.target.name))) (λ d. written_or (each_numbered (expression d)) [] e.values) xs = rw (← named) values in
+      made (λ h. four_numbered means (λ (a : ℕ) (b : List graph.Expression) (c : graph.Expression) (g : graph.EdgeKind). record { target = a; values = b; condition = c; kind = g })
+      (λ d. declared_place e.target.name d.vertices) (λ d. written_or (each_numbered (expression d)) [] e.values) (λ d. written_or (expression d) (graph.Truth true) e.condition) (λ d. numbering.edge_kind d e.kind)
+      (λ d p. there (declared_place e.target.name d.vertices) k n (h.0.0.0 d p) place) h.0.0.1 h.1 h.0.1)
+      (both (both (both target values2) form) condition)

@@ -1,0 +1,15 @@
+mod Checks
+mod LeftOut
+mod Lookups
+mod Operands
+mod TooMany
+mod ListChecks
+mod EarlierNames
+mod CarriedValues
+mod ChangeParts
+mod EdgeParts
+mod VertexParts
+mod VariableParts
+mod RowSums
+mod MeaningsSoFar
+mod WholeModel

@@ -1,0 +1,14 @@
+use Rattle.std.proofs.Common.{ap, sym, ◌∙◌}
+use Rattle.std.specs.Option.{option_map}
+use Rattle.model_core.specs.Code.Views.{graph_of}
+use Rattle.model_core.specs.Code.WrittenViews.{written_model}
+use Rattle.sig_types.proofs.WholeModel.{is_accepted, is_told}
+use Rattle.sig_types.proofs.checking.check.Goals as goal
+
+pub returns-in-None-clause-accepted : goal.returns-in-None-clause-accepted
+returns-in-None-clause-accepted c =
+    is_accepted (written_model c.args.raw) (graph_of c.in_ok-model.model) c.in_ok-model.ensures.numbered (sym c.in_ok-model.ensures.told ∙ c.fault.ensures ∙ ap (option_map _) c.in-None.is)
+
+pub returns-in-Some-clause-told : goal.returns-in-Some-clause-told
+returns-in-Some-clause-told c =
+    λ kind at is. is_told (written_model c.args.raw) c.in-Some.fault kind at (sym c.in_ok-model.ensures.told ∙ c.fault.ensures ∙ ap (option_map _) c.in-Some.is) is

@@ -1,0 +1,15 @@
+use Rattle.std.proofs.Common.{◌++◌, [], map}
+use Rattle.model_core.specs.Code.WrittenViews.{written_model}
+use Rattle.model_core.specs.Static.Meanings.{declarations, declared_name}
+use Rattle.model_core.specs.Static.RuleTable.{name_too_long}
+use Rattle.model_core.specs.Static.PartFaults.{repeated_names}
+use Rattle.model_core.specs.Static.ModelFaults.{faults_of_counts}
+use Rattle.sig_types.proofs.Checks.{told_both}
+use Rattle.sig_types.proofs.checking.declared.Goals as goal
+
+pub returns-clause-told : goal.returns-clause-told
+returns-clause-told c =
+    let m = written_model c.args.raw.now in
+    let again = repeated_names [] (map declared_name (declarations m)) in
+    told_both _ c.names_of.new.told _ (name_too_long m.name ++ again) (faults_of_counts m)
+    (told_both _ c.note.new.self c.names_of.new.told (name_too_long m.name) again (rw c.as_slice.ensures at c.note.ensures) c.in_ok-names.ensures.told) c.tell_counts.ensures

@@ -1,0 +1,14 @@
+use Rattle.std.proofs.Common.{map, take}
+use Rattle.std.specs.List.{flat_map}
+use Rattle.model_core.specs.Code.WrittenViews.{written_name}
+use Rattle.model_core.specs.Text.Numbering.{each_numbered, numbered_parameter}
+use Rattle.model_core.specs.Static.Meanings.{AsScalar, meaning_of}
+use Rattle.model_core.specs.Static.PartFaults.{use_faults}
+use Rattle.sig_types.specs.Inner.Checked.{CheckedPart}
+use Rattle.sig_types.proofs.vertices.numbers_of.Given as goal
+
+-- the parameters before this one are checked
+abbrev pub invariant-loop-raw : goal.invariant-loop-raw
+invariant-loop-raw l =
+    let seen = map written_name (take l.raw-index l.raws) in
+    CheckedPart (meaning_of l.names) l.fn.told l.told (flat_map (use_faults (meaning_of l.names) AsScalar) seen) (λ d. each_numbered (numbered_parameter d) seen) l.vars.items

@@ -1,0 +1,38 @@
+-- Which plain value each value of this crate's types stands for.
+use Rattle.std.specs.Prelude.{ℕ, Bool, true, false, List, Option, Some, None}
+use Rattle.model_core.specs.declared.raw.RawName.{RawName}
+use Rattle.model_core.specs.Static.Meanings as plain
+use Rattle.model_core.specs.Static.Meanings.{Declaration}
+use Rattle.sig_types.specs.declared.names.Meaning.{Meaning}
+use Rattle.sig_types.specs.declared.names.Meaning.TheVariants as meanings
+use Rattle.sig_types.specs.declared.uses.Role.{Role}
+use Rattle.sig_types.specs.declared.uses.Role.TheVariants as roles
+
+abbrev pub meaning_seen : Meaning → plain.Meaning
+meaning_seen (meanings.Variable var kind is_array) = plain.MeansVariable var kind is_array
+meaning_seen (meanings.Table k) = plain.MeansTable k
+meaning_seen (meanings.Vertex k) = plain.MeansVertex k
+
+abbrev pub role_seen : Role → plain.Role
+role_seen roles.Scalar = plain.AsScalar
+role_seen roles.Array = plain.AsArray
+role_seen roles.Table = plain.AsTable
+role_seen roles.Vertex = plain.AsVertex
+role_seen roles.Watched = plain.AsWatched
+
+-- the role of a variable with an index, or without one
+abbrev pub variable_role : Bool → plain.Role
+variable_role true = plain.AsArray
+variable_role false = plain.AsScalar
+
+-- the place of the vertex that is meant
+abbrev pub vertex_meant : Option plain.Meaning → Option ℕ
+vertex_meant (Some (plain.MeansVertex k)) = Some k
+vertex_meant meaning = None
+
+-- a declaration of a name whose place isn't known
+abbrev pub declaration_of : List ℕ → plain.Meaning → Declaration
+declaration_of name meaning = record { name = record { name = name; at = 0 }; meaning = meaning }
+
+abbrev pub bytes_of : RawName → List ℕ
+bytes_of n = n.name

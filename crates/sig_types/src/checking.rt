@@ -1,0 +1,149 @@
+//! The check of a whole model.
+
+ghost use Rattle.std.specs.Prelude.{◌≡◌, ℕ, nat_lt, Option, [], length, map, IfOk, OnOk, Err, Some, None};
+ghost use Rattle.sig_base.specs.declared.limits.TheConstants.{TEXT_MAX};
+ghost use Rattle.model_core.specs.declared.static_kind.StaticKind.{StaticKind as Rule};
+ghost use Rattle.model_core.specs.Code.Views.{graph_of};
+ghost use Rattle.model_core.specs.Code.WrittenViews.{written_model};
+ghost use Rattle.model_core.specs.Text.Canonical.{canonical};
+ghost use Rattle.model_core.specs.Text.Numbering as numbering;
+ghost use Rattle.model_core.specs.Static.FaultOrder.{StaticFault, earliest_fault};
+ghost use Rattle.model_core.specs.Static.Meanings.{declarations, declared_name, meaning_of};
+ghost use Rattle.model_core.specs.Static.RuleTable.{model_too_long};
+ghost use Rattle.model_core.specs.Static.PartFaults.{repeated_names};
+ghost use Rattle.model_core.specs.Static.ModelFaults.{model_meaning, model_takes, faults_of_counts, faults_of_parts, told_fault, Accepted, IsTold};
+ghost use Rattle.sig_types.specs.declared.error.StaticError.TheVariants as errors;
+ghost use Rattle.sig_types.specs.Inner.Checked.{Checked};
+ghost use Rattle.sig_types.specs.Inner.Redeclared.{faults_of_declared};
+
+use crate::declaring::declare_all;
+use crate::edges::items;
+use crate::error::StaticError;
+use crate::names::Names;
+use crate::placed::tell_too_many;
+use crate::tables::tables;
+use crate::told::Told;
+use crate::variables::variables;
+use crate::vertices::{taken, vertices};
+use crate::watch::watch_list;
+use model_core::{Kind, Model, RawModel, StaticKind};
+use model_print::printed_length;
+use sig_base::{List, NAME_MAX, NoMemory, TABLES_MAX, TEXT_MAX, VARIABLES_MAX, VERTICES_MAX};
+use std::alloc::Global;
+
+/// The names that a model declares. Those that are declared again are told.
+fn names_of(alloc: Global, raw: &RawModel, told: &mut Told) -> Result<Names, NoMemory>
+    ensures means { IfOk result (λ names. meaning_of names ≡ model_meaning (written_model raw.now)) }
+    ensures told { OnOk result (told.new ≡ earliest_fault told.old (repeated_names [] (map declared_name (declarations (written_model raw.now))))) }
+{
+    let count = raw.vars.len().saturating_add(raw.tables.len());
+    let mut names = Names::with_capacity(alloc, count.saturating_add(raw.vertices.len()))?;
+    declare_all(alloc, &mut names, raw.vars.as_slice(), told)?;
+    declare_all(alloc, &mut names, raw.tables.as_slice(), told)?;
+    declare_all(alloc, &mut names, raw.vertices.as_slice(), told)?;
+    Ok(names)
+}
+
+/// Tells the declarations that are too many.
+fn tell_counts(raw: &RawModel, told: &mut Told)
+    ensures { told.new ≡ earliest_fault told.old (faults_of_counts (written_model raw.now)) }
+{
+    tell_too_many(VARIABLES_MAX, raw.vars.as_slice(), told);
+    tell_too_many(TABLES_MAX, raw.tables.as_slice(), told);
+    tell_too_many(VERTICES_MAX, raw.vertices.as_slice(), told);
+}
+
+/// The names that a model declares. Its own name, those that are declared again and those that are too many are told.
+fn declared(alloc: Global, raw: &RawModel, told: &mut Told) -> Result<Names, NoMemory>
+    ensures means { IfOk result (λ names. meaning_of names ≡ model_meaning (written_model raw.now)) }
+    ensures told { OnOk result (told.new ≡ earliest_fault told.old (faults_of_declared (written_model raw.now))) }
+{
+    let long = raw.name.name.as_slice().len() > NAME_MAX;
+    told.note(long, StaticKind::NameTooLong, raw.name.at);
+    let names = names_of(alloc, raw, told)?;
+    tell_counts(raw, told);
+    Ok(names)
+}
+
+/// The model among these names, where the vertices take parameters of these kinds. What the raw model held is let go
+/// part by part.
+fn numbered_among(
+    alloc: Global,
+    names: &Names,
+    taken: &[List<Option<Kind>>],
+    raw: RawModel,
+    told: &mut Told,
+) -> Result<Model, NoMemory>
+    ensures { IfOk result (λ model. meaning_of names.now ≡ model_meaning (written_model raw) → taken.now ≡ model_takes (written_model raw)
+        → (start : Option StaticFault) → told.old ≡ earliest_fault start (faults_of_declared (written_model raw))
+        → Checked start told.new (faults_of_parts (written_model raw)) (numbering.numbered (written_model raw) ≡ Some (graph_of model))) }
+{
+    let vars = variables(alloc, raw.vars, told)?;
+    let tables = tables(alloc, raw.tables, told)?;
+    let watch = watch_list(alloc, names, items(&raw.watch), told)?;
+    let vertices = vertices(alloc, names, taken, raw.vertices, told)?;
+    Ok(Model {
+        name: raw.name.name,
+        vars,
+        tables,
+        watch,
+        vertices,
+    })
+}
+
+/// The model with numbers in place of names. Where it has a fault, another one.
+fn numbered(alloc: Global, raw: RawModel, told: &mut Told) -> Result<Model, NoMemory>
+    ensures { IfOk result (λ model. Checked told.old told.new (faults_of_parts (written_model raw)) (numbering.numbered (written_model raw) ≡ Some (graph_of model))) }
+{
+    let names = declared(alloc, &raw, told)?;
+    let taken = taken(alloc, &names, raw.vertices.as_slice())?;
+    let model = numbered_among(alloc, &names, taken.as_slice(), raw, told)?;
+    Ok(model)
+}
+
+/// Whether the canonical text of a model has too many bytes.
+fn is_too_long(model: &Model) -> bool
+    ensures { result ≡ nat_lt TEXT_MAX (length (canonical (graph_of model.now))) }
+{
+    printed_length(model) > TEXT_MAX as u64
+}
+
+/// Where nothing else is told, tells that the canonical text of a model has too many bytes.
+fn tell_too_long(model: &Model, end_at: usize, told: &mut Told)
+    ensures none { told.old ≡ None → told.new ≡ earliest_fault None (model_too_long TEXT_MAX (canonical (graph_of model.now)) end_at) }
+    ensures some { (f : StaticFault) → told.old ≡ Some f → told.new ≡ told.old }
+{
+    if told.fault().is_none() {
+        told.note(is_too_long(model), StaticKind::ModelTooLong, end_at);
+    }
+}
+
+/// The model with numbers in place of names. All its faults are told.
+fn told_model(alloc: Global, raw: RawModel, told: &mut Told) -> Result<Model, NoMemory>
+    requires { told.old ≡ None }
+    ensures told { OnOk result (told.new ≡ told_fault (written_model raw)) }
+    ensures numbered { IfOk result (λ model. faults_of_parts (written_model raw) ≡ [] → numbering.numbered (written_model raw) ≡ Some (graph_of model)) }
+{
+    let end_at = raw.end_at;
+    let model = numbered(alloc, raw, told)?;
+    tell_too_long(&model, end_at, told);
+    Ok(model)
+}
+
+/// The model that is written, where it keeps every static rule, and else the first fault.
+pub fn check(alloc: Global, raw: RawModel) -> Result<Model, StaticError>
+    // What is accepted is numbered as it is written, and breaks no rule.
+    ensures accepted { IfOk result (λ model. Accepted (written_model raw) (graph_of model)) }
+    // What is told is broken, at the least place, and there no rule of the table before it.
+    ensures told { (kind : Rule) (at : ℕ) → result ≡ Err (errors.Fault kind at) → IsTold (written_model raw) kind at }
+{
+    let mut told = Told::new();
+    let model = told_model(alloc, raw, &mut told)?;
+    match told.fault() {
+        None => Ok(model),
+        Some(fault) => Err(StaticError::Fault {
+            kind: fault.kind,
+            at: fault.at,
+        }),
+    }
+}

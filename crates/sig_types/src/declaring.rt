@@ -1,0 +1,116 @@
+//! Declarations: each name with what it means, and names that are declared again.
+
+ghost use Rattle.std.specs.Prelude.{◌≡◌, ℕ, ◌++◌, OnOk, map};
+ghost use Rattle.model_core.specs.Code.WrittenViews.{written_name, written_kind, written_variable, written_table, written_vertex};
+ghost use Rattle.model_core.specs.Text.Written.{WrittenVariable, WrittenTable, WrittenVertex};
+ghost use Rattle.model_core.specs.Static.FaultOrder.{earliest_fault};
+ghost use Rattle.model_core.specs.Static.Meanings.{Declaration, declared_kind, variable_declaration, table_declaration, vertex_declaration, declarations_from, meaning_of};
+ghost use Rattle.sig_types.specs.Inner.Redeclared.{redeclared};
+ghost use Rattle.sig_types.specs.Inner.Seen.{meaning_seen};
+
+use crate::names::{Meaning, Names};
+use crate::told::Told;
+use model_core::{Kind, RawKind, RawName, RawTable, RawVar, RawVertex, StaticKind};
+use sig_base::NoMemory;
+use std::alloc::Global;
+
+/// A part of a written model that declares a name.
+pub trait Declares {
+    // What the parts stand for.
+    ghost Written: { Type 0 };
+
+    // The written part that a part stands for.
+    ghost written: { Self → Written };
+
+    // What the written part at a place declares.
+    ghost declaration: { ℕ → Written → Declaration };
+
+    /// The name that it declares.
+    fn name(&self) -> &RawName
+        ensures { (place : ℕ) → (declaration place (written self.now)).name ≡ written_name result.now };
+
+    /// What its name means, where it stands at this place among its like.
+    fn meaning(&self, place: usize) -> Meaning
+        ensures { (declaration place (written self.now)).meaning ≡ meaning_seen result };
+}
+
+/// Declares names behind others, and tells each that is declared already.
+pub fn declare_all<T: Declares>(
+    alloc: Global,
+    names: &mut Names,
+    parts: &[T],
+    told: &mut Told,
+) -> Result<(), NoMemory>
+    ensures means { OnOk result (meaning_of names.new ≡ meaning_of (names.old ++ declarations_from T.declaration 0 (map T.written parts.now))) }
+    ensures told { OnOk result (told.new ≡ earliest_fault told.old (redeclared names.old (declarations_from T.declaration 0 (map T.written parts.now)))) }
+{
+    for (place, part) in parts.iter().enumerate() {
+        let meaning = part.meaning(place);
+        let name = part.name();
+        let added = names.add(alloc, &name.name, meaning)?;
+        told.note(!added, StaticKind::DuplicateName, name.at);
+    }
+    Ok(())
+}
+
+/// The kind of a variable.
+fn kind_of(raw: &RawKind) -> Kind
+    ensures { result ≡ declared_kind (written_kind raw.now) }
+{
+    match raw {
+        RawKind::Truth => Kind::Truth,
+        RawKind::Range { .. } => Kind::Range,
+    }
+}
+
+impl Declares for RawVar {
+    ghost Written = { WrittenVariable };
+
+    ghost written = { written_variable };
+
+    ghost declaration = { variable_declaration };
+
+    fn name(&self) -> &RawName {
+        &self.name
+    }
+
+    fn meaning(&self, place: usize) -> Meaning {
+        Meaning::Variable {
+            var: place,
+            kind: kind_of(&self.kind),
+            is_array: self.size.is_some(),
+        }
+    }
+}
+
+impl Declares for RawTable {
+    ghost Written = { WrittenTable };
+
+    ghost written = { written_table };
+
+    ghost declaration = { table_declaration };
+
+    fn name(&self) -> &RawName {
+        &self.name
+    }
+
+    fn meaning(&self, place: usize) -> Meaning {
+        Meaning::Table(place)
+    }
+}
+
+impl Declares for RawVertex {
+    ghost Written = { WrittenVertex };
+
+    ghost written = { written_vertex };
+
+    ghost declaration = { vertex_declaration };
+
+    fn name(&self) -> &RawName {
+        &self.name
+    }
+
+    fn meaning(&self, place: usize) -> Meaning {
+        Meaning::Vertex(place)
+    }
+}

@@ -1,0 +1,180 @@
+//! Edges: their targets, the values that they carry, their delays, priorities and conditions.
+
+ghost use Rattle.std.specs.Prelude.{◌≡◌, ℕ, [], Some, None, IfOk, map, List, Option};
+ghost use Rattle.std.specs.List.{flat_map};
+ghost use Rattle.std.specs.Option.{option_map};
+ghost use Rattle.model_core.specs.declared.model.Kind.{Kind as KnownKind};
+ghost use Rattle.model_core.specs.declared.model.Kind.TheVariants as kinds;
+ghost use Rattle.model_core.specs.Code.Views.{expression_of, edge_kind_of, edge_of};
+ghost use Rattle.model_core.specs.Code.WrittenViews.{written_expression, written_number, written_edge_kind, written_edge};
+ghost use Rattle.model_core.specs.Text.Numbering as numbering;
+ghost use Rattle.model_core.specs.Text.Numbering.{each_numbered, written_or, natural};
+ghost use Rattle.model_core.specs.Static.FaultOrder.{earliest_fault};
+ghost use Rattle.model_core.specs.Static.Meanings.{meaning_of};
+ghost use Rattle.model_core.specs.Static.PartFaults.{if_written, written_items, operand_faults, count_faults, priority_faults, carried_faults, schedule_faults, edge_faults};
+ghost use Rattle.sig_types.specs.Inner.Checked.{CheckedPart, CheckedPlain};
+ghost use Rattle.sig_types.specs.Inner.Wanted.{taken_by};
+
+use crate::changes::values;
+use crate::expressions::operand;
+use crate::names::Names;
+use crate::numbers::bounded;
+use crate::told::Told;
+use crate::uses::vertex;
+use model_core::{
+    Edge, EdgeForm, Expr, Kind, RawEdge, RawEdgeForm, RawExpr, RawNumber, StaticKind,
+};
+use sig_base::{List, NoMemory};
+use std::alloc::Global;
+
+/// The items of a list that may be left out.
+pub fn items<T>(list: &Option<List<T>>) -> &[T]
+    ensures { result.now ≡ written_items list.now }
+{
+    match list {
+        Some(list) => list.as_slice(),
+        None => &[],
+    }
+}
+
+/// An expression of this kind, or the default where none is written.
+fn operand_or(
+    alloc: Global,
+    names: &Names,
+    kind: Kind,
+    raw: &Option<RawExpr>,
+    default: Expr,
+    told: &mut Told,
+) -> Result<Expr, NoMemory>
+    ensures { IfOk result (λ e. CheckedPart (meaning_of names.now) told.old told.new (if_written (operand_faults (meaning_of names.now) (Some kind)) (option_map written_expression raw.now)) (λ d. written_or (numbering.expression d) (expression_of default) (option_map written_expression raw.now)) (expression_of e)) }
+{
+    let Some(raw) = raw else {
+        return Ok(default);
+    };
+    let expr = operand(alloc, names, Some(kind), raw, told)?;
+    Ok(expr.part)
+}
+
+/// A priority: 5 where none is written.
+fn priority_of(raw: &Option<RawNumber>, told: &mut Told) -> u8
+    ensures { CheckedPlain told.old told.new (if_written priority_faults (option_map written_number raw.now)) (written_or natural 5 (option_map written_number raw.now)) result }
+{
+    match raw {
+        Some(raw) => bounded(raw, 1, 255, StaticKind::PriorityOutside, told) as u8,
+        None => 5,
+    }
+}
+
+/// What an edge does.
+fn form(
+    alloc: Global,
+    names: &Names,
+    raw: &RawEdgeForm,
+    told: &mut Told,
+) -> Result<EdgeForm, NoMemory>
+    ensures { IfOk result (λ f. (taken : List (List (Option KnownKind))) → CheckedPart (meaning_of names.now) told.old told.new (schedule_faults (meaning_of names.now) taken (written_edge_kind raw.now)) (λ d. numbering.edge_kind d (written_edge_kind raw.now)) (edge_kind_of f)) }
+{
+    match raw {
+        RawEdgeForm::Schedule { delay, priority } => {
+            let delay = operand_or(alloc, names, Kind::Range, delay, Expr::Int(0), told)?;
+            let priority = priority_of(priority, told);
+            Ok(EdgeForm::Schedule { delay, priority })
+        }
+        RawEdgeForm::Urgent => Ok(EdgeForm::Urgent),
+        RawEdgeForm::CancelNext => Ok(EdgeForm::CancelNext),
+        RawEdgeForm::CancelEqual => Ok(EdgeForm::CancelEqual),
+        RawEdgeForm::CancelAll => Ok(EdgeForm::CancelAll),
+    }
+}
+
+/// Tells that an edge carries another number of values than its target takes, or where it can carry none, any at all.
+fn tell_count(form: &RawEdgeForm, wanted: usize, given: usize, at: usize, told: &mut Told)
+    ensures { told.new ≡ earliest_fault told.old (count_faults (written_edge_kind form.now) wanted given at) }
+{
+    match form {
+        RawEdgeForm::CancelNext | RawEdgeForm::CancelAll => told.note(
+            given != 0,
+            StaticKind::ValueCount,
+            at,
+        ),
+        RawEdgeForm::Schedule { .. } | RawEdgeForm::Urgent | RawEdgeForm::CancelEqual => {
+            told.note(wanted != given, StaticKind::ValueCount, at);
+        }
+    }
+}
+
+/// What the vertex at a place takes.
+fn taken_at(taken: &[List<Option<Kind>>], target: Option<usize>) -> Option<&List<Option<Kind>>>
+    ensures { option_map (λ kinds. kinds.now) result ≡ (taken_by taken.now target) }
+{
+    taken.get(target?)
+}
+
+/// The values that an edge carries to the vertex at a place.
+fn carried(
+    alloc: Global,
+    names: &Names,
+    taken: &[List<Option<Kind>>],
+    target: Option<usize>,
+    raw: &RawEdge,
+    told: &mut Told,
+) -> Result<List<Expr>, NoMemory>
+    ensures { IfOk result (λ es. CheckedPart (meaning_of names.now) told.old told.new (carried_faults (meaning_of names.now) taken.now (written_edge raw.now) (taken_by taken.now target)) (λ d. written_or (each_numbered (numbering.expression d)) [] (written_edge raw.now).values) (map expression_of es)) }
+{
+    let raws = items(&raw.values);
+    match taken_at(taken, target) {
+        None => values(alloc, names, &[], raws, told),
+        Some(kinds) => {
+            let kinds = kinds.as_slice();
+            tell_count(&raw.form, kinds.len(), raws.len(), raw.target.at, told);
+            values(alloc, names, kinds, raws, told)
+        }
+    }
+}
+
+/// An edge, where the vertices take parameters of these kinds.
+fn edge(
+    alloc: Global,
+    names: &Names,
+    taken: &[List<Option<Kind>>],
+    raw: &RawEdge,
+    told: &mut Told,
+) -> Result<Edge, NoMemory>
+    ensures { IfOk result (λ e. CheckedPart (meaning_of names.now) told.old told.new (edge_faults (meaning_of names.now) taken.now (written_edge raw.now)) (λ d. numbering.edge d (written_edge raw.now)) (edge_of e)) }
+{
+    let target = vertex(names, &raw.target, told);
+    let values = carried(alloc, names, taken, target, raw, told)?;
+    let form = form(alloc, names, &raw.form, told)?;
+    let condition = operand_or(
+        alloc,
+        names,
+        Kind::Truth,
+        &raw.condition,
+        Expr::Truth(true),
+        told,
+    )?;
+    Ok(Edge {
+        target: target.unwrap_or(0),
+        values,
+        condition,
+        form,
+    })
+}
+
+/// The edges of a vertex.
+pub fn edges(
+    alloc: Global,
+    names: &Names,
+    taken: &[List<Option<Kind>>],
+    raws: &[RawEdge],
+    told: &mut Told,
+) -> Result<List<Edge>, NoMemory>
+    ensures { IfOk result (λ es. CheckedPart (meaning_of names.now) told.old told.new (flat_map (edge_faults (meaning_of names.now) taken.now) (map written_edge raws.now)) (λ d. each_numbered (numbering.edge d) (map written_edge raws.now)) (map edge_of es)) }
+{
+    let mut edges = Vec::with_capacity(alloc, raws.len())?;
+    for raw in raws {
+        let edge = edge(alloc, names, taken, raw, told)?;
+        edges.push(edge)?;
+    }
+    Ok(List::from_vec(edges))
+}

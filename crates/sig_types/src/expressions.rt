@@ -1,0 +1,152 @@
+//! Expressions: their faults, their kind and their numbers in one walk.
+
+ghost use Rattle.std.specs.Prelude.{◌≡◌, Bool, IfOk};
+ghost use Rattle.model_core.specs.Code.Views.{expression_of};
+ghost use Rattle.model_core.specs.Code.WrittenViews.{written_expression};
+ghost use Rattle.model_core.specs.Text.Numbering.{expression};
+ghost use Rattle.model_core.specs.Static.Meanings.{meaning_of};
+ghost use Rattle.model_core.specs.Static.Kinds.{expression_kind};
+ghost use Rattle.model_core.specs.Static.PartFaults.{expression_faults, operand_faults};
+ghost use Rattle.sig_types.specs.Inner.Checked.{CheckedPart};
+
+use crate::kinds::{Typed, kinds_differ, known_or, operand_kind, result_kind, right_kind};
+use crate::names::Names;
+use crate::told::Told;
+use crate::uses::variable;
+use model_core::{Expr, Kind, RawExpr, RawForm, StaticKind};
+use sig_base::NoMemory;
+use std::alloc::Global;
+
+/// An expression whose kind must be this one, where both are known.
+#[cycle(expressions)]
+pub fn operand(
+    alloc: Global,
+    names: &Names,
+    wanted: Option<Kind>,
+    raw: &RawExpr,
+    told: &mut Told,
+) -> Result<Typed<Expr>, NoMemory>
+    ensures checked { IfOk result (λ e. CheckedPart (meaning_of names.now) told.old told.new (operand_faults (meaning_of names.now) wanted (written_expression raw.now)) (λ d. expression d (written_expression raw.now)) (expression_of e.part)) }
+    ensures kind { IfOk result (λ e. e.kind ≡ expression_kind (meaning_of names.now) (written_expression raw.now)) }
+{
+    let typed = typed_expression(alloc, names, raw, told)?;
+    let differs = kinds_differ(wanted, typed.kind);
+    told.note(differs, StaticKind::KindMismatch, raw.at);
+    Ok(typed)
+}
+
+/// The same in a box.
+#[cycle(expressions)]
+fn boxed_operand(
+    alloc: Global,
+    names: &Names,
+    wanted: Option<Kind>,
+    raw: &RawExpr,
+    told: &mut Told,
+) -> Result<Typed<Box<Expr>>, NoMemory>
+    ensures checked { IfOk result (λ e. CheckedPart (meaning_of names.now) told.old told.new (operand_faults (meaning_of names.now) wanted (written_expression raw.now)) (λ d. expression d (written_expression raw.now)) (expression_of e.part.value)) }
+    ensures kind { IfOk result (λ e. e.kind ≡ expression_kind (meaning_of names.now) (written_expression raw.now)) }
+{
+    let typed = operand(alloc, names, wanted, raw, told)?;
+    let kind = typed.kind;
+    let part = Box::new(alloc, typed.part)?;
+    Ok(Typed { part, kind })
+}
+
+/// The expression with numbers in place of names. Where it has a fault, another one.
+#[cycle(expressions)]
+fn typed_expression(
+    alloc: Global,
+    names: &Names,
+    raw: &RawExpr,
+    told: &mut Told,
+) -> Result<Typed<Expr>, NoMemory>
+    ensures checked { IfOk result (λ e. CheckedPart (meaning_of names.now) told.old told.new (expression_faults (meaning_of names.now) (written_expression raw.now)) (λ d. expression d (written_expression raw.now)) (expression_of e.part)) }
+    ensures kind { IfOk result (λ e. e.kind ≡ expression_kind (meaning_of names.now) (written_expression raw.now)) }
+{
+    match &raw.form {
+        RawForm::Int(number) => {
+            told.note(
+                number.value.is_none(),
+                StaticKind::LiteralTooLarge,
+                number.at,
+            );
+            Ok(Typed {
+                part: Expr::Int(number.value.unwrap_or(0)),
+                kind: Some(Kind::Range),
+            })
+        }
+        RawForm::Truth(truth) => Ok(Typed {
+            part: Expr::Truth(*truth),
+            kind: Some(Kind::Truth),
+        }),
+        RawForm::Clk => Ok(Typed {
+            part: Expr::Clk,
+            kind: Some(Kind::Range),
+        }),
+        RawForm::Scalar(name) => {
+            let var = variable(names, false, name, told);
+            Ok(Typed {
+                part: Expr::Scalar(var.part),
+                kind: var.kind,
+            })
+        }
+        RawForm::Cell(name, index) => {
+            let var = variable(names, true, name, told);
+            let index = boxed_operand(alloc, names, Some(Kind::Range), index, told)?;
+            Ok(Typed {
+                part: Expr::Cell(var.part, index.part),
+                kind: var.kind,
+            })
+        }
+        RawForm::Neg(number) => {
+            let number = boxed_operand(alloc, names, Some(Kind::Range), number, told)?;
+            Ok(Typed {
+                part: Expr::Neg(number.part),
+                kind: Some(Kind::Range),
+            })
+        }
+        RawForm::Not(truth) => {
+            let truth = boxed_operand(alloc, names, Some(Kind::Truth), truth, told)?;
+            Ok(Typed {
+                part: Expr::Not(truth.part),
+                kind: Some(Kind::Truth),
+            })
+        }
+        RawForm::Binary(op, left, right) => {
+            let wanted = operand_kind(*op);
+            let left = boxed_operand(alloc, names, wanted, left, told)?;
+            let right = boxed_operand(alloc, names, right_kind(*op, left.kind), right, told)?;
+            Ok(Typed {
+                part: Expr::Binary(*op, left.part, right.part),
+                kind: Some(result_kind(*op)),
+            })
+        }
+        RawForm::If(test, yes, no) => {
+            let test = boxed_operand(alloc, names, Some(Kind::Truth), test, told)?;
+            let yes = boxed_expression(alloc, names, yes, told)?;
+            let no = boxed_operand(alloc, names, yes.kind, no, told)?;
+            Ok(Typed {
+                part: Expr::If(test.part, yes.part, no.part),
+                kind: known_or(yes.kind, no.kind),
+            })
+        }
+    }
+}
+
+/// An expression in a box.
+#[cycle(expressions)]
+fn boxed_expression(
+    alloc: Global,
+    names: &Names,
+    raw: &RawExpr,
+    told: &mut Told,
+) -> Result<Typed<Box<Expr>>, NoMemory>
+    ensures checked { IfOk result (λ e. CheckedPart (meaning_of names.now) told.old told.new (expression_faults (meaning_of names.now) (written_expression raw.now)) (λ d. expression d (written_expression raw.now)) (expression_of e.part.value)) }
+    ensures kind { IfOk result (λ e. e.kind ≡ expression_kind (meaning_of names.now) (written_expression raw.now)) }
+{
+    let typed = typed_expression(alloc, names, raw, told)?;
+    let kind = typed.kind;
+    let part = Box::new(alloc, typed.part)?;
+    Ok(Typed { part, kind })
+}

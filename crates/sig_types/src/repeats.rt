@@ -1,0 +1,60 @@
+//! Names that stand twice in a list.
+
+ghost use Rattle.std.specs.Prelude.{◌≡◌, [], OnOk, map};
+ghost use Rattle.std.specs.List.{list_any};
+ghost use Rattle.model_core.specs.Code.WrittenViews.{written_name};
+ghost use Rattle.model_core.specs.Text.Lexing.{same_bytes};
+ghost use Rattle.model_core.specs.Static.FaultOrder.{earliest_fault};
+ghost use Rattle.model_core.specs.Static.PartFaults.{repeated_names};
+ghost use Rattle.sig_types.specs.Inner.Seen.{bytes_of};
+
+use crate::told::Told;
+use indexmap::IndexSet;
+use model_core::{RawName, StaticKind};
+use sig_base::{NoMemory, PARAMETERS_MAX};
+use std::alloc::Global;
+
+/// Whether these bytes are among some names.
+fn is_among(raws: &[RawName], name: &[u8]) -> bool
+    ensures { result ≡ list_any (same_bytes name.now) (map bytes_of raws.now) }
+{
+    for raw in raws {
+        if name == raw.name.as_slice() {
+            return true;
+        }
+    }
+    false
+}
+
+/// Tells each name that stands earlier in a short list.
+fn tell_few(raws: &[RawName], told: &mut Told)
+    ensures { told.new ≡ earliest_fault told.old (repeated_names [] (map written_name raws.now)) }
+{
+    for (place, raw) in raws.iter().enumerate() {
+        let again = is_among(&raws[..place], raw.name.as_slice());
+        told.note(again, StaticKind::DuplicateName, raw.at);
+    }
+}
+
+/// Tells each name that stands earlier in a list of any length.
+fn tell_many(alloc: Global, raws: &[RawName], told: &mut Told) -> Result<(), NoMemory>
+    ensures { OnOk result (told.new ≡ earliest_fault told.old (repeated_names [] (map written_name raws.now))) }
+{
+    let mut earlier = IndexSet::with_capacity(alloc, raws.len())?;
+    for raw in raws {
+        let added = earlier.insert(raw.name.as_slice())?;
+        told.note(!added, StaticKind::DuplicateName, raw.at);
+    }
+    Ok(())
+}
+
+/// Tells each name that stands earlier in the list.
+pub fn tell_repeated(alloc: Global, raws: &[RawName], told: &mut Told) -> Result<(), NoMemory>
+    ensures { OnOk result (told.new ≡ earliest_fault told.old (repeated_names [] (map written_name raws.now))) }
+{
+    if raws.len() <= PARAMETERS_MAX {
+        tell_few(raws, told);
+        return Ok(());
+    }
+    tell_many(alloc, raws, told)
+}

@@ -1,0 +1,160 @@
+//! Names where they are used: as a variable, a table, a vertex, or to be watched.
+
+ghost use Rattle.std.specs.Prelude.{◌≡◌, ℕ, Bool, Some};
+ghost use Rattle.std.specs.Option.{option_map};
+ghost use Rattle.model_core.specs.declared.model.Kind.{Kind as KnownKind};
+ghost use Rattle.model_core.specs.Code.Views.{watched_of};
+ghost use Rattle.model_core.specs.Code.WrittenViews.{written_name};
+ghost use Rattle.model_core.specs.EventGraph.{WatchedVariable, WatchedVertex};
+ghost use Rattle.model_core.specs.Text.Numbering.{declared_place};
+ghost use Rattle.model_core.specs.Text.Numbering as numbering;
+ghost use Rattle.model_core.specs.Static.FaultOrder.{earliest_fault};
+ghost use Rattle.model_core.specs.Static.Meanings.{MeansVariable, MeansTable, MeansVertex, AsScalar, AsTable, AsVertex, AsWatched, fits_role, meaning_of};
+ghost use Rattle.model_core.specs.Static.Kinds.{kind_in_role};
+ghost use Rattle.model_core.specs.Static.PartFaults.{use_faults};
+ghost use Rattle.sig_types.specs.Inner.Checked.{CheckedPart};
+ghost use Rattle.sig_types.specs.Inner.Seen.{meaning_seen, role_seen, variable_role, vertex_meant};
+
+use crate::kinds::Typed;
+use crate::names::{Meaning, Names};
+use crate::told::Told;
+use model_core::{Kind, RawName, StaticKind, Watch};
+use sig_base::NAME_MAX;
+
+/// What a name is used as.
+#[derive(Clone, Copy, Debug, PartialEq, Eq)]
+pub enum Role {
+    Scalar,
+    Array,
+    Table,
+    Vertex,
+    Watched,
+}
+
+fn is_fit(role: Role, meaning: Meaning) -> bool
+    ensures { result ≡ fits_role (role_seen role) (meaning_seen meaning) }
+{
+    match (role, meaning) {
+        (Role::Scalar, Meaning::Variable { is_array, .. }) => !is_array,
+        (Role::Array, Meaning::Variable { is_array, .. }) => is_array,
+        (Role::Table, Meaning::Table(_)) => true,
+        (Role::Vertex, Meaning::Vertex(_)) => true,
+        (Role::Watched, Meaning::Variable { .. } | Meaning::Vertex(_)) => true,
+        _ => false,
+    }
+}
+
+/// What a name means that is used so.
+fn used(names: &Names, role: Role, raw: &RawName, told: &mut Told) -> Option<Meaning>
+    ensures told { told.new ≡ earliest_fault told.old (use_faults (meaning_of names.now) (role_seen role) (written_name raw.now)) }
+    ensures means { option_map meaning_seen result ≡ meaning_of names.now raw.now.name }
+{
+    let long = raw.name.as_slice().len() > NAME_MAX;
+    told.note(long, StaticKind::NameTooLong, raw.at);
+    let meaning = names.find(&raw.name);
+    told.note(meaning.is_none(), StaticKind::UnknownName, raw.at);
+    let misused = match meaning {
+        None => false,
+        Some(meaning) => !is_fit(role, meaning),
+    };
+    told.note(misused, StaticKind::WrongUse, raw.at);
+    meaning
+}
+
+/// The place and the kind of a scalar or an array. Of anything else 0, and no kind.
+fn variable_meant(meaning: Option<Meaning>, is_array: bool) -> Typed<usize>
+    ensures place { (k : ℕ) (kind : KnownKind) → option_map meaning_seen meaning ≡ Some (MeansVariable k kind is_array) → result.part ≡ k }
+    ensures kind { result.kind ≡ kind_in_role (variable_role is_array) (option_map meaning_seen meaning) }
+{
+    match meaning {
+        Some(
+            Meaning::Variable {
+                var,
+                kind,
+                is_array: has_cells,
+            },
+        ) if is_array == has_cells => Typed {
+            part: var,
+            kind: Some(kind),
+        },
+        _ => Typed {
+            part: 0,
+            kind: None,
+        },
+    }
+}
+
+/// A name that is used as a variable.
+pub fn variable(names: &Names, is_array: bool, raw: &RawName, told: &mut Told) -> Typed<usize>
+    ensures checked { CheckedPart (meaning_of names.now) told.old told.new (use_faults (meaning_of names.now) (variable_role is_array) (written_name raw.now)) (λ d. declared_place raw.now.name d.variables) result.part }
+    ensures kind { result.kind ≡ kind_in_role (variable_role is_array) (meaning_of names.now raw.now.name) }
+{
+    let role = if is_array { Role::Array } else { Role::Scalar };
+    let meaning = used(names, role, raw, told);
+    variable_meant(meaning, is_array)
+}
+
+/// The kind of a scalar of this name.
+pub fn kind_of_scalar(names: &Names, raw: &RawName) -> Option<Kind>
+    ensures { result ≡ kind_in_role AsScalar (meaning_of names.now raw.now.name) }
+{
+    let meaning = names.find(&raw.name);
+    variable_meant(meaning, false).kind
+}
+
+/// The place of a table. Of anything else 0.
+fn table_meant(meaning: Option<Meaning>) -> usize
+    ensures { (k : ℕ) → option_map meaning_seen meaning ≡ Some (MeansTable k) → result ≡ k }
+{
+    match meaning {
+        Some(Meaning::Table(table)) => table,
+        _ => 0,
+    }
+}
+
+/// A name that is used as a table.
+pub fn table(names: &Names, raw: &RawName, told: &mut Told) -> usize
+    ensures { CheckedPart (meaning_of names.now) told.old told.new (use_faults (meaning_of names.now) AsTable (written_name raw.now)) (λ d. declared_place raw.now.name d.tables) result }
+{
+    let meaning = used(names, Role::Table, raw, told);
+    table_meant(meaning)
+}
+
+/// The place of a vertex. Of anything else none.
+fn place_of_vertex(meaning: Option<Meaning>) -> Option<usize>
+    ensures { result ≡ vertex_meant (option_map meaning_seen meaning) }
+{
+    match meaning {
+        Some(Meaning::Vertex(vertex)) => Some(vertex),
+        _ => None,
+    }
+}
+
+/// A name that is used as a vertex. Where it isn't one, none.
+pub fn vertex(names: &Names, raw: &RawName, told: &mut Told) -> Option<usize>
+    ensures checked { CheckedPart (meaning_of names.now) told.old told.new (use_faults (meaning_of names.now) AsVertex (written_name raw.now)) (λ d. option_map (λ k. Some k) (declared_place raw.now.name d.vertices)) result }
+    ensures means { result ≡ vertex_meant (meaning_of names.now raw.now.name) }
+{
+    let meaning = used(names, Role::Vertex, raw, told);
+    place_of_vertex(meaning)
+}
+
+/// What is watched. Of what can't be watched the first variable.
+fn watch_meant(meaning: Option<Meaning>) -> Watch
+    ensures variable { (k : ℕ) (kind : KnownKind) (array : Bool) → option_map meaning_seen meaning ≡ Some (MeansVariable k kind array) → watched_of result ≡ WatchedVariable k }
+    ensures vertex { (k : ℕ) → option_map meaning_seen meaning ≡ Some (MeansVertex k) → watched_of result ≡ WatchedVertex k }
+{
+    match meaning {
+        Some(Meaning::Variable { var, .. }) => Watch::Variable { var },
+        Some(Meaning::Vertex(vertex)) => Watch::Event { vertex },
+        _ => Watch::Variable { var: 0 },
+    }
+}
+
+/// A name that is watched.
+pub fn watched(names: &Names, raw: &RawName, told: &mut Told) -> Watch
+    ensures { CheckedPart (meaning_of names.now) told.old told.new (use_faults (meaning_of names.now) AsWatched (written_name raw.now)) (λ d. numbering.watched d (written_name raw.now)) (watched_of result) }
+{
+    let meaning = used(names, Role::Watched, raw, told);
+    watch_meant(meaning)
+}

@@ -1,0 +1,149 @@
+//! Vertices: their parameters, changes and edges.
+
+ghost use Rattle.std.specs.Prelude.{◌≡◌, [], IfOk, map};
+ghost use Rattle.std.specs.List.{flat_map};
+ghost use Rattle.model_core.specs.Code.Views.{change_of, edge_of, vertex_of};
+ghost use Rattle.model_core.specs.Code.WrittenViews.{written_name, written_vertex};
+ghost use Rattle.model_core.specs.Text.Numbering as numbering;
+ghost use Rattle.model_core.specs.Text.Numbering.{each_numbered};
+ghost use Rattle.model_core.specs.Static.Meanings.{AsScalar, meaning_of};
+ghost use Rattle.model_core.specs.Static.PartFaults.{use_faults, parameter_kind, kinds_taken, parameters_faults, vertex_faults};
+ghost use Rattle.sig_types.specs.Inner.Checked.{CheckedPart};
+
+use crate::changes::changes;
+use crate::edges::{edges, items};
+use crate::names::Names;
+use crate::placed::tell_too_many;
+use crate::repeats::tell_repeated;
+use crate::told::Told;
+use crate::uses::{kind_of_scalar, variable};
+use model_core::{Change, Edge, Kind, RawName, RawVertex, StaticKind, Vertex};
+use sig_base::{CHANGES_MAX, EDGES_MAX, List, NAME_MAX, NoMemory, PARAMETERS_MAX};
+use std::alloc::Global;
+
+/// The kinds of the parameters of a vertex.
+fn kinds_of(alloc: Global, names: &Names, raws: &[RawName]) -> Result<List<Option<Kind>>, NoMemory>
+    ensures { IfOk result (λ kinds. kinds ≡ map (parameter_kind (meaning_of names.now)) (map written_name raws.now)) }
+{
+    let mut kinds = Vec::with_capacity(alloc, raws.len())?;
+    for raw in raws {
+        kinds.push(kind_of_scalar(names, raw))?;
+    }
+    Ok(List::from_vec(kinds))
+}
+
+/// The kinds of the parameters of each vertex.
+pub fn taken(
+    alloc: Global,
+    names: &Names,
+    raws: &[RawVertex],
+) -> Result<List<List<Option<Kind>>>, NoMemory>
+    ensures { IfOk result (λ taken. taken ≡ map (kinds_taken (meaning_of names.now)) (map written_vertex raws.now)) }
+{
+    let mut taken = Vec::with_capacity(alloc, raws.len())?;
+    for raw in raws {
+        taken.push(kinds_of(alloc, names, items(&raw.params))?)?;
+    }
+    Ok(List::from_vec(taken))
+}
+
+/// The numbers of parameters.
+fn numbers_of(
+    alloc: Global,
+    names: &Names,
+    raws: &[RawName],
+    told: &mut Told,
+) -> Result<List<usize>, NoMemory>
+    ensures { IfOk result (λ vars. CheckedPart (meaning_of names.now) told.old told.new (flat_map (use_faults (meaning_of names.now) AsScalar) (map written_name raws.now)) (λ d. each_numbered (numbering.numbered_parameter d) (map written_name raws.now)) vars) }
+{
+    let mut vars = Vec::with_capacity(alloc, raws.len())?;
+    for raw in raws {
+        let var = variable(names, false, raw, told);
+        vars.push(var.part)?;
+    }
+    Ok(List::from_vec(vars))
+}
+
+/// The parameters of a vertex.
+fn parameters(
+    alloc: Global,
+    names: &Names,
+    raws: &[RawName],
+    told: &mut Told,
+) -> Result<List<usize>, NoMemory>
+    ensures { IfOk result (λ vars. CheckedPart (meaning_of names.now) told.old told.new (parameters_faults (meaning_of names.now) [] (map written_name raws.now)) (λ d. each_numbered (numbering.numbered_parameter d) (map written_name raws.now)) vars) }
+{
+    tell_too_many(PARAMETERS_MAX, raws, told);
+    let vars = numbers_of(alloc, names, raws, told)?;
+    tell_repeated(alloc, raws, told)?;
+    Ok(vars)
+}
+
+/// What a vertex has beside its name.
+#[derive(Drop)]
+struct VertexParts {
+    params: List<usize>,
+    changes: List<Change>,
+    edges: List<Edge>,
+}
+
+/// The parameters, changes and edges of a vertex.
+fn parts_of(
+    alloc: Global,
+    names: &Names,
+    taken: &[List<Option<Kind>>],
+    raw: &RawVertex,
+    told: &mut Told,
+) -> Result<VertexParts, NoMemory>
+    ensures { IfOk result (λ v. CheckedPart (meaning_of names.now) told.old told.new (vertex_faults (meaning_of names.now) taken.now (written_vertex raw.now)) (λ d. numbering.vertex d (written_vertex raw.now)) (record { name = raw.now.name.name; parameters = v.params; changes = map change_of v.changes; edges = map edge_of v.edges })) }
+{
+    let long = raw.name.name.as_slice().len() > NAME_MAX;
+    told.note(long, StaticKind::NameTooLong, raw.name.at);
+    let params = parameters(alloc, names, items(&raw.params), told)?;
+    tell_too_many(CHANGES_MAX, raw.changes.as_slice(), told);
+    let changes = changes(alloc, names, raw.changes.as_slice(), told)?;
+    tell_too_many(EDGES_MAX, raw.edges.as_slice(), told);
+    let edges = edges(alloc, names, taken, raw.edges.as_slice(), told)?;
+    Ok(VertexParts {
+        params,
+        changes,
+        edges,
+    })
+}
+
+/// A vertex, where the vertices take parameters of these kinds.
+fn vertex(
+    alloc: Global,
+    names: &Names,
+    taken: &[List<Option<Kind>>],
+    raw: RawVertex,
+    told: &mut Told,
+) -> Result<Vertex, NoMemory>
+    ensures { IfOk result (λ v. CheckedPart (meaning_of names.now) told.old told.new (vertex_faults (meaning_of names.now) taken.now (written_vertex raw)) (λ d. numbering.vertex d (written_vertex raw)) (vertex_of v)) }
+{
+    let parts = parts_of(alloc, names, taken, &raw, told)?;
+    Ok(Vertex {
+        name: raw.name.name,
+        params: parts.params,
+        changes: parts.changes,
+        edges: parts.edges,
+    })
+}
+
+/// The vertices. Each raw one is let go before the next is looked at.
+pub fn vertices(
+    alloc: Global,
+    names: &Names,
+    taken: &[List<Option<Kind>>],
+    raws: List<RawVertex>,
+    told: &mut Told,
+) -> Result<List<Vertex>, NoMemory>
+    ensures { IfOk result (λ vs. CheckedPart (meaning_of names.now) told.old told.new (flat_map (vertex_faults (meaning_of names.now) taken.now) (map written_vertex raws)) (λ d. each_numbered (numbering.vertex d) (map written_vertex raws)) (map vertex_of vs)) }
+{
+    let mut vertices = Vec::with_capacity(alloc, raws.len())?;
+    for raw in raws.into_vec() {
+        let vertex = vertex(alloc, names, taken, raw, told)?;
+        vertices.push(vertex)?;
+    }
+    Ok(List::from_vec(vertices))
+}
