@@ -4,7 +4,7 @@ use Rattle.model_core.specs.EventGraph.{Variable, EventVertex, EventEdge, StateC
 use Rattle.model_core.specs.Run.State.{within}
 use Rattle.sig_expr.specs.Possible.{PossibleExpression, PossibleLocation, PossibleChange}
 use Rattle.run_control.specs.PossibleModel.{PossibleEdge, PossibleVertex, PossibleModel}
-use Rattle.part_tests.specs.TriedModels.{ticking}
+use Rattle.run_tests.specs.TriedModels.{ticking}
 
 all-none : {A : Type 0} (P : A → Type 0) → All P []
 all-none P k d below = absurd (omega (arith, below))

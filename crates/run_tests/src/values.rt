@@ -6,7 +6,7 @@ ghost use Rattle.model_core.specs.EventGraph.{EventGraph, Variable};
 ghost use Rattle.model_core.specs.Run.State.{in_range};
 ghost use Rattle.model_core.specs.Code.Views.{graph_of, variable_of, expression_of, change_of};
 ghost use Rattle.sig_expr.specs.Possible.{PossibleExpression, PossibleChange};
-ghost use Rattle.part_tests.specs.TriedModels.{sample};
+ghost use Rattle.run_tests.specs.TriedModels.{sample};
 
 use model_core::{Change, Expr, Kind, Model, Op, Target, Var};
 use random_streams::Streams;

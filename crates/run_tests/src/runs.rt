@@ -3,7 +3,7 @@
 ghost use Rattle.std.specs.Prelude.{◌≡◌, ◌<◌, ◌≤◌, ◌^◌, pos, true, [], ◌∷◌, None, IfOk};
 ghost use Rattle.model_core.specs.EventGraph.{Set, Binary, Add, Scalar, Number, Truth, Schedule};
 ghost use Rattle.model_core.specs.Code.Views.{graph_of, change_of, edge_of};
-ghost use Rattle.part_tests.specs.TriedModels.{ticking};
+ghost use Rattle.run_tests.specs.TriedModels.{ticking};
 
 use event_list::{Pending, PlainPending};
 use model_core::{Change, Edge, EdgeForm, Expr, Kind, Model, Op, Target, Var, Vertex};

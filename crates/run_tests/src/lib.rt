@@ -1,0 +1,11 @@
+//! Tests of what runs are made of, through the public calls of the crates that do it.
+#![tactic(auto)]
+
+#[cfg(test)]
+mod agenda;
+#[cfg(test)]
+mod draws;
+#[cfg(test)]
+mod runs;
+#[cfg(test)]
+mod values;
