@@ -14,11 +14,11 @@ use Rattle.model_core.specs.Run.History.{Moment, next_move}
 use Rattle.model_core.proofs.Results.{bind_ok, in_turn-keeps}
 use Rattle.model_core.proofs.Keeping.{Kept, next_move-keeps}
 
-and_first : (a b : Bool) → (a && b) ≡ true → a ≡ true
+pub and_first : (a b : Bool) → (a && b) ≡ true → a ≡ true
 and_first true b e = refl
 and_first false b e = cc
 
-and_second : (a b : Bool) → (a && b) ≡ true → b ≡ true
+pub and_second : (a b : Bool) → (a && b) ≡ true → b ≡ true
 and_second true b e = e
 and_second false b e = cc
 
@@ -45,7 +45,7 @@ kept-cases lo hi x y k false true false e nonempty done =
     let same : hi ≡ y = cc in subst (λ z. within lo hi z ≡ true) same (ap₂ (λ a b. a && b) nonempty (int_le-refl hi))
 kept-cases lo hi x y k false false low e nonempty done = cc
 
-kept-within : (v : Variable) (x y old : ℤ) → within v.lo v.hi old ≡ true → kept v x ≡ Ok y → within v.lo v.hi y ≡ true
+pub kept-within : (v : Variable) (x y old : ℤ) → within v.lo v.hi old ≡ true → kept v x ≡ Ok y → within v.lo v.hi y ≡ true
 kept-within v x y old inside done =
     kept-cases v.lo v.hi x y _ (within v.lo v.hi x) v.clip (int_lt x v.lo) refl (int_le-trans v.lo old v.hi (and_first (int_le v.lo old) (int_le old v.hi) inside) (and_second (int_le v.lo old) (int_le old v.hi) inside)) done
 

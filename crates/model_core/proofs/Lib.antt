@@ -20,3 +20,4 @@ pub mod StaticTwins
 pub mod OneFaultTold
 pub mod SameNames
 mod SameParts
+pub mod Soundness

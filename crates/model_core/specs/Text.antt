@@ -10,4 +10,5 @@ pub mod Openings
 pub mod ModelText
 pub mod Numbering
 pub mod Canonical
+pub mod HistoryText
 pub mod Spellable

@@ -15,10 +15,11 @@ use Rattle.model_core.specs.Run.Changes.{no_table}
 use Rattle.model_core.specs.Text.Spellable.{IsSpellable, HasOne}
 use Rattle.model_core.specs.Static.HasKind.{IsVariable, HasKind}
 use Rattle.model_core.specs.Static.OwnRules.{IsLiteral, KeepsVariable, KeepsTable, TakesKind, TakeCarried, IsParameter, KeepsChoice, KeepsChange, CarriesValues, KeepsTiming, KeepsEdge, KeepsVertex, parameters_of, KeepsParts, KeepsStaticRules}
+use Rattle.model_core.proofs.StaticTwins.DeclaredNames.{every_item}
 use Rattle.model_core.proofs.StaticTwins.Zips.{zip_length}
 use Rattle.sig_expr.specs.Possible.{PossibleExpression, PossibleLocation, PossibleRange, PossibleChoice, PossibleChange}
 use Rattle.run_control.specs.PossibleModel.{PossibleKind, PossibleEdge, PossibleVertex, PossibleModel}
-use Rattle.run_control.proofs.KeptKinds.{item_of, all_items, there, possible_expression}
+use Rattle.run_control.proofs.KeptKinds.{all_items, there, possible_expression}
 
 -- ---- items side by side
 
@@ -56,7 +57,7 @@ module _ (g : EventGraph) (parts : KeepsParts g) where
   few_weights : (t : ℕ) → t < length g.tables → sum (map (λ (r : Weighted). r.weight) (slice_index_or g.tables t no_table).rows) ≤ 2 ^ 32
   few_weights t within =
       let table = slice_index_or g.tables t no_table in
-      let kept = item_of KeepsTable g.tables t table parts.tables (slice_get-get_or g.tables t no_table within) in
+      let kept = every_item KeepsTable g.tables t table parts.tables (slice_get-get_or g.tables t no_table within) in
       subst (λ n. n ≤ 2 ^ 32) (sym (sum-map (λ (r : Weighted). r.weight) table.rows)) kept.weights
 
   possible_choice : (c : Choice) → KeepsChoice g.variables (length g.tables) (parameters_of g) c → PossibleChoice g c

@@ -21,6 +21,10 @@ lies (p ∷ ps) from end zero d h l =
 lies (p ∷ ps) from end (suc v) d h l =
     let n = lies ps (from + p.size) end v d h.1 (omega (arith, l)) in record { low = omega (arith, n.low); high = n.high }
 
+-- a span that was looked up ends by the end of what is laid
+pub ends_inside : (spans : List Span) (end v : ℕ) (p d : Span) → Laid 0 spans end → v < length spans → p ≡ slice_index_or spans v d → p.from + p.size ≤ end
+ends_inside spans end v p d h below is = rw is (lies spans 0 end v d h below).high
+
 -- a piece behind a place does not see what is written before it
 pub piece_behind : {A : Type 0} (xs : List A) (p : Span) (k : ℕ) (x : A) → k < p.from → piece (set xs k x) p ≡ piece xs p
 piece_behind xs p k x l = ap (take p.size) (drop-set-lt p.from xs k x l)

@@ -1,8 +1,9 @@
 //! The state of a run.
 
-ghost use Rattle.std.specs.Prelude.{◌≡◌, ◌<◌, ◌++◌, length, replicate, IfOk, OnOk};
+ghost use Rattle.std.specs.Prelude.{◌≡◌, ◌<◌, ◌≤◌, ◌+◌, ◌++◌, length, replicate, IfOk, OnOk};
 ghost use Rattle.model_core.specs.Run.State.{cells_of, cell_at, with_cell, cell_count, initial_state};
 ghost use Rattle.model_core.specs.Code.Views.{graph_of, variable_of};
+ghost use Rattle.sig_expr.specs.Inner.Pieces.{piece};
 
 use model_core::{Model as Graph, Var};
 use sig_base::NoMemory;
@@ -33,6 +34,14 @@ impl Model for State {
     ghost view = { λ s. pieces s.cells.items s.spans.items };
 
     ghost invariant = { λ s. Laid 0 s.spans.items (length s.cells.items) };
+}
+
+/// The cells of a span.
+fn part(cells: &[i64], span: Span) -> &[i64]
+    requires { span.from + span.size ≤ length cells.now }
+    ensures { result.now ≡ piece cells.now span }
+{
+    &cells[span.from..span.from + span.size]
 }
 
 /// How many cells a variable has.
@@ -78,6 +87,16 @@ impl State {
         ensures { result ≡ cell_at self.now (record { variable = var; index = index }) }
     {
         self.cells[self.spans[var].from + index]
+    }
+
+    /// The values of a variable's cells: none where there is no such variable.
+    pub fn cells(&self, var: usize) -> &[i64]
+        ensures { result.now ≡ cells_of self.now var }
+    {
+        match self.spans.as_slice().get(var) {
+            Some(span) => part(self.cells.as_slice(), *span),
+            None => &[],
+        }
     }
 
     /// Puts a value into a cell.

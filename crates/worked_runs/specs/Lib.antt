@@ -3,6 +3,7 @@ pub mod Models
 pub mod Left
 pub mod Moments
 pub mod Reductions
+pub mod BoundedModel
 pub mod Pairs
 pub mod Texts
 pub mod Tokens

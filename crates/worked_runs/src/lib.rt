@@ -6,14 +6,17 @@
 mod alike;
 mod apart;
 mod bank;
+mod bounds_table;
 mod changes;
 mod clock;
 mod event_time;
 mod grammar;
+mod histories;
 mod left;
 mod limits;
 mod openings;
 mod order;
+mod quiet_parts;
 mod ranges;
 mod reaching;
 mod rules;
@@ -28,6 +31,10 @@ mod whole_texts;
 pub use alike::{later_events_are_unseen, steps_may_be_fewer};
 pub use apart::{declarations_tell_apart, ends_tell_apart, notes_tell_apart, one_run_tells_apart};
 pub use bank::bank_serves;
+pub use bounds_table::{
+    branches_not_taken_count_for_nothing, comparisons_go_by_ends, conditions_are_refuted_or_proved,
+    divisors_may_be_zero, ends_are_exact_or_moved, ranges_are_declared,
+};
 pub use changes::{cells_are_set, parameters_come_first, variables_are_drawn};
 pub use clock::{clock_counts, loop_goes_on, runs_are_over};
 pub use event_time::events_see_their_time;
@@ -35,10 +42,12 @@ pub use grammar::{
     expressions_have_places, fronts_are_refused, lines_are_refused, lines_are_spelled,
     operators_have_levels, texts_are_refused, texts_are_spelled,
 };
+pub use histories::{ends_have_lines, histories_have_texts, notes_have_lines};
 pub use left::{stores_before_a_fault_stay, words_before_a_fault_are_taken};
 pub use limits::limits_have_these_numbers;
 pub use openings::{a_part_has_256_openings, openings_are_counted, parts_are_apart};
 pub use order::{equal_events_are_cut, events_come_in_order, others_stay};
+pub use quiet_parts::{changes_may_be_quiet, edges_may_be_quiet, stores_may_be_quiet};
 pub use ranges::{
     runs_begin_with_initial_values, starting_values_are_in_range, states_are_in_range,
 };

@@ -1,0 +1,5 @@
+pub mod SignedBits
+pub mod NoGuard
+mod FirstRow
+mod NoFault
+mod QuietParts

@@ -1,0 +1,4 @@
+pub mod Sheets
+pub mod Shown
+pub mod KeptValues
+pub mod Due
