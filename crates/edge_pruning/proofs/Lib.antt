@@ -1,2 +1,15 @@
-pub mod PruneLemmas
-pub mod ValidPruned
+pub mod ListsChanged
+pub mod Shorter
+pub mod SameRuns
+pub mod OneVertexChanged
+pub mod FewerOrFreer
+pub mod Among
+pub mod MarksBelow
+pub mod ReachedMarks
+pub mod WalkLaws
+pub mod DropMarks
+pub mod DropResult
+pub mod Renumbered
+pub mod DropSame
+pub mod ValidDropped
+pub mod AllReached

@@ -1,0 +1,2 @@
+pub mod EdgeRules
+pub mod Inner

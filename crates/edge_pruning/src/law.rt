@@ -1,18 +1,20 @@
-//! The law of prune. The function does nothing: what it ensures holds of all models.
+//! The laws of prune, settle and drop. The functions do nothing: what they ensure holds of all models.
 
-ghost use Rattle.std.specs.Prelude.{◌≡◌, ℕ, ◌^◌, ◌≤◌, pos, IsTrue, Some, None, Ok};
-ghost use Rattle.model_core.specs.EventGraph.{EventGraph, EventEdge};
-ghost use Rattle.model_core.specs.Run.State.{State, in_range, initial_state};
-ghost use Rattle.model_core.specs.Run.Value.{value_of};
+ghost use Rattle.std.specs.Prelude.{◌≡◌, ◌↔◌, ℕ, ◌<◌, true, None, List, [], length};
+ghost use Rattle.model_core.specs.EventGraph.{EventGraph};
 ghost use Rattle.model_core.specs.Run.Same.{Same};
 ghost use Rattle.model_core.specs.Static.Reading.{IsValid};
 ghost use Rattle.model_core.specs.Rules.Conditions.{first_failed};
-ghost use Rattle.model_core.specs.Rules.Prune.{edge_at, prune_conditions, pruned};
+ghost use Rattle.model_core.specs.Rules.Prune.{prune_conditions, pruned};
+ghost use Rattle.model_core.specs.Rules.Settle.{settle_conditions, settled};
+ghost use Rattle.model_core.specs.Rules.MarkedPlaces.{is_marked};
+ghost use Rattle.model_core.specs.Rules.Reached.{Reachable, reached_marks, unreached};
+ghost use Rattle.model_core.specs.Rules.Drop.{drop_conditions, dropped};
 
+use range_bounds::values_lie_in_bounds;
 use round_trip::validity_is_by_parts;
 
-/// Where no condition of prune fails on a valid model, the result is valid and means the same. So it is of
-/// each edge whose condition is 0 in every state in range, at each clock up to the last stop time.
+/// Where no condition of prune fails on a valid model, the result is valid and means the same.
 pub fn pruning_keeps_the_meaning()
     ensures valid { (g : EventGraph) (vertex edge : ℕ) → IsValid g
         → first_failed (prune_conditions g vertex edge) ≡ None
@@ -20,10 +22,42 @@ pub fn pruning_keeps_the_meaning()
     ensures same { (g : EventGraph) (vertex edge : ℕ) → IsValid g
         → first_failed (prune_conditions g vertex edge) ≡ None
         → Same g (pruned g vertex edge) }
-    ensures idle_edges { (g : EventGraph) (vertex edge : ℕ) → IsTrue (in_range g (initial_state g))
-        → ((e : EventEdge) → edge_at g vertex edge ≡ Some e → (s : State) → IsTrue (in_range g s)
-        → (clk : ℕ) → clk ≤ 2 ^ 48 → value_of g s clk e.condition ≡ Ok (pos 0))
-        → Same g (pruned g vertex edge) }
+{
+    validity_is_by_parts();
+    values_lie_in_bounds();
+}
+
+/// Where no condition of settle fails on a valid model, the result is valid and means the same.
+pub fn settling_keeps_the_meaning()
+    ensures valid { (g : EventGraph) (vertex edge : ℕ) → IsValid g
+        → first_failed (settle_conditions g vertex edge) ≡ None
+        → IsValid (settled g vertex edge) }
+    ensures same { (g : EventGraph) (vertex edge : ℕ) → IsValid g
+        → first_failed (settle_conditions g vertex edge) ≡ None
+        → Same g (settled g vertex edge) }
+{
+    validity_is_by_parts();
+    values_lie_in_bounds();
+}
+
+/// Where no condition of drop fails on a valid model, the result is valid and means the same, and all of its vertices can
+/// be reached.
+pub fn dropping_keeps_the_meaning()
+    ensures valid { (g : EventGraph) (vertices : List ℕ) → IsValid g
+        → first_failed (drop_conditions g vertices) ≡ None
+        → IsValid (dropped g vertices) }
+    ensures same { (g : EventGraph) (vertices : List ℕ) → IsValid g
+        → first_failed (drop_conditions g vertices) ≡ None
+        → Same g (dropped g vertices) }
+    ensures all_reached { (g : EventGraph) (vertices : List ℕ) → IsValid g
+        → first_failed (drop_conditions g vertices) ≡ None
+        → unreached (dropped g vertices) ≡ [] }
 {
     validity_is_by_parts();
 }
+
+/// The vertices that passes over edges mark are exactly those that can be reached.
+pub fn marks_are_of_reachable_vertices()
+    ensures { (g : EventGraph) (vertex : ℕ) → vertex < length g.vertices
+        → (is_marked (reached_marks g) vertex ≡ true) ↔ Reachable g vertex }
+{}

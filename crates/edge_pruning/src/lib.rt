@@ -1,8 +1,17 @@
-//! The rule prune: which edges it may take away, and that this keeps a model valid and its meaning.
+//! The rules prune, settle and drop: where they apply, what they make of a model, and that this keeps it valid and its
+//! meaning.
 #![tactic(auto)]
 
+mod dropping;
+mod finding;
 mod law;
-mod refuting;
+mod one_edge;
+mod walk;
 
-pub use law::pruning_keeps_the_meaning;
-pub use refuting::is_literal_false;
+pub use dropping::{drop_vertices, unreached};
+pub use finding::{EdgeRule, can_apply, first_prune, first_settle};
+pub use law::{
+    dropping_keeps_the_meaning, marks_are_of_reachable_vertices, pruning_keeps_the_meaning,
+    settling_keeps_the_meaning,
+};
+pub use one_edge::{prune, settle};

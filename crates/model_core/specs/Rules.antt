@@ -4,6 +4,11 @@ pub mod BoundsOf
 pub mod BoundsOfParts
 pub mod BoundsHold
 pub mod Conditions
+pub mod PlacedEdges
 pub mod Prune
+pub mod Settle
+pub mod MarkedPlaces
+pub mod Reached
+pub mod Drop
 pub mod Reduction
 pub mod Certificate

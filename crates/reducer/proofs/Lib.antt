@@ -2,4 +2,9 @@ pub mod DistinctNames
 pub mod StrategyIsChain
 pub mod OneStrategy
 pub mod FirstEdge
-pub mod SweepIsStrategy
+pub mod Steps
+pub mod SweepSteps
+pub mod DropStage
+pub mod WholeStrategy
+pub mod SweepCode
+pub mod Retained

@@ -6,6 +6,7 @@ ghost use Rattle.model_core.specs.Run.Same.{Same};
 ghost use Rattle.model_core.specs.Static.Reading.{IsValid};
 ghost use Rattle.model_core.specs.Rules.Reduction.{RuleApplication, Chain, Strategy};
 
+use edge_pruning::dropping_keeps_the_meaning;
 use reduction_cert::chains_keep_the_meaning;
 
 /// The strategy's applications are a chain, and what they make of a valid model is valid and means the same.
@@ -31,4 +32,7 @@ pub fn strategies_are_determined()
 /// The strategy ends on every valid model.
 pub fn strategies_end()
     ensures { (g : EventGraph) → IsValid g → (applications : List RuleApplication) × (h : EventGraph) × Strategy g applications h }
-{}
+{
+    chains_keep_the_meaning();
+    dropping_keeps_the_meaning();
+}

@@ -1,12 +1,14 @@
 -- Applications of rules and chains of them: what they give, and that they keep a model valid and its meaning.
-use Rattle.std.proofs.Common.{◌≡◌, ◌↔◌, ℕ, suc, List, [], ◌∷◌, Option, Some, None, refl, ◌∙◌, ap, subst}
+use Rattle.std.proofs.Common.{◌≡◌, ◌↔◌, ℕ, suc, Bool, List, [], ◌∷◌, Option, Some, None, refl, ◌∙◌, ap, subst}
 use Rattle.std.specs.Option.{option_map, option_map_or}
 use Rattle.model_core.specs.EventGraph.{EventGraph}
 use Rattle.model_core.specs.Run.Same.{Same}
 use Rattle.model_core.specs.Static.Reading.{IsValid}
 use Rattle.model_core.specs.Rules.Conditions.{first_failed}
 use Rattle.model_core.specs.Rules.Prune.{prune_conditions, pruned}
-use Rattle.model_core.specs.Rules.Reduction.{RuleApplication, Prune, edge_named, failed_condition, result_of, unless_failed, applied, Chain, first_bad}
+use Rattle.model_core.specs.Rules.Settle.{settle_conditions, settled}
+use Rattle.model_core.specs.Rules.Drop.{drop_conditions, dropped}
+use Rattle.model_core.specs.Rules.Reduction.{RuleApplication, Prune, Settle, Drop, edge_named, vertices_named, failed_condition, result_of, unless_failed, applied, Chain, first_bad}
 use Rattle.model_core.proofs.SameLaws.{same_refl, same_trans}
 
 -- ---- one application
@@ -48,19 +50,32 @@ pub record Keeps (g h : EventGraph) : Type 0 where
   pub valid : IsValid h
   pub same : Same g h
 
--- the laws of the rules: where its conditions hold on a valid model, each gives what is valid and the same
-pub record Laws : Type 0 where
-  pub prune_valid : (g : EventGraph) (vertex edge : ℕ) → IsValid g → first_failed (prune_conditions g vertex edge) ≡ None → IsValid (pruned g vertex edge)
-  pub prune_same : (g : EventGraph) (vertex edge : ℕ) → IsValid g → first_failed (prune_conditions g vertex edge) ≡ None → Same g (pruned g vertex edge)
+-- the law of a rule: where its conditions hold on a valid model, it gives what is valid and the same
+pub record RuleLaw (P : Type 0) (conditions : EventGraph → P → List Bool) (result : EventGraph → P → EventGraph) : Type 0 where
+  pub valid : (g : EventGraph) (p : P) → IsValid g → first_failed (conditions g p) ≡ None → IsValid (result g p)
+  pub same : (g : EventGraph) (p : P) → IsValid g → first_failed (conditions g p) ≡ None → Same g (result g p)
 
-named-keeps : Laws → (g h : EventGraph) → IsValid g → (o : Option (ℕ × ℕ)) → option_map_or (λ (vertex, edge). first_failed (prune_conditions g vertex edge)) o (Some 1) ≡ None → option_map_or (λ (vertex, edge). pruned g vertex edge) o g ≡ h → Keeps g h
-named-keeps laws g h valid None none is = cc
-named-keeps laws g h valid (Some (vertex, edge)) none is = subst (Keeps g) is (record { valid = laws.prune_valid g vertex edge valid none; same = laws.prune_same g vertex edge valid none })
+-- the laws of all rules
+pub record Laws : Type 0 where
+  pub prune : RuleLaw (ℕ × ℕ) (λ g (vertex, edge). prune_conditions g vertex edge) (λ g (vertex, edge). pruned g vertex edge)
+  pub settle : RuleLaw (ℕ × ℕ) (λ g (vertex, edge). settle_conditions g vertex edge) (λ g (vertex, edge). settled g vertex edge)
+  pub drop : RuleLaw (List ℕ) drop_conditions dropped
+
+-- what is named by an application is there, and the rule's law says the rest
+named-keeps : {P : Type 0} (conditions : EventGraph → P → List Bool) (result : EventGraph → P → EventGraph) → RuleLaw P conditions result → (g h : EventGraph) → IsValid g → (missing : ℕ) (o : Option P) → option_map_or (λ p. first_failed (conditions g p)) o (Some missing) ≡ None → option_map_or (λ p. result g p) o g ≡ h → Keeps g h
+named-keeps conditions result law g h valid missing None none is = cc
+named-keeps conditions result law g h valid missing (Some p) none is = subst (Keeps g) is (record { valid = law.valid g p valid none; same = law.same g p valid none })
 
 pub applied-keeps : Laws → (g h : EventGraph) (a : RuleApplication) → IsValid g → applied g a ≡ Some h → Keeps g h
 applied-keeps laws g h (Prune name number) valid made =
     let (none, is) = unless_failed-Some (failed_condition g (Prune name number)) (result_of g (Prune name number)) h made in
-    named-keeps laws g h valid (edge_named g name number) none is
+    named-keeps (λ g (vertex, edge). prune_conditions g vertex edge) (λ g (vertex, edge). pruned g vertex edge) laws.prune g h valid 1 (edge_named g name number) none is
+applied-keeps laws g h (Settle name number) valid made =
+    let (none, is) = unless_failed-Some (failed_condition g (Settle name number)) (result_of g (Settle name number)) h made in
+    named-keeps (λ g (vertex, edge). settle_conditions g vertex edge) (λ g (vertex, edge). settled g vertex edge) laws.settle g h valid 1 (edge_named g name number) none is
+applied-keeps laws g h (Drop names) valid made =
+    let (none, is) = unless_failed-Some (failed_condition g (Drop names)) (result_of g (Drop names)) h made in
+    named-keeps drop_conditions dropped laws.drop g h valid 2 (vertices_named g names) none is
 
 pub chain-keeps : Laws → (g : EventGraph) (applications : List RuleApplication) (h : EventGraph) → IsValid g → Chain g applications h → Keeps g h
 chain-keeps laws g [] h valid e = subst (Keeps g) e (record { valid = valid; same = same_refl g })

@@ -1,12 +1,12 @@
 //! The text of a certificate.
 
-ghost use Rattle.std.specs.Prelude.{◌≡◌, ◌++◌, map, OnOk};
+ghost use Rattle.std.specs.Prelude.{◌≡◌, ◌++◌, List, ℕ, map, codes, decimal, OnOk};
 ghost use Rattle.std.specs.List.{flat_map};
 ghost use Rattle.model_core.specs.Code.Views.{application_of};
 ghost use Rattle.model_core.specs.Rules.Certificate.{application_line, certificate};
 
 use model_core::Application;
-use sig_base::{NoMemory, put_bytes, put_number};
+use sig_base::{Name, NoMemory, put_bytes, put_number};
 
 /// Adds the certificate: a line for each application, in order.
 pub fn put_certificate(out: &mut Vec<u8>, applications: &[Application]) -> Result<(), NoMemory>
@@ -27,16 +27,44 @@ fn put_applications(out: &mut Vec<u8>, applications: &[Application]) -> Result<(
     Ok(())
 }
 
+/// Adds a vertex and the number of its edge, and ends the line.
+fn put_edge(out: &mut Vec<u8>, vertex: &Name, edge: u64) -> Result<(), NoMemory>
+    ensures { OnOk result (out.new.items ≡ out.old.items ++ codes " " ++ vertex.now ++ codes " " ++ decimal edge ++ codes "\n") }
+{
+    put_bytes(out, b" ")?;
+    put_bytes(out, vertex.as_slice())?;
+    put_bytes(out, b" ")?;
+    put_number(out, edge)?;
+    put_bytes(out, b"\n")
+}
+
+/// Adds names, each behind a space.
+fn put_names(out: &mut Vec<u8>, names: &[Name]) -> Result<(), NoMemory>
+    ensures { OnOk result (out.new.items ≡ out.old.items ++ flat_map (λ (name : List ℕ). codes " " ++ name) names.now) }
+{
+    for name in names {
+        put_bytes(out, b" ")?;
+        put_bytes(out, name.as_slice())?;
+    }
+    Ok(())
+}
+
 /// Adds the line of one application.
 fn put_application(out: &mut Vec<u8>, application: &Application) -> Result<(), NoMemory>
     ensures { OnOk result (out.new.items ≡ out.old.items ++ application_line (application_of application.now)) }
 {
     match application {
         Application::Prune { vertex, edge } => {
-            put_bytes(out, b"prune ")?;
-            put_bytes(out, vertex.as_slice())?;
-            put_bytes(out, b" ")?;
-            put_number(out, *edge)?;
+            put_bytes(out, b"prune")?;
+            put_edge(out, vertex, *edge)
+        }
+        Application::Settle { vertex, edge } => {
+            put_bytes(out, b"settle")?;
+            put_edge(out, vertex, *edge)
+        }
+        Application::Drop { vertices } => {
+            put_bytes(out, b"drop")?;
+            put_names(out, vertices.as_slice())?;
             put_bytes(out, b"\n")
         }
     }

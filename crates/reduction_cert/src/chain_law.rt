@@ -6,7 +6,9 @@ ghost use Rattle.model_core.specs.Run.Same.{Same};
 ghost use Rattle.model_core.specs.Static.Reading.{IsValid};
 ghost use Rattle.model_core.specs.Rules.Reduction.{RuleApplication, failed_condition, result_of, applied, Chain, first_bad};
 
-use edge_pruning::pruning_keeps_the_meaning;
+use edge_pruning::{
+    dropping_keeps_the_meaning, pruning_keeps_the_meaning, settling_keeps_the_meaning,
+};
 
 /// An application gives its result exactly where none of its conditions fails, and a list of applications is
 /// a chain exactly where none of them is bad.
@@ -28,4 +30,6 @@ pub fn chains_keep_the_meaning()
         → IsValid g → Chain g applications h → Same g h }
 {
     pruning_keeps_the_meaning();
+    settling_keeps_the_meaning();
+    dropping_keeps_the_meaning();
 }

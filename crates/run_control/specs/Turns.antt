@@ -55,3 +55,8 @@ pub record StepKeeps (r later : Running) : Type 0 where
 abbrev pub HasRoom : Running → Option TakenOff → Type 0
 HasRoom r None = Unit {0}
 HasRoom r (Some n) = scheduled_by (vertex_at (graph_of r.model) n.entry.vertex).edges ≤ r.spare
+
+-- an event is due by the stop time
+abbrev pub IsDue : ℕ → Option TakenOff → Type 0
+IsDue until None = ⊥
+IsDue until (Some n) = n.entry.time ≤ until

@@ -74,7 +74,7 @@ impl<'m, P: Pending> Run<'m, P> {
     ghost use Rattle.run_control.specs.Running.{told_next};
     ghost use Rattle.run_control.specs.PossibleModel.{PossibleModel};
     ghost use Rattle.run_control.specs.Beginning.{BegunRun, RefusesStart};
-    ghost use Rattle.run_control.specs.Turns.{Turns, ComesNext, StepKeeps, HasRoom};
+    ghost use Rattle.run_control.specs.Turns.{Turns, ComesNext, StepKeeps, HasRoom, IsDue};
 
     /// A run of a model as it begins: at clock 0 with the initial values, no words taken, and the first vertex's event,
     /// which carries the starting values. The list is given empty, and room for so many events and for 1 is made in it.
@@ -166,6 +166,7 @@ impl<'m, P: Pending> Run<'m, P> {
         ensures ok { IfOk result (λ turn. Turns self.old until turn self.new self.old.faulted) }
         ensures err { OnErr result (self.new ≡ self.old) }
         ensures enough { HasRoom self.old (next_entry self.old.now.pending) → IsOk result }
+        ensures due { OnErr result (IsDue until (next_entry self.old.now.pending)) }
         ensures keeps { StepKeeps self.old self.new }
     {
         match self.fault {
@@ -185,6 +186,7 @@ impl<'m, P: Pending> Run<'m, P> {
         ensures ok { IfOk result (λ turn. ComesNext self.old until turn self.new (next_entry self.old.now.pending)) }
         ensures err { OnErr result (self.new ≡ self.old) }
         ensures enough { HasRoom self.old (next_entry self.old.now.pending) → IsOk result }
+        ensures due { OnErr result (IsDue until (next_entry self.old.now.pending)) }
         ensures keeps { StepKeeps self.old self.new }
     {
         let Some(first) = self.pending.first() else {

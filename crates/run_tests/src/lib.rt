@@ -6,6 +6,8 @@ mod agenda;
 #[cfg(test)]
 mod draws;
 #[cfg(test)]
+mod histories;
+#[cfg(test)]
 mod runs;
 #[cfg(test)]
 mod values;

@@ -1,8 +1,9 @@
 //! The top call over memory: worked texts, words, limits, and devices that fail at one call.
 
-use sig_base::{List, MemorySink, MemorySource, NoMemory, TEXT_MAX, Text};
-use sigma_top::{Status, sigma};
-use std::alloc::{AllocError, Global};
+use crate::calls::{Answer, Failing, SOUND, Seen, done, run, told, words};
+use sig_base::{NoMemory, TEXT_MAX};
+use sigma_top::Status;
+use std::alloc::Global;
 use std::test::*;
 
 const ONE: &[u8] =
@@ -111,7 +112,7 @@ const REFUSED: [(&[u8], &[u8]); 21] = [
     ),
 ];
 
-/// A model of the whole language that isn't of the first form.
+/// A model of which nothing is to be reduced.
 const CLIPPED: &[u8] = b"model M; var N : 0..9 clip = 0; vertex RUN { } end";
 
 /// A text, and the one in its canonical form.
@@ -119,78 +120,10 @@ const LOOSE: &[u8] = b"model M;vertex RUN{schedule RUN after(0)priority 5 when t
 
 const LOOSE_WRITTEN: &[u8] = b"model M;\nvertex RUN {\n  schedule RUN;\n}\nend\n";
 
-const NOT_FIRST_FORM: &[u8] = b"sigma: not of the first form\n";
+const CLIPPED_WRITTEN: &[u8] =
+    b"model M;\nvar N : 0..9 clip = 0;\nvertex RUN {\n}\nend\ncertificate\nend\n";
 
 const TOO_LONG: &[u8] = b"sigma: text too long\n";
-
-/// The calls, counted from 1, at which each device fails; 0 is none.
-#[derive(Clone, Copy)]
-struct Failing {
-    read: u64,
-    write: u64,
-    error: u64,
-}
-
-const SOUND: Failing = Failing {
-    read: 0,
-    write: 0,
-    error: 0,
-};
-
-/// What the program is to answer: a status, and the bytes on the output and on the error output.
-#[derive(Clone, Copy)]
-struct Answer<'a> {
-    status: Status,
-    output: &'a [u8],
-    errors: &'a [u8],
-}
-
-/// Nothing but a status and its line.
-fn told(status: Status, errors: &[u8]) -> Answer<'_> {
-    Answer {
-        status,
-        output: b"",
-        errors,
-    }
-}
-
-/// The job done, with these bytes on the output.
-fn done(output: &[u8]) -> Answer<'_> {
-    Answer {
-        status: Status::Done,
-        output,
-        errors: b"",
-    }
-}
-
-/// What was seen of a call: whether it gave the wanted answer, and how often it read and wrote.
-#[derive(Clone, Copy, Debug, PartialEq, Eq)]
-struct Seen {
-    is_wanted: bool,
-    reads: u64,
-    writes: u64,
-}
-
-/// What is seen of the program with these words and this text, which is handed out in pieces of 7 bytes.
-fn run(
-    alloc: Global,
-    words: &[String],
-    text: Vec<u8>,
-    failing: Failing,
-    wanted: Answer<'_>,
-) -> Result<Seen, NoMemory> {
-    let mut input = MemorySource::new(Text::from_vec(text), 7, List::of_one(alloc, failing.read)?);
-    let mut output = MemorySink::begin(alloc, 1_000, 1, List::of_one(alloc, failing.write)?)?;
-    let mut errors = MemorySink::begin(alloc, 1_000, 1_000, List::of_one(alloc, failing.error)?)?;
-    let status = sigma(alloc, words, &mut input, &mut output, &mut errors);
-    Ok(Seen {
-        is_wanted: status == wanted.status
-            && output.written() == wanted.output
-            && errors.written() == wanted.errors,
-        reads: input.calls(),
-        writes: output.calls(),
-    })
-}
 
 /// What is seen of a command, which is one word, with this text.
 fn commanded(
@@ -222,11 +155,10 @@ fn models_are_reduced(rt: HostRuntime) -> Result<(), Fail> {
         (TWO, TWO_WRITTEN),
         (LASTING, LASTING_WRITTEN),
         (WIDEST, WIDEST_WRITTEN),
+        (CLIPPED, CLIPPED_WRITTEN),
     ] {
         assert!(rt; reduced(rt.alloc(), text, SOUND, done(written))?.is_wanted);
     }
-    let refused = told(Status::Refused, NOT_FIRST_FORM);
-    assert!(rt; reduced(rt.alloc(), CLIPPED, SOUND, refused)?.is_wanted);
     Ok(())
 }
 
@@ -252,15 +184,6 @@ fn other_texts_are_refused(rt: HostRuntime) -> Result<(), Fail> {
         }
     }
     Ok(())
-}
-
-/// The words of a command line.
-fn words(alloc: Global, line: &str) -> Result<Vec<String>, AllocError> {
-    let mut words = Vec::new(alloc);
-    for word in line.split_whitespace() {
-        words.push(word.to_string(alloc)?)?;
-    }
-    Ok(words)
 }
 
 #[test]

@@ -3,3 +3,11 @@
 
 #[cfg(test)]
 mod answers;
+#[cfg(test)]
+mod calls;
+#[cfg(test)]
+mod command_lines;
+#[cfg(test)]
+mod histories;
+#[cfg(test)]
+mod three_rules;

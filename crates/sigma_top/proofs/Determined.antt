@@ -9,7 +9,7 @@ use Rattle.sigma_top.specs.declared.answer.Answer.{Answer}
 use Rattle.sigma_top.specs.declared.job.Job.{Job}
 use Rattle.sigma_top.specs.declared.job.Job.TheVariants as jobs
 use Rattle.sigma_top.specs.Complaints.{message_of, byte_line}
-use Rattle.sigma_top.specs.Answer.{done, refused, Reduces, WritesFor, is_taken, IsDone, OfTaken, IsRefused, AnswersJob, IsWithin, IsOver, Answers}
+use Rattle.sigma_top.specs.Answer.{done, refused, Reduces, IsDone, AnswersModel, IsRefused, AnswersJob, IsWithin, IsOver, Answers}
 use Rattle.sigma_top.specs.Jobs.{limit_of}
 use Rattle.sigma_top.proofs.Complaining.{TextLaws, one_complaint, no_complaint}
 
@@ -24,21 +24,18 @@ module _ (only : OneStrategy) where
   one_reduction g a b p q =
       p.written ∙ ap₂ (λ r as_. canonical r ++ certificate as_) (only.reduced g p.reduced q.reduced p.applications q.applications p.strategy q.strategy) (only.applications g p.reduced q.reduced p.applications q.applications p.strategy q.strategy) ∙ sym q.written
 
-  one_written : (job : Job) (g : EventGraph) (a b : List ℕ) → WritesFor job g a → WritesFor job g b → a ≡ b
-  one_written jobs.Check g a b p q = p ∙ sym q
-  one_written jobs.Print g a b p q = p ∙ sym q
-  one_written jobs.Reduce g a b p q = one_reduction g a b p q
-
 one_done : (AreWritten : List ℕ → Type 0) → ((m n : List ℕ) → AreWritten m → AreWritten n → m ≡ n) → (a b : Answer) → IsDone AreWritten a → IsDone AreWritten b → a ≡ b
 one_done AreWritten one a b x y = x.2 ∙ ap (λ out. done out) (one x.0 y.0 x.1 y.1) ∙ sym y.2
+
+one_of_model : OneStrategy → (job : Job) (g : EventGraph) (a b : Answer) → AnswersModel job g a → AnswersModel job g b → a ≡ b
+one_of_model only jobs.Check g a b p q = p ∙ sym q
+one_of_model only jobs.Print g a b p q = p ∙ sym q
+one_of_model only jobs.Reduce g a b p q = one_done (Reduces g) (one_reduction only g) a b p q
+one_of_model only (jobs.Run until seed events starts room) g a b p q = p ∙ sym q
 
 over_within : (limit : Option ℕ) (text : List ℕ) → IsOver limit text → IsWithin limit text → ⊥
 over_within None text over within = over
 over_within (Some limit) text over within = omega (arith, over, within)
-
-one_taken : (b : Bool) (AreWritten : List ℕ → Type 0) → ((m n : List ℕ) → AreWritten m → AreWritten n → m ≡ n) → (x y : Answer) → OfTaken b AreWritten x → OfTaken b AreWritten y → x ≡ y
-one_taken true AreWritten one x y p q = one_done AreWritten one x y p q
-one_taken false AreWritten one x y p q = p ∙ sym q
 
 module _ (only : OneStrategy) (laws : TextLaws) (one : (text : List ℕ) (g h : EventGraph) → Reads text g → Reads text h → g ≡ h) (text : List ℕ) where
   one_refusal : (a b : Answer) → IsRefused text a → IsRefused text b → a ≡ b
@@ -51,8 +48,7 @@ module _ (only : OneStrategy) (laws : TextLaws) (one : (text : List ℕ) (g h : 
   one_of_job job a b (inl x) (inr y) = absurd (no_complaint laws text x.what x.at y.0 x.complaint y.1)
   one_of_job job a b (inr x) (inl y) = absurd (no_complaint laws text y.what y.at x.0 y.complaint x.1)
   one_of_job job a b (inr x) (inr y) =
-      one_taken (is_taken job x.0) (WritesFor job x.0) (one_written only job x.0) a b x.2
-      (subst (λ (g : EventGraph). OfTaken (is_taken job g) (WritesFor job g) b) (one text y.0 x.0 y.1 x.1) y.2)
+      one_of_model only job x.0 a b x.2 (subst (λ (g : EventGraph). AnswersModel job g b) (one text y.0 x.0 y.1 x.1) y.2)
 
   pub one_answer : (job : Job) (a b : Answer) → Answers job text a → Answers job text b → a ≡ b
   one_answer job a b (inl x) (inl y) = x.1 ∙ sym y.1

@@ -9,7 +9,7 @@ use Rattle.sigma_top.specs.declared.answer.Answer.{Answer}
 use Rattle.sigma_top.specs.declared.job.Job.{Job}
 use Rattle.sigma_top.specs.declared.job.Job.TheVariants as jobs
 use Rattle.sigma_top.specs.Complaints.{message_of, byte_line}
-use Rattle.sigma_top.specs.Answer.{done, refused, too_long, not_first_form, WritesFor, is_taken, OfTaken, AnswersJob, IsWithin, IsOver, Answers}
+use Rattle.sigma_top.specs.Answer.{done, refused, too_long, Reduces, AnswersModel, AnswersJob, IsWithin, IsOver, Answers}
 use Rattle.sigma_top.specs.Jobs.{limit_of}
 use Rattle.sigma_top.proofs.Complaining.{TextLaws, ToComplain, complaint_or_model}
 
@@ -29,23 +29,24 @@ within_text_max : (job : Job) (text : List ℕ) → IsWithin (limit_of job) text
 within_text_max jobs.Check text within = within
 within_text_max jobs.Print text within = within
 within_text_max jobs.Reduce text within = within
+within_text_max (jobs.Run until seed events starts room) text within = within
 
 module _ (laws : TextLaws) (ends : StrategyEnds) where
-  -- what is written for a model that was read
-  has_written : (job : Job) (text : List ℕ) (g : EventGraph) → Reads text g → (out : List ℕ) × WritesFor job g out
-  has_written jobs.Check text g reads = (_, refl)
-  has_written jobs.Print text g reads = (_, refl)
-  has_written jobs.Reduce text g reads =
+  reduction_of : (text : List ℕ) (g : EventGraph) → Reads text g → (out : List ℕ) × Reduces g out
+  reduction_of text g reads =
       let (applications, reduced, strategy) = ends g (text, reads) in
       (_, record { applications = applications; reduced = reduced; strategy = strategy; written = refl })
 
-  of_taken : (job : Job) (text : List ℕ) (g : EventGraph) → Reads text g → (b : Bool) → (a : Answer) × OfTaken b (WritesFor job g) a
-  of_taken job text g reads true = let w = has_written job text g reads in (done w.0, (w.0, w.1, refl))
-  of_taken job text g reads false = (refused not_first_form, refl)
+  -- the answer to a model that was read
+  of_model : (job : Job) (text : List ℕ) (g : EventGraph) → Reads text g → (a : Answer) × AnswersModel job g a
+  of_model jobs.Check text g reads = (_, refl)
+  of_model jobs.Print text g reads = (_, refl)
+  of_model jobs.Reduce text g reads = let w = reduction_of text g reads in (done w.0, (w.0, w.1, refl))
+  of_model (jobs.Run until seed events starts room) text g reads = (_, refl)
 
   answered_as : (job : Job) (text : List ℕ) → ToComplain laws text ⊎ ((g : EventGraph) × Reads text g) → (a : Answer) × AnswersJob job text a
   answered_as job text (inl c) = (refused (byte_line c.at (message_of c.what)), inl (record { what = c.what; at = c.at; complaint = c.is; told = refl }))
-  answered_as job text (inr r) = let w = of_taken job text r.0 r.1 (is_taken job r.0) in (w.0, inr (r.0, r.1, w.1))
+  answered_as job text (inr r) = let w = of_model job text r.0 r.1 in (w.0, inr (r.0, r.1, w.1))
 
   answered_if : (job : Job) (text : List ℕ) → IsWithin (limit_of job) text ⊎ IsOver (limit_of job) text → (a : Answer) × Answers job text a
   answered_if job text (inl within) = let w = answered_as job text (complaint_or_model laws text (within_text_max job text within)) in (w.0, inr (within, w.1))

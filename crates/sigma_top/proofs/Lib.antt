@@ -1,3 +1,5 @@
+pub mod ArgumentLaws
+pub mod NumberLaws
 pub mod InputRead
 pub mod Streaming
 pub mod Performing
@@ -5,3 +7,4 @@ pub mod TopCall
 pub mod Complaining
 pub mod Determined
 pub mod HasAnswer
+pub mod RunLaws

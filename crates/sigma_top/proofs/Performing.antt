@@ -1,10 +1,13 @@
 -- From the text that was taken, and the answer to it, to how the job ended.
-use Rattle.std.proofs.Common.{◌≡◌, ◌⊎◌, inl, inr, ℕ, zero, suc, ◌+◌, ◌<◌, Bool, true, false, List, [], ◌∷◌, ◌++◌, length, Option, Some, None, Result, Ok, Err, refl, sym, subst, ◌∙◌, arith}
+use Rattle.std.proofs.Common.{◌≡◌, ◌⊎◌, inl, inr, ℕ, zero, suc, ◌+◌, ◌<◌, Bool, true, false, List, [], ◌∷◌, ◌++◌, length, Option, Some, None, Result, Ok, Err, refl, sym, subst, arith}
 use Rattle.std.specs.Prelude.{IfSome, codes}
 use Rattle.std.proofs.lemmas.List.{length-append, append-nil}
 use Rattle.model_core.specs.EventGraph.{EventGraph}
+use Rattle.model_core.specs.Run.Machine.{Look}
+use Rattle.model_core.specs.Run.History.{look}
 use Rattle.model_core.specs.Text.Canonical.{canonical}
 use Rattle.model_core.specs.Rules.Certificate.{certificate}
+use Rattle.watch_trace.proofs.HistoryBytes.{history_has_bytes}
 use Rattle.sigma_top.specs.declared.answer.Answer.{Answer}
 use Rattle.sigma_top.specs.declared.answer.Answer.TheVariants.{Given, Refused}
 use Rattle.sigma_top.specs.declared.delivering.Said.{Said}
@@ -17,12 +20,12 @@ use Rattle.sigma_top.specs.declared.status.End.{End}
 use Rattle.sigma_top.specs.declared.status.Refusal.{Refusal}
 use Rattle.sigma_top.specs.declared.status.Failure.{Failure}
 use Rattle.sigma_top.specs.declared.status.Failure.TheVariants as failures
-use Rattle.sigma_top.specs.Answer.{refused, too_long, accepted_line, Reduces, WritesFor, is_taken, OfTaken, AnswersJob, IsOver}
-use Rattle.sigma_top.specs.Delivery.{Inlet, Outlet, text_of, IsReadThrough, AnswersInput, HasBegun, GrowsByFront}
-use Rattle.sigma_top.specs.Inner.Frame.{TakesText, Answering, Performs}
-use Rattle.sigma_top.specs.Jobs.{limit_of, is_streamed}
+use Rattle.sigma_top.specs.Answer.{done, refused, too_long, accepted_line, Reduces, AnswersModel, AnswersJob, MayStopShort, IsOver}
+use Rattle.sigma_top.specs.RunAnswer.{start_refusal, told_of, refused_or}
+use Rattle.sigma_top.specs.Delivery.{Inlet, Outlet, text_of, IsReadThrough, AnswersInput, HasBegun}
+use Rattle.sigma_top.specs.Inner.Frame.{TakesText, StopsShort, Answering, Performs}
+use Rattle.sigma_top.specs.Jobs.{limit_of}
 use Rattle.sigma_top.proofs.InputRead.{read_through, read_in_part}
-use Rattle.sigma_top.proofs.Streaming.{at_once}
 
 -- ---- an answer that is given has bytes
 
@@ -45,19 +48,24 @@ reduced_has_bytes g out r = subst (λ (bytes : List ℕ). 0 < length bytes) (sym
 accepted_has_bytes : (g : EventGraph) → 0 < length (accepted_line g)
 accepted_has_bytes g = begins_with (codes "accepted ") g.name (codes "\n") (omega arith)
 
--- of whatever model a job writes at least a byte
-written_has_bytes : (job : Job) (g : EventGraph) (out : List ℕ) → WritesFor job g out → 0 < length out
-written_has_bytes jobs.Check g out e = subst (λ (bytes : List ℕ). 0 < length bytes) (sym e) (accepted_has_bytes g)
-written_has_bytes jobs.Print g out e = subst (λ (bytes : List ℕ). 0 < length bytes) (append-nil (canonical g) ∙ sym e) (canonical_has_bytes g [])
-written_has_bytes jobs.Reduce g out r = reduced_has_bytes g out r
+written_has_bytes : (bytes : List ℕ) (end : End) (out : List ℕ) → 0 < length out → Given end bytes ≡ done out → 0 < length bytes
+written_has_bytes bytes end out some is = subst (λ (b : List ℕ). 0 < length b) (sym (given_bytes is)) some
 
-taken_has_bytes : (job : Job) (g : EventGraph) (b : Bool) (end : End) (bytes : List ℕ) → OfTaken b (WritesFor job g) (Given end bytes) → 0 < length bytes
-taken_has_bytes job g true end bytes h = subst (λ (b : List ℕ). 0 < length b) (sym (given_bytes h.2)) (written_has_bytes job g h.0 h.1)
-taken_has_bytes job g false end bytes h = absurd (given_is_no_refusal h)
+-- a run that begins has a history
+told_has_bytes : (g : EventGraph) (until events : ℕ) (refusal : Option (List ℕ)) (seen : Look) (end : End) (bytes : List ℕ) → Given end bytes ≡ refused_or refusal (told_of g until events seen) → 0 < length bytes
+told_has_bytes g until events (Some line) seen end bytes h = absurd (given_is_no_refusal h)
+told_has_bytes g until events None seen end bytes h = subst (λ (b : List ℕ). 0 < length b) (sym (given_bytes h)) (history_has_bytes g until events seen)
+
+-- of whatever model a job writes at least a byte
+model_has_bytes : (job : Job) (g : EventGraph) (end : End) (bytes : List ℕ) → AnswersModel job g (Given end bytes) → 0 < length bytes
+model_has_bytes jobs.Check g end bytes h = written_has_bytes bytes end (accepted_line g) (accepted_has_bytes g) h
+model_has_bytes jobs.Print g end bytes h = written_has_bytes bytes end (canonical g) (subst (λ (b : List ℕ). 0 < length b) (append-nil (canonical g)) (canonical_has_bytes g [])) h
+model_has_bytes jobs.Reduce g end bytes h = written_has_bytes bytes end h.0 (reduced_has_bytes g h.0 h.1) h.2
+model_has_bytes (jobs.Run until seed events starts room) g end bytes h = told_has_bytes g until events (start_refusal g starts) (look g seed starts until events) end bytes h
 
 given_has_bytes : (job : Job) (text : List ℕ) (end : End) (bytes : List ℕ) → AnswersJob job text (Given end bytes) → 0 < length bytes
 given_has_bytes job text end bytes (inl h) = absurd (given_is_no_refusal h.told)
-given_has_bytes job text end bytes (inr h) = taken_has_bytes job h.0 (is_taken job h.0) end bytes h.2
+given_has_bytes job text end bytes (inr h) = model_has_bytes job h.0 end bytes h.2
 
 -- ---- the answer to the text is that to the input
 
@@ -92,14 +100,19 @@ module _ {S K : Type 0} (job : Job) (i j : Inlet S) (o : Outlet K) where
   not_taken failures.NoMemory h = record { input_read = h.0; input_steady = h.1; output_grown = inl refl; output_steady = refl }
 
   module _ (p : Outlet K) where
+    -- a refusal isn't begun
+    unbegun : (p ≡ o) ⊎ StopsShort (λ a. a ≡ refused too_long) ⊥ o p → (p ≡ o) ⊎ HasBegun job i o p
+    unbegun (inl same) = inl same
+    unbegun (inr x) = absurd x.short
+
     -- the text is over the limit
-    pub performed_long : TakesText (limit_of job) (Ok taken.TooLong) i j → (r : Result Said Failure) → Answering (λ a. a ≡ refused too_long) false r o p → Performs job r i j o p
+    pub performed_long : TakesText (limit_of job) (Ok taken.TooLong) i j → (r : Result Said Failure) → Answering (λ a. a ≡ refused too_long) ⊥ r o p → Performs job r i j o p
     performed_long h (Ok (said.Gave end)) k = absurd (given_is_no_refusal k.answers)
     performed_long h (Ok (said.Refused why line)) k =
         record { answer = refused_long job i (Refused why line) h.0 k.0; input_read = h.1; input_steady = h.2; output_untouched = k.1 }
     performed_long h (Err failures.WriteFault) k = absurd (given_is_no_refusal k.answers)
     performed_long h (Err failures.NoMemory) k =
-        record { input_read = read_in_part i j (limit_of job) h.1; input_steady = h.2; output_grown = at_once (λ a. a ≡ refused too_long) k.grown; output_steady = k.steady }
+        record { input_read = read_in_part i j (limit_of job) h.1; input_steady = h.2; output_grown = unbegun k.0; output_steady = k.1 }
     performed_long h (Err failures.Usage) k = absurd k
     performed_long h (Err failures.ReadFault) k = absurd k
 
@@ -110,12 +123,12 @@ module _ {S K : Type 0} (job : Job) (i j : Inlet S) (o : Outlet K) where
       through : IsReadThrough (limit_of job) i j
       through = read_through i j (limit_of job) text h.0 h.1 h.2
 
-      begun : (p ≡ o) ⊎ ((is_streamed job ≡ true) × (end : End) × (bytes : List ℕ) × AnswersJob job text (Given end bytes) × GrowsByFront o p bytes) → (p ≡ o) ⊎ HasBegun job i o p
+      begun : (p ≡ o) ⊎ StopsShort (AnswersJob job text) (MayStopShort job text) o p → (p ≡ o) ⊎ HasBegun job i o p
       begun (inl same) = inl same
-      begun (inr x) = inr (x.0, x.1, x.2, answers_input (Given x.1 x.2) x.3, x.4)
+      begun (inr x) = inr (record { end = x.end; bytes = x.bytes; answer = record { text = text; told = h.0; answers = inr (h.1, x.answers) }; short = x.short; output_grown = x.grown })
 
       -- the text was answered
-      pub performed : (r : Result Said Failure) → Answering (AnswersJob job text) (is_streamed job) r o p → Performs job r i j o p
+      pub performed : (r : Result Said Failure) → Answering (AnswersJob job text) (MayStopShort job text) r o p → Performs job r i j o p
       performed (Ok (said.Gave end)) k = record {
         bytes = k.bytes;
         answer = answers_input (Given end k.bytes) k.answers;
@@ -136,6 +149,6 @@ module _ {S K : Type 0} (job : Job) (i j : Inlet S) (o : Outlet K) where
         output_unsettled = k.unsettled (given_has_bytes job text k.end k.bytes k.answers);
         output_failed = k.failed;
       }
-      performed (Err failures.NoMemory) k = record { input_read = read_in_part i j (limit_of job) through; input_steady = h.3; output_grown = begun k.grown; output_steady = k.steady }
+      performed (Err failures.NoMemory) k = record { input_read = read_in_part i j (limit_of job) through; input_steady = h.3; output_grown = begun k.0; output_steady = k.1 }
       performed (Err failures.Usage) k = absurd k
       performed (Err failures.ReadFault) k = absurd k

@@ -1,5 +1,5 @@
 -- From the job to the call, and from its table of statuses to its other clauses.
-use Rattle.std.proofs.Common.{◌≡◌, ◌⊎◌, inl, inr, ℕ, Bool, true, false, List, [], Option, Some, None, Result, Ok, Err, refl, ap, sym, subst, ◌∙◌}
+use Rattle.std.proofs.Common.{◌≡◌, ◌⊎◌, inl, inr, ℕ, ℤ, Bool, true, false, List, [], Option, Some, None, Result, Ok, Err, refl, ap, sym, subst, ◌∙◌, arith}
 use Rattle.std.specs.Prelude.{IfSome}
 use Rattle.std.proofs.lemmas.List.{append-nil}
 use Rattle.sig_base.specs.Faults.{HasRisen}
@@ -20,10 +20,11 @@ use Rattle.sigma_top.specs.declared.status.Failure.{Failure}
 use Rattle.sigma_top.specs.declared.status.Failure.TheVariants as failures
 use Rattle.sigma_top.specs.declared.status.Status.{Status}
 use Rattle.sigma_top.specs.declared.status.Status.TheVariants as statuses
-use Rattle.sigma_top.specs.Answer.{Answers, AnswersJob, WritesFor, is_taken, OfTaken, Reduces, KeepsMeaning}
-use Rattle.sigma_top.specs.Delivery.{Inlet, Outlet, text_of, Told, WritesAnswer, Refuses, AnswersInput, ForJob, Ends}
+use Rattle.sigma_top.specs.Answer.{Answers, AnswersJob, MayStopShort, Reduces, KeepsMeaning}
+use Rattle.sigma_top.specs.RunAnswer.{ExceedsRoom, FitsRoom}
+use Rattle.sigma_top.specs.Delivery.{Inlet, Outlet, text_of, Told, WritesAnswer, Refuses, AnswersInput, HasBegun, LacksMemory, ForJob, Ends}
 use Rattle.sigma_top.specs.Ending.{status_of_answer, bytes_of_answer, status_of_end, status_of_refusal, status_of_failure, failure_line}
-use Rattle.sigma_top.specs.Inner.Frame.{Performs, Runs}
+use Rattle.sigma_top.specs.Inner.Frame.{Performs, Serves}
 use Rattle.sigma_top.specs.Jobs.{job_of, limit_of}
 use Rattle.sigma_top.proofs.Performing.{given_is_no_refusal, given_bytes}
 
@@ -36,13 +37,9 @@ same_job : {a b : Job} → Some a ≡ Some b → a ≡ b
 same_job e = cc
 
 module _ (law : MeansTheSame) (text bytes : List ℕ) (end : End) where
-  taken_means : (g : EventGraph) → Reads text g → (b : Bool) → OfTaken b (WritesFor jobs.Reduce g) (Given end bytes) → KeepsMeaning text bytes
-  taken_means g reads true h = subst (λ (b : List ℕ). KeepsMeaning text b) (sym (given_bytes h.2)) (law text h.0 g reads h.1)
-  taken_means g reads false h = absurd (given_is_no_refusal h)
-
   model_means : AnswersJob jobs.Reduce text (Given end bytes) → KeepsMeaning text bytes
   model_means (inl h) = absurd (given_is_no_refusal h.told)
-  model_means (inr h) = taken_means h.0 h.1 (is_taken jobs.Reduce h.0) h.2
+  model_means (inr (g, reads, done)) = subst (λ (b : List ℕ). KeepsMeaning text b) (sym (given_bytes done.2)) (law text done.0 g reads done.1)
 
   text_means : Answers jobs.Reduce text (Given end bytes) → KeepsMeaning text bytes
   text_means (inl over) = absurd (given_is_no_refusal over.1)
@@ -52,6 +49,36 @@ answer_means : MeansTheSame → (left : Option (List ℕ)) (Grows : List ℕ →
     → IfSome left (λ told. (out : List ℕ) × KeepsMeaning told out × Grows out)
 answer_means law None Grows text bytes end same answers grows = tt
 answer_means law (Some told) Grows text bytes end same answers grows = (bytes, subst (λ (t : List ℕ). KeepsMeaning t bytes) same (text_means law text bytes end answers), grows)
+
+-- ---- where `run` lacks memory
+
+-- a run that fits its room doesn't exceed it
+fits_its_room : (g : EventGraph) (until seed events : ℕ) (starts : List ℤ) (room : ℕ) → FitsRoom g until seed events starts room → ExceedsRoom g until seed events starts room → ⊥
+fits_its_room g until seed events starts room fits more = omega (arith, fits more.steps more.here more.next more.within more.lead more.comes more.due, more.exceeds)
+
+-- the runs of the models of a text fit their room
+abbrev pub RunsFit : ℕ → ℕ → ℕ → List ℤ → ℕ → List ℕ → Type 0
+RunsFit until seed events starts room text = (g : EventGraph) → Reads text g → FitsRoom g until seed events starts room
+
+unless_it_fits : (until seed events : ℕ) (starts : List ℤ) (room : ℕ) (left : Option (List ℕ)) (text : List ℕ) (P : Type 0) → IfSome left (λ told. text ≡ told) → MayStopShort (jobs.Run until seed events starts room) text → IfSome left (λ told. RunsFit until seed events starts room told → P)
+unless_it_fits until seed events starts room None text P told short = tt
+unless_it_fits until seed events starts room (Some bytes) text P told short =
+    λ fits. absurd (fits_its_room short.0 until seed events starts room (fits short.0 (subst (λ (t : List ℕ). Reads t short.0) told short.1)) short.2)
+
+in_any_case : (left : Option (List ℕ)) (Fits : List ℕ → Type 0) (P : Type 0) → P → IfSome left (λ told. Fits told → P)
+in_any_case None Fits P holds = tt
+in_any_case (Some bytes) Fits P holds = λ fits. holds
+
+module _ {S K : Type 0} (until seed events : ℕ) (starts : List ℤ) (room : ℕ) (i j : Inlet S) (o p : Outlet K) where
+  begun_unless : (p ≡ o) ⊎ HasBegun (jobs.Run until seed events starts room) i o p → IfSome i.left (λ told. RunsFit until seed events starts room told → p.state ≡ o.state)
+  begun_unless (inl same) = in_any_case i.left (RunsFit until seed events starts room) (p.state ≡ o.state) (ap (λ q. q.state) same)
+  begun_unless (inr begun) = unless_it_fits until seed events starts room i.left begun.answer.text (p.state ≡ o.state) begun.answer.told begun.short
+
+  pub kept_unless : (words : List (List ℕ)) → job_of words ≡ Some (jobs.Run until seed events starts room) → ((j ≡ i) × (p ≡ o)) ⊎ ForJob words (λ job. LacksMemory job i j o p)
+      → IfSome i.left (λ told. RunsFit until seed events starts room told → p.state ≡ o.state)
+  kept_unless words asked (inl same) = in_any_case i.left (RunsFit until seed events starts room) (p.state ≡ o.state) (ap (λ q. q.state) same.1)
+  kept_unless words asked (inr lacks) =
+      begun_unless (subst (λ (job : Job). LacksMemory job i j o p) (same_job (sym lacks.1 ∙ asked)) lacks.2).output_grown
 
 -- ---- the answer of the job
 
@@ -76,42 +103,45 @@ unwritten {K} {o} {p} same = subst (λ (q : Outlet K). GrowsBy o.written q.writt
 
 module _ {S K : Type 0} (words : List (List ℕ)) (i j : Inlet S) (o p : Outlet K) where
   -- what the job does, the call does
-  pub runs : (job : Job) → job_of words ≡ Some job → (r : Result Said Failure) → Performs job r i j o p → Runs words r i j o p
-  runs job asked (Ok s) h = (job, asked, h)
-  runs job asked (Err failures.Usage) h = absurd h
-  runs job asked (Err failures.ReadFault) h = (job, asked, h)
-  runs job asked (Err failures.WriteFault) h = (job, asked, h)
-  runs job asked (Err failures.NoMemory) h = (job, asked, h)
+  pub serves : (job : Job) → job_of words ≡ Some job → (r : Result Said Failure) → Performs job r i j o p → Serves words r i j o p
+  serves job asked (Ok s) h = (job, asked, h)
+  serves job asked (Err failures.Usage) h = absurd h
+  serves job asked (Err failures.ReadFault) h = (job, asked, h)
+  serves job asked (Err failures.WriteFault) h = (job, asked, h)
+  serves job asked (Err failures.NoMemory) h = inr (job, asked, h)
 
 module _ {S K E : Type 0} (words : List (List ℕ)) (i j : Inlet S) (o p : Outlet K) (e : Outlet E) where
   -- a job that wrote is told by its status alone
-  gave : (end : End) → Runs words (Ok (said.Gave end)) i j o p → Ends (status_of_end end) words i j o p e e
+  gave : (end : End) → Serves words (Ok (said.Gave end)) i j o p → Ends (status_of_end end) words i j o p e e
   gave ends.Done h = (h, refl)
+  gave ends.ModelFault h = (h, refl)
+  gave ends.Budget h = (h, refl)
 
-  pub gave_ends : (end : End) (r : Result Said Failure) (status : Status) → r ≡ Ok (said.Gave end) → status ≡ status_of_end end → Runs words r i j o p → Ends status words i j o p e e
-  gave_ends end r status is known h = subst (λ (s : Status). Ends s words i j o p e e) (sym known) (gave end (subst (λ (x : Result Said Failure). Runs words x i j o p) is h))
+  pub gave_ends : (end : End) (r : Result Said Failure) (status : Status) → r ≡ Ok (said.Gave end) → status ≡ status_of_end end → Serves words r i j o p → Ends status words i j o p e e
+  gave_ends end r status is known h = subst (λ (s : Status). Ends s words i j o p e e) (sym known) (gave end (subst (λ (x : Result Said Failure). Serves words x i j o p) is h))
 
   module _ (f : Outlet E) where
     -- a refusal is told by its line
-    refused : (why : Refusal) (line : List ℕ) → Runs words (Ok (said.Refused why line)) i j o p → Told e f line → Ends (status_of_refusal why) words i j o p e f
+    refused : (why : Refusal) (line : List ℕ) → Serves words (Ok (said.Refused why line)) i j o p → Told e f line → Ends (status_of_refusal why) words i j o p e f
     refused refusals.Refused line h told = (line, h, told)
+    refused refusals.BadStart line h told = (line, h, told)
 
-    pub refused_ends : (why : Refusal) (line shown : List ℕ) (r : Result Said Failure) (status : Status) → r ≡ Ok (said.Refused why line) → status ≡ status_of_refusal why → shown ≡ line → Runs words r i j o p → Told e f shown
+    pub refused_ends : (why : Refusal) (line shown : List ℕ) (r : Result Said Failure) (status : Status) → r ≡ Ok (said.Refused why line) → status ≡ status_of_refusal why → shown ≡ line → Serves words r i j o p → Told e f shown
         → Ends status words i j o p e f
     refused_ends why line shown r status is known same h told =
-        subst (λ (s : Status). Ends s words i j o p e f) (sym known) (refused why line (subst (λ (x : Result Said Failure). Runs words x i j o p) is h) (subst (λ (l : List ℕ). Told e f l) same told))
+        subst (λ (s : Status). Ends s words i j o p e f) (sym known) (refused why line (subst (λ (x : Result Said Failure). Serves words x i j o p) is h) (subst (λ (l : List ℕ). Told e f l) same told))
 
     -- and so is a failure
-    failed : (failure : Failure) → Runs words (Err failure) i j o p → Told e f (failure_line failure) → Ends (status_of_failure failure) words i j o p e f
+    failed : (failure : Failure) → Serves words (Err failure) i j o p → Told e f (failure_line failure) → Ends (status_of_failure failure) words i j o p e f
     failed failures.Usage h told = (h.0, h.1, h.2, told)
     failed failures.ReadFault h told = (h, told)
     failed failures.WriteFault h told = (h, told)
     failed failures.NoMemory h told = (h, told)
 
-    pub failure_ends : (failure : Failure) (shown : List ℕ) (r : Result Said Failure) (status : Status) → r ≡ Err failure → status ≡ status_of_failure failure → shown ≡ failure_line failure → Runs words r i j o p → Told e f shown
+    pub failure_ends : (failure : Failure) (shown : List ℕ) (r : Result Said Failure) (status : Status) → r ≡ Err failure → status ≡ status_of_failure failure → shown ≡ failure_line failure → Serves words r i j o p → Told e f shown
         → Ends status words i j o p e f
     failure_ends failure shown r status is known same h told =
-        subst (λ (s : Status). Ends s words i j o p e f) (sym known) (failed failure (subst (λ (x : Result Said Failure). Runs words x i j o p) is h) (subst (λ (l : List ℕ). Told e f l) same told))
+        subst (λ (s : Status). Ends s words i j o p e f) (sym known) (failed failure (subst (λ (x : Result Said Failure). Serves words x i j o p) is h) (subst (λ (l : List ℕ). Told e f l) same told))
 
     -- what `reduce` gives means the same as what the input had
     pub reduced_means : MeansTheSame → (status : Status) → Ends status words i j o p e f → job_of words ≡ Some jobs.Reduce → status ≡ statuses.Done
@@ -120,6 +150,12 @@ module _ {S K E : Type 0} (words : List (List ℕ)) (i j : Inlet S) (o p : Outle
         let done = (subst (λ (s : Status). Ends s words i j o p e f) is_done h).0 in
         let answer = subst (λ (job : Job). AnswersInput job i (Given ends.Done done.2.bytes)) (same_job (sym done.1 ∙ asked)) done.2.answer in
         answer_means law i.left (GrowsBy o.written p.written) answer.text done.2.bytes ends.Done answer.told answer.answers done.2.output_grown
+
+    -- where `run` lacks memory it has written nothing, if it fits its room
+    pub within_room : (until seed events : ℕ) (starts : List ℤ) (room : ℕ) → job_of words ≡ Some (jobs.Run until seed events starts room) → (status : Status) → Ends status words i j o p e f → status ≡ statuses.NoMemory
+        → IfSome i.left (λ told. RunsFit until seed events starts room told → p.state ≡ o.state)
+    within_room until seed events starts room asked status h is_short =
+        kept_unless until seed events starts room i j o p words asked (subst (λ (s : Status). Ends s words i j o p e f) is_short h).0
 
     module _ (job : Job) (asked : job_of words ≡ Some job) (read : HasRisen i.faults j.faults → ⊥) (wrote : HasRisen o.faults p.faults → ⊥) where
       given : (end : End) → ForJob words (λ job. WritesAnswer job end i j o p) → IsComplete job (status_of_end end) i.left (GrowsBy o.written p.written)
@@ -139,3 +175,6 @@ module _ {S K E : Type 0} (words : List (List ℕ)) (i j : Inlet S) (o p : Outle
       complete statuses.ReadFault h = absurd (read h.0.2.input_failed)
       complete statuses.WriteFault h = absurd (wrote h.0.2.output_failed)
       complete statuses.NoMemory h = inl refl
+      complete statuses.ModelFault h = inr (given ends.ModelFault h.0)
+      complete statuses.Budget h = inr (given ends.Budget h.0)
+      complete statuses.BadStart h = inr (refusal refusals.BadStart h.0 h.1)

@@ -14,8 +14,8 @@ use Rattle.sigma_top.specs.declared.job.Job.TheVariants as jobs
 use Rattle.sigma_top.specs.declared.status.End.TheVariants as ends
 use Rattle.sigma_top.specs.declared.status.Refusal.TheVariants as refusals
 use Rattle.sigma_top.specs.Complaints.{IsComplaint, message_of, byte_line}
-use Rattle.sigma_top.specs.FirstForm.{is_first_form}
 use Rattle.sigma_top.specs.Jobs.{limit_of}
+use Rattle.sigma_top.specs.RunAnswer.{run_answer, ExceedsRoom}
 
 -- ---- the forms of an answer
 
@@ -30,10 +30,7 @@ refused line = Refused refusals.Refused line
 abbrev pub too_long : List ℕ
 too_long = codes "sigma: text too long\n"
 
-abbrev pub not_first_form : List ℕ
-not_first_form = codes "sigma: not of the first form\n"
-
--- ---- what each job writes for a model
+-- ---- what is written for a model
 
 -- `reduce`: the canonical text of what the strategy makes of the model, and the certificate of its applications
 pub record Reduces (original : EventGraph) (out : List ℕ) : Type 0 where
@@ -45,27 +42,21 @@ pub record Reduces (original : EventGraph) (out : List ℕ) : Type 0 where
 abbrev pub accepted_line : EventGraph → List ℕ
 accepted_line g = codes "accepted " ++ g.name ++ codes "\n"
 
--- `check` says that the model is accepted, and `print` writes its canonical text
-abbrev pub WritesFor : Job → EventGraph → List ℕ → Type 0
-WritesFor jobs.Check g out = out ≡ accepted_line g
-WritesFor jobs.Print g out = out ≡ canonical g
-WritesFor jobs.Reduce g out = Reduces g out
-
--- whether a job takes a model: `reduce` takes those of the first form alone so far
-abbrev pub is_taken : Job → EventGraph → Bool
-is_taken jobs.Reduce g = is_first_form g
-is_taken job g = true
-
--- ---- the answer to a text
+-- ---- what each job answers to a model
 
 -- the job is done, and these are its bytes
 abbrev pub IsDone : (List ℕ → Type 0) → Answer → Type 0
 IsDone AreWritten a = (out : List ℕ) × AreWritten out × (a ≡ done out)
 
--- of a model that is taken this is written, and any other is refused
-abbrev pub OfTaken : Bool → (List ℕ → Type 0) → Answer → Type 0
-OfTaken true AreWritten a = IsDone AreWritten a
-OfTaken false AreWritten a = a ≡ refused not_first_form
+-- `check` says that the model is accepted, `print` writes its canonical text, `reduce` a smaller model with its certificate,
+-- and `run` tells the history of a run
+abbrev pub AnswersModel : Job → EventGraph → Answer → Type 0
+AnswersModel jobs.Check g a = a ≡ done (accepted_line g)
+AnswersModel jobs.Print g a = a ≡ done (canonical g)
+AnswersModel jobs.Reduce g a = IsDone (Reduces g) a
+AnswersModel (jobs.Run until seed events starts room) g a = a ≡ run_answer g until seed events starts
+
+-- ---- the answer to a text
 
 -- the text is refused with a line that tells what there is to complain of
 pub record IsRefused (text : List ℕ) (a : Answer) : Type 0 where
@@ -76,7 +67,7 @@ pub record IsRefused (text : List ℕ) (a : Answer) : Type 0 where
 
 -- the answer of a job to a text within its limit: the text is refused, or it reads as a model that has this answer
 abbrev pub AnswersJob : Job → List ℕ → Answer → Type 0
-AnswersJob job text a = IsRefused text a ⊎ ((g : EventGraph) × Reads text g × OfTaken (is_taken job g) (WritesFor job g) a)
+AnswersJob job text a = IsRefused text a ⊎ ((g : EventGraph) × Reads text g × AnswersModel job g a)
 
 -- the text has at most so many bytes
 abbrev pub IsWithin : Option ℕ → List ℕ → Type 0
@@ -90,6 +81,18 @@ IsOver (Some limit) text = limit < length text
 -- the answer of a job to a text
 abbrev pub Answers : Job → List ℕ → Answer → Type 0
 Answers job text a = (IsOver (limit_of job) text × (a ≡ refused too_long)) ⊎ (IsWithin (limit_of job) text × AnswersJob job text a)
+
+-- ---- where memory may be refused midway
+
+-- A job on a model that writes as it goes may lack memory behind a front of its bytes: `run` where the run needs more room
+-- than was asked for.
+abbrev pub MayFallShort : Job → EventGraph → Type 0
+MayFallShort (jobs.Run until seed events starts room) g = ExceedsRoom g until seed events starts room
+MayFallShort job g = ⊥
+
+-- the same on a text
+abbrev pub MayStopShort : Job → List ℕ → Type 0
+MayStopShort job text = (g : EventGraph) × Reads text g × MayFallShort job g
 
 -- ---- what `reduce` is for
 

@@ -13,9 +13,9 @@ use Rattle.sigma_top.specs.declared.status.End.TheVariants as ends
 use Rattle.sigma_top.specs.declared.status.Refusal.{Refusal}
 use Rattle.sigma_top.specs.declared.status.Refusal.TheVariants as refusals
 use Rattle.sigma_top.specs.declared.status.Failure.TheVariants as failures
-use Rattle.sigma_top.specs.Answer.{Answers}
+use Rattle.sigma_top.specs.Answer.{Answers, MayStopShort}
 use Rattle.sigma_top.specs.Ending.{failure_line}
-use Rattle.sigma_top.specs.Jobs.{job_of, limit_of, is_streamed}
+use Rattle.sigma_top.specs.Jobs.{job_of, limit_of}
 
 -- ---- what is seen of the outside
 
@@ -106,7 +106,7 @@ pub record FailsToRead {S K : Type 0} (job : Job) (i j : Inlet S) (o p : Outlet 
   pub input_failed : HasRisen i.faults j.faults
   pub output_untouched : p ≡ o
 
--- A write failed, or finishing did. The input was read, and a front of its answer was written.
+-- A write failed, or finishing did. The input was read, and a front of its answer was written; the output isn't finished.
 pub record FailsToWrite {S K : Type 0} (job : Job) (i j : Inlet S) (o p : Outlet K) : Type 0 where
   pub end : End
   pub bytes : List ℕ
@@ -118,8 +118,12 @@ pub record FailsToWrite {S K : Type 0} (job : Job) (i j : Inlet S) (o p : Outlet
   pub output_failed : HasRisen o.faults p.faults
 
 -- a job that writes as it goes has written a front of its answer
-abbrev pub HasBegun : {S K : Type 0} → Job → Inlet S → Outlet K → Outlet K → Type 0
-HasBegun job i o p = (is_streamed job ≡ true) × (end : End) × (bytes : List ℕ) × AnswersInput job i (Given end bytes) × GrowsByFront o p bytes
+pub record HasBegun {S K : Type 0} (job : Job) (i : Inlet S) (o p : Outlet K) : Type 0 where
+  pub end : End
+  pub bytes : List ℕ
+  pub answer : AnswersInput job i (Given end bytes)
+  pub short : MayStopShort job answer.text
+  pub output_grown : GrowsByFront o p bytes
 
 -- Memory was refused.
 pub record LacksMemory {S K : Type 0} (job : Job) (i j : Inlet S) (o p : Outlet K) : Type 0 where
@@ -142,4 +146,7 @@ Ends statuses.Refused words i j o p e f = (line : List ℕ) × ForJob words (λ 
 Ends statuses.Usage words i j o p e f = (job_of words ≡ None) × (j ≡ i) × (p ≡ o) × Told e f (failure_line failures.Usage)
 Ends statuses.ReadFault words i j o p e f = ForJob words (λ job. FailsToRead job i j o p) × Told e f (failure_line failures.ReadFault)
 Ends statuses.WriteFault words i j o p e f = ForJob words (λ job. FailsToWrite job i j o p) × Told e f (failure_line failures.WriteFault)
-Ends statuses.NoMemory words i j o p e f = ForJob words (λ job. LacksMemory job i j o p) × Told e f (failure_line failures.NoMemory)
+Ends statuses.NoMemory words i j o p e f = (((j ≡ i) × (p ≡ o)) ⊎ ForJob words (λ job. LacksMemory job i j o p)) × Told e f (failure_line failures.NoMemory)
+Ends statuses.ModelFault words i j o p e f = ForJob words (λ job. WritesAnswer job ends.ModelFault i j o p) × (f ≡ e)
+Ends statuses.Budget words i j o p e f = ForJob words (λ job. WritesAnswer job ends.Budget i j o p) × (f ≡ e)
+Ends statuses.BadStart words i j o p e f = (line : List ℕ) × ForJob words (λ job. Refuses job refusals.BadStart line i j o p) × Told e f line

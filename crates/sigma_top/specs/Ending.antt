@@ -19,14 +19,20 @@ exit_status_of statuses.Usage = 2
 exit_status_of statuses.ReadFault = 3
 exit_status_of statuses.WriteFault = 4
 exit_status_of statuses.NoMemory = 5
+exit_status_of statuses.ModelFault = 6
+exit_status_of statuses.Budget = 7
+exit_status_of statuses.BadStart = 9
 
 -- the status of a job that writes
 abbrev pub status_of_end : End → Status
 status_of_end ends.Done = statuses.Done
+status_of_end ends.ModelFault = statuses.ModelFault
+status_of_end ends.Budget = statuses.Budget
 
 -- the status of a refusal
 abbrev pub status_of_refusal : Refusal → Status
 status_of_refusal refusals.Refused = statuses.Refused
+status_of_refusal refusals.BadStart = statuses.BadStart
 
 -- the status where there is no answer
 abbrev pub status_of_failure : Failure → Status

@@ -1,2 +1,5 @@
 -- The code of this crate, restated for its proofs. No public clause cites these, and nobody has to believe them.
+pub mod ArgumentViews
+pub mod Asking
 pub mod Frame
+pub mod RunSteps

@@ -1,24 +1,71 @@
--- The jobs: which one the words of the command line ask for, what it reads, and how it writes.
-use Rattle.std.specs.Prelude.{ℕ, Bool, false, if◌then◌else◌, List, [], ◌∷◌, codes, Option, Some, None}
+-- The jobs: which one the words of the command line ask for, and what it reads.
+use Rattle.std.specs.Prelude.{ℕ, ◌-◌, ◌^◌, ℤ, if◌then◌else◌, List, [], ◌∷◌, codes, Option, Some, None}
 use Rattle.model_core.specs.Text.Lexing.{same_bytes}
+use Rattle.sig_base.specs.declared.limits.TheConstants.{TEXT_MAX, STOP_MAX, EVENTS_MAX}
+use Rattle.sigma_top.specs.declared.command.Command.{Command}
+use Rattle.sigma_top.specs.declared.command.Command.TheVariants as commands
+use Rattle.sigma_top.specs.declared.job.TheConstants.{ROOM_MAX, ROOM_USUAL}
 use Rattle.sigma_top.specs.declared.job.Job.{Job}
 use Rattle.sigma_top.specs.declared.job.Job.TheVariants as jobs
-use Rattle.sig_base.specs.declared.limits.TheConstants.{TEXT_MAX}
+use Rattle.sigma_top.specs.Arguments.{PlainArgument, arguments_of, command_words, values_of, has_only_options}
+use Rattle.sigma_top.specs.ArgumentValues.{number_within, starting_values, needed, besides}
+
+-- ---- the commands and their options
+
+-- the command that a word names
+abbrev pub command_of : List ℕ → Option Command
+command_of word =
+    if same_bytes word (codes "check") then Some commands.Check
+    else (if same_bytes word (codes "print") then Some commands.Print
+    else (if same_bytes word (codes "reduce") then Some commands.Reduce
+    else (if same_bytes word (codes "run") then Some commands.Run else None)))
+
+-- the options that a command takes
+abbrev pub options_of : Command → List (List ℕ)
+options_of commands.Check = []
+options_of commands.Print = []
+options_of commands.Reduce = []
+options_of commands.Run = codes "until" ∷ codes "seed" ∷ codes "events" ∷ codes "start" ∷ codes "room" ∷ []
+
+-- ---- the job of a command and its options
+
+abbrev pub run_with : Option ℕ → Option ℕ → Option ℕ → Option (List ℤ) → Option ℕ → Option Job
+run_with (Some until) (Some seed) (Some events) (Some starts) (Some room) = Some (jobs.Run until seed events starts room)
+run_with until seed events starts room = None
+
+-- `run` needs its stop time, seed and event budget, and may have starting values and room
+abbrev pub run_of : List PlainArgument → Option Job
+run_of given = run_with
+    (needed (number_within 0 STOP_MAX) (values_of (codes "until") given))
+    (needed (number_within 0 (2 ^ 64 - 1)) (values_of (codes "seed") given))
+    (needed (number_within 1 EVENTS_MAX) (values_of (codes "events") given))
+    (besides [] starting_values (values_of (codes "start") given))
+    (besides ROOM_USUAL (number_within 0 ROOM_MAX) (values_of (codes "room") given))
+
+abbrev pub job_with : Command → List PlainArgument → Option Job
+job_with commands.Check given = Some jobs.Check
+job_with commands.Print given = Some jobs.Print
+job_with commands.Reduce given = Some jobs.Reduce
+job_with commands.Run given = run_of given
+
+-- there is one command, and no option but those that it takes
+abbrev pub job_asked : Option Command → List PlainArgument → Option Job
+job_asked None given = None
+job_asked (Some command) given = if has_only_options (options_of command) given then job_with command given else None
+
+abbrev pub only_command : List (List ℕ) → Option Command
+only_command (word ∷ []) = command_of word
+only_command words = None
 
 -- the job of the words, if they are one
 abbrev pub job_of : List (List ℕ) → Option Job
-job_of (word ∷ []) =
-    if same_bytes word (codes "check") then Some jobs.Check
-    else (if same_bytes word (codes "print") then Some jobs.Print
-    else (if same_bytes word (codes "reduce") then Some jobs.Reduce else None))
-job_of words = None
+job_of words = let given = arguments_of words in job_asked (only_command (command_words given)) given
+
+-- ---- what a job does
 
 -- the most bytes that the text of a job may have; `None` is a job that reads no text
 abbrev pub limit_of : Job → Option ℕ
 limit_of jobs.Check = Some TEXT_MAX
 limit_of jobs.Print = Some TEXT_MAX
 limit_of jobs.Reduce = Some TEXT_MAX
-
--- whether a job writes as it goes; every other one writes once its answer is whole
-abbrev pub is_streamed : Job → Bool
-is_streamed job = false
+limit_of (jobs.Run until seed events starts room) = Some TEXT_MAX

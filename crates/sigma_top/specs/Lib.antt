@@ -1,7 +1,9 @@
+pub mod Arguments
+pub mod ArgumentValues
 pub mod Jobs
 pub mod Ending
 pub mod Complaints
-pub mod FirstForm
+pub mod RunAnswer
 pub mod Answer
 pub mod Delivery
 pub mod Inner

@@ -1,47 +1,75 @@
 //! The top call: from the words, the input and the outputs to a status. It knows a job by its limit and by what
 //! `respond` says of it, and everything else is proved once for all jobs.
 
-ghost use Rattle.std.specs.Prelude.{◌≡◌, ◌⊎◌, ℕ, false, List, Some, map, IfSome};
+ghost use Rattle.std.specs.Prelude.{◌≡◌, ◌⊎◌, ℕ, ℤ, List, Some, map, IfSome};
 ghost use Rattle.std.specs.String.{string_bytes};
 ghost use Rattle.sig_base.specs.Sink.{GrowsBy};
 ghost use Rattle.sig_base.specs.Faults.{HasRisen};
-ghost use Rattle.sigma_top.specs.Answer.{refused, too_long, IsWithin, Answers, AnswersJob, KeepsMeaning};
+ghost use Rattle.model_core.specs.EventGraph.{EventGraph};
+ghost use Rattle.model_core.specs.Static.Reading.{Reads, IsValid};
+ghost use Rattle.model_core.specs.Code.Views.{graph_of};
+ghost use Rattle.sigma_top.specs.Answer.{IsWithin, Answers, AnswersModel, AnswersJob, MayFallShort, MayStopShort, KeepsMeaning};
+ghost use Rattle.sigma_top.specs.RunAnswer.{FitsRoom};
 ghost use Rattle.sigma_top.specs.Ending.{status_of_answer, bytes_of_answer};
 ghost use Rattle.sigma_top.specs.Delivery.{inlet, outlet, text_of, Told, Ends};
-ghost use Rattle.sigma_top.specs.Inner.Frame.{Answering, Performs, Runs};
-ghost use Rattle.sigma_top.specs.Jobs.{job_of, limit_of, is_streamed};
+ghost use Rattle.sigma_top.specs.Inner.Asking.{IsWithinLimits};
+ghost use Rattle.sigma_top.specs.Inner.Frame.{Answering, Performs, Serves};
+ghost use Rattle.sigma_top.specs.Jobs.{job_of, limit_of};
 ghost use Rattle.sigma_top.specs.declared.answer.Answer.{Answer};
 ghost use Rattle.sigma_top.specs.declared.job.Job.{Job};
 
-use crate::answer::{answer_job, too_long};
-use crate::delivering::{Said, send};
-use crate::job::{Job, job_of};
+use crate::answer::{acceptance, complain, printed, reduced, too_long};
+use crate::command_line;
+use crate::delivering::{Said, deliver};
+use crate::job::Job;
+use crate::model_reading::model_of;
 use crate::reading::{Taken, take_text};
+use crate::reading_error::ReadingError;
 use crate::reduction_law::written_models_mean_the_same;
+use crate::run_job::run_model;
 use crate::status::{Failure, Status};
+use crate::words_error::WordsError;
+use model_core::Model;
 use sig_base::{Sink, Source, put};
 use std::alloc::Global;
 
-/// Answers the text, and writes the answer.
-fn respond<K: Sink>(alloc: Global, job: Job, text: &[u8], output: &mut K) -> Result<Said, Failure>
-    requires { IsWithin (limit_of job) text.now }
-    ensures { Answering (AnswersJob job text.now) (is_streamed job) result
+/// Answers the model, and writes the answer.
+fn respond_to_model<K: Sink>(
+    alloc: Global,
+    job: Job,
+    model: Model,
+    output: &mut K,
+) -> Result<Said, Failure>
+    requires valid { IsValid (graph_of model) }
+    requires limits { IsWithinLimits job }
+    ensures { Answering (AnswersModel job (graph_of model)) (MayFallShort job (graph_of model)) result
         (outlet K.written K.faults K.settled output.old) (outlet K.written K.faults K.settled output.new) }
 {
-    match answer_job(alloc, job, text) {
-        Ok(answer) => send(output, answer),
-        Err(_) => Err(Failure::NoMemory),
+    match job {
+        Job::Check => deliver(output, acceptance(alloc, &model)),
+        Job::Print => deliver(output, printed(alloc, &model)),
+        Job::Reduce => deliver(output, reduced(alloc, model)),
+        Job::Run {
+            until,
+            seed,
+            events,
+            starts,
+            room,
+        } => run_model(alloc, &model, until, seed, events, &starts, room, output),
     }
 }
 
-/// Refuses a text over the limit.
-fn refuse_long<K: Sink>(alloc: Global, output: &mut K) -> Result<Said, Failure>
-    ensures { Answering (λ a. a ≡ refused too_long) false result
+/// Answers the text, and writes the answer.
+fn respond<K: Sink>(alloc: Global, job: Job, text: &[u8], output: &mut K) -> Result<Said, Failure>
+    requires within { IsWithin (limit_of job) text.now }
+    requires limits { IsWithinLimits job }
+    ensures { Answering (AnswersJob job text.now) (MayStopShort job text.now) result
         (outlet K.written K.faults K.settled output.old) (outlet K.written K.faults K.settled output.new) }
 {
-    match too_long(alloc) {
-        Ok(answer) => send(output, answer),
-        Err(_) => Err(Failure::NoMemory),
+    match model_of(alloc, text) {
+        Ok(model) => respond_to_model(alloc, job, model, output),
+        Err(ReadingError::At { what, at }) => deliver(output, complain(alloc, what, at)),
+        Err(ReadingError::NoMemory) => Err(Failure::NoMemory),
     }
 }
 
@@ -52,29 +80,31 @@ fn perform<S: Source, K: Sink>(
     input: &mut S,
     output: &mut K,
 ) -> Result<Said, Failure>
+    requires { IsWithinLimits job }
     ensures { Performs job result (inlet S.left S.faults input.old) (inlet S.left S.faults input.new)
         (outlet K.written K.faults K.settled output.old) (outlet K.written K.faults K.settled output.new) }
 {
     match take_text(alloc, job.limit(), input) {
         Ok(Taken::Whole(text)) => respond(alloc, job, text.as_slice(), output),
-        Ok(Taken::TooLong) => refuse_long(alloc, output),
+        Ok(Taken::TooLong) => deliver(output, too_long(alloc)),
         Err(failure) => Err(failure),
     }
 }
 
 /// Does the job that the words ask for.
-fn run<S: Source, K: Sink>(
+fn serve<S: Source, K: Sink>(
     alloc: Global,
     words: &[String],
     input: &mut S,
     output: &mut K,
 ) -> Result<Said, Failure>
-    ensures { Runs (map string_bytes words.now) result (inlet S.left S.faults input.old) (inlet S.left S.faults input.new)
+    ensures { Serves (map string_bytes words.now) result (inlet S.left S.faults input.old) (inlet S.left S.faults input.new)
         (outlet K.written K.faults K.settled output.old) (outlet K.written K.faults K.settled output.new) }
 {
-    match job_of(words) {
-        Some(job) => perform(alloc, job, input, output),
-        None => Err(Failure::Usage),
+    match command_line::words(alloc, words) {
+        Ok(job) => perform(alloc, job, input, output),
+        Err(WordsError::BadWords) => Err(Failure::Usage),
+        Err(WordsError::NoMemory) => Err(Failure::NoMemory),
     }
 }
 
@@ -98,7 +128,7 @@ fn work<S: Source, K: Sink, E: Sink>(
         (outlet K.written K.faults K.settled output.old) (outlet K.written K.faults K.settled output.new)
         (outlet E.written E.faults E.settled errors.old) (outlet E.written E.faults E.settled errors.new) }
 {
-    match run(alloc, words, input, output) {
+    match serve(alloc, words, input, output) {
         Ok(Said::Gave(end)) => end.status(),
         Ok(Said::Refused(why, line)) => {
             tell(errors, line.as_slice());
@@ -134,6 +164,11 @@ pub fn sigma<S: Source, K: Sink, E: Sink>(
         → (HasRisen (S.faults input.old) (S.faults input.new) → ⊥) → (HasRisen (K.faults output.old) (K.faults output.new) → ⊥)
         → (result ≡ Status.NoMemory) ⊎ IfSome (text_of (limit_of job) (S.left input.old)) (λ text. (a : Answer) × Answers job text a
         × (result ≡ status_of_answer a) × GrowsBy (K.written output.old) (K.written output.new) (bytes_of_answer a)) }
+
+    // Where `run` lacks memory nothing is written, if the run fits the room that it was given.
+    ensures within_room { (until seed events : ℕ) (starts : List ℤ) (room : ℕ) → job_of (map string_bytes words.now) ≡ Some (Job.Run until seed events starts room)
+        → result ≡ Status.NoMemory → IfSome (S.left input.old) (λ text. ((g : EventGraph) → Reads text g → FitsRoom g until seed events starts room)
+        → output.new ≡ output.old) }
 
     // What `reduce` writes means the same as what it read.
     ensures reduced { job_of (map string_bytes words.now) ≡ Some Job.Reduce → result ≡ Status.Done → IfSome (S.left input.old) (λ text.

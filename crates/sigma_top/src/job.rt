@@ -1,13 +1,18 @@
-//! The jobs of the program, and the words of the command line that ask for them.
+//! The jobs of the program.
 
-ghost use Rattle.std.specs.Prelude.{◌≡◌, map};
-ghost use Rattle.std.specs.String.{string_bytes};
-ghost use Rattle.sigma_top.specs.Jobs.{job_of, limit_of};
+ghost use Rattle.std.specs.Prelude.{◌≡◌};
+ghost use Rattle.sigma_top.specs.Jobs.{limit_of};
 
-use sig_base::TEXT_MAX;
+use sig_base::{List, TEXT_MAX};
+
+/// The most pending events for which a run can be asked to have room from its beginning.
+pub const ROOM_MAX: usize = 4_194_304;
+
+/// The pending events for which a run has room from its beginning where none is asked for.
+pub const ROOM_USUAL: usize = 4_096;
 
 /// A job of the program.
-#[derive(Clone, Copy, Debug, PartialEq, Eq)]
+#[derive(Drop)]
 pub enum Job {
     /// Whether the model is accepted.
     Check,
@@ -15,36 +20,28 @@ pub enum Job {
     Print,
     /// The model made smaller, and the certificate of that.
     Reduce,
+    /// The watched history of a run of the model, as it happens.
+    Run {
+        /// The stop time, in ticks.
+        until: u64,
+        /// The seed of the random streams.
+        seed: u64,
+        /// The event budget: the most steps that are made.
+        events: u64,
+        /// A value for each parameter of the vertex that begins the run, in order.
+        starts: List<i64>,
+        /// The pending events for which there is room from the beginning.
+        room: usize,
+    },
 }
 
 impl Job {
     /// The most bytes that the job's text may have, where it reads one.
-    pub fn limit(self) -> Option<usize>
-        ensures { result ≡ limit_of self }
+    pub fn limit(&self) -> Option<usize>
+        ensures { result ≡ limit_of self.now }
     {
         match self {
-            Job::Check | Job::Print | Job::Reduce => Some(TEXT_MAX),
+            Job::Check | Job::Print | Job::Reduce | Job::Run { .. } => Some(TEXT_MAX),
         }
-    }
-}
-
-/// The job that the words, without the program's name, ask for.
-pub fn job_of(words: &[String]) -> Option<Job>
-    ensures { result ≡ job_of (map string_bytes words.now) }
-{
-    match words {
-        [word] => {
-            let word = word.as_str();
-            if word == "check" {
-                Some(Job::Check)
-            } else if word == "print" {
-                Some(Job::Print)
-            } else if word == "reduce" {
-                Some(Job::Reduce)
-            } else {
-                None
-            }
-        }
-        _ => None,
     }
 }

@@ -3,19 +3,27 @@
 
 mod answer;
 mod answer_law;
+mod argument_values;
+mod arguments;
+mod command;
+mod command_line;
 mod complaint;
 mod delivering;
-mod first_form;
 mod frame;
 mod job;
 mod model_reading;
 mod reading;
 mod reading_error;
 mod reduction_law;
+mod run_job;
 mod status;
 mod sure_devices;
+mod words_error;
 
 pub use answer_law::answers_are_determined;
+pub use command_line::words;
 pub use frame::sigma;
+pub use job::{Job, ROOM_MAX, ROOM_USUAL};
 pub use status::Status;
 pub use sure_devices::sure_status;
+pub use words_error::WordsError;

@@ -18,6 +18,12 @@ pub enum Status {
     WriteFault,
     /// Memory was refused.
     NoMemory,
+    /// The run was written up to an event that can't be completed.
+    ModelFault,
+    /// The run was written up to its event budget, and goes on.
+    Budget,
+    /// The starting values of the run aren't those of the model's first vertex.
+    BadStart,
 }
 
 impl Status {
@@ -32,6 +38,9 @@ impl Status {
             Status::ReadFault => 3,
             Status::WriteFault => 4,
             Status::NoMemory => 5,
+            Status::ModelFault => 6,
+            Status::Budget => 7,
+            Status::BadStart => 9,
         }
     }
 }
@@ -41,6 +50,10 @@ impl Status {
 pub enum End {
     /// It is done.
     Done,
+    /// The run faulted.
+    ModelFault,
+    /// The run goes on after its last event.
+    Budget,
 }
 
 impl End {
@@ -50,6 +63,8 @@ impl End {
     {
         match self {
             End::Done => Status::Done,
+            End::ModelFault => Status::ModelFault,
+            End::Budget => Status::Budget,
         }
     }
 }
@@ -59,6 +74,8 @@ impl End {
 pub enum Refusal {
     /// The text is too long, or spells no accepted model.
     Refused,
+    /// The starting values of the run aren't allowed.
+    BadStart,
 }
 
 impl Refusal {
@@ -68,6 +85,7 @@ impl Refusal {
     {
         match self {
             Refusal::Refused => Status::Refused,
+            Refusal::BadStart => Status::BadStart,
         }
     }
 }

@@ -9,7 +9,7 @@ use Rattle.model_core.specs.Run.State.{State, variable_at, cell_count, cells_of,
 use Rattle.model_core.specs.Run.Pending.{same_values}
 use Rattle.model_core.specs.Run.History.{watched_values}
 use Rattle.model_core.proofs.InRange.{cells_are_declared}
-use Rattle.watch_trace.specs.Inner.Keeping.{Keeping, fresh, emptied, Fits, are_same, taken_from}
+use Rattle.watch_trace.specs.Inner.KeptMarks.{Keeping, fresh, emptied, Fits, are_same, with_values_of}
 
 -- what holds of every element holds of the one at i
 pub every-at : {A : Type 0} (P : A → Type 0) (xs : List A) (i : ℕ) (d : A) → AllByRecursion P xs → i < length xs → P (get_or xs i d)
@@ -50,15 +50,15 @@ emptied-cells s (k ∷ xs) = ap (λ (x : List (List ℤ)). cells_of s k.var ∷ 
 cells_kept : (g : EventGraph) (s : State) (watch : List Watched) (xs : List Keeping) → map emptied xs ≡ flat_map (fresh g) watch → map (λ k. cells_of s k.var) xs ≡ watched_values watch s
 cells_kept g s watch xs e = sym (emptied-cells s xs) ∙ ap (map (λ k. cells_of s k.var)) e ∙ fresh-cells g s watch
 
-taken-values : (s : State) (xs : List Keeping) → map (λ k. k.values) (map (taken_from s) xs) ≡ map (λ k. cells_of s k.var) xs
+taken-values : (s : State) (xs : List Keeping) → map (λ k. k.values) (map (with_values_of s) xs) ≡ map (λ k. cells_of s k.var) xs
 taken-values s [] = refl
 taken-values s (k ∷ xs) = ap (λ (x : List (List ℤ)). cells_of s k.var ∷ x) (taken-values s xs)
 
 -- once taken, the values are the watched ones of the state
-pub values_taken : (g : EventGraph) (s : State) (watch : List Watched) (xs : List Keeping) → map emptied xs ≡ flat_map (fresh g) watch → map (λ k. k.values) (map (taken_from s) xs) ≡ watched_values watch s
+pub values_taken : (g : EventGraph) (s : State) (watch : List Watched) (xs : List Keeping) → map emptied xs ≡ flat_map (fresh g) watch → map (λ k. k.values) (map (with_values_of s) xs) ≡ watched_values watch s
 values_taken g s watch xs e = taken-values s xs ∙ cells_kept g s watch xs e
 
-pub emptied_taken : (s : State) (xs : List Keeping) → map emptied (map (taken_from s) xs) ≡ map emptied xs
+pub emptied_taken : (s : State) (xs : List Keeping) → map emptied (map (with_values_of s) xs) ≡ map emptied xs
 emptied_taken s [] = refl
 emptied_taken s (k ∷ xs) = ap (λ (x : List Keeping). emptied k ∷ x) (emptied_taken s xs)
 

@@ -1,4 +1,9 @@
-pub mod Sheets
-pub mod Shown
+pub mod AddedTexts
+pub mod ShownLines
+pub mod HistoryBytes
 pub mod KeptValues
 pub mod Due
+pub mod MoveLaw
+pub mod MoveOutcome
+pub mod FollowedMoves
+pub mod FollowedText

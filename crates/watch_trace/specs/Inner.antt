@@ -1,5 +1,6 @@
 -- What this crate's code keeps on the way, for its proofs. No public clause cites it, and nobody has to believe it.
 pub mod Sheets
 pub mod Shown
-pub mod Keeping
+pub mod KeptMarks
 pub mod MoveNotes
+pub mod MadeMoves

@@ -4,9 +4,14 @@
 mod ends;
 mod kept;
 mod line;
+mod marks;
 mod moves;
 mod names;
 mod notes;
+mod outcome;
 mod tracer;
+mod whole_history;
 
+pub use outcome::Outcome;
 pub use tracer::Tracer;
+pub use whole_history::follow;

@@ -1,14 +1,15 @@
 //! A line on its way to a sink.
 
-ghost use Rattle.std.specs.Prelude.{◌≡◌, ℕ, [], ◌++◌, take, Some, IfSome, OnOk, OnErr, decimal};
+ghost use Rattle.std.specs.Prelude.{◌≡◌, ℕ, false, [], ◌++◌, take, Some, IfOk, IfSome, OnOk, OnErr, decimal};
 ghost use Rattle.std.specs.Option.{is_none};
 ghost use Rattle.sig_base.specs.Faults.{HasRisen};
 ghost use Rattle.sig_base.specs.Sink.{GrowsBy};
 ghost use Rattle.std.specs.Fmt.{signed_decimal};
+ghost use Rattle.watch_trace.specs.Following.{settled_behind};
 ghost use Rattle.watch_trace.specs.Inner.Sheets.{sheet, Adds};
 
 use itoa::Buffer;
-use sig_base::{Failed, Sink, put};
+use sig_base::{Failed, NoMemory, Sink, put};
 use std::alloc::Global;
 use std::marker::Model;
 
@@ -28,14 +29,14 @@ impl Model for Line {
 }
 
 impl Line {
-    /// An empty line, which takes no memory.
-    pub fn new(alloc: Global) -> Line
-        ensures { result ≡ Some [] }
+    /// An empty line, with room for a short one.
+    pub fn begin(alloc: Global) -> Result<Line, NoMemory>
+        ensures { IfOk result (λ line. line ≡ Some []) }
     {
-        Line {
-            bytes: Vec::new(alloc),
+        Ok(Line {
+            bytes: Vec::with_capacity(alloc, 120)?,
             failed: false,
-        }
+        })
     }
 
     /// Begins an empty line, also after a failed call.
@@ -59,6 +60,8 @@ fn write_through<K: Sink>(waiting: &mut Vec<u8>, sink: &mut K, bytes: &[u8]) -> 
     ensures ok { OnOk result (waiting.new.items ≡ []) }
     ensures all { OnOk result (GrowsBy (K.written sink.old) (K.written sink.new) (waiting.old.items ++ bytes.now)) }
     ensures prefix { OnErr result ((n : ℕ) × GrowsBy (K.written sink.old) (K.written sink.new) (take n (waiting.old.items ++ bytes.now))) }
+    ensures settles { OnOk result (K.settled sink.new ≡ settled_behind (waiting.old.items ++ bytes.now) (K.settled sink.old)) }
+    ensures unsettled { OnErr result (K.settled sink.new ≡ false) }
     ensures steady { OnOk result (K.faults sink.new ≡ K.faults sink.old) }
     ensures failed { OnErr result (HasRisen (K.faults sink.old) (K.faults sink.new)) }
 {
@@ -69,7 +72,7 @@ fn write_through<K: Sink>(waiting: &mut Vec<u8>, sink: &mut K, bytes: &[u8]) -> 
 
 /// Puts bytes behind those that wait. Where memory for them is refused, all are written.
 pub fn put_bytes<K: Sink>(line: &mut Line, sink: &mut K, bytes: &[u8])
-    ensures { Adds (sheet K.written K.faults sink.old line.old) (sheet K.written K.faults sink.new line.new) bytes.now }
+    ensures { Adds (sheet K.written K.faults K.settled sink.old line.old) (sheet K.written K.faults K.settled sink.new line.new) bytes.now }
 {
     if line.failed || line.bytes.extend_from_slice(bytes).is_ok() {
         return;
@@ -79,7 +82,7 @@ pub fn put_bytes<K: Sink>(line: &mut Line, sink: &mut K, bytes: &[u8])
 
 /// Puts a number in decimal, without leading zeros.
 pub fn put_number<K: Sink>(line: &mut Line, sink: &mut K, number: u64)
-    ensures { Adds (sheet K.written K.faults sink.old line.old) (sheet K.written K.faults sink.new line.new) (decimal number) }
+    ensures { Adds (sheet K.written K.faults K.settled sink.old line.old) (sheet K.written K.faults K.settled sink.new line.new) (decimal number) }
 {
     let mut buffer = Buffer::new();
     put_bytes(line, sink, buffer.format(number).as_bytes());
@@ -87,7 +90,7 @@ pub fn put_number<K: Sink>(line: &mut Line, sink: &mut K, number: u64)
 
 /// Puts a number in decimal, with a `-` where it is below 0.
 pub fn put_signed<K: Sink>(line: &mut Line, sink: &mut K, number: i64)
-    ensures { Adds (sheet K.written K.faults sink.old line.old) (sheet K.written K.faults sink.new line.new) (signed_decimal number) }
+    ensures { Adds (sheet K.written K.faults K.settled sink.old line.old) (sheet K.written K.faults K.settled sink.new line.new) (signed_decimal number) }
 {
     let mut buffer = Buffer::new();
     put_bytes(line, sink, buffer.format(number).as_bytes());
@@ -95,7 +98,7 @@ pub fn put_signed<K: Sink>(line: &mut Line, sink: &mut K, number: i64)
 
 /// Ends a line: writes all that waits.
 pub fn end<K: Sink>(line: &mut Line, sink: &mut K)
-    ensures adds { Adds (sheet K.written K.faults sink.old line.old) (sheet K.written K.faults sink.new line.new) [] }
+    ensures adds { Adds (sheet K.written K.faults K.settled sink.old line.old) (sheet K.written K.faults K.settled sink.new line.new) [] }
     ensures whole { IfSome line.new (λ bytes. bytes ≡ []) }
 {
     if line.failed {

@@ -19,7 +19,7 @@ use sig_expr::State;
 
 /// Puts a truth value: 0 is false.
 fn put_truth<K: Sink>(line: &mut Line, sink: &mut K, value: i64)
-    ensures { Adds (sheet K.written K.faults sink.old line.old) (sheet K.written K.faults sink.new line.new) (initial_truth value) }
+    ensures { Adds (sheet K.written K.faults K.settled sink.old line.old) (sheet K.written K.faults K.settled sink.new line.new) (initial_truth value) }
 {
     if value == 0 {
         put_bytes(line, sink, b"false");
@@ -30,7 +30,7 @@ fn put_truth<K: Sink>(line: &mut Line, sink: &mut K, value: i64)
 
 /// Puts a value of a variable of this kind.
 fn put_value<K: Sink>(line: &mut Line, sink: &mut K, kind: Kind, value: i64)
-    ensures { Adds (sheet K.written K.faults sink.old line.old) (sheet K.written K.faults sink.new line.new) (value_text kind value) }
+    ensures { Adds (sheet K.written K.faults K.settled sink.old line.old) (sheet K.written K.faults K.settled sink.new line.new) (value_text kind value) }
 {
     match kind {
         Kind::Truth => put_truth(line, sink, value),
@@ -40,7 +40,7 @@ fn put_value<K: Sink>(line: &mut Line, sink: &mut K, kind: Kind, value: i64)
 
 /// Puts a comma and a value.
 fn put_next_value<K: Sink>(line: &mut Line, sink: &mut K, kind: Kind, value: i64)
-    ensures { Adds (sheet K.written K.faults sink.old line.old) (sheet K.written K.faults sink.new line.new) (codes "," ++ value_text kind value) }
+    ensures { Adds (sheet K.written K.faults K.settled sink.old line.old) (sheet K.written K.faults K.settled sink.new line.new) (codes "," ++ value_text kind value) }
 {
     put_bytes(line, sink, b",");
     put_value(line, sink, kind, value);
@@ -48,7 +48,7 @@ fn put_next_value<K: Sink>(line: &mut Line, sink: &mut K, kind: Kind, value: i64
 
 /// Puts values, each behind a comma.
 fn put_next_values<K: Sink>(line: &mut Line, sink: &mut K, kind: Kind, values: &[i64])
-    ensures { Adds (sheet K.written K.faults sink.old line.old) (sheet K.written K.faults sink.new line.new) (flat_map (λ y. codes "," ++ value_text kind y) values.now) }
+    ensures { Adds (sheet K.written K.faults K.settled sink.old line.old) (sheet K.written K.faults K.settled sink.new line.new) (flat_map (λ y. codes "," ++ value_text kind y) values.now) }
 {
     for value in values {
         put_next_value(line, sink, kind, *value);
@@ -57,7 +57,7 @@ fn put_next_values<K: Sink>(line: &mut Line, sink: &mut K, kind: Kind, values: &
 
 /// Puts values with a comma between two.
 fn put_values<K: Sink>(line: &mut Line, sink: &mut K, kind: Kind, values: &[i64])
-    ensures { Adds (sheet K.written K.faults sink.old line.old) (sheet K.written K.faults sink.new line.new) (values_text kind values.now) }
+    ensures { Adds (sheet K.written K.faults K.settled sink.old line.old) (sheet K.written K.faults K.settled sink.new line.new) (values_text kind values.now) }
 {
     let [first, rest @ ..] = values else {
         return;
@@ -68,7 +68,7 @@ fn put_values<K: Sink>(line: &mut Line, sink: &mut K, kind: Kind, values: &[i64]
 
 /// Puts a variable's name and its values.
 fn put_cells<K: Sink>(line: &mut Line, sink: &mut K, name: &[u8], kind: Kind, values: &[i64])
-    ensures { Adds (sheet K.written K.faults sink.old line.old) (sheet K.written K.faults sink.new line.new) (codes " " ++ name.now ++ codes "=" ++ values_text kind values.now) }
+    ensures { Adds (sheet K.written K.faults K.settled sink.old line.old) (sheet K.written K.faults K.settled sink.new line.new) (codes " " ++ name.now ++ codes "=" ++ values_text kind values.now) }
 {
     put_bytes(line, sink, b" ");
     put_bytes(line, sink, name);
@@ -78,7 +78,7 @@ fn put_cells<K: Sink>(line: &mut Line, sink: &mut K, name: &[u8], kind: Kind, va
 
 /// Puts the name and the values of the variable at a place.
 fn put_variable<K: Sink>(line: &mut Line, sink: &mut K, model: &Model, state: &State, var: usize)
-    ensures { Adds (sheet K.written K.faults sink.old line.old) (sheet K.written K.faults sink.new line.new) (cells_text (variable_at (graph_of model.now) var) (cells_of state.now var)) }
+    ensures { Adds (sheet K.written K.faults K.settled sink.old line.old) (sheet K.written K.faults K.settled sink.new line.new) (cells_text (variable_at (graph_of model.now) var) (cells_of state.now var)) }
 {
     match model.vars.as_slice().get(var) {
         Some(found) => put_cells(
@@ -94,7 +94,7 @@ fn put_variable<K: Sink>(line: &mut Line, sink: &mut K, model: &Model, state: &S
 
 /// Puts what a watched thing adds to a line.
 fn put_watched<K: Sink>(line: &mut Line, sink: &mut K, model: &Model, state: &State, watch: Watch)
-    ensures { Adds (sheet K.written K.faults sink.old line.old) (sheet K.written K.faults sink.new line.new) (shown (graph_of model.now) state.now (watched_of watch)) }
+    ensures { Adds (sheet K.written K.faults K.settled sink.old line.old) (sheet K.written K.faults K.settled sink.new line.new) (shown (graph_of model.now) state.now (watched_of watch)) }
 {
     match watch {
         Watch::Variable { var } => put_variable(line, sink, model, state, var),
@@ -104,7 +104,7 @@ fn put_watched<K: Sink>(line: &mut Line, sink: &mut K, model: &Model, state: &St
 
 /// Puts the values of all watched variables.
 fn put_all_watched<K: Sink>(line: &mut Line, sink: &mut K, model: &Model, state: &State)
-    ensures { Adds (sheet K.written K.faults sink.old line.old) (sheet K.written K.faults sink.new line.new)
+    ensures { Adds (sheet K.written K.faults K.settled sink.old line.old) (sheet K.written K.faults K.settled sink.new line.new)
         (watched_text (graph_of model.now) (map watched_of model.now.watch) (watched_values (map watched_of model.now.watch) state.now)) }
 {
     for watch in model.watch.as_slice() {
@@ -114,7 +114,7 @@ fn put_all_watched<K: Sink>(line: &mut Line, sink: &mut K, model: &Model, state:
 
 /// Puts the line of the note that the clock leaves this time.
 pub fn put_at<K: Sink>(line: &mut Line, sink: &mut K, model: &Model, state: &State, time: u64)
-    ensures { Adds (sheet K.written K.faults sink.old line.old) (sheet K.written K.faults sink.new line.new)
+    ensures { Adds (sheet K.written K.faults K.settled sink.old line.old) (sheet K.written K.faults K.settled sink.new line.new)
         (note_line (graph_of model.now) (At time (watched_values (map watched_of model.now.watch) state.now))) }
 {
     put_bytes(line, sink, b"at ");
@@ -132,7 +132,7 @@ pub fn put_on<K: Sink>(
     time: u64,
     place: usize,
 )
-    ensures { Adds (sheet K.written K.faults sink.old line.old) (sheet K.written K.faults sink.new line.new)
+    ensures { Adds (sheet K.written K.faults K.settled sink.old line.old) (sheet K.written K.faults K.settled sink.new line.new)
         (note_line (graph_of model.now) (On time place (watched_values (map watched_of model.now.watch) state.now))) }
 {
     put_bytes(line, sink, b"on ");

@@ -3,6 +3,8 @@ pub mod Models
 pub mod Left
 pub mod Moments
 pub mod Reductions
+pub mod ThreeRules
+pub mod ReachedVertices
 pub mod BoundedModel
 pub mod Pairs
 pub mod Texts

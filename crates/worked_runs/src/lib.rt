@@ -24,6 +24,7 @@ mod spellable;
 mod static_rules;
 mod stream;
 mod texts;
+mod three_rules;
 mod tokens;
 mod values;
 mod whole_texts;
@@ -65,6 +66,10 @@ pub use static_rules::{
 };
 pub use stream::{stream_gives, words_are_shared};
 pub use texts::{models_have_texts, operands_stand_in_parentheses};
+pub use three_rules::{
+    applications_have_lines, drop_has_conditions, ranges_refute_conditions, rules_come_in_order,
+    settle_has_conditions, three_rules_reduce, vertices_are_reached,
+};
 pub use tokens::{
     bad_bytes_have_places, blanks_and_comments_are_no_tokens, longest_tokens_are_taken,
     numbers_have_a_limit,

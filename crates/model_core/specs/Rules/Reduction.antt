@@ -1,15 +1,20 @@
 -- Reductions: where a rule is applied and what that gives, chains of applications, and the strategy.
 use Rattle.std.specs.Prelude.{◌≡◌, ℕ, zero, suc, ◌+◌, List, [], ◌∷◌, Option, Some, None, map}
-use Rattle.std.specs.Option.{option_map, option_map_or, option_and_then}
-use Rattle.model_core.specs.Text.Numbering.{declared_place}
+use Rattle.std.specs.Option.{option_map, option_map_or, option_and_then, option_or}
+use Rattle.model_core.specs.Text.Numbering.{declared_place, each_numbered}
 use Rattle.model_core.specs.EventGraph.{EventVertex, EventGraph}
 use Rattle.model_core.specs.Text.Canonical.{vertex_name}
 use Rattle.model_core.specs.Rules.Conditions.{first_failed}
 use Rattle.model_core.specs.Rules.Prune.{prune_conditions, pruned, first_prune}
+use Rattle.model_core.specs.Rules.Settle.{settle_conditions, settled, first_settle}
+use Rattle.model_core.specs.Rules.Reached.{unreached}
+use Rattle.model_core.specs.Rules.Drop.{drop_conditions, dropped}
 
--- a rule and where it is applied: the vertex by its name, the edge counted from 1
+-- a rule and where it is applied: vertices by their names, an edge of the vertex counted from 1
 pub data RuleApplication : Type 0 where
   Prune : List ℕ → ℕ → RuleApplication
+  Settle : List ℕ → ℕ → RuleApplication
+  Drop : List (List ℕ) → RuleApplication
 
 -- the place from 0 of the first vertex of this name
 abbrev pub place_of_vertex : List ℕ → List EventVertex → Option ℕ
@@ -24,16 +29,24 @@ from_zero (suc k) = Some k
 abbrev pub edge_named : EventGraph → List ℕ → ℕ → Option (ℕ × ℕ)
 edge_named g name number = option_and_then (λ vertex. option_map (λ edge. (vertex, edge)) (from_zero number)) (place_of_vertex name g.vertices)
 
+-- the places of the vertices of these names
+abbrev pub vertices_named : EventGraph → List (List ℕ) → Option (List ℕ)
+vertices_named g names = each_numbered (λ name. place_of_vertex name g.vertices) names
+
 -- ---- one application
 
 -- The number, from 1, of the first condition of the application that fails. Where its names and numbers name nothing
--- that the graph has, that is the one that they exist.
+-- that the graph has, that is the one that they exist, or of drop the one that they are the vertices to go.
 abbrev pub failed_condition : EventGraph → RuleApplication → Option ℕ
 failed_condition g (Prune name number) = option_map_or (λ (vertex, edge). first_failed (prune_conditions g vertex edge)) (edge_named g name number) (Some 1)
+failed_condition g (Settle name number) = option_map_or (λ (vertex, edge). first_failed (settle_conditions g vertex edge)) (edge_named g name number) (Some 1)
+failed_condition g (Drop names) = option_map_or (λ vertices. first_failed (drop_conditions g vertices)) (vertices_named g names) (Some 2)
 
 -- the result of an application
 abbrev pub result_of : EventGraph → RuleApplication → EventGraph
 result_of g (Prune name number) = option_map_or (λ (vertex, edge). pruned g vertex edge) (edge_named g name number) g
+result_of g (Settle name number) = option_map_or (λ (vertex, edge). settled g vertex edge) (edge_named g name number) g
+result_of g (Drop names) = option_map_or (λ vertices. dropped g vertices) (vertices_named g names) g
 
 -- the result, where no condition fails
 abbrev pub unless_failed : Option ℕ → EventGraph → Option EventGraph
@@ -57,9 +70,23 @@ first_bad g (a ∷ later) = option_map_or (λ next. option_map suc (first_bad ne
 
 -- ---- the strategy
 
--- the application that comes first, if a rule is applicable
+-- a rule of edges, applied at the edge at these places, if there is one
+abbrev pub at_edge : EventGraph → (List ℕ → ℕ → RuleApplication) → Option (ℕ × ℕ) → Option RuleApplication
+at_edge g rule places = option_map (λ (vertex, edge). rule (vertex_name g vertex) (edge + 1)) places
+
+-- the drop of these vertices, if there is one
+abbrev pub drop_of : EventGraph → List ℕ → Option RuleApplication
+drop_of g [] = None
+drop_of g (v ∷ vs) = Some (Drop (map (vertex_name g) (v ∷ vs)))
+
+-- the first that is given
+abbrev pub first_given : List (Option RuleApplication) → Option RuleApplication
+first_given [] = None
+first_given (o ∷ os) = option_or o (first_given os)
+
+-- the application that comes first, if a rule is applicable: the rules in their order, and each where it comes first
 abbrev pub first_rule : EventGraph → Option RuleApplication
-first_rule g = option_map (λ (vertex, edge). Prune (vertex_name g vertex) (edge + 1)) (first_prune g)
+first_rule g = first_given (at_edge g Prune (first_prune g) ∷ at_edge g Settle (first_settle g) ∷ drop_of g (unreached g) ∷ [])
 
 -- each application is the first rule of the graph that it meets, and the graph reached has no rule
 abbrev pub Strategy : EventGraph → List RuleApplication → EventGraph → Type 0

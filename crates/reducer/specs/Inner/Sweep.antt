@@ -1,32 +1,78 @@
--- What one sweep over the vertices of a graph prunes, and what it leaves: the code's way to the strategy's result.
-use Rattle.std.specs.Prelude.{ℕ, ◌+◌, Bool, true, false, not, List, [], ◌∷◌, map, filter}
+-- What one sweep of a rule over vertices applies, and what it leaves; and the drop behind the sweeps: the code's way to the
+-- strategy's result.
+use Rattle.std.specs.Prelude.{ℕ, ◌+◌, Bool, true, false, cond, List, [], ◌∷◌, map}
 use Rattle.std.specs.List.{flat_map}
 use Rattle.model_core.specs.EventGraph.{EventEdge, EventVertex, EventGraph}
-use Rattle.model_core.specs.Rules.Prune.{is_literal_false}
-use Rattle.model_core.specs.Rules.Reduction.{RuleApplication, Prune}
+use Rattle.model_core.specs.Rules.Settle.{unconditional}
+use Rattle.model_core.specs.Rules.Drop.{dropped}
+use Rattle.model_core.specs.Text.Canonical.{vertex_name}
+use Rattle.model_core.specs.Rules.Reduction.{RuleApplication, Prune, Settle, Drop}
+use Rattle.edge_pruning.specs.declared.finding.EdgeRule.{EdgeRule}
+use Rattle.edge_pruning.specs.declared.finding.EdgeRule.TheVariants as rules
+use Rattle.edge_pruning.specs.EdgeRules.{test_of}
 
 abbrev pub vertex_names : EventGraph → List (List ℕ)
 vertex_names g = map (λ (v : EventVertex). v.name) g.vertices
 
-abbrev pub is_kept : EventEdge → Bool
-is_kept e = not (is_literal_false e.condition)
+-- ---- one rule of edges
 
--- the vertex without its refuted edges
-abbrev pub swept_vertex : EventVertex → EventVertex
-swept_vertex v = record v { edges = filter is_kept v.edges }
+abbrev pub application_by : EdgeRule → List ℕ → ℕ → RuleApplication
+application_by rules.Prune name edge = Prune name edge
+application_by rules.Settle name edge = Settle name edge
 
--- the edge's prune where it is refuted, after so many edges that stay
-abbrev pub prunes_with : List ℕ → ℕ → Bool → (ℕ → List RuleApplication) → List RuleApplication
-prunes_with name kept true later = Prune name (kept + 1) ∷ later kept
-prunes_with name kept false later = later (kept + 1)
+-- the edges that stand where the rule was applied to an edge
+abbrev pub instead : EdgeRule → EventEdge → List EventEdge
+instead rules.Prune e = []
+instead rules.Settle e = unconditional e ∷ []
 
--- the prunes of a vertex's edges, after so many edges that stay
-abbrev pub prunes_after : List ℕ → ℕ → List EventEdge → List RuleApplication
-prunes_after name kept [] = []
-prunes_after name kept (e ∷ es) = prunes_with name kept (is_literal_false e.condition) (λ k. prunes_after name k es)
+-- how many these are
+abbrev pub width : EdgeRule → ℕ
+width rules.Prune = 0
+width rules.Settle = 1
 
-abbrev pub prunes_of : EventVertex → List RuleApplication
-prunes_of v = prunes_after v.name 0 v.edges
+-- what the sweep leaves of an edge
+abbrev pub left_of : EdgeRule → EventGraph → EventEdge → List EventEdge
+left_of rule g e = cond (test_of rule g e) (instead rule e) (e ∷ [])
 
-abbrev pub prunes_of_all : List EventVertex → List RuleApplication
-prunes_of_all vs = flat_map prunes_of vs
+abbrev pub swept_vertex : EdgeRule → EventGraph → EventVertex → EventVertex
+swept_vertex rule g v = record v { edges = flat_map (left_of rule g) v.edges }
+
+-- the application to an edge behind so many, where the rule applies, and those to the edges behind it
+abbrev pub applied_or_not : EdgeRule → List ℕ → ℕ → Bool → (ℕ → List RuleApplication) → List RuleApplication
+applied_or_not rule name before true later = application_by rule name (before + 1) ∷ later (before + width rule)
+applied_or_not rule name before false later = later (before + 1)
+
+-- the applications to a vertex's edges, behind so many
+abbrev pub applied_behind : EdgeRule → EventGraph → List ℕ → ℕ → List EventEdge → List RuleApplication
+applied_behind rule g name before [] = []
+applied_behind rule g name before (e ∷ es) = applied_or_not rule name before (test_of rule g e) (λ k. applied_behind rule g name k es)
+
+abbrev pub applied_to : EdgeRule → EventGraph → EventVertex → List RuleApplication
+applied_to rule g v = applied_behind rule g v.name 0 v.edges
+
+abbrev pub applied_to_all : EdgeRule → EventGraph → List EventVertex → List RuleApplication
+applied_to_all rule g vs = flat_map (applied_to rule g) vs
+
+-- ---- the drop
+
+abbrev pub drops : EventGraph → List ℕ → List RuleApplication
+drops g [] = []
+drops g (v ∷ vs) = Drop (map (vertex_name g) (v ∷ vs)) ∷ []
+
+abbrev pub left_by_drop : EventGraph → List ℕ → EventGraph
+left_by_drop g [] = g
+left_by_drop g (v ∷ vs) = dropped g (v ∷ vs)
+
+-- ---- one edge
+
+-- the condition is `true` where it is proved
+abbrev pub settled_edge : EventGraph → EventEdge → EventEdge
+settled_edge g e = cond (test_of rules.Settle g e) (unconditional e) e
+
+-- the application to an edge behind so many, where the rule applies
+abbrev pub application_here : EdgeRule → List ℕ → ℕ → Bool → List RuleApplication
+application_here rule name before applies = cond applies (application_by rule name (before + 1) ∷ []) []
+
+-- how many edges stand before the next one
+abbrev pub next_before : EdgeRule → ℕ → Bool → ℕ
+next_before rule before applies = before + cond applies (width rule) 1

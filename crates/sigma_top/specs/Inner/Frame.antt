@@ -1,7 +1,8 @@
 -- What the steps of a call say to one another: the text, the bytes, the answer, the job.
-use Rattle.std.specs.Prelude.{◌≡◌, ◌<◌, ◌⊎◌, ℕ, Bool, true, false, List, [], ◌∷◌, length, Option, None, Result, Ok, Err, IfSome}
+use Rattle.std.specs.Prelude.{◌≡◌, ◌<◌, ◌⊎◌, ℕ, true, false, List, length, Option, None, Result, Ok, Err, IfSome}
 use Rattle.sig_base.specs.Faults.{HasRisen}
 use Rattle.sig_base.specs.Sink.{GrowsBy}
+use Rattle.sig_base.specs.Source.{Stays}
 use Rattle.sigma_top.specs.declared.answer.Answer.{Answer}
 use Rattle.sigma_top.specs.declared.answer.Answer.TheVariants.{Given, Refused}
 use Rattle.sigma_top.specs.declared.delivering.Said.{Said}
@@ -28,18 +29,25 @@ TakesText limit (Err e) i j = ⊥
 
 -- ---- the bytes
 
--- writing some bytes leaves the output unsettled, and writing none changes nothing
-abbrev pub SettledAfter : List ℕ → Bool → Bool → Type 0
-SettledAfter [] old new = new ≡ old
-SettledAfter (b ∷ bytes) old new = new ≡ false
+-- what writing bytes at once did: writing some leaves the output unsettled
+abbrev pub Written : {K A : Type 0} → List ℕ → Result A Failure → Outlet K → Outlet K → Type 0
+Written bytes (Ok done) o p = GrowsBy o.written p.written bytes × (0 < length bytes → p.settled ≡ false) × (p.faults ≡ o.faults)
+Written bytes (Err failures.WriteFault) o p = GrowsByFront o p bytes × (p.settled ≡ false) × HasRisen o.faults p.faults
+Written bytes (Err e) o p = ⊥
 
--- These bytes are written, as they come or at once, and the end is known at last. What was begun isn't finished: that is
--- the next step.
-abbrev pub Streamed : {K A : Type 0} → A → List ℕ → Result A Failure → Outlet K → Outlet K → Type 0
-Streamed end bytes (Ok e) o p = (e ≡ end) × GrowsBy o.written p.written bytes × SettledAfter bytes o.settled p.settled × (p.faults ≡ o.faults)
-Streamed end bytes (Err failures.WriteFault) o p = GrowsByFront o p bytes × (p.settled ≡ false) × HasRisen o.faults p.faults
-Streamed end bytes (Err failures.NoMemory) o p = GrowsByFront o p bytes × (p.faults ≡ o.faults)
-Streamed end bytes (Err e) o p = ⊥
+-- What writing some bytes as they come did, of which the end is known at last. Memory may be refused behind a front of
+-- them where this is so.
+abbrev pub Streamed : {K : Type 0} → End → List ℕ → Type 0 → Result End Failure → Outlet K → Outlet K → Type 0
+Streamed end bytes Short (Ok e) o p = (e ≡ end) × GrowsBy o.written p.written bytes × (p.settled ≡ false) × (p.faults ≡ o.faults)
+Streamed end bytes Short (Err failures.WriteFault) o p = GrowsByFront o p bytes × (p.settled ≡ false) × HasRisen o.faults p.faults
+Streamed end bytes Short (Err failures.NoMemory) o p = ((p ≡ o) ⊎ (Short × GrowsByFront o p bytes)) × (p.faults ≡ o.faults)
+Streamed end bytes Short (Err e) o p = ⊥
+
+-- what finishing the output did, behind all of the bytes
+abbrev pub Closed : {K : Type 0} → End → Result Said Failure → Outlet K → Outlet K → Type 0
+Closed end (Ok (said.Gave e)) o p = (e ≡ end) × Stays o.written p.written × (p.settled ≡ true) × (p.faults ≡ o.faults)
+Closed end (Err failures.WriteFault) o p = Stays o.written p.written × (p.settled ≡ o.settled) × HasRisen o.faults p.faults
+Closed end r o p = ⊥
 
 -- ---- the answer, of which P holds
 
@@ -60,18 +68,22 @@ pub record BreaksOff {K : Type 0} (P : Answer → Type 0) (o p : Outlet K) : Typ
   pub unsettled : 0 < length bytes → p.settled ≡ false
   pub failed : HasRisen o.faults p.faults
 
--- Memory was refused; where the answer is streamed, it may be after a front of its bytes.
-pub record FallsShort {K : Type 0} (P : Answer → Type 0) (streamed : Bool) (o p : Outlet K) : Type 0 where
-  pub grown : (p ≡ o) ⊎ ((streamed ≡ true) × (end : End) × (bytes : List ℕ) × P (Given end bytes) × GrowsByFront o p bytes)
-  pub steady : p.faults ≡ o.faults
+-- memory was refused behind a front of them
+pub record StopsShort {K : Type 0} (P : Answer → Type 0) (Short : Type 0) (o p : Outlet K) : Type 0 where
+  pub end : End
+  pub bytes : List ℕ
+  pub answers : P (Given end bytes)
+  pub short : Short
+  pub grown : GrowsByFront o p bytes
 
--- what delivering the answer, as it came or at once, did to the output
-abbrev pub Answering : {K : Type 0} → (Answer → Type 0) → Bool → Result Said Failure → Outlet K → Outlet K → Type 0
-Answering P streamed (Ok (said.Gave end)) o p = Delivers P end o p
-Answering P streamed (Ok (said.Refused why line)) o p = P (Refused why line) × (p ≡ o)
-Answering P streamed (Err failures.WriteFault) o p = BreaksOff P o p
-Answering P streamed (Err failures.NoMemory) o p = FallsShort P streamed o p
-Answering P streamed (Err e) o p = ⊥
+-- What delivering the answer, as it came or at once, did to the output. Memory may be refused behind a front of the
+-- answer where the last fact holds.
+abbrev pub Answering : {K : Type 0} → (Answer → Type 0) → Type 0 → Result Said Failure → Outlet K → Outlet K → Type 0
+Answering P Short (Ok (said.Gave end)) o p = Delivers P end o p
+Answering P Short (Ok (said.Refused why line)) o p = P (Refused why line) × (p ≡ o)
+Answering P Short (Err failures.WriteFault) o p = BreaksOff P o p
+Answering P Short (Err failures.NoMemory) o p = ((p ≡ o) ⊎ StopsShort P Short o p) × (p.faults ≡ o.faults)
+Answering P Short (Err e) o p = ⊥
 
 -- ---- the job, and the words
 
@@ -85,6 +97,7 @@ Performs job (Err failures.NoMemory) i j o p = LacksMemory job i j o p
 Performs job (Err failures.Usage) i j o p = ⊥
 
 -- what doing the job of the words did
-abbrev pub Runs : {S K : Type 0} → List (List ℕ) → Result Said Failure → Inlet S → Inlet S → Outlet K → Outlet K → Type 0
-Runs words (Err failures.Usage) i j o p = (job_of words ≡ None) × (j ≡ i) × (p ≡ o)
-Runs words result i j o p = ForJob words (λ job. Performs job result i j o p)
+abbrev pub Serves : {S K : Type 0} → List (List ℕ) → Result Said Failure → Inlet S → Inlet S → Outlet K → Outlet K → Type 0
+Serves words (Err failures.Usage) i j o p = (job_of words ≡ None) × (j ≡ i) × (p ≡ o)
+Serves words (Err failures.NoMemory) i j o p = ((j ≡ i) × (p ≡ o)) ⊎ ForJob words (λ job. Performs job (Err failures.NoMemory) i j o p)
+Serves words result i j o p = ForJob words (λ job. Performs job result i j o p)

@@ -1,6 +1,5 @@
-use Rattle.reducer.proofs.DistinctNames.{vertices_distinct}
-use Rattle.reducer.proofs.SweepIsStrategy.{sweep_is_strategy}
+use Rattle.reducer.proofs.WholeStrategy.{whole_strategy}
 use Rattle.reducer.proofs.strategy_law.strategies_end.Goals as goal
 
 pub returns : goal.returns
-returns c = λ g valid. (_, _, sweep_is_strategy g (vertices_distinct g valid))
+returns c = λ g valid. (_, _, whole_strategy (record { chain_valid = c.chains_keep_the_meaning.ensures.valid; all_reached = c.dropping_keeps_the_meaning.ensures.all_reached }) g valid)

@@ -3,7 +3,11 @@ use Rattle.reduction_cert.proofs.chain_law.chains_keep_the_meaning.Goals as goal
 
 pub returns : goal.returns
 returns c =
-    let laws : Laws = record { prune_valid = c.pruning_keeps_the_meaning.ensures.valid; prune_same = c.pruning_keeps_the_meaning.ensures.same } in
+    let laws : Laws = record {
+      prune = record { valid = λ g (vertex, edge). c.pruning_keeps_the_meaning.ensures.valid g vertex edge; same = λ g (vertex, edge). c.pruning_keeps_the_meaning.ensures.same g vertex edge };
+      settle = record { valid = λ g (vertex, edge). c.settling_keeps_the_meaning.ensures.valid g vertex edge; same = λ g (vertex, edge). c.settling_keeps_the_meaning.ensures.same g vertex edge };
+      drop = record { valid = c.dropping_keeps_the_meaning.ensures.valid; same = c.dropping_keeps_the_meaning.ensures.same };
+    } in
     record {
       one_valid = λ g h a valid made. (applied-keeps laws g h a valid made).valid;
       one_same = λ g h a valid made. (applied-keeps laws g h a valid made).same;

@@ -1,7 +1,7 @@
 use Rattle.std.specs.Prelude.{map}
 use Rattle.std.specs.String.{string_bytes}
 use Rattle.sigma_top.specs.Delivery.{inlet, outlet}
-use Rattle.sigma_top.proofs.TopCall.{reduced_means, complete}
+use Rattle.sigma_top.proofs.TopCall.{within_room, reduced_means, complete}
 use Rattle.sigma_top.proofs.frame.sigma.Goals as goal
 
 pub returns-clause-complete : goal.returns-clause-complete
@@ -11,6 +11,14 @@ returns-clause-complete g c = λ job asked read wrote.
     (outlet g.K.Sink.written g.K.Sink.faults g.K.Sink.settled c.args.output.now) (outlet g.K.Sink.written g.K.Sink.faults g.K.Sink.settled c.work.new.output)
     (outlet g.E.Sink.written g.E.Sink.faults g.E.Sink.settled c.args.errors.now) (outlet g.E.Sink.written g.E.Sink.faults g.E.Sink.settled c.work.new.errors)
     job asked read wrote c.work.result c.work.ensures
+
+pub returns-clause-within_room : goal.returns-clause-within_room
+returns-clause-within_room g c = λ until seed events starts room asked is_short.
+    within_room (map string_bytes c.args.words.now)
+    (inlet g.S.Source.left g.S.Source.faults c.args.input.now) (inlet g.S.Source.left g.S.Source.faults c.work.new.input)
+    (outlet g.K.Sink.written g.K.Sink.faults g.K.Sink.settled c.args.output.now) (outlet g.K.Sink.written g.K.Sink.faults g.K.Sink.settled c.work.new.output)
+    (outlet g.E.Sink.written g.E.Sink.faults g.E.Sink.settled c.args.errors.now) (outlet g.E.Sink.written g.E.Sink.faults g.E.Sink.settled c.work.new.errors)
+    until seed events starts room asked c.work.result c.work.ensures is_short
 
 pub returns-clause-reduced : goal.returns-clause-reduced
 returns-clause-reduced g c = λ asked is_done.

@@ -1,4 +1,4 @@
-use Rattle.watch_trace.proofs.Sheets.{two}
+use Rattle.watch_trace.proofs.AddedTexts.{two}
 use Rattle.watch_trace.proofs.ends.put_number_line.Goals as goal
 
 pub returns : goal.returns

@@ -1,0 +1,62 @@
+-- Where the vertices that can't be reached are gone, all others can be reached.
+use Rattle.std.proofs.Common.{◌≡◌, ℕ, zero, suc, ◌+◌, ◌<◌, Bool, true, false, not, cond, List, [], ◌∷◌, length, map, refl, sym, ap, subst, arith, ◌∙◌}
+use Rattle.std.specs.Prelude.{filter}
+use Rattle.std.specs.List.{range_with_len}
+use Rattle.std.proofs.lemmas.List.{length-map}
+use Rattle.model_core.specs.EventGraph.{EventGraph, EventVertex, EventEdge, WatchedVertex}
+use Rattle.model_core.specs.Run.Step.{no_vertex, vertex_at}
+use Rattle.model_core.specs.Rules.MarkedPlaces.{rank, marked_of, is_marked, unmarked_places}
+use Rattle.model_core.specs.Rules.Reached.{Reachable, reach_first, reach_watched, reach_over, reached_marks, unreached}
+use Rattle.model_core.specs.Rules.Drop.{edge_renumbered, vertex_renumbered, watched_renumbered, only_marked}
+use Rattle.model_core.proofs.Marks.{Marked, marked-placed}
+use Rattle.edge_pruning.proofs.Among.{Among, among-contained, contained-among, among-map, of-among}
+use Rattle.edge_pruning.proofs.ReachedMarks.{has_edges, reachable-marked, reached_marks-hold, reached_marks-long, reached_marks-reachable}
+use Rattle.edge_pruning.proofs.DropSame.{at-map, rank-zero, NamesVertices}
+
+-- each place of what is left is the new place of a marked one
+old_place : {A : Type 0} (marks : List Bool) (xs : List A) (i : ℕ) → i < length (marked_of marks xs) → (k : ℕ) × Marked marks k × (rank marks k ≡ i) × (k < length xs)
+old_place [] xs i below = absurd (omega arith)
+old_place (b ∷ bs) [] i below = absurd (omega arith)
+old_place (true ∷ bs) (x ∷ xs) zero below = (zero, refl, refl, omega arith)
+old_place (true ∷ bs) (x ∷ xs) (suc i) below = let (k, marked, e, within) = old_place bs xs i (omega arith) in (suc k, marked, ap suc e, omega arith)
+old_place (false ∷ bs) (x ∷ xs) i below = let (k, marked, e, within) = old_place bs xs i below in (suc k, marked, e, omega arith)
+
+none_unmarked : (marks : List Bool) → ((k : ℕ) → k < length marks → Marked marks k) → unmarked_places marks ≡ []
+none_unmarked marks all = from 0 (length marks) (omega arith) where
+  from : (a n : ℕ) → a + n ≡ length marks → filter (λ k. not (is_marked marks k)) (range_with_len a n) ≡ []
+  from a zero e = refl
+  from a (suc n) e =
+      ap (λ b. cond (not b) (a ∷ filter (λ k. not (is_marked marks k)) (range_with_len (a + 1) n)) (filter (λ k. not (is_marked marks k)) (range_with_len (a + 1) n))) (all a (omega (arith, e)))
+      ∙ from (a + 1) n (omega (arith, e))
+
+module _ (g : EventGraph) (names : NamesVertices g) where
+  abbrev marks : List Bool
+  marks = reached_marks g
+
+  abbrev h : EventGraph
+  h = only_marked g marks
+
+  target_within : (k : ℕ) (e : EventEdge) → Among e (vertex_at g k).edges → e.target < length g.vertices
+  target_within k e among = of-among (λ (e : EventEdge). e.target < length g.vertices) (vertex_at g k).edges e (names.edges k) among
+
+  edges_there : (k : ℕ) → Marked marks k → (vertex_at h (rank marks k)).edges ≡ map (edge_renumbered (rank marks)) (vertex_at g k).edges
+  edges_there k marked =
+      ap (λ (v : EventVertex). v.edges) (at-map (vertex_renumbered (rank marks)) (marked_of marks g.vertices) (rank marks k) no_vertex ∙ ap (vertex_renumbered (rank marks)) (marked-placed marks g.vertices k no_vertex marked))
+
+  -- what could be reached can be reached at its new place
+  still_reachable : {k : ℕ} → Reachable g k → Reachable h (rank marks k)
+  still_reachable reach_first = subst (Reachable h) (sym (rank-zero marks)) reach_first
+  still_reachable (reach_watched vertex contains) =
+      reach_watched (rank marks vertex) (contained-among h.watch (WatchedVertex (rank marks vertex)) (among-map (watched_renumbered (rank marks)) g.watch (WatchedVertex vertex) (among-contained g.watch (WatchedVertex vertex) contains)))
+  still_reachable (reach_over vertex e before contains) =
+      let among = among-contained (vertex_at g vertex).edges e contains in
+      let marked : Marked marks vertex = reachable-marked g marks (reached_marks-hold g) before (has_edges g.vertices vertex e among) in
+      reach_over (rank marks vertex) (edge_renumbered (rank marks) e) (still_reachable before)
+      (contained-among (vertex_at h (rank marks vertex)).edges (edge_renumbered (rank marks) e)
+      (subst (λ (es : List EventEdge). Among (edge_renumbered (rank marks) e) es) (sym (edges_there vertex marked)) (among-map (edge_renumbered (rank marks)) (vertex_at g vertex).edges e among)))
+
+  pub all_reached : unreached (only_marked g (reached_marks g)) ≡ []
+  all_reached = none_unmarked (reached_marks h) (λ i below.
+      let within : i < length h.vertices = omega (arith, below, reached_marks-long h) in
+      let (k, marked, e, old) = old_place marks g.vertices i (omega (arith, within, length-map (marked_of marks g.vertices) (vertex_renumbered (rank marks)))) in
+      subst (λ i. Marked (reached_marks h) i) e (reachable-marked h (reached_marks h) (reached_marks-hold h) (still_reachable (reached_marks-reachable g k marked)) (subst (λ i. i < length h.vertices) (sym e) within)))

@@ -1,0 +1,108 @@
+-- Taking an edge away and making its condition `true` lessen edges; what their conditions give on a valid model.
+use Rattle.std.proofs.Common.{◌≡◌, ℕ, zero, suc, ◌≤◌, ◌+◌, Bool, true, false, ◌&&◌, IsTrue, All, List, [], ◌∷◌, ◌++◌, length, slice_get, Option, Some, None, is_some, refl, sym, ◌∙◌, ap, ap₂, arith}
+use Rattle.std.specs.Prelude.{codes}
+use Rattle.std.specs.List.{AllByRecursion, remove}
+use Rattle.std.specs.Option.{option_map_or, option_and_then}
+use Rattle.model_core.specs.EventGraph.{EventGraph, EventVertex, EventEdge, Variable}
+use Rattle.model_core.specs.Run.State.{within, in_range, initial_state}
+use Rattle.model_core.specs.Text.Canonical.{edge_line, edge_word, vertex_name, in_parentheses, expression_texts, timing_text, condition_text}
+use Rattle.model_core.specs.Text.Spellable.{Extent, SpellableEdge, expression_openings, values_openings, kind_openings}
+use Rattle.model_core.specs.Static.OwnRules.{KeepsVariable, KeepsEdge, KeepsVertex, parameters_of, KeepsParts}
+use Rattle.model_core.specs.Rules.Conditions.{first_failed}
+use Rattle.model_core.specs.Rules.BoundsOf.{bounds_of, refuted, proved}
+use Rattle.model_core.specs.Rules.PlacedEdges.{edge_at, with_place}
+use Rattle.model_core.specs.Rules.Prune.{has_refuted_condition, prune_conditions}
+use Rattle.model_core.specs.Rules.Settle.{is_conditional, has_proved_condition, settle_conditions, unconditional}
+use Rattle.model_core.proofs.InRange.{starts_in_range}
+use Rattle.model_core.proofs.Soundness.Ends.{of_le}
+use Rattle.model_core.proofs.StaticTwins.DeclaredNames.{every_item}
+use Rattle.edge_pruning.proofs.ListsChanged.{all_remove, length-remove-le, length-with_place, all_with_place}
+use Rattle.edge_pruning.proofs.Shorter.{NoLonger, behind, before, nothing, same_length, lines_remove, lines_with_place}
+use Rattle.edge_pruning.proofs.OneVertexChanged.{Lessens}
+
+-- ---- one edge fewer
+
+pub remove_lessens : (edge : ℕ) → Lessens (λ es. remove es edge)
+remove_lessens edge = record {
+  no_more_edges = λ es. length-remove-le es edge;
+  keeps_rules = λ variables tables takes es keep. all_remove (KeepsEdge variables tables takes) es edge keep;
+  spellable = λ x es s. all_remove (SpellableEdge x) es edge s;
+  lines = λ g es. lines_remove (edge_line g) es edge;
+}
+
+-- ---- the condition `true`
+
+keeps_unconditional : (variables : List Variable) (tables : ℕ) (takes : List (List ℕ)) (e : EventEdge) → KeepsEdge variables tables takes e → KeepsEdge variables tables takes (unconditional e)
+keeps_unconditional variables tables takes e k = record { parameters = k.parameters; target = k.target; carries = k.carries; timing = k.timing; condition = refl }
+
+fewer_openings : (a b c limit : ℕ) → a + (b + c) ≤ limit → a + (b + 0) ≤ limit
+fewer_openings a b c limit h = omega arith
+
+spellable_unconditional : (x : Extent) (e : EventEdge) → SpellableEdge x e → SpellableEdge x (unconditional e)
+spellable_unconditional x e s = record {
+  target = s.target;
+  values = s.values;
+  carries = s.carries;
+  kind = s.kind;
+  condition = tt;
+  few_openings = fewer_openings (values_openings e.values) (kind_openings e.kind) (expression_openings e.condition) _ s.few_openings;
+}
+
+unconditional_shorter : (g : EventGraph) (e : EventEdge) → NoLonger (edge_line g (unconditional e)) (edge_line g e)
+unconditional_shorter g e =
+    before (codes ";\n") (behind (edge_word e.kind ++ vertex_name g e.target ++ in_parentheses (expression_texts g e.values) ++ timing_text g e.kind) (nothing (condition_text g e.condition)))
+
+same_at_least : (k n : ℕ) → k ≡ n → k ≤ n
+same_at_least k n e = omega (arith, e)
+
+pub settle_lessens : (edge : ℕ) → Lessens (with_place unconditional edge)
+settle_lessens edge = record {
+  no_more_edges = λ es. same_at_least _ _ (length-with_place unconditional edge es);
+  keeps_rules = λ variables tables takes es keep. all_with_place (KeepsEdge variables tables takes) unconditional (keeps_unconditional variables tables takes) edge es keep;
+  spellable = λ x es s. all_with_place (SpellableEdge x) unconditional (spellable_unconditional x) edge es s;
+  lines = λ g es. lines_with_place (edge_line g) (edge_line g) unconditional (unconditional_shorter g) (λ e. same_length _ _ refl) edge es;
+}
+
+-- ---- where no condition of a rule fails
+
+both_hold : (a b : Bool) → first_failed (a ∷ b ∷ []) ≡ None → (a ≡ true) × (b ≡ true)
+both_hold true true none = (refl, refl)
+both_hold true false none = cc
+both_hold false b none = cc
+
+all_hold : (a b c : Bool) → first_failed (a ∷ b ∷ c ∷ []) ≡ None → (a ≡ true) × (b ≡ true) × (c ≡ true)
+all_hold true true true none = (refl, refl, refl)
+all_hold true true false none = cc
+all_hold true false c none = cc
+all_hold false b c none = cc
+
+passes_test : (test : EventEdge → Bool) (o : Option EventEdge) (e : EventEdge) → option_map_or test o false ≡ true → o ≡ Some e → test e ≡ true
+passes_test test o e passes is = ap (λ o. option_map_or test o false) (sym is) ∙ passes
+
+pub pruned_is_refuted : (g : EventGraph) (vertex edge : ℕ) → first_failed (prune_conditions g vertex edge) ≡ None → (e : EventEdge) → edge_at g vertex edge ≡ Some e → refuted (bounds_of g e.condition) ≡ true
+pruned_is_refuted g vertex edge none e is = passes_test (has_refuted_condition g) (edge_at g vertex edge) e (both_hold (is_some (edge_at g vertex edge)) (option_map_or (has_refuted_condition g) (edge_at g vertex edge) false) none).1 is
+
+pub settled_is_proved : (g : EventGraph) (vertex edge : ℕ) → first_failed (settle_conditions g vertex edge) ≡ None → (e : EventEdge) → edge_at g vertex edge ≡ Some e → proved (bounds_of g e.condition) ≡ true
+settled_is_proved g vertex edge none e is =
+    passes_test (has_proved_condition g) (edge_at g vertex edge) e (all_hold (is_some (edge_at g vertex edge)) (option_map_or is_conditional (edge_at g vertex edge) false) (option_map_or (has_proved_condition g) (edge_at g vertex edge) false) none).2 is
+
+-- ---- a model that keeps the rules
+
+found_edge : (o : Option EventVertex) (edge : ℕ) (e : EventEdge) → option_and_then (λ (v : EventVertex). slice_get v.edges edge) o ≡ Some e → (v : EventVertex) × (o ≡ Some v) × (slice_get v.edges edge ≡ Some e)
+found_edge None edge e is = cc
+found_edge (Some v) edge e is = (v, refl, is)
+
+-- each of its edges keeps them
+pub edge_keeps : (g : EventGraph) (vertex edge : ℕ) (e : EventEdge) → KeepsParts g → edge_at g vertex edge ≡ Some e → KeepsEdge g.variables (length g.tables) (parameters_of g) e
+edge_keeps g vertex edge e k is =
+    let (v, there, is_it) = found_edge (slice_get g.vertices vertex) edge e is in
+    every_item (KeepsEdge g.variables (length g.tables) (parameters_of g)) v.edges edge e (every_item (KeepsVertex g.variables (length g.tables) (parameters_of g)) g.vertices vertex v k.vertices there).edges is_it
+
+begins_within : (vs : List Variable) → AllByRecursion KeepsVariable vs → All (λ v. IsTrue (within v.lo v.hi v.initial)) vs
+begins_within [] keep k d below = absurd (omega arith)
+begins_within (v ∷ vs) keep zero d below = ap₂ (λ a b. a && b) (of_le v.lo v.initial keep.0.from_lo) (of_le v.initial v.hi keep.0.to_hi)
+begins_within (v ∷ vs) keep (suc k) d below = begins_within vs keep.1 k d (omega arith)
+
+-- its runs begin in range
+pub begins_in_range : (g : EventGraph) → KeepsParts g → IsTrue (in_range g (initial_state g))
+begins_in_range g k = starts_in_range g (begins_within g.variables k.variables)

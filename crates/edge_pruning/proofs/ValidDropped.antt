@@ -1,0 +1,354 @@
+-- The graph of the marked vertices keeps the static rules, can be written, and has no longer text, where the marks hold what
+-- is reached.
+use Rattle.std.proofs.Common.{◌≡◌, inl, inr, ℕ, zero, suc, ◌+◌, ◌<◌, ◌≤◌, ◌==◌, nat_eq, Bool, true, false, List, [], ◌∷◌, ◌++◌, map, length, slice_get, slice_index_or, Option, Contains, refl, sym, ap, ap₂, subst, arith, ◌∙◌}
+use Rattle.std.specs.Prelude.{codes}
+use Rattle.std.specs.List.{AllByRecursion, flat_map, IsDistinct}
+use Rattle.std.specs.Option.{option_map_or}
+use Rattle.std.proofs.lemmas.Bool.Decides.{nat_tests}
+use Rattle.std.proofs.lemmas.List.{length-map}
+use Rattle.sig_base.specs.declared.limits.TheConstants.{EDGES_MAX}
+use Rattle.model_core.specs.EventGraph.{EventGraph, EventVertex, EventEdge, EdgeKind, Schedule, Urgent, CancelNext, CancelEqual, CancelAll, StateChange, Set, Draw, Uniform, ByTable, Expression, Variable, WeightTable, Watched, WatchedVariable, WatchedVertex}
+use Rattle.model_core.specs.Run.Step.{no_vertex, vertex_at}
+use Rattle.model_core.specs.Text.Lexing.{same_bytes}
+use Rattle.model_core.specs.Text.Canonical.{vertex_name, vertex_lines, variable_name, change_line, edge_line, edge_word, expression_texts, timing_text, condition_text, in_parentheses, variable_line, table_line, watched_name, watch_names_line, watch_line, canonical}
+use Rattle.model_core.specs.Text.Spellable.{HasOne, Extent, extent, SpellableEdge, SpellableVertex, SpellableWatched, IsSpellable}
+use Rattle.model_core.specs.Static.OwnRules.{TakeCarried, KeepsChange, CarriesValues, KeepsTiming, KeepsEdge, KeepsVertex, IsWatchable, watch_number, parameters_of, KeepsParts, KeepsStaticRules}
+use Rattle.model_core.specs.Rules.MarkedPlaces.{rank, marked_of}
+use Rattle.model_core.specs.Rules.Drop.{edge_renumbered, vertex_renumbered, watched_renumbered, only_marked}
+use Rattle.model_core.proofs.Marks.{Marked, rank-apart}
+use Rattle.round_trip.proofs.MadeAgain.{VertexFrom, EdgeFrom, ChangeFrom, made-spellable, same_change, same_edge}
+use Rattle.edge_pruning.proofs.Among.{Among, contained-among, of-among, each-among}
+use Rattle.edge_pruning.proofs.MarksBelow.{marked-among}
+use Rattle.edge_pruning.proofs.DropMarks.{marked_of-map}
+use Rattle.edge_pruning.proofs.Shorter.{NoLonger, behind, before, no_more, same_length, both_shorter}
+use Rattle.edge_pruning.proofs.ReachedMarks.{watched-begins, HoldReached}
+use Rattle.edge_pruning.proofs.DropSame.{NamesVertices}
+
+-- ---- marked elements
+
+rank-within : {A : Type 0} (marks : List Bool) (xs : List A) (k : ℕ) → Marked marks k → k < length xs → rank marks k < length (marked_of marks xs)
+rank-within [] xs k marked below = cc
+rank-within (b ∷ bs) [] k marked below = absurd (omega arith)
+rank-within (true ∷ bs) (x ∷ xs) zero marked below = omega arith
+rank-within (false ∷ bs) (x ∷ xs) zero marked below = cc
+rank-within (true ∷ bs) (x ∷ xs) (suc k) marked below = omega (arith, rank-within bs xs k marked (omega arith))
+rank-within (false ∷ bs) (x ∷ xs) (suc k) marked below = rank-within bs xs k marked (omega arith)
+
+get-marked : {A : Type 0} (marks : List Bool) (xs : List A) (k : ℕ) → Marked marks k → slice_get (marked_of marks xs) (rank marks k) ≡ slice_get xs k
+get-marked [] xs k marked = cc
+get-marked (b ∷ bs) [] k marked = refl
+get-marked (true ∷ bs) (x ∷ xs) zero marked = refl
+get-marked (false ∷ bs) (x ∷ xs) zero marked = cc
+get-marked (true ∷ bs) (x ∷ xs) (suc k) marked = get-marked bs xs k marked
+get-marked (false ∷ bs) (x ∷ xs) (suc k) marked = get-marked bs xs k marked
+
+marked-few : {A : Type 0} (marks : List Bool) (xs : List A) → length (marked_of marks xs) ≤ length xs
+marked-few [] xs = omega arith
+marked-few (b ∷ bs) [] = omega arith
+marked-few (true ∷ bs) (x ∷ xs) = omega (arith, marked-few bs xs)
+marked-few (false ∷ bs) (x ∷ xs) = omega (arith, marked-few bs xs)
+
+all-marked : {A : Type 0} (P : A → Type 0) (marks : List Bool) (xs : List A) → AllByRecursion P xs → AllByRecursion P (marked_of marks xs)
+all-marked P [] xs all = tt
+all-marked P (b ∷ bs) [] all = tt
+all-marked P (true ∷ bs) (x ∷ xs) all = (all.0, all-marked P bs xs all.1)
+all-marked P (false ∷ bs) (x ∷ xs) all = all-marked P bs xs all.1
+
+distinct-marked : {A : Type 0} (same : A → A → Bool) (marks : List Bool) (xs : List A) → IsDistinct same xs → IsDistinct same (marked_of marks xs)
+unfolding IsDistinct
+distinct-marked same [] xs distinct = tt
+distinct-marked same (b ∷ bs) [] distinct = tt
+distinct-marked same (true ∷ bs) (x ∷ xs) distinct = (all-marked (λ y. same x y ≡ false) bs xs distinct.0, distinct-marked same bs xs distinct.1)
+distinct-marked same (false ∷ bs) (x ∷ xs) distinct = distinct-marked same bs xs distinct.1
+
+all-behind : {A : Type 0} (P : A → Type 0) (front : List A) (marks : List Bool) (xs : List A) → AllByRecursion P (front ++ xs) → AllByRecursion P (front ++ marked_of marks xs)
+all-behind P [] marks xs all = all-marked P marks xs all
+all-behind P (x ∷ front) marks xs all = (all.0, all-behind P front marks xs all.1)
+
+distinct-behind : {A : Type 0} (same : A → A → Bool) (front : List A) (marks : List Bool) (xs : List A) → IsDistinct same (front ++ xs) → IsDistinct same (front ++ marked_of marks xs)
+unfolding IsDistinct
+distinct-behind same [] marks xs distinct = distinct-marked same marks xs distinct
+distinct-behind same (x ∷ front) marks xs distinct = (all-behind (λ y. same x y ≡ false) front marks xs distinct.0, distinct-behind same front marks xs distinct.1)
+
+lines-marked : {A : Type 0} (old new : A → List ℕ) (marks : List Bool) (xs : List A) → ((x : A) → Among x (marked_of marks xs) → new x ≡ old x) → NoLonger (flat_map new (marked_of marks xs)) (flat_map old xs)
+lines-marked old new [] xs same = record { at_most = omega arith }
+lines-marked old new (b ∷ bs) [] same = record { at_most = omega arith }
+lines-marked old new (true ∷ bs) (x ∷ xs) same = both_shorter (same_length (new x) (old x) (same x (inl refl))) (lines-marked old new bs xs (λ y there. same y (inr there)))
+lines-marked old new (false ∷ bs) (x ∷ xs) same = both_shorter (let e : NoLonger [] (old x) = record { at_most = omega arith } in e) (lines-marked old new bs xs same)
+
+all-map : {A B : Type 0} (P : B → Type 0) (f : A → B) (xs : List A) → ((x : A) → Among x xs → P (f x)) → AllByRecursion P (map f xs)
+all-map P f [] each = tt
+all-map P f (x ∷ xs) each = (each x (inl refl), all-map P f xs (λ y there. each y (inr there)))
+
+all-contained : {A : Type 0} (xs : List A) → AllByRecursion (Contains xs) xs
+all-contained xs = each-among (Contains xs) xs (λ x there. contained-among xs x there)
+
+map-alike : {A B : Type 0} (f h : A → B) (xs : List A) → ((x : A) → Among x xs → f x ≡ h x) → map f xs ≡ map h xs
+map-alike f h [] same = refl
+map-alike f h (x ∷ xs) same = ap₂ (λ y ys. y ∷ ys) (same x (inl refl)) (map-alike f h xs (λ y there. same y (inr there)))
+
+map-map : {A B C : Type 0} (f : A → B) (h : B → C) (xs : List A) → map h (map f xs) ≡ map (λ x. h (f x)) xs
+map-map f h [] = refl
+map-map f h (x ∷ xs) = ap (λ ys. h (f x) ∷ ys) (map-map f h xs)
+
+flat_map-map : {A B C : Type 0} (f : A → B) (h : B → List C) (xs : List A) → flat_map h (map f xs) ≡ flat_map (λ x. h (f x)) xs
+flat_map-map f h [] = refl
+flat_map-map f h (x ∷ xs) = ap (λ ys. h (f x) ++ ys) (flat_map-map f h xs)
+
+flat_map-alike : {A C : Type 0} (f h : A → List C) (xs : List A) → ((x : A) → Among x xs → f x ≡ h x) → flat_map f xs ≡ flat_map h xs
+flat_map-alike f h [] same = refl
+flat_map-alike f h (x ∷ xs) same = ap₂ (λ y ys. y ++ ys) (same x (inl refl)) (flat_map-alike f h xs (λ y there. same y (inr there)))
+
+among-of_marked : {A : Type 0} (marks : List Bool) (xs : List A) (x : A) → Among x (marked_of marks xs) → Among x xs
+among-of_marked [] xs x h = absurd h
+among-of_marked (b ∷ bs) [] x h = absurd h
+among-of_marked (true ∷ bs) (y ∷ xs) x (inl e) = inl e
+among-of_marked (true ∷ bs) (y ∷ xs) x (inr h) = inr (among-of_marked bs xs x h)
+among-of_marked (false ∷ bs) (y ∷ xs) x h = inr (among-of_marked bs xs x h)
+
+shown-map : {A B : Type 0} (n : A → B) (f : A → A) (d : B) → ((x : A) → n (f x) ≡ n x) → (xs : List A) (k : ℕ) → option_map_or n (slice_get (map f xs) k) d ≡ option_map_or n (slice_get xs k) d
+shown-map n f d same [] k = refl
+shown-map n f d same (x ∷ xs) zero = same x
+shown-map n f d same (x ∷ xs) (suc k) = shown-map n f d same xs k
+
+some-marked : {A : Type 0} (marks : List Bool) (xs : List A) → Marked marks 0 → 0 < length xs → HasOne (marked_of marks xs)
+some-marked [] xs marked some = cc
+some-marked (b ∷ bs) [] marked some = absurd (omega arith)
+some-marked (true ∷ bs) (x ∷ xs) marked some = tt
+some-marked (false ∷ bs) (x ∷ xs) marked some = cc
+
+has_one-map : {A B : Type 0} (f : A → B) (xs : List A) → HasOne xs → HasOne (map f xs)
+has_one-map f [] one = absurd one
+has_one-map f (x ∷ xs) one = tt
+
+-- ---- watch items stay apart
+
+vertex_apart : (n a b i j : ℕ) → nat_eq (n + a) (n + b) ≡ false → (i == j) ≡ (a == b) → nat_eq (n + i) (n + j) ≡ false
+vertex_apart n a b i j e same = grind (arith, nat_tests)
+
+variable_apart : (n v i : ℕ) → v < n → nat_eq v (n + i) ≡ false
+variable_apart n v i below = grind (arith, nat_tests)
+
+vertex_from_variable : (n v i : ℕ) → v < n → nat_eq (n + i) v ≡ false
+vertex_from_variable n v i below = grind (arith, nat_tests)
+
+abbrev LiveItem : ℕ → List Bool → Watched → Type 0
+LiveItem n marks (WatchedVariable v) = v < n
+LiveItem n marks (WatchedVertex v) = Marked marks v
+
+item_apart : (n : ℕ) (marks : List Bool) (a b : Watched) → LiveItem n marks a → LiveItem n marks b → nat_eq (watch_number n a) (watch_number n b) ≡ false → nat_eq (watch_number n (watched_renumbered (rank marks) a)) (watch_number n (watched_renumbered (rank marks) b)) ≡ false
+item_apart n marks (WatchedVariable v) (WatchedVariable w) la lb e = e
+item_apart n marks (WatchedVariable v) (WatchedVertex w) la lb e = variable_apart n v (rank marks w) la
+item_apart n marks (WatchedVertex v) (WatchedVariable w) la lb e = vertex_from_variable n w (rank marks v) lb
+item_apart n marks (WatchedVertex v) (WatchedVertex w) la lb e = vertex_apart n v w (rank marks v) (rank marks w) e (rank-apart marks v w la lb)
+
+items_apart : (n : ℕ) (marks : List Bool) (a : Watched) (watch : List Watched) → LiveItem n marks a → AllByRecursion (LiveItem n marks) watch → AllByRecursion (λ y. nat_eq (watch_number n a) y ≡ false) (map (watch_number n) watch) → AllByRecursion (λ y. nat_eq (watch_number n (watched_renumbered (rank marks) a)) y ≡ false) (map (watch_number n) (map (watched_renumbered (rank marks)) watch))
+items_apart n marks a [] la all e = tt
+items_apart n marks a (b ∷ watch) la all e = (item_apart n marks a b la all.0 e.0, items_apart n marks a watch la all.1 e.1)
+
+watch_apart : (n : ℕ) (marks : List Bool) (watch : List Watched) → AllByRecursion (LiveItem n marks) watch → IsDistinct nat_eq (map (watch_number n) watch) → IsDistinct nat_eq (map (watch_number n) (map (watched_renumbered (rank marks)) watch))
+unfolding IsDistinct
+watch_apart n marks [] all distinct = tt
+watch_apart n marks (a ∷ watch) all distinct = (items_apart n marks a watch all.0 all.1 distinct.0, watch_apart n marks watch all.1 distinct.1)
+
+-- ---- rules that don't ask what vertices take
+
+module _ (variables : List Variable) (tables : ℕ) (old new : List (List ℕ)) where
+  change_still : (c : StateChange) → KeepsChange variables tables old c → KeepsChange variables tables new c
+  change_still (Set targets values) (few, takes) = (few, record { kinds = takes.kinds; taken = takes.taken; given = takes.given })
+  change_still (Draw target stream (Uniform lo hi)) k = k
+  change_still (Draw target stream (ByTable t)) k = k
+
+  carried_still : (parameters : List ℕ) (values : List Expression) → TakeCarried variables tables old parameters values → TakeCarried variables tables new parameters values
+  carried_still parameters values k = record { kinds = k.kinds; taken = k.taken; given = k.given }
+
+  carries_still : (kind : EdgeKind) (parameters : List ℕ) (values : List Expression) → CarriesValues variables tables old kind parameters values → CarriesValues variables tables new kind parameters values
+  carries_still (Schedule delay priority) parameters values k = carried_still parameters values k
+  carries_still Urgent parameters values k = carried_still parameters values k
+  carries_still CancelNext parameters values k = k
+  carries_still CancelEqual parameters values k = carried_still parameters values k
+  carries_still CancelAll parameters values k = k
+
+  timing_still : (kind : EdgeKind) → KeepsTiming variables tables old kind → KeepsTiming variables tables new kind
+  timing_still (Schedule delay priority) k = k
+  timing_still Urgent k = tt
+  timing_still CancelNext k = tt
+  timing_still CancelEqual k = tt
+  timing_still CancelAll k = tt
+
+-- ---- the graph of the marked vertices
+
+module _ (g : EventGraph) (marks : List Bool) (hold : HoldReached g marks) (names : NamesVertices g) (first : Marked marks 0) where
+  abbrev h : EventGraph
+  h = only_marked g marks
+
+  abbrev f : ℕ → ℕ
+  f = rank marks
+
+  abbrev kept : List EventVertex
+  kept = marked_of marks g.vertices
+
+  -- where the edges of a marked vertex lead
+  record LiveTarget (e : EventEdge) : Type 0 where
+    marked : Marked marks e.target
+    within : e.target < length g.vertices
+
+  live_edge : (v : EventVertex) → Among v kept → (e : EventEdge) → Among e v.edges → LiveTarget e
+  live_edge v there e among =
+      let (k, marked, same) = marked-among marks g.vertices v no_vertex there in
+      let among_there : Among e (vertex_at g k).edges = subst (λ (v : EventVertex). Among e v.edges) (sym same) among in
+      let below = of-among (λ (e : EventEdge). e.target < length g.vertices) (vertex_at g k).edges e (names.edges k) among_there in
+      record { marked = hold.leads k marked e among_there below; within = below }
+
+  within_h : (k : ℕ) → Marked marks k → k < length g.vertices → f k < length h.vertices
+  within_h k marked below = subst (λ n. f k < n) (sym (length-map kept (vertex_renumbered f))) (rank-within marks g.vertices k marked below)
+
+  name_same : (k : ℕ) → Marked marks k → vertex_name h (f k) ≡ vertex_name g k
+  name_same k marked =
+      ap (λ (vs : List EventVertex). option_map_or (λ (v : EventVertex). v.name) (slice_get vs (f k)) []) (sym (marked_of-map (vertex_renumbered f) marks g.vertices))
+      ∙ ap (λ (o : Option EventVertex). option_map_or (λ (v : EventVertex). v.name) o []) (get-marked marks (map (vertex_renumbered f) g.vertices) k marked)
+      ∙ shown-map (λ (v : EventVertex). v.name) (vertex_renumbered f) [] (λ v. refl) g.vertices k
+
+  -- ---- it can be written
+
+  watched_spellable : IsSpellable g → AllByRecursion (SpellableWatched (extent h)) h.watch
+  watched_spellable s = all-map (SpellableWatched (extent h)) (watched_renumbered f) g.watch one where
+    one : (w : Watched) → Among w g.watch → SpellableWatched (extent h) (watched_renumbered f w)
+    one (WatchedVariable v) there = of-among (SpellableWatched (extent g)) g.watch (WatchedVariable v) s.watch there
+    one (WatchedVertex v) there = let below = names.watch v there in within_h v (hold.begins v (watched-begins g v there) below) below
+
+  vertex_made : IsSpellable g → (v : EventVertex) → Among v kept → VertexFrom g (extent h) (vertex_renumbered f v)
+  vertex_made s v there =
+      let is_old = contained-among g.vertices v (among-of_marked marks g.vertices v there) in
+      let old = of-among (SpellableVertex (extent g)) g.vertices v s.vertices (among-of_marked marks g.vertices v there) in
+      record {
+        old = v;
+        is_old = is_old;
+        name = refl;
+        parameters = old.parameters;
+        changes = each-among (ChangeFrom g (extent h)) v.changes (λ c among. same_change g s v is_old (extent h) refl refl c (contained-among v.changes c among));
+        edges = all-map (EdgeFrom g (extent h)) (edge_renumbered f) v.edges (λ e among.
+            let live = live_edge v there e among in
+            same_edge g s v is_old (extent h) refl e (contained-among v.edges e among) (f e.target) (within_h e.target live.marked live.within));
+      }
+
+  pub dropped_spellable : IsSpellable g → IsSpellable h
+  dropped_spellable s = made-spellable g h s (record {
+    name = refl;
+    variables = all-contained g.variables;
+    tables = all-contained g.tables;
+    watch = watched_spellable s;
+    has_vertex = has_one-map (vertex_renumbered f) kept (some-marked marks g.vertices first names.some);
+    vertices = all-map (VertexFrom g (extent h)) (vertex_renumbered f) kept (vertex_made s);
+  })
+
+  -- ---- its text is no longer
+
+  edge_same : (e : EventEdge) → Marked marks e.target → edge_line h (edge_renumbered f e) ≡ edge_line g e
+  edge_same e marked = ap (λ (name : List ℕ). edge_word e.kind ++ name ++ in_parentheses (expression_texts g e.values) ++ timing_text g e.kind ++ condition_text g e.condition ++ codes ";\n") (name_same e.target marked)
+
+  lines_same : (v : EventVertex) → Among v kept → vertex_lines h (vertex_renumbered f v) ≡ vertex_lines g v
+  lines_same v there =
+      ap (λ (lines : List ℕ). codes "vertex " ++ v.name ++ in_parentheses (map (variable_name g) v.parameters) ++ codes " {\n" ++ flat_map (change_line g) v.changes ++ lines ++ codes "}\n")
+      (flat_map-map (edge_renumbered f) (edge_line h) v.edges ∙ flat_map-alike (λ e. edge_line h (edge_renumbered f e)) (edge_line g) v.edges (λ e among. edge_same e (live_edge v there e among).marked))
+
+  watched_same : (w : Watched) → Among w g.watch → watched_name h (watched_renumbered f w) ≡ watched_name g w
+  watched_same (WatchedVariable v) there = refl
+  watched_same (WatchedVertex v) there = name_same v (hold.begins v (watched-begins g v there) (names.watch v there))
+
+  watch_same : watch_line h ≡ watch_line g
+  watch_same = ap watch_names_line (map-map (watched_renumbered f) (watched_name h) g.watch ∙ map-alike (λ w. watched_name h (watched_renumbered f w)) (watched_name g) g.watch watched_same)
+
+  vertices_shorter : NoLonger (flat_map (vertex_lines h) h.vertices) (flat_map (vertex_lines g) g.vertices)
+  vertices_shorter =
+      subst (λ (lines : List ℕ). NoLonger lines (flat_map (vertex_lines g) g.vertices)) (sym (flat_map-map (vertex_renumbered f) (vertex_lines h) kept))
+      (lines-marked (vertex_lines g) (λ v. vertex_lines h (vertex_renumbered f v)) marks g.vertices lines_same)
+
+  canonical_shorter : NoLonger (canonical h) (canonical g)
+  canonical_shorter =
+      before (codes "end\n")
+      (both_shorter (behind (codes "model " ++ g.name ++ codes ";\n" ++ flat_map variable_line g.variables ++ flat_map table_line g.tables) (same_length (watch_line h) (watch_line g) watch_same))
+      vertices_shorter)
+
+  -- ---- it keeps the rules
+
+  parameters_same : parameters_of h ≡ marked_of marks (parameters_of g)
+  parameters_same = map-map (vertex_renumbered f) (λ (v : EventVertex). v.parameters) kept ∙ sym (marked_of-map (λ (v : EventVertex). v.parameters) marks g.vertices)
+
+  takes_same : (k : ℕ) → Marked marks k → slice_get (parameters_of h) (f k) ≡ slice_get (parameters_of g) k
+  takes_same k marked = ap (λ (ps : List (List ℕ)). slice_get ps (f k)) parameters_same ∙ get-marked marks (parameters_of g) k marked
+
+  keeps_edge : (e : EventEdge) → Marked marks e.target → KeepsEdge g.variables (length g.tables) (parameters_of g) e → KeepsEdge g.variables (length g.tables) (parameters_of h) (edge_renumbered f e)
+  keeps_edge e marked k = record { parameters = k.parameters; target = takes_same e.target marked ∙ k.target; carries = carries_still g.variables (length g.tables) (parameters_of g) (parameters_of h) e.kind k.parameters e.values k.carries; timing = timing_still g.variables (length g.tables) (parameters_of g) (parameters_of h) e.kind k.timing; condition = k.condition }
+
+  keeps_vertex : (v : EventVertex) → Among v kept → KeepsVertex g.variables (length g.tables) (parameters_of g) v → KeepsVertex g.variables (length g.tables) (parameters_of h) (vertex_renumbered f v)
+  keeps_vertex v there k = record {
+    name = k.name;
+    parameters = k.parameters;
+    each_once = k.each_once;
+    few_parameters = k.few_parameters;
+    changes = each-among (KeepsChange g.variables (length g.tables) (parameters_of h)) v.changes (λ c among.
+        change_still g.variables (length g.tables) (parameters_of g) (parameters_of h) c (of-among (KeepsChange g.variables (length g.tables) (parameters_of g)) v.changes c k.changes among));
+    few_changes = k.few_changes;
+    edges = all-map (KeepsEdge g.variables (length g.tables) (parameters_of h)) (edge_renumbered f) v.edges (λ e among.
+        keeps_edge e (live_edge v there e among).marked (of-among (KeepsEdge g.variables (length g.tables) (parameters_of g)) v.edges e k.edges among));
+    few_edges = subst (λ n. n ≤ EDGES_MAX) (sym (length-map v.edges (edge_renumbered f))) k.few_edges;
+  }
+
+  watch_keeps : KeepsParts g → AllByRecursion (IsWatchable (length g.variables) (length h.vertices)) h.watch
+  watch_keeps k = all-map (IsWatchable (length g.variables) (length h.vertices)) (watched_renumbered f) g.watch one where
+    one : (w : Watched) → Among w g.watch → IsWatchable (length g.variables) (length h.vertices) (watched_renumbered f w)
+    one (WatchedVariable v) there = of-among (IsWatchable (length g.variables) (length g.vertices)) g.watch (WatchedVariable v) k.watch there
+    one (WatchedVertex v) there = let below = names.watch v there in within_h v (hold.begins v (watched-begins g v there) below) below
+
+  items_live : KeepsParts g → AllByRecursion (LiveItem (length g.variables) marks) g.watch
+  items_live k = each-among (LiveItem (length g.variables) marks) g.watch one where
+    one : (w : Watched) → Among w g.watch → LiveItem (length g.variables) marks w
+    one (WatchedVariable v) there = of-among (IsWatchable (length g.variables) (length g.vertices)) g.watch (WatchedVariable v) k.watch there
+    one (WatchedVertex v) there = hold.begins v (watched-begins g v there) (names.watch v there)
+
+  names_kept : map (λ (v : EventVertex). v.name) h.vertices ≡ marked_of marks (map (λ (v : EventVertex). v.name) g.vertices)
+  names_kept = map-map (vertex_renumbered f) (λ (v : EventVertex). v.name) kept ∙ sym (marked_of-map (λ (v : EventVertex). v.name) marks g.vertices)
+
+  names_distinct : KeepsParts g → IsDistinct same_bytes (map (λ (v : Variable). v.name) g.variables ++ map (λ (t : WeightTable). t.name) g.tables ++ map (λ (v : EventVertex). v.name) h.vertices)
+  names_distinct k =
+      let front = map (λ (v : Variable). v.name) g.variables ++ map (λ (t : WeightTable). t.name) g.tables in
+      let last : List (List ℕ) = map (λ (v : EventVertex). v.name) g.vertices in
+      subst (λ (ns : List (List ℕ)). IsDistinct same_bytes (map (λ (v : Variable). v.name) g.variables ++ map (λ (t : WeightTable). t.name) g.tables ++ ns)) (sym names_kept)
+      (distinct-behind same_bytes front marks last k.declared_once)
+
+  dropped_parts : KeepsParts g → KeepsParts h
+  dropped_parts k = record {
+    name = k.name;
+    declared_once = names_distinct k;
+    variables = k.variables;
+    few_variables = k.few_variables;
+    tables = k.tables;
+    few_tables = k.few_tables;
+    watch = watch_keeps k;
+    watched_once = watch_apart (length g.variables) marks g.watch (items_live k) k.watched_once;
+    vertices = all-map (KeepsVertex g.variables (length g.tables) (parameters_of h)) (vertex_renumbered f) kept (λ v there.
+        keeps_vertex v there (of-among (KeepsVertex g.variables (length g.tables) (parameters_of g)) g.vertices v k.vertices (among-of_marked marks g.vertices v there)));
+    few_vertices = no_more _ _ _ (subst (λ n. n ≤ length g.vertices) (sym (length-map kept (vertex_renumbered f))) (marked-few marks g.vertices)) k.few_vertices;
+  }
+
+  pub dropped_rules : KeepsStaticRules g → KeepsStaticRules h
+  dropped_rules k = record { parts = dropped_parts k.parts; short = no_more _ _ _ canonical_shorter.at_most k.short }
+
+-- ---- a valid model names vertices
+
+edges_within : (vs : List EventVertex) (n : ℕ) (x : Extent) → x.vertices ≡ n → AllByRecursion (SpellableVertex x) vs → (k : ℕ) → AllByRecursion (λ (e : EventEdge). e.target < n) (slice_index_or vs k no_vertex).edges
+edges_within [] n x same all k = tt
+edges_within (v ∷ vs) n x same all zero = each-among (λ (e : EventEdge). e.target < n) v.edges (λ e among. subst (λ m. e.target < m) same (of-among (SpellableEdge x) v.edges e all.0.edges among).target)
+edges_within (v ∷ vs) n x same all (suc k) = edges_within vs n x same all.1 k
+
+some_vertex : (vs : List EventVertex) → HasOne vs → 0 < length vs
+some_vertex [] one = absurd one
+some_vertex (v ∷ vs) one = omega arith
+
+pub names_vertices : (g : EventGraph) → IsSpellable g → NamesVertices g
+names_vertices g s = record {
+  some = some_vertex g.vertices s.has_vertex;
+  edges = edges_within g.vertices (length g.vertices) (extent g) refl s.vertices;
+  watch = λ k among. of-among (SpellableWatched (extent g)) g.watch (WatchedVertex k) s.watch among;
+}

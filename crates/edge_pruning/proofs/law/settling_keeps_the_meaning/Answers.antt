@@ -1,0 +1,16 @@
+use Rattle.model_core.specs.Rules.Settle.{settled}
+use Rattle.edge_pruning.proofs.SameRuns.{sure_condition_may_be_true}
+use Rattle.edge_pruning.proofs.OneVertexChanged.{changed_rules, changed_spellable}
+use Rattle.edge_pruning.proofs.FewerOrFreer.{settle_lessens, settled_is_proved, edge_keeps, begins_in_range}
+use Rattle.edge_pruning.proofs.law.settling_keeps_the_meaning.Goals as goal
+
+pub returns-clause-valid : goal.returns-clause-valid
+returns-clause-valid c = λ g vertex edge valid none.
+    let p = (c.validity_is_by_parts.ensures.by_parts g).0 valid in
+    (c.validity_is_by_parts.ensures.by_parts (settled g vertex edge)).1 (changed_rules g vertex _ (settle_lessens edge) p.0, changed_spellable g vertex _ (settle_lessens edge) p.1)
+
+pub returns-clause-same : goal.returns-clause-same
+returns-clause-same c = λ g vertex edge valid none.
+    let k = ((c.validity_is_by_parts.ensures.by_parts g).0 valid).0.parts in
+    sure_condition_may_be_true g vertex edge (begins_in_range g k)
+    (λ e is s inside clk early. c.values_lie_in_bounds.ensures.always g s clk e.condition k.variables inside early (edge_keeps g vertex edge e k is).condition (settled_is_proved g vertex edge none e is))

@@ -1,0 +1,4 @@
+-- The code of this crate, restated for its proofs. Nobody has to believe these.
+pub mod Walk
+pub mod Walking
+pub mod Moving

@@ -1,0 +1,10 @@
+use Rattle.model_core.specs.Code.Views.{graph_of}
+use Rattle.model_core.specs.Code.WrittenViews.{written_model}
+use Rattle.run_tests.proofs.histories.model_of.Goals as goal
+
+pub returns : goal.returns
+returns c =
+    let g = graph_of c.in_ok-model.model in
+    let w = written_model c.in_ok-raw.raw in
+    let kept = (c.accepted_models_keep_their_rules.ensures w g).0 c.in_ok-model.ensures.accepted in
+    c.kept_models_can_be_run.ensures g kept.1 (c.spelled_models_are_spellable.ensures.spellable c.args.text.now w g c.in_ok-raw.ensures kept.0)

@@ -1,0 +1,541 @@
+//! Histories of runs of small models, as they are written to a sink, and what a sink that fails has taken.
+
+ghost use Rattle.std.specs.Prelude.{◌≡◌, ◌<◌, ◌≤◌, ◌^◌, None, IfOk};
+ghost use Rattle.model_core.specs.Text.ModelText.{SpellsText};
+ghost use Rattle.model_core.specs.Code.Views.{graph_of};
+ghost use Rattle.model_core.specs.Code.WrittenViews.{written_model};
+ghost use Rattle.run_control.specs.PossibleModel.{PossibleModel};
+
+use event_list::PlainPending;
+use model_core::{Model, RawModel, accepted_models_keep_their_rules};
+use model_lex::{LexError, ParseError, tokens};
+use model_read::parse;
+use round_trip::spelled_models_are_spellable;
+use run_control::{BeginError, Run, kept_models_can_be_run};
+use sig_base::{FaultKind, List, MemorySink, NoMemory, Sink, Steps};
+use sig_types::{StaticError, check};
+use std::alloc::Global;
+use std::marker::Brand;
+use std::sync::ledger::{Blank, Ledger};
+use std::test::*;
+use watch_trace::{Outcome, Tracer, follow};
+
+/// Why a history can't be written.
+#[derive(Clone, Copy, Debug)]
+enum Refused {
+    Lexing(LexError),
+    Parsing(ParseError),
+    Checking(StaticError),
+    Beginning(BeginError),
+    NoMemory,
+}
+
+impl From<LexError> for Refused {
+    fn from(error: LexError) -> Refused {
+        Refused::Lexing(error)
+    }
+}
+
+impl From<ParseError> for Refused {
+    fn from(error: ParseError) -> Refused {
+        Refused::Parsing(error)
+    }
+}
+
+impl From<StaticError> for Refused {
+    fn from(error: StaticError) -> Refused {
+        Refused::Checking(error)
+    }
+}
+
+impl From<BeginError> for Refused {
+    fn from(error: BeginError) -> Refused {
+        Refused::Beginning(error)
+    }
+}
+
+impl From<NoMemory> for Refused {
+    fn from(_error: NoMemory) -> Refused {
+        Refused::NoMemory
+    }
+}
+
+/// The model that a text spells, as it is written.
+fn spelled(alloc: Global, text: &[u8]) -> Result<RawModel, Refused>
+    ensures { IfOk result (λ raw. SpellsText text.now (written_model raw)) }
+{
+    let tokens = tokens(alloc, text)?;
+    Ok(parse(alloc, &tokens)?)
+}
+
+/// The model that a text reads as, which can be run.
+fn model_of(alloc: Global, text: &[u8]) -> Result<Model, Refused>
+    ensures { IfOk result (λ model. PossibleModel (graph_of model)) }
+{
+    let raw = spelled(alloc, text)?;
+    let model = check(alloc, raw)?;
+    accepted_models_keep_their_rules();
+    spelled_models_are_spellable();
+    kept_models_can_be_run();
+    Ok(model)
+}
+
+/// A run with the seed 42, these starting values and room for two events, as it begins.
+fn begun<'m>(
+    alloc: Global,
+    model: &'m Model,
+    starts: &[i64],
+) -> Result<Run<'m, PlainPending>, Refused>
+    requires { PossibleModel (graph_of model.now) }
+    ensures model { IfOk result (λ run. run.model ≡ model.now) }
+    ensures fresh { IfOk result (λ run. run.turns ≡ 0) }
+    ensures goes_on { IfOk result (λ run. run.faulted ≡ None) }
+{
+    let mut listed = List::new(alloc);
+    for value in starts {
+        listed.push(*value)?;
+    }
+    let pending = PlainPending::begin(alloc, model.vertices.len());
+    Ok(Run::begin(alloc, model, pending, 42, &listed, 2)?)
+}
+
+/// What following a run from its beginning comes to.
+fn followed<K: Sink, L: Ledger>(
+    alloc: Global,
+    model: &Model,
+    starts: &[i64],
+    until: u64,
+    events: u64,
+    sink: &mut K,
+    blank: Blank,
+) -> Result<Outcome, Refused>
+    requires possible { PossibleModel (graph_of model.now) }
+    requires soon { until ≤ 2 ^ 48 }
+    requires budget { events ≤ 2 ^ 40 }
+    requires name { blank.name ≡ L.name }
+    requires parts { blank.parts ≡ L.parts }
+    requires some { 0 < blank.parts }
+{
+    let mut steps: Steps<L> = Steps::begin(blank);
+    let mut tracer = Tracer::begin(alloc, model)?;
+    let mut run = begun(alloc, model, starts)?;
+    Ok(follow(&mut tracer, &mut run, until, events, sink, &mut steps))
+}
+
+/// What following a run for two events comes to, and then for a hundred more.
+fn followed_twice<K: Sink, L: Ledger>(
+    alloc: Global,
+    model: &Model,
+    until: u64,
+    sink: &mut K,
+    blank: Blank,
+) -> Result<(Outcome, Outcome), Refused>
+    requires possible { PossibleModel (graph_of model.now) }
+    requires soon { until ≤ 2 ^ 48 }
+    requires name { blank.name ≡ L.name }
+    requires parts { blank.parts ≡ L.parts }
+    requires some { 0 < blank.parts }
+{
+    let mut steps: Steps<L> = Steps::begin(blank);
+    let mut tracer = Tracer::begin(alloc, model)?;
+    let mut run = begun(alloc, model, &[])?;
+    let first = follow(&mut tracer, &mut run, until, 2, sink, &mut steps);
+    match first {
+        Outcome::Budget => Ok((
+            first,
+            follow(&mut tracer, &mut run, until, 100, sink, &mut steps),
+        )),
+        other => Ok((first, other)),
+    }
+}
+
+const CLOCK: &[u8] = b"model CLOCK;
+var N : 0..3 clip = 0;
+watch N;
+vertex RUN {
+  set N := N + 1;
+  schedule RUN after 5;
+}
+end
+";
+
+const BOUNDED_CLOCK: &[u8] = b"model CLOCK;
+var N : 0..3 = 0;
+watch N;
+vertex RUN {
+  set N := N + 1;
+  schedule RUN after 5;
+}
+end
+";
+
+const CUT: &[u8] = b"model CUT;
+var X : 0..9 = 0;
+watch X, B;
+vertex RUN {
+  schedule B(3) after 5;
+  schedule B(4) after 5;
+  schedule B(3) after 6;
+  cancel B(3);
+}
+vertex B(X) { }
+end
+";
+
+const CUT_THRICE: &[u8] = b"model CUT;
+var X : 0..9 = 0;
+watch X, B;
+vertex RUN {
+  schedule B(3) after 5;
+  schedule B(4) after 5;
+  schedule B(3) after 6;
+  cancel B(3);
+  cancel B(3);
+  cancel B(3);
+}
+vertex B(X) { }
+end
+";
+
+const CUT_ALL: &[u8] = b"model CUT;
+var X : 0..9 = 0;
+watch X, B;
+vertex RUN {
+  schedule B(3) after 5;
+  schedule B(4) after 5;
+  schedule B(3) after 6;
+  cancel all B;
+}
+vertex B(X) { }
+end
+";
+
+const PRIORITY: &[u8] = b"model TWO;
+watch A, B;
+vertex RUN {
+  schedule A after 2 priority 7;
+  schedule B after 2;
+}
+vertex A { }
+vertex B { }
+end
+";
+
+const NO_PRIORITY: &[u8] = b"model TWO;
+watch A, B;
+vertex RUN {
+  schedule A after 2;
+  schedule B after 2;
+}
+vertex A { }
+vertex B { }
+end
+";
+
+const CANCELLED_NEXT: &[u8] = b"model TWO;
+watch A, B;
+vertex RUN {
+  schedule B after 3;
+  schedule B after 2;
+  cancel B;
+}
+vertex A { }
+vertex B { }
+end
+";
+
+const LATE: &[u8] = b"model LATE;
+vertex RUN {
+  schedule RUN after 0 - 1;
+}
+end
+";
+
+const DRAWN: &[u8] = b"model DRAWN;
+var X : 1..6 = 1;
+var Y : 1..6 = 1;
+watch X;
+vertex RUN {
+  draw Y from 54 in 1..6;
+  draw X from 54 in 1..6;
+}
+end
+";
+
+const LOOP: &[u8] = b"model LOOP;
+vertex RUN { urgent A; }
+vertex A { urgent B; }
+vertex B { urgent A; }
+end
+";
+
+const DRAWN_FROM_OTHERS: &[u8] = b"model DRAWN;
+var X : 1..6 = 1;
+var Y : 1..6 = 1;
+watch X;
+vertex RUN {
+  draw Y from 53 in 1..6;
+  draw X from 54 in 1..6;
+}
+end
+";
+
+const BANK: &[u8] = b"model BANK;
+var QUEUE : 0..1000000 = 0;
+var IDLE : 0..2 = 0;
+var GAP : 1..6 = 1;
+var SEEN : 0..1000000 clip = 0;
+watch QUEUE, IDLE;
+vertex RUN(IDLE) {
+  urgent ENTER;
+}
+vertex ENTER {
+  set QUEUE, SEEN := QUEUE + 1, SEEN + 1;
+  draw GAP from 54 in 1..6;
+  schedule ENTER after GAP;
+  urgent START when IDLE > 0;
+}
+vertex START {
+  set QUEUE, IDLE := QUEUE - 1, IDLE - 1;
+  schedule LEAVE after 7;
+}
+vertex LEAVE {
+  set IDLE := IDLE + 1;
+  urgent START when QUEUE > 0;
+}
+end
+";
+
+/// A model's text, the starting values, the stop time and the number of events of a run, and what following it comes
+/// to and writes.
+struct Told {
+    text: &'static [u8],
+    starts: &'static [i64],
+    until: u64,
+    events: u64,
+    outcome: Outcome,
+    written: &'static [u8],
+}
+
+const TOLD: [Told; 17] = [
+    Told {
+        text: CLOCK,
+        starts: &[],
+        until: 12,
+        events: 1000,
+        outcome: Outcome::Stopped,
+        written: b"at 0 N=1\nat 5 N=2\nat 10 N=3\nstopped 12\n",
+    },
+    Told {
+        text: CLOCK,
+        starts: &[],
+        until: 0,
+        events: 1000,
+        outcome: Outcome::Stopped,
+        written: b"at 0 N=1\nstopped 0\n",
+    },
+    Told {
+        text: CLOCK,
+        starts: &[],
+        until: 12,
+        events: 2,
+        outcome: Outcome::Budget,
+        written: b"at 0 N=1\nbudget 2\n",
+    },
+    Told {
+        text: CLOCK,
+        starts: &[],
+        until: 12,
+        events: 3,
+        outcome: Outcome::Stopped,
+        written: b"at 0 N=1\nat 5 N=2\nat 10 N=3\nstopped 12\n",
+    },
+    Told {
+        text: CLOCK,
+        starts: &[],
+        until: 1000,
+        events: 1000,
+        outcome: Outcome::Stopped,
+        written: b"at 0 N=1\nat 5 N=2\nat 10 N=3\nstopped 1000\n",
+    },
+    Told {
+        text: BOUNDED_CLOCK,
+        starts: &[],
+        until: 1000,
+        events: 1000,
+        outcome: Outcome::Faulted {
+            time: 15,
+            kind: FaultKind::RangeOutside,
+        },
+        written: b"at 0 N=1\nat 5 N=2\nat 10 N=3\nfault 15 range\n",
+    },
+    Told {
+        text: BANK,
+        starts: &[1],
+        until: 16,
+        events: 1000,
+        outcome: Outcome::Stopped,
+        written: b"at 0 QUEUE=0 IDLE=0\nat 4 QUEUE=1 IDLE=0\nat 12 QUEUE=2 IDLE=0\nat 14 QUEUE=1 IDLE=0\nat 16 QUEUE=2 IDLE=0\nstopped 16\n",
+    },
+    Told {
+        text: LOOP,
+        starts: &[],
+        until: 100,
+        events: 50,
+        outcome: Outcome::Budget,
+        written: b"budget 50\n",
+    },
+    Told {
+        text: DRAWN,
+        starts: &[],
+        until: 100,
+        events: 1000,
+        outcome: Outcome::Ended { time: 0 },
+        written: b"at 0 X=3\nended 0\n",
+    },
+    Told {
+        text: DRAWN_FROM_OTHERS,
+        starts: &[],
+        until: 100,
+        events: 1000,
+        outcome: Outcome::Ended { time: 0 },
+        written: b"at 0 X=4\nended 0\n",
+    },
+    Told {
+        text: CUT,
+        starts: &[],
+        until: 100,
+        events: 1000,
+        outcome: Outcome::Ended { time: 6 },
+        written: b"at 0 X=0\non 5 B X=4\nat 5 X=4\non 6 B X=3\nat 6 X=3\nended 6\n",
+    },
+    Told {
+        text: CUT_THRICE,
+        starts: &[],
+        until: 100,
+        events: 1000,
+        outcome: Outcome::Ended { time: 5 },
+        written: b"at 0 X=0\non 5 B X=4\nat 5 X=4\nended 5\n",
+    },
+    Told {
+        text: CUT_ALL,
+        starts: &[],
+        until: 100,
+        events: 1000,
+        outcome: Outcome::Ended { time: 0 },
+        written: b"at 0 X=0\nended 0\n",
+    },
+    Told {
+        text: PRIORITY,
+        starts: &[],
+        until: 100,
+        events: 1000,
+        outcome: Outcome::Ended { time: 2 },
+        written: b"at 0\non 2 B\non 2 A\nended 2\n",
+    },
+    Told {
+        text: NO_PRIORITY,
+        starts: &[],
+        until: 100,
+        events: 1000,
+        outcome: Outcome::Ended { time: 2 },
+        written: b"at 0\non 2 A\non 2 B\nended 2\n",
+    },
+    Told {
+        text: CANCELLED_NEXT,
+        starts: &[],
+        until: 100,
+        events: 1000,
+        outcome: Outcome::Ended { time: 3 },
+        written: b"at 0\non 3 B\nended 3\n",
+    },
+    Told {
+        text: LATE,
+        starts: &[],
+        until: 100,
+        events: 1000,
+        outcome: Outcome::Faulted {
+            time: 0,
+            kind: FaultKind::NegativeDelay,
+        },
+        written: b"fault 0 delay\n",
+    },
+];
+
+#[test]
+fn histories_are_written_whole(rt: HostRuntime) -> Result<(), Fail> {
+    let alloc = rt.alloc();
+    for told in &TOLD {
+        let mut sink = MemorySink::begin(alloc, 1000, 1000, List::new(alloc))?;
+        let model = model_of(alloc, told.text)?;
+        if told.until <= 1000 && told.events <= 1000 {
+            let outcome = followed::<MemorySink, Brand>(
+                alloc,
+                &model,
+                told.starts,
+                told.until,
+                told.events,
+                &mut sink,
+                Blank::new(1),
+            )?;
+            assert_eq!(rt; outcome, told.outcome);
+        }
+        assert_eq!(rt; sink.written(), told.written);
+    }
+    Ok(())
+}
+
+#[test]
+fn each_line_is_one_call(rt: HostRuntime) -> Result<(), Fail> {
+    let alloc = rt.alloc();
+    let model = model_of(alloc, CLOCK)?;
+    let mut sink = MemorySink::begin(alloc, 1000, 1000, List::new(alloc))?;
+    followed::<MemorySink, Brand>(alloc, &model, &[], 12, 1000, &mut sink, Blank::new(1))?;
+    assert_eq!(rt; sink.calls(), 4);
+    Ok(())
+}
+
+#[test]
+fn a_run_is_followed_on_from_its_budget(rt: HostRuntime) -> Result<(), Fail> {
+    let alloc = rt.alloc();
+    let model = model_of(alloc, CLOCK)?;
+    let mut sink = MemorySink::begin(alloc, 1000, 1000, List::new(alloc))?;
+    let outcomes = followed_twice::<MemorySink, Brand>(
+        alloc,
+        &model,
+        12,
+        &mut sink,
+        Blank::new(1),
+    )?;
+    assert_eq!(rt; outcomes, (Outcome::Budget, Outcome::Stopped));
+    assert_eq!(rt;
+        sink.written(),
+        b"at 0 N=1\nbudget 2\nat 5 N=2\nat 10 N=3\nstopped 12\n".as_slice()
+    );
+    Ok(())
+}
+
+/// The history of the clock up to 12 takes 39 calls of one byte each. Where a call fails, what the calls before it
+/// took stands, and no call is made after it.
+#[test]
+fn no_call_is_made_after_one_that_failed(rt: HostRuntime) -> Result<(), Fail> {
+    let alloc = rt.alloc();
+    let model = model_of(alloc, CLOCK)?;
+    let whole: &[u8] = b"at 0 N=1\nat 5 N=2\nat 10 N=3\nstopped 12\n";
+    for failing in 1..40 {
+        let mut sink = MemorySink::begin(alloc, 1000, 1, List::of_one(alloc, failing)?)?;
+        let outcome = followed::<MemorySink, Brand>(
+            alloc,
+            &model,
+            &[],
+            12,
+            1000,
+            &mut sink,
+            Blank::new(1),
+        )?;
+        assert_eq!(rt; outcome, Outcome::WriteFault);
+        assert_eq!(rt; sink.calls(), failing);
+        assert_eq!(rt; sink.written(), &whole[..failing as usize - 1]);
+    }
+    Ok(())
+}

@@ -1,0 +1,84 @@
+//! One call of the program over memory, and what is seen of it.
+
+use sig_base::{List, MemorySink, MemorySource, NoMemory, Text};
+use sigma_top::{Status, sigma};
+use std::alloc::{AllocError, Global};
+
+/// The calls, counted from 1, at which each device fails; 0 is none.
+#[derive(Clone, Copy)]
+pub struct Failing {
+    pub read: u64,
+    pub write: u64,
+    pub error: u64,
+}
+
+/// Devices that never fail.
+pub const SOUND: Failing = Failing {
+    read: 0,
+    write: 0,
+    error: 0,
+};
+
+/// What the program is to answer: a status, and the bytes on the output and on the error output.
+#[derive(Clone, Copy)]
+pub struct Answer<'a> {
+    pub status: Status,
+    pub output: &'a [u8],
+    pub errors: &'a [u8],
+}
+
+/// Nothing but a status and its line.
+pub fn told(status: Status, errors: &[u8]) -> Answer<'_> {
+    Answer {
+        status,
+        output: b"",
+        errors,
+    }
+}
+
+/// The job done, with these bytes on the output.
+pub fn done(output: &[u8]) -> Answer<'_> {
+    Answer {
+        status: Status::Done,
+        output,
+        errors: b"",
+    }
+}
+
+/// What was seen of a call: whether it gave the wanted answer, and how often it read and wrote.
+#[derive(Clone, Copy, Debug, PartialEq, Eq)]
+pub struct Seen {
+    pub is_wanted: bool,
+    pub reads: u64,
+    pub writes: u64,
+}
+
+/// What is seen of the program with these words and this text, which is handed out in pieces of 7 bytes.
+pub fn run(
+    alloc: Global,
+    words: &[String],
+    text: Vec<u8>,
+    failing: Failing,
+    wanted: Answer<'_>,
+) -> Result<Seen, NoMemory> {
+    let mut input = MemorySource::new(Text::from_vec(text), 7, List::of_one(alloc, failing.read)?);
+    let mut output = MemorySink::begin(alloc, 1_000, 1, List::of_one(alloc, failing.write)?)?;
+    let mut errors = MemorySink::begin(alloc, 1_000, 1_000, List::of_one(alloc, failing.error)?)?;
+    let status = sigma(alloc, words, &mut input, &mut output, &mut errors);
+    Ok(Seen {
+        is_wanted: status == wanted.status
+            && output.written() == wanted.output
+            && errors.written() == wanted.errors,
+        reads: input.calls(),
+        writes: output.calls(),
+    })
+}
+
+/// The words of a command line.
+pub fn words(alloc: Global, line: &str) -> Result<Vec<String>, AllocError> {
+    let mut words = Vec::new(alloc);
+    for word in line.split_whitespace() {
+        words.push(word.to_string(alloc)?)?;
+    }
+    Ok(words)
+}

@@ -1,0 +1,333 @@
+//! Which job each command line asks for, rule by rule.
+
+use sig_base::List;
+use sigma_top::{Job, WordsError, words};
+use std::alloc::{AllocError, Global};
+use std::test::*;
+
+/// What a run is asked for with.
+#[derive(Clone, Copy)]
+struct Wanted {
+    until: u64,
+    seed: u64,
+    events: u64,
+    starts: &'static [i64],
+    room: usize,
+}
+
+const FIRST: Wanted = Wanted {
+    until: 12,
+    seed: 42,
+    events: 1_000,
+    starts: &[],
+    room: 4_096,
+};
+
+/// Words that ask for a run.
+const RUNS: [(&[&str], Wanted); 13] = [
+    // an option by one word or by two, in any order
+    (
+        &["run", "--until", "12", "--seed", "42", "--events", "1000"],
+        FIRST,
+    ),
+    (
+        &["--events=1000", "--seed", "42", "run", "--until=12"],
+        FIRST,
+    ),
+    (
+        &["--until", "12", "--seed=42", "--events=1000", "run"],
+        FIRST,
+    ),
+    // `--` counts for nothing, once
+    (
+        &["--until=12", "--seed=42", "--events=1000", "--", "run"],
+        FIRST,
+    ),
+    (
+        &["run", "--until=12", "--seed=42", "--events=1000", "--"],
+        FIRST,
+    ),
+    // leading zeros, any number of them
+    (
+        &[
+            "run",
+            "--until=0000000000000000000000000000000000000000012",
+            "--seed=00042",
+            "--events=01000",
+            "--room=0000004096",
+        ],
+        FIRST,
+    ),
+    // the least of each number, and the greatest
+    (
+        &["run", "--until=0", "--seed=0", "--events=1", "--room=0"],
+        Wanted {
+            until: 0,
+            seed: 0,
+            events: 1,
+            room: 0,
+            ..FIRST
+        },
+    ),
+    (
+        &[
+            "run",
+            "--until=281474976710656",
+            "--seed=18446744073709551615",
+            "--events=1099511627776",
+            "--room=4194304",
+        ],
+        Wanted {
+            until: 281_474_976_710_656,
+            seed: 18_446_744_073_709_551_615,
+            events: 1_099_511_627_776,
+            room: 4_194_304,
+            ..FIRST
+        },
+    ),
+    // starting values
+    (
+        &[
+            "run",
+            "--until=12",
+            "--seed=42",
+            "--events=1000",
+            "--start",
+            "5",
+        ],
+        Wanted {
+            starts: &[5],
+            ..FIRST
+        },
+    ),
+    (
+        &[
+            "run",
+            "--until=12",
+            "--seed=42",
+            "--events=1000",
+            "--start=-5",
+        ],
+        Wanted {
+            starts: &[-5],
+            ..FIRST
+        },
+    ),
+    (
+        &[
+            "run",
+            "--until=12",
+            "--seed=42",
+            "--events=1000",
+            "--start=0,-0,007,-03",
+        ],
+        Wanted {
+            starts: &[0, 0, 7, -3],
+            ..FIRST
+        },
+    ),
+    (
+        &[
+            "run",
+            "--until=12",
+            "--seed=42",
+            "--events=1000",
+            "--start=9223372036854775807,-9223372036854775808",
+        ],
+        Wanted {
+            starts: &[9_223_372_036_854_775_807, -9_223_372_036_854_775_808],
+            ..FIRST
+        },
+    ),
+    (
+        &[
+            "run",
+            "--until=12",
+            "--seed=42",
+            "--events=1000",
+            "--start",
+            "1,2,3,4,5,6,7,8,9",
+        ],
+        Wanted {
+            starts: &[1, 2, 3, 4, 5, 6, 7, 8, 9],
+            ..FIRST
+        },
+    ),
+];
+
+/// Words that ask for no job.
+const OTHERS: [&[&str]; 29] = [
+    // one command, and only one
+    &[],
+    &["grow"],
+    &[""],
+    &["Check"],
+    &["check", ""],
+    &["check", "check"],
+    &["check", "print"],
+    &["--"],
+    &["--", "check", "print"],
+    &["--", "--", "check"],
+    &["-check"],
+    &["--check"],
+    // no option that the command doesn't take
+    &["reduce", "--seed", "1"],
+    &["check", "--room=1"],
+    &["check", "--help"],
+    &["check", "--=1"],
+    &["run", "--until=1", "--seed=1", "--events=1", "--runs=1"],
+    // each option that is needed
+    &["run", "--until", "5"],
+    &["run", "--until=1", "--seed=1"],
+    &["run", "--until=1", "--events=1"],
+    &["run", "--seed=1", "--events=1"],
+    // no option behind `--`
+    &["run", "--until=1", "--seed=1", "--", "--events=1"],
+    // none twice
+    &["run", "--until=1", "--seed=1", "--events=1", "--until=1"],
+    &["run", "--until=1", "--seed=1", "--events=1", "--seed", "2"],
+    &[
+        "run",
+        "--until=1",
+        "--seed=1",
+        "--events=1",
+        "--room=1",
+        "--room=1",
+    ],
+    &[
+        "run",
+        "--until=1",
+        "--seed=1",
+        "--events=1",
+        "--start=1",
+        "--start=2",
+    ],
+    // a value by a word of its own that doesn't begin with `-`
+    &["run", "--until=1", "--seed=1", "--events"],
+    &[
+        "run",
+        "--until=1",
+        "--seed=1",
+        "--events=1",
+        "--start",
+        "-1",
+    ],
+    &["--until", "run", "--seed=1", "--events=1"],
+];
+
+/// Options that aren't spelled as they have to be, or lie outside their range, each with two that are.
+const WRONG_VALUES: [[&str; 3]; 26] = [
+    ["--until=281474976710657", "--seed=1", "--events=1"],
+    ["--until=", "--seed=1", "--events=1"],
+    ["--until=-1", "--seed=1", "--events=1"],
+    ["--until=+1", "--seed=1", "--events=1"],
+    ["--until=1.", "--seed=1", "--events=1"],
+    ["--until=1 ", "--seed=1", "--events=1"],
+    ["--until=0x1", "--seed=1", "--events=1"],
+    ["--until=1=1", "--seed=1", "--events=1"],
+    ["--until=1", "--seed=18446744073709551616", "--events=1"],
+    ["--until=1", "--seed=99999999999999999999999", "--events=1"],
+    ["--until=1", "--seed=x", "--events=1"],
+    ["--until=1", "--seed=1", "--events=0"],
+    ["--until=1", "--seed=1", "--events=1099511627777"],
+    ["--until=1", "--seed=1", "--events=1_000"],
+    // a room, beside an event budget and a seed that are right
+    ["--until=1", "--seed=1", "--room=4194305"],
+    ["--until=1", "--seed=1", "--room=-1"],
+    // starting values
+    ["--until=1", "--seed=1", "--start="],
+    ["--until=1", "--seed=1", "--start=,"],
+    ["--until=1", "--seed=1", "--start=1,"],
+    ["--until=1", "--seed=1", "--start=,1"],
+    ["--until=1", "--seed=1", "--start=1,,2"],
+    ["--until=1", "--seed=1", "--start=-"],
+    ["--until=1", "--seed=1", "--start=--1"],
+    ["--until=1", "--seed=1", "--start=+1"],
+    ["--until=1", "--seed=1", "--start=9223372036854775808"],
+    ["--until=1", "--seed=1", "--start=-9223372036854775809"],
+];
+
+/// The words as the program gets them.
+fn given(alloc: Global, line: &[&str]) -> Result<Vec<String>, AllocError> {
+    let mut words = Vec::new(alloc);
+    for word in line {
+        words.push(word.to_string(alloc)?)?;
+    }
+    Ok(words)
+}
+
+fn same_starts(starts: &List<i64>, wanted: &[i64]) -> bool {
+    starts.as_slice() == wanted
+}
+
+fn asks_for(asked: &Result<Job, WordsError>, wanted: Wanted) -> bool {
+    match asked {
+        Ok(
+            Job::Run {
+                until,
+                seed,
+                events,
+                starts,
+                room,
+            },
+        ) => {
+            *until == wanted.until
+                && *seed == wanted.seed
+                && *events == wanted.events
+                && same_starts(starts, wanted.starts)
+                && *room == wanted.room
+        }
+        _ => false,
+    }
+}
+
+fn asks_for_no_job(asked: &Result<Job, WordsError>) -> bool {
+    matches!(asked, Err(WordsError::BadWords))
+}
+
+#[test]
+fn options_of_a_run_are_read(rt: HostRuntime) -> Result<(), Fail> {
+    for (line, wanted) in RUNS {
+        let given = given(rt.alloc(), line)?;
+        assert!(rt; asks_for(&words(rt.alloc(), &given), wanted));
+    }
+    Ok(())
+}
+
+#[test]
+fn other_commands_take_no_option(rt: HostRuntime) -> Result<(), Fail> {
+    let check = given(rt.alloc(), &["check", "--"])?;
+    assert!(rt; matches!(words(rt.alloc(), &check), Ok(Job::Check)));
+    let print = given(rt.alloc(), &["--", "print"])?;
+    assert!(rt; matches!(words(rt.alloc(), &print), Ok(Job::Print)));
+    let reduce = given(rt.alloc(), &["reduce"])?;
+    assert!(rt; matches!(words(rt.alloc(), &reduce), Ok(Job::Reduce)));
+    Ok(())
+}
+
+#[test]
+fn other_words_are_no_job(rt: HostRuntime) -> Result<(), Fail> {
+    for line in OTHERS {
+        let given = given(rt.alloc(), line)?;
+        assert!(rt; asks_for_no_job(&words(rt.alloc(), &given)));
+    }
+    Ok(())
+}
+
+#[test]
+fn values_are_spelled_and_within_range(rt: HostRuntime) -> Result<(), Fail> {
+    for [first, second, third] in WRONG_VALUES {
+        // The event budget stands in the third word, or behind it.
+        let rest: &[&str] = if third.starts_with("--events") {
+            &["run"]
+        } else {
+            &["--events=1", "run"]
+        };
+        let mut given = given(rt.alloc(), &[first, second, third])?;
+        for word in rest {
+            given.push(word.to_string(rt.alloc())?)?;
+        }
+        assert!(rt; asks_for_no_job(&words(rt.alloc(), &given)));
+    }
+    Ok(())
+}

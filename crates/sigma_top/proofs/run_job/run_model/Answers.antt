@@ -1,0 +1,43 @@
+use Rattle.std.proofs.Common.{ℕ, ℤ, List, Result, sym, subst}
+use Rattle.model_core.specs.declared.model.Model.{Model}
+use Rattle.model_core.specs.Code.Views.{graph_of}
+use Rattle.run_control.specs.Beginning.{BegunRun}
+use Rattle.run_control.specs.Running.{Running}
+use Rattle.sigma_top.specs.declared.status.End.{End}
+use Rattle.sigma_top.specs.declared.status.Failure.{Failure}
+use Rattle.sigma_top.specs.Delivery.{Outlet, outlet}
+use Rattle.sigma_top.specs.Inner.RunSteps.{StreamsRun}
+use Rattle.sigma_top.proofs.RunLaws.{run_refused, run_failed, run_told}
+use Rattle.sigma_top.proofs.run_job.run_model.Goals as goal
+
+pub returns-in-Err : goal.returns-in-Err
+returns-in-Err g c =
+    let o = outlet g.K.Sink.written g.K.Sink.faults g.K.Sink.settled c.args.output.now in
+    run_refused (graph_of c.args.model.now) c.args.until c.args.seed c.args.events c.args.starts.now c.args.room c.in-Err.error c.refuse_start.result o c.in-Err.ensures.err c.refuse_start.ensures
+
+-- the history, with the seed that was asked for
+told : {K : Type 0} (m : Model) (until seed events : ℕ) (starts : List ℤ) (room : ℕ) (run : Running) (r : Result End Failure) (o p : Outlet K) → BegunRun m seed starts room run
+    → ((starts : List ℤ) (room : ℕ) → BegunRun m run.seed starts room run → StreamsRun (graph_of m) until run.seed events starts room r o p) → StreamsRun (graph_of m) until seed events starts room r o p
+told m until seed events starts room run r o p begun h =
+    subst (λ (s : ℕ). StreamsRun (graph_of m) until s events starts room r o p) begun.seeded (h starts room (subst (λ (s : ℕ). BegunRun m s starts room run) (sym begun.seeded) begun))
+
+pub returns-in-Err-tell_history : goal.returns-in-Err-tell_history
+returns-in-Err-tell_history g c =
+    let o = outlet g.K.Sink.written g.K.Sink.faults g.K.Sink.settled c.args.output.now in
+    let p = outlet g.K.Sink.written g.K.Sink.faults g.K.Sink.settled c.tell_history.new.output in
+    let graph = graph_of c.args.model.now in
+    let begun = c.in-Ok.ensures.ok in
+    let history = told c.args.model.now c.args.until c.args.seed c.args.events c.args.starts.now c.args.room c.in-Ok.run' c.tell_history.result o p begun c.tell_history.ensures in
+    run_failed graph c.args.until c.args.seed c.args.events c.args.starts.now c.args.room begun.accepted c.in-Err-tell_history.failure o p
+    (subst (λ r. StreamsRun graph c.args.until c.args.seed c.args.events c.args.starts.now c.args.room r o p) c.in-Err-tell_history.is history)
+
+pub returns-in-Ok-tell_history : goal.returns-in-Ok-tell_history
+returns-in-Ok-tell_history g c =
+    let o = outlet g.K.Sink.written g.K.Sink.faults g.K.Sink.settled c.args.output.now in
+    let m = outlet g.K.Sink.written g.K.Sink.faults g.K.Sink.settled c.tell_history.new.output in
+    let p = outlet g.K.Sink.written g.K.Sink.faults g.K.Sink.settled c.close.new.output in
+    let graph = graph_of c.args.model.now in
+    let begun = c.in-Ok.ensures.ok in
+    let history = told c.args.model.now c.args.until c.args.seed c.args.events c.args.starts.now c.args.room c.in-Ok.run' c.tell_history.result o m begun c.tell_history.ensures in
+    run_told graph c.args.until c.args.seed c.args.events c.args.starts.now c.args.room begun.accepted c.in-Ok-tell_history.end c.close.result o m p
+    (subst (λ r. StreamsRun graph c.args.until c.args.seed c.args.events c.args.starts.now c.args.room r o m) c.in-Ok-tell_history.is history) c.close.ensures
