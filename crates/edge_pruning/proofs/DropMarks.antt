@@ -73,14 +73,14 @@ kept_all marks kept rest all none so_far = sym (append-nil kept) ∙ sym (ap (λ
 
 -- ---- new places
 
-pub rank-first : (marks : List Bool) → rank marks 0 ≡ 0
-rank-first [] = refl
-rank-first (b ∷ bs) = refl
+pub rank-zero : (marks : List Bool) → rank marks 0 ≡ 0
+rank-zero [] = refl
+rank-zero (b ∷ bs) = refl
 
 pub rank-more : (marks : List Bool) (k : ℕ) → rank marks (suc k) ≡ rank marks k + cond (is_marked marks k) 1 0
 rank-more [] k = refl
-rank-more (true ∷ bs) zero = ap suc (rank-first bs)
-rank-more (false ∷ bs) zero = rank-first bs
+rank-more (true ∷ bs) zero = ap suc (rank-zero bs)
+rank-more (false ∷ bs) zero = rank-zero bs
 rank-more (true ∷ bs) (suc k) = omega (arith, rank-more bs k)
 rank-more (false ∷ bs) (suc k) = rank-more bs k
 

@@ -4,6 +4,7 @@ use Rattle.model_core.specs.EventGraph.{EventGraph}
 use Rattle.model_core.specs.Rules.Conditions.{first_failed}
 use Rattle.model_core.specs.Rules.Reached.{reached_marks, unreached}
 use Rattle.model_core.specs.Rules.Drop.{lists_some, lists_exactly, drop_conditions, staying_marks, only_marked, dropped}
+use Rattle.edge_pruning.proofs.FewerOrFreer.{both_hold}
 use Rattle.edge_pruning.proofs.ReachedMarks.{reached_marks-long}
 use Rattle.edge_pruning.proofs.DropMarks.{staying-unmarked, exactly-equal}
 
@@ -19,13 +20,8 @@ not_unequal false e = cc
 pub drop_holds : (g : EventGraph) (vertices : List ℕ) → lists_some vertices ≡ true → lists_exactly vertices (unreached g) ≡ true → first_failed (drop_conditions g vertices) ≡ None
 drop_holds g vertices some exactly = ap₂ (λ a b. first_failed (a ∷ b ∷ [])) some exactly
 
-pub both_met : (a b : Bool) → first_failed (a ∷ b ∷ []) ≡ None → (a ≡ true) × (b ≡ true)
-both_met true true none = (refl, refl)
-both_met true false none = cc
-both_met false b none = cc
-
 pub lists_unreached : (g : EventGraph) (vertices : List ℕ) → first_failed (drop_conditions g vertices) ≡ None → vertices ≡ unreached g
-lists_unreached g vertices none = exactly-equal vertices (unreached g) (both_met (lists_some vertices) (lists_exactly vertices (unreached g)) none).1
+lists_unreached g vertices none = exactly-equal vertices (unreached g) (both_hold (lists_some vertices) (lists_exactly vertices (unreached g)) none).1
 
 -- without what can't be reached there are the marked vertices
 pub without_unreached : (g : EventGraph) → dropped g (unreached g) ≡ only_marked g (reached_marks g)

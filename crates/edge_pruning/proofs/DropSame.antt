@@ -9,6 +9,7 @@ use Rattle.model_core.specs.Rules.Reached.{reached_marks}
 use Rattle.model_core.specs.Rules.Drop.{vertex_renumbered, only_marked}
 use Rattle.model_core.proofs.Marks.{Marked, rank-apart, marked-placed}
 use Rattle.edge_pruning.proofs.Among.{Among, each-among, of-among}
+use Rattle.edge_pruning.proofs.DropMarks.{rank-zero}
 use Rattle.edge_pruning.proofs.ReachedMarks.{first-begins, watched-begins, HoldReached, reached_marks-hold}
 use Rattle.edge_pruning.proofs.Renumbered.{WatchedLive, renumbered-Same}
 
@@ -16,10 +17,6 @@ pub at-map : {A B : Type 0} (f : A → B) (xs : List A) (k : ℕ) (d : A) → sl
 at-map f [] k d = refl
 at-map f (x ∷ xs) zero d = refl
 at-map f (x ∷ xs) (suc k) d = at-map f xs k d
-
-pub rank-zero : (marks : List Bool) → rank marks 0 ≡ 0
-rank-zero [] = refl
-rank-zero (b ∷ bs) = refl
 
 -- there is a first vertex, and edges and the watch list name vertices
 pub record NamesVertices (g : EventGraph) : Type 0 where

@@ -65,7 +65,7 @@ settle_lessens edge = record {
 
 -- ---- where no condition of a rule fails
 
-both_hold : (a b : Bool) → first_failed (a ∷ b ∷ []) ≡ None → (a ≡ true) × (b ≡ true)
+pub both_hold : (a b : Bool) → first_failed (a ∷ b ∷ []) ≡ None → (a ≡ true) × (b ≡ true)
 both_hold true true none = (refl, refl)
 both_hold true false none = cc
 both_hold false b none = cc

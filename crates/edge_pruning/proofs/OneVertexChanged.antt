@@ -15,12 +15,12 @@ use Rattle.edge_pruning.proofs.ListsChanged.{map-with_place, length-with_place, 
 use Rattle.edge_pruning.proofs.Shorter.{NoLonger, behind, before, no_more, same_length, both_shorter, lines_with_place}
 
 -- the vertex with its edges changed
-abbrev pub with_edges : (List EventEdge → List EventEdge) → EventVertex → EventVertex
-with_edges change v = record v { edges = change v.edges }
+abbrev pub edges_changed : (List EventEdge → List EventEdge) → EventVertex → EventVertex
+edges_changed change v = record v { edges = change v.edges }
 
 -- the graph in which the vertex at this place has its edges changed
 abbrev pub changed_at : EventGraph → ℕ → (List EventEdge → List EventEdge) → EventGraph
-changed_at g vertex change = record g { vertices = with_place (with_edges change) vertex g.vertices }
+changed_at g vertex change = record g { vertices = with_place (edges_changed change) vertex g.vertices }
 
 -- a change of edges that leaves no more of them, rules and writing as they were, and no longer lines
 pub record Lessens (change : List EventEdge → List EventEdge) : Type 0 where
@@ -34,7 +34,7 @@ module _ (g : EventGraph) (vertex : ℕ) (change : List EventEdge → List Event
   h = changed_at g vertex change
 
   abbrev f : EventVertex → EventVertex
-  f = with_edges change
+  f = edges_changed change
 
   same_names : SameNames g h
   same_names = record { variable = λ v. refl; table = λ t. refl; vertex = λ v. shown-with_place (λ (x : EventVertex). x.name) f [] (λ x. refl) vertex g.vertices v }

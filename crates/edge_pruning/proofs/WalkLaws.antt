@@ -66,7 +66,7 @@ old-marked (b ∷ bs) (suc k) old below = old-marked bs k old (omega arith)
 abbrev pub left_over : Walked → ℕ
 left_over w = unmarked_count w.marks + length w.waiting
 
-pub record Adds (w u : Walked) (ks : List ℕ) : Type 0 where
+pub record MarksMore (w u : Walked) (ks : List ℕ) : Type 0 where
   pub long : length u.marks ≡ length w.marks
   pub left : left_over u ≡ left_over w
   pub kept : (j : ℕ) → Marked w.marks j → Marked u.marks j
@@ -75,11 +75,11 @@ pub record Adds (w u : Walked) (ks : List ℕ) : Type 0 where
   pub from : (j : ℕ) → Marked u.marks j → Marked w.marks j ⊎ (Among j ks × Among j u.waiting)
   pub to : (j : ℕ) → Among j ks → j < length w.marks → Marked u.marks j
 
-adds_nothing : (w : Walked) → Adds w w []
-adds_nothing w = record { long = refl; left = refl; kept = λ j m. m; still = λ j a. a; waits = λ j a. inl a; from = λ j m. inl m; to = λ j a below. absurd a }
+marks_more_nothing : (w : Walked) → MarksMore w w []
+marks_more_nothing w = record { long = refl; left = refl; kept = λ j m. m; still = λ j a. a; waits = λ j a. inl a; from = λ j m. inl m; to = λ j a below. absurd a }
 
-adds_new : (w : Walked) (k : ℕ) → is_unmarked w.marks k ≡ true → Adds w (record { marks = slice_set w.marks k true; waiting = w.waiting ++ k ∷ [] }) (k ∷ [])
-adds_new w k new = record {
+marks_more_new : (w : Walked) (k : ℕ) → is_unmarked w.marks k ≡ true → MarksMore w (record { marks = slice_set w.marks k true; waiting = w.waiting ++ k ∷ [] }) (k ∷ [])
+marks_more_new w k new = record {
   long = length-set w.marks k true;
   left = omega (arith, set-counts w.marks k new, length-append w.waiting (k ∷ []));
   kept = set-keeps w.marks k;
@@ -104,20 +104,20 @@ adds_new w k new = record {
   reached j (inl e) = subst (λ j. Marked (slice_set w.marks k true) j) e here
   reached j (inr none) = absurd none
 
-adds_old : (w : Walked) (k : ℕ) → is_unmarked w.marks k ≡ false → Adds w w (k ∷ [])
-adds_old w k old = record { long = refl; left = refl; kept = λ j m. m; still = λ j a. a; waits = λ j a. inl a; from = λ j m. inl m; to = λ j a below. reached j a below } where
+marks_more_old : (w : Walked) (k : ℕ) → is_unmarked w.marks k ≡ false → MarksMore w w (k ∷ [])
+marks_more_old w k old = record { long = refl; left = refl; kept = λ j m. m; still = λ j a. a; waits = λ j a. inl a; from = λ j m. inl m; to = λ j a below. reached j a below } where
   reached : (j : ℕ) → Among j (k ∷ []) → j < length w.marks → Marked w.marks j
   reached j (inl e) below = subst (Marked w.marks) e (old-marked w.marks k old (subst (λ j. j < length w.marks) (sym e) below))
   reached j (inr none) below = absurd none
 
-adds_one : (w : Walked) (k : ℕ) → Adds w (mark_one w k) (k ∷ [])
-adds_one w k = tested (is_unmarked w.marks k) refl where
-  tested : (b : Bool) → is_unmarked w.marks k ≡ b → Adds w (cond b (record { marks = slice_set w.marks k true; waiting = w.waiting ++ k ∷ [] }) w) (k ∷ [])
-  tested true e = adds_new w k e
-  tested false e = adds_old w k e
+marks_more_one : (w : Walked) (k : ℕ) → MarksMore w (mark_one w k) (k ∷ [])
+marks_more_one w k = tested (is_unmarked w.marks k) refl where
+  tested : (b : Bool) → is_unmarked w.marks k ≡ b → MarksMore w (cond b (record { marks = slice_set w.marks k true; waiting = w.waiting ++ k ∷ [] }) w) (k ∷ [])
+  tested true e = marks_more_new w k e
+  tested false e = marks_more_old w k e
 
-adds_both : (w u v : Walked) (k : ℕ) (ks : List ℕ) → Adds w u (k ∷ []) → Adds u v ks → Adds w v (k ∷ ks)
-adds_both w u v k ks a b = record {
+marks_more_both : (w u v : Walked) (k : ℕ) (ks : List ℕ) → MarksMore w u (k ∷ []) → MarksMore u v ks → MarksMore w v (k ∷ ks)
+marks_more_both w u v k ks a b = record {
   long = b.long ∙ a.long;
   left = b.left ∙ a.left;
   kept = λ j m. b.kept j (a.kept j m);
@@ -144,9 +144,9 @@ adds_both w u v k ks a b = record {
   reached j (inl e) below = b.kept j (a.to j (inl e) below)
   reached j (inr h) below = b.to j h (omega (arith, below, a.long))
 
-pub adds_all : (w : Walked) (ks : List ℕ) → Adds w (mark_all w ks) ks
-adds_all w [] = adds_nothing w
-adds_all w (k ∷ ks) = adds_both w (mark_one w k) (mark_all (mark_one w k) ks) k ks (adds_one w k) (adds_all (mark_one w k) ks)
+pub marks_more_all : (w : Walked) (ks : List ℕ) → MarksMore w (mark_all w ks) ks
+marks_more_all w [] = marks_more_nothing w
+marks_more_all w (k ∷ ks) = marks_more_both w (mark_one w k) (mark_all (mark_one w k) ks) k ks (marks_more_one w k) (marks_more_all (mark_one w k) ks)
 
 -- ---- a walk begins
 
@@ -182,8 +182,8 @@ walk_begins g w unmarked idle = record {
   u : Walked
   u = mark_all w ks
 
-  a : Adds w u ks
-  a = adds_all w ks
+  a : MarksMore w u ks
+  a = marks_more_all w ks
 
   nothing_marked : (k : ℕ) → Marked w.marks k → ⊥
   nothing_marked k m = none-marked (length g.vertices) k (subst (λ (marks : List Bool). Marked marks k) unmarked m)
@@ -226,8 +226,8 @@ walk_goes g marks rest k ok = record {
   u : Walked
   u = mark_all w ts
 
-  a : Adds w u ts
-  a = adds_all w ts
+  a : MarksMore w u ts
+  a = marks_more_all w ts
 
   waits_here : (j : ℕ) → Among j (rest ++ k ∷ []) → Marked marks j
   waits_here j h = ok.waits j (contained-among (rest ++ k ∷ []) j h)
@@ -258,7 +258,7 @@ walk_goes g marks rest k ok = record {
     before (inr f) = inr (λ e c below. a.kept e.target (f e c below))
 
 pub less_left : (marks : List Bool) (rest : List ℕ) (k : ℕ) (ts : List ℕ) → left_over (mark_all (record { marks = marks; waiting = rest }) ts) < left_over (record { marks = marks; waiting = rest ++ k ∷ [] })
-less_left marks rest k ts = omega (arith, (adds_all (record { marks = marks; waiting = rest }) ts).left, length-append rest (k ∷ []))
+less_left marks rest k ts = omega (arith, (marks_more_all (record { marks = marks; waiting = rest }) ts).left, length-append rest (k ∷ []))
 
 -- ---- none waits
 

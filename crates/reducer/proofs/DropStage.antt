@@ -18,7 +18,7 @@ use Rattle.model_core.specs.Rules.Reduction.{RuleApplication, Prune, Settle, Dro
 use Rattle.edge_pruning.proofs.ReachedMarks.{reached_marks-long}
 use Rattle.reducer.specs.Inner.Sweep.{vertex_names, drops, left_by_drop}
 use Rattle.reducer.proofs.FirstEdge.{NoneOf, NoneIn, first_edge-none}
-use Rattle.reducer.proofs.SweepSteps.{name_of, same_bytes-refl}
+use Rattle.reducer.proofs.SweepRules.{name_of, same_bytes-refl}
 
 -- ---- no edge has a rule
 

@@ -2,8 +2,8 @@ pub mod DistinctNames
 pub mod StrategyIsChain
 pub mod OneStrategy
 pub mod FirstEdge
-pub mod Steps
-pub mod SweepSteps
+pub mod FirstRules
+pub mod SweepRules
 pub mod DropStage
 pub mod WholeStrategy
 pub mod SweepCode

@@ -10,22 +10,22 @@ use Rattle.model_core.specs.Rules.Reduction.{RuleApplication}
 use Rattle.edge_pruning.specs.declared.finding.EdgeRule.{EdgeRule}
 use Rattle.edge_pruning.specs.declared.finding.EdgeRule.TheVariants as rules
 use Rattle.edge_pruning.specs.EdgeRules.{test_of}
-use Rattle.reducer.specs.Inner.Sweep.{left_of, applied_or_not, applied_behind, settled_edge, application_here, next_before}
+use Rattle.reducer.specs.Inner.Sweep.{left_by_sweep, applied_or_not, applied_behind, settled_if_proved, application_here, next_before}
 
 -- the edges whose condition isn't refuted stay
-pub kept_edges : (g : EventGraph) (es : List EventEdge) → filter (λ e. not (test_of rules.Prune g e)) es ≡ flat_map (left_of rules.Prune g) es
+pub kept_edges : (g : EventGraph) (es : List EventEdge) → filter (λ e. not (test_of rules.Prune g e)) es ≡ flat_map (left_by_sweep rules.Prune g) es
 kept_edges g [] = refl
 kept_edges g (e ∷ es) = one (test_of rules.Prune g e) (kept_edges g es) where
-  one : (b : Bool) → filter (λ e. not (test_of rules.Prune g e)) es ≡ flat_map (left_of rules.Prune g) es
-      → cond (not b) (e ∷ filter (λ e. not (test_of rules.Prune g e)) es) (filter (λ e. not (test_of rules.Prune g e)) es) ≡ cond b [] (e ∷ []) ++ flat_map (left_of rules.Prune g) es
+  one : (b : Bool) → filter (λ e. not (test_of rules.Prune g e)) es ≡ flat_map (left_by_sweep rules.Prune g) es
+      → cond (not b) (e ∷ filter (λ e. not (test_of rules.Prune g e)) es) (filter (λ e. not (test_of rules.Prune g e)) es) ≡ cond b [] (e ∷ []) ++ flat_map (left_by_sweep rules.Prune g) es
   one true go = go
   one false go = ap (λ es. e ∷ es) go
 
-pub settled_edges : (g : EventGraph) (es : List EventEdge) → map (settled_edge g) es ≡ flat_map (left_of rules.Settle g) es
+pub settled_edges : (g : EventGraph) (es : List EventEdge) → map (settled_if_proved g) es ≡ flat_map (left_by_sweep rules.Settle g) es
 settled_edges g [] = refl
 settled_edges g (e ∷ es) = one (test_of rules.Settle g e) (settled_edges g es) where
-  one : (b : Bool) → map (settled_edge g) es ≡ flat_map (left_of rules.Settle g) es
-      → cond b (record e { condition = Truth true }) e ∷ map (settled_edge g) es ≡ cond b (record e { condition = Truth true } ∷ []) (e ∷ []) ++ flat_map (left_of rules.Settle g) es
+  one : (b : Bool) → map (settled_if_proved g) es ≡ flat_map (left_by_sweep rules.Settle g) es
+      → cond b (record e { condition = Truth true }) e ∷ map (settled_if_proved g) es ≡ cond b (record e { condition = Truth true } ∷ []) (e ∷ []) ++ flat_map (left_by_sweep rules.Settle g) es
   one true go = ap (λ es. record e { condition = Truth true } ∷ es) go
   one false go = ap (λ es. e ∷ es) go
 

@@ -11,8 +11,8 @@ use Rattle.model_core.proofs.EdgesAlike.{with_vertices}
 use Rattle.edge_pruning.specs.declared.finding.EdgeRule.TheVariants as rules
 use Rattle.reducer.specs.Inner.Sweep.{swept_vertex, applied_to_all, drops, left_by_drop}
 use Rattle.reducer.proofs.DistinctNames.{vertices_distinct}
-use Rattle.reducer.proofs.Steps.{Steps, steps-chain, steps-strategy}
-use Rattle.reducer.proofs.SweepSteps.{IsReady, AreReady, swept-none, swept-ready, sweep_steps}
+use Rattle.reducer.proofs.FirstRules.{AreFirst, are_first-chain, are_first-strategy}
+use Rattle.reducer.proofs.SweepRules.{IsReady, AreReady, swept-none, swept-ready, sweep_rules}
 use Rattle.reducer.proofs.DropStage.{NoEdgeRule, drop_strategy}
 
 -- what the rules' laws give
@@ -42,14 +42,14 @@ whole_strategy laws g valid =
     let settled = after_settle pruned in
     let prunes = applied_to_all rules.Prune g g.vertices in
     let settles = applied_to_all rules.Settle pruned pruned.vertices in
-    let first : Steps g prunes pruned = sweep_steps rules.Prune g g.vertices (prune_ready g g.vertices) (vertices_distinct g valid) in
-    let pruned_valid = laws.chain_valid g prunes pruned valid (steps-chain prunes g pruned first) in
+    let first : AreFirst g prunes pruned = sweep_rules rules.Prune g g.vertices (prune_ready g g.vertices) (vertices_distinct g valid) in
+    let pruned_valid = laws.chain_valid g prunes pruned valid (are_first-chain prunes g pruned first) in
     let ready : AreReady rules.Settle pruned pruned.vertices = swept-none rules.Prune g g.vertices in
-    let second : Steps pruned settles settled = sweep_steps rules.Settle pruned pruned.vertices ready (vertices_distinct pruned pruned_valid) in
-    let settled_valid = laws.chain_valid pruned settles settled pruned_valid (steps-chain settles pruned settled second) in
+    let second : AreFirst pruned settles settled = sweep_rules rules.Settle pruned pruned.vertices ready (vertices_distinct pruned pruned_valid) in
+    let settled_valid = laws.chain_valid pruned settles settled pruned_valid (are_first-chain settles pruned settled second) in
     let none : NoEdgeRule settled = record { refuted = swept-ready rules.Settle pruned pruned.vertices ready; settled = swept-none rules.Settle pruned pruned.vertices } in
-    steps-strategy prunes (settles ++ drops settled (unreached settled)) g pruned (left_by_drop settled (unreached settled)) first
-    (steps-strategy settles (drops settled (unreached settled)) pruned settled (left_by_drop settled (unreached settled)) second
+    are_first-strategy prunes (settles ++ drops settled (unreached settled)) g pruned (left_by_drop settled (unreached settled)) first
+    (are_first-strategy settles (drops settled (unreached settled)) pruned settled (left_by_drop settled (unreached settled)) second
     (drop_strategy settled none (vertices_distinct settled settled_valid) (λ ks holds. laws.all_reached settled ks settled_valid holds)))
 
 -- the same of what the parts are known to give: the graph after each, and the applications noted so far

@@ -4,7 +4,7 @@ ghost use Rattle.std.specs.Prelude.{◌≡◌, ◌++◌, ◌+◌, ◌<◌, ◌^�
 ghost use Rattle.model_core.specs.Code.Views.{graph_of, vertex_of, edge_of, application_of};
 ghost use Rattle.edge_pruning.specs.declared.finding.EdgeRule.TheVariants as rules;
 ghost use Rattle.edge_pruning.specs.EdgeRules.{test_of};
-ghost use Rattle.reducer.specs.Inner.Sweep.{application_by, width, swept_vertex, applied_to, applied_to_all, settled_edge, application_here, next_before};
+ghost use Rattle.reducer.specs.Inner.Sweep.{application_by, width, swept_vertex, applied_to, applied_to_all, settled_if_proved, application_here, next_before};
 
 use edge_pruning::{EdgeRule, can_apply};
 use model_core::{Application, Edge, Expr, Model, Vertex};
@@ -141,7 +141,7 @@ fn take_refuted_away(model: &Model, vertex: &mut Vertex)
 
 /// Makes the conditions that always hold the literal `true`.
 fn make_proved_true(model: &Model, edges: &mut Vec<Edge>)
-    ensures { map edge_of edges.new.items ≡ map (settled_edge (graph_of model.now)) (map edge_of edges.old.items) }
+    ensures { map edge_of edges.new.items ≡ map (settled_if_proved (graph_of model.now)) (map edge_of edges.old.items) }
 {
     for edge in edges.iter_mut() {
         settle_edge(model, edge);
@@ -150,7 +150,7 @@ fn make_proved_true(model: &Model, edges: &mut Vec<Edge>)
 
 /// Makes an edge's condition the literal `true` where it always holds.
 fn settle_edge(model: &Model, edge: &mut Edge)
-    ensures { edge_of edge.new ≡ settled_edge (graph_of model.now) (edge_of edge.old) }
+    ensures { edge_of edge.new ≡ settled_if_proved (graph_of model.now) (edge_of edge.old) }
 {
     if can_apply(model, EdgeRule::Settle, edge) {
         edge.condition = Expr::Truth(true);

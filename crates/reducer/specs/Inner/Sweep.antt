@@ -31,11 +31,11 @@ width rules.Prune = 0
 width rules.Settle = 1
 
 -- what the sweep leaves of an edge
-abbrev pub left_of : EdgeRule → EventGraph → EventEdge → List EventEdge
-left_of rule g e = cond (test_of rule g e) (instead rule e) (e ∷ [])
+abbrev pub left_by_sweep : EdgeRule → EventGraph → EventEdge → List EventEdge
+left_by_sweep rule g e = cond (test_of rule g e) (instead rule e) (e ∷ [])
 
 abbrev pub swept_vertex : EdgeRule → EventGraph → EventVertex → EventVertex
-swept_vertex rule g v = record v { edges = flat_map (left_of rule g) v.edges }
+swept_vertex rule g v = record v { edges = flat_map (left_by_sweep rule g) v.edges }
 
 -- the application to an edge behind so many, where the rule applies, and those to the edges behind it
 abbrev pub applied_or_not : EdgeRule → List ℕ → ℕ → Bool → (ℕ → List RuleApplication) → List RuleApplication
@@ -66,8 +66,8 @@ left_by_drop g (v ∷ vs) = dropped g (v ∷ vs)
 -- ---- one edge
 
 -- the condition is `true` where it is proved
-abbrev pub settled_edge : EventGraph → EventEdge → EventEdge
-settled_edge g e = cond (test_of rules.Settle g e) (unconditional e) e
+abbrev pub settled_if_proved : EventGraph → EventEdge → EventEdge
+settled_if_proved g e = cond (test_of rules.Settle g e) (unconditional e) e
 
 -- the application to an edge behind so many, where the rule applies
 abbrev pub application_here : EdgeRule → List ℕ → ℕ → Bool → List RuleApplication

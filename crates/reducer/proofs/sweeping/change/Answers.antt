@@ -3,12 +3,12 @@ use Rattle.model_core.specs.declared.vertex.Edge.{Edge}
 use Rattle.model_core.specs.EventGraph.{EventEdge}
 use Rattle.model_core.specs.Code.Views.{graph_of, vertex_of, edge_of}
 use Rattle.edge_pruning.specs.declared.finding.EdgeRule.{EdgeRule}
-use Rattle.reducer.specs.Inner.Sweep.{swept_vertex, settled_edge}
+use Rattle.reducer.specs.Inner.Sweep.{swept_vertex, settled_if_proved}
 use Rattle.reducer.proofs.SweepCode.{settled_edges}
 use Rattle.reducer.proofs.sweeping.change.Goals as goal
 
 pub returns-in-Settle : goal.returns-in-Settle
 returns-in-Settle c =
     let g = graph_of c.args.model.now in
-    ap (λ (es : List EventEdge). record (vertex_of c.args.vertex.now) { edges = es }) (c.make_proved_true.ensures ∙ ap (λ (es : List Edge). map (settled_edge g) (map edge_of es)) c.as_mut_vec.ensures.shows ∙ settled_edges g (map edge_of c.args.vertex.now.edges))
+    ap (λ (es : List EventEdge). record (vertex_of c.args.vertex.now) { edges = es }) (c.make_proved_true.ensures ∙ ap (λ (es : List Edge). map (settled_if_proved g) (map edge_of es)) c.as_mut_vec.ensures.shows ∙ settled_edges g (map edge_of c.args.vertex.now.edges))
     ∙ ap (λ (rule : EdgeRule). swept_vertex rule g (vertex_of c.args.vertex.now)) (sym c.in-Settle.is)

@@ -3,12 +3,12 @@ use Rattle.std.proofs.lemmas.List.{take_at}
 use Rattle.model_core.specs.declared.vertex.Edge.{Edge}
 use Rattle.model_core.specs.Code.Views.{graph_of, edge_of}
 use Rattle.sig_base.proofs.Lists.{ChangedTo-step, ChangedTo-all, ChangedTo-length}
-use Rattle.reducer.specs.Inner.Sweep.{settled_edge}
+use Rattle.reducer.specs.Inner.Sweep.{settled_if_proved}
 use Rattle.reducer.proofs.sweeping.make_proved_true.Goals as goal
 
 pub loop-edge-preserved : goal.loop-edge-preserved
 loop-edge-preserved c =
-    let f = settled_edge (graph_of c.args.model.now) in
+    let f = settled_if_proved (graph_of c.args.model.now) in
     let i = c.loop-edge.edge-index in
     let xs = c.deref_mut-edge-items.result.now in
     let ys = c.loop-edge.edge-items in
@@ -18,7 +18,7 @@ loop-edge-preserved c =
 
 pub returns : goal.returns
 returns c =
-    let f = settled_edge (graph_of c.args.model.now) in
+    let f = settled_if_proved (graph_of c.args.model.now) in
     let i = c.loop-edge.edge-index in
     let xs = c.deref_mut-edge-items.result.now in
     let ys = c.loop-edge.edge-items in

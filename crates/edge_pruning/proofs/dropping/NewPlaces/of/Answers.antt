@@ -3,12 +3,12 @@ use Rattle.std.proofs.Common.{◌≡◌, ◌∙◌, ◌+◌, ◌++◌, ◌∷◌
 use Rattle.std.specs.List.{range_with_len}
 use Rattle.std.proofs.lemmas.List.FromFn.{map-range_with_len_more}
 use Rattle.model_core.specs.Rules.MarkedPlaces.{rank}
-use Rattle.edge_pruning.proofs.DropMarks.{rank-first, rank-next}
+use Rattle.edge_pruning.proofs.DropMarks.{rank-zero, rank-next}
 use Rattle.edge_pruning.proofs.dropping.NewPlaces.of.Goals as goal
 use Rattle.edge_pruning.proofs.dropping.NewPlaces.of.Goals.{then-is_marked, else-is_marked}
 
 pub loop-place-init : goal.loop-place-init
-loop-place-init c = record { counted = omega arith; places = c.new-places.ensures.items; count = sym (rank-first c.args.marks.now) }
+loop-place-init c = record { counted = omega arith; places = c.new-places.ensures.items; count = sym (rank-zero c.args.marks.now) }
 
 pub loop-place-preserved : goal.loop-place-preserved
 loop-place-preserved c =

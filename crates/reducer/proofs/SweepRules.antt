@@ -17,9 +17,9 @@ use Rattle.model_core.proofs.EdgesAlike.{with_vertices}
 use Rattle.edge_pruning.specs.declared.finding.EdgeRule.{EdgeRule}
 use Rattle.edge_pruning.specs.declared.finding.EdgeRule.TheVariants as rules
 use Rattle.edge_pruning.specs.EdgeRules.{test_of}
-use Rattle.reducer.specs.Inner.Sweep.{application_by, instead, width, left_of, swept_vertex, applied_or_not, applied_behind, applied_to_all}
+use Rattle.reducer.specs.Inner.Sweep.{application_by, instead, width, left_by_sweep, swept_vertex, applied_or_not, applied_behind, applied_to_all}
 use Rattle.reducer.proofs.FirstEdge.{NoneOf, NoneIn, first_edge-none, first_edge-behind}
-use Rattle.reducer.proofs.Steps.{Steps, steps-append}
+use Rattle.reducer.proofs.FirstRules.{AreFirst, are_first-append}
 
 abbrev pub with_edges : EventVertex → List EventEdge → EventVertex
 with_edges v es = record v { edges = es }
@@ -172,52 +172,52 @@ module _ (g : EventGraph) (front : List EventVertex) (v : EventVertex) (later : 
 
     -- what the edges behind those that stay are to give
     abbrev Sweeps : List EventEdge → List EventEdge → List RuleApplication → List EventEdge → Type 0
-    Sweeps kept es applications left = Steps (at_edges (kept ++ es)) applications (at_edges (kept ++ left))
+    Sweeps kept es applications left = AreFirst (at_edges (kept ++ es)) applications (at_edges (kept ++ left))
 
     -- with the test of the first edge made
     one_edge : (b : Bool) (kept : List EventEdge) (e : EventEdge) (es : List EventEdge) → test e ≡ b → NoneOf test kept → AllByRecursion (IsReady rule g) (kept ++ e ∷ es)
-        → ((more : List EventEdge) → NoneOf test more → AllByRecursion (IsReady rule g) (more ++ es) → Sweeps more es (applied_behind rule g v.name (length more) es) (flat_map (left_of rule g) es))
-        → Sweeps kept (e ∷ es) (applied_or_not rule v.name (length kept) b (λ k. applied_behind rule g v.name k es)) (cond b (instead rule e) (e ∷ []) ++ flat_map (left_of rule g) es)
+        → ((more : List EventEdge) → NoneOf test more → AllByRecursion (IsReady rule g) (more ++ es) → Sweeps more es (applied_behind rule g v.name (length more) es) (flat_map (left_by_sweep rule g) es))
+        → Sweeps kept (e ∷ es) (applied_or_not rule v.name (length kept) b (λ k. applied_behind rule g v.name k es)) (cond b (instead rule e) (e ∷ []) ++ flat_map (left_by_sweep rule g) es)
     one_edge true kept e es passes none ready go =
         let more = kept ++ instead rule e in
-        let left = flat_map (left_of rule g) es in
+        let left = flat_map (left_by_sweep rule g) es in
         let wide : length more ≡ length kept + width rule = length-append kept (instead rule e) ∙ ap (λ n. length kept + n) (instead-length rule e) in
         let more_ready = all-append (IsReady rule g) more es (all-append (IsReady rule g) kept (instead rule e) (all-front (IsReady rule g) kept (e ∷ es) ready) (instead-ready rule g e)) (all-back (IsReady rule g) kept (e ∷ es) ready).1 in
         let more_none = all-append (λ e. test e ≡ false) kept (instead rule e) none (instead-none rule g e) in (
           first_here kept e es none ready passes,
           at_edges (kept ++ (instead rule e ++ es)),
           it_applies kept e es rule passes,
-          subst (λ (x : List EventEdge). Steps (at_edges x) (applied_behind rule g v.name (length kept + width rule) es) (at_edges (kept ++ (instead rule e ++ left)))) (append_assoc kept (instead rule e) es)
-              (subst (λ (x : List EventEdge). Steps (at_edges (more ++ es)) (applied_behind rule g v.name (length kept + width rule) es) (at_edges x)) (append_assoc kept (instead rule e) left)
-              (subst (λ (k : ℕ). Steps (at_edges (more ++ es)) (applied_behind rule g v.name k es) (at_edges (more ++ left))) wide (go more more_none more_ready))),
+          subst (λ (x : List EventEdge). AreFirst (at_edges x) (applied_behind rule g v.name (length kept + width rule) es) (at_edges (kept ++ (instead rule e ++ left)))) (append_assoc kept (instead rule e) es)
+              (subst (λ (x : List EventEdge). AreFirst (at_edges (more ++ es)) (applied_behind rule g v.name (length kept + width rule) es) (at_edges x)) (append_assoc kept (instead rule e) left)
+              (subst (λ (k : ℕ). AreFirst (at_edges (more ++ es)) (applied_behind rule g v.name k es) (at_edges (more ++ left))) wide (go more more_none more_ready))),
         )
     one_edge false kept e es passes none ready go =
         let more = kept ++ e ∷ [] in
-        let left = flat_map (left_of rule g) es in
+        let left = flat_map (left_by_sweep rule g) es in
         let wide : length more ≡ length kept + 1 = length-append kept (e ∷ []) in
         let more_ready = subst (AllByRecursion (IsReady rule g)) (sym (append_assoc kept (e ∷ []) es)) ready in
         let more_none = all-append (λ e. test e ≡ false) kept (e ∷ []) none (passes, tt) in
-        subst (λ (x : List EventEdge). Steps (at_edges x) (applied_behind rule g v.name (length kept + 1) es) (at_edges (kept ++ e ∷ left))) (append_assoc kept (e ∷ []) es)
-        (subst (λ (x : List EventEdge). Steps (at_edges (more ++ es)) (applied_behind rule g v.name (length kept + 1) es) (at_edges x)) (append_assoc kept (e ∷ []) left)
-        (subst (λ (k : ℕ). Steps (at_edges (more ++ es)) (applied_behind rule g v.name k es) (at_edges (more ++ left))) wide (go more more_none more_ready)))
+        subst (λ (x : List EventEdge). AreFirst (at_edges x) (applied_behind rule g v.name (length kept + 1) es) (at_edges (kept ++ e ∷ left))) (append_assoc kept (e ∷ []) es)
+        (subst (λ (x : List EventEdge). AreFirst (at_edges (more ++ es)) (applied_behind rule g v.name (length kept + 1) es) (at_edges x)) (append_assoc kept (e ∷ []) left)
+        (subst (λ (k : ℕ). AreFirst (at_edges (more ++ es)) (applied_behind rule g v.name k es) (at_edges (more ++ left))) wide (go more more_none more_ready)))
 
-    sweeps_edges : (es kept : List EventEdge) → NoneOf test kept → AllByRecursion (IsReady rule g) (kept ++ es) → Sweeps kept es (applied_behind rule g v.name (length kept) es) (flat_map (left_of rule g) es)
+    sweeps_edges : (es kept : List EventEdge) → NoneOf test kept → AllByRecursion (IsReady rule g) (kept ++ es) → Sweeps kept es (applied_behind rule g v.name (length kept) es) (flat_map (left_by_sweep rule g) es)
     sweeps_edges [] kept none ready = refl
     sweeps_edges (e ∷ es) kept none ready = one_edge (test e) kept e es refl none ready (λ more clear more_ready. sweeps_edges es more clear more_ready)
 
 -- ---- what a sweep leaves
 
 module _ (rule : EdgeRule) (g : EventGraph) where
-  left-none : (es : List EventEdge) → NoneOf (test_of rule g) (flat_map (left_of rule g) es)
+  left-none : (es : List EventEdge) → NoneOf (test_of rule g) (flat_map (left_by_sweep rule g) es)
   left-none [] = tt
-  left-none (e ∷ es) = all-append (λ e. test_of rule g e ≡ false) (left_of rule g e) (flat_map (left_of rule g) es) (one (test_of rule g e) refl) (left-none es) where
+  left-none (e ∷ es) = all-append (λ e. test_of rule g e ≡ false) (left_by_sweep rule g e) (flat_map (left_by_sweep rule g) es) (one (test_of rule g e) refl) (left-none es) where
     one : (b : Bool) → test_of rule g e ≡ b → NoneOf (test_of rule g) (cond b (instead rule e) (e ∷ []))
     one true passes = instead-none rule g e
     one false passes = (passes, tt)
 
-  left-ready : (es : List EventEdge) → AllByRecursion (IsReady rule g) es → AllByRecursion (IsReady rule g) (flat_map (left_of rule g) es)
+  left-ready : (es : List EventEdge) → AllByRecursion (IsReady rule g) es → AllByRecursion (IsReady rule g) (flat_map (left_by_sweep rule g) es)
   left-ready [] ready = tt
-  left-ready (e ∷ es) ready = all-append (IsReady rule g) (left_of rule g e) (flat_map (left_of rule g) es) (one (test_of rule g e)) (left-ready es ready.1) where
+  left-ready (e ∷ es) ready = all-append (IsReady rule g) (left_by_sweep rule g e) (flat_map (left_by_sweep rule g) es) (one (test_of rule g e)) (left-ready es ready.1) where
     one : (b : Bool) → AllByRecursion (IsReady rule g) (cond b (instead rule e) (e ∷ []))
     one true = instead-ready rule g e
     one false = (ready.0, tt)
@@ -236,7 +236,7 @@ module _ (rule : EdgeRule) (g : EventGraph) where
   names-swept [] v vs = refl
   names-swept (w ∷ front) v vs = ap (λ ns. w.name ∷ ns) (names-swept front v vs)
 
-  sweeps_from : (front vs : List EventVertex) → NoneIn (test_of rule g) front → AreReady rule g front → AreReady rule g vs → IsDistinct same_bytes (map name_of (front ++ vs)) → Steps (with_vertices g (front ++ vs)) (applied_to_all rule g vs) (with_vertices g (front ++ map (swept_vertex rule g) vs))
+  sweeps_from : (front vs : List EventVertex) → NoneIn (test_of rule g) front → AreReady rule g front → AreReady rule g vs → IsDistinct same_bytes (map name_of (front ++ vs)) → AreFirst (with_vertices g (front ++ vs)) (applied_to_all rule g vs) (with_vertices g (front ++ map (swept_vertex rule g) vs))
   sweeps_from front [] clean front_ready ready distinct = refl
   sweeps_from front (v ∷ vs) clean front_ready ready distinct =
       let s = swept_vertex rule g v in
@@ -246,10 +246,10 @@ module _ (rule : EdgeRule) (g : EventGraph) where
       (all-append (λ (v : EventVertex). NoneOf (test_of rule g) v.edges) front (s ∷ []) clean (left-none v.edges, tt))
       (all-append (λ (v : EventVertex). AllByRecursion (IsReady rule g) v.edges) front (s ∷ []) front_ready (left-ready v.edges ready.0, tt))
       ready.1 (subst (IsDistinct same_bytes) (names-swept front v vs) distinct) in
-      steps-append (applied_behind rule g v.name 0 v.edges) (applied_to_all rule g vs) (with_vertices g (front ++ v ∷ vs)) (with_vertices g (front ++ s ∷ vs)) (with_vertices g (front ++ s ∷ map (swept_vertex rule g) vs)) here
-      (subst (λ (x : List EventVertex). Steps (with_vertices g x) (applied_to_all rule g vs) (with_vertices g (front ++ s ∷ map (swept_vertex rule g) vs))) (append_assoc front (s ∷ []) vs)
-      (subst (λ (x : List EventVertex). Steps (with_vertices g (pushed ++ vs)) (applied_to_all rule g vs) (with_vertices g x)) (append_assoc front (s ∷ []) (map (swept_vertex rule g) vs)) go))
+      are_first-append (applied_behind rule g v.name 0 v.edges) (applied_to_all rule g vs) (with_vertices g (front ++ v ∷ vs)) (with_vertices g (front ++ s ∷ vs)) (with_vertices g (front ++ s ∷ map (swept_vertex rule g) vs)) here
+      (subst (λ (x : List EventVertex). AreFirst (with_vertices g x) (applied_to_all rule g vs) (with_vertices g (front ++ s ∷ map (swept_vertex rule g) vs))) (append_assoc front (s ∷ []) vs)
+      (subst (λ (x : List EventVertex). AreFirst (with_vertices g (pushed ++ vs)) (applied_to_all rule g vs) (with_vertices g x)) (append_assoc front (s ∷ []) (map (swept_vertex rule g) vs)) go))
 
   -- the sweep over all vertices
-  pub sweep_steps : (vs : List EventVertex) → AreReady rule g vs → IsDistinct same_bytes (map name_of vs) → Steps (with_vertices g vs) (applied_to_all rule g vs) (with_vertices g (map (swept_vertex rule g) vs))
-  sweep_steps vs ready distinct = sweeps_from [] vs tt tt ready distinct
+  pub sweep_rules : (vs : List EventVertex) → AreReady rule g vs → IsDistinct same_bytes (map name_of vs) → AreFirst (with_vertices g vs) (applied_to_all rule g vs) (with_vertices g (map (swept_vertex rule g) vs))
+  sweep_rules vs ready distinct = sweeps_from [] vs tt tt ready distinct
