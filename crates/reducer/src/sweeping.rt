@@ -42,7 +42,26 @@ fn sweep_vertices(
         ≡ map application_of applications.old.items ++ applied_to_all rule (graph_of model.now) (map vertex_of vertices.old.items)) }
 {
     for vertex in vertices.iter_mut() {
-        note(alloc, rule, model, vertex, applications)?;
+        sweep_vertex(alloc, rule, model, vertex, applications)?;
+    }
+    Ok(())
+}
+
+/// The same for one vertex, which stays as it is where the rule applies to none of its edges.
+fn sweep_vertex(
+    alloc: Global,
+    rule: EdgeRule,
+    model: &Model,
+    vertex: &mut Vertex,
+    applications: &mut Vec<Application>,
+) -> Result<(), NoMemory>
+    ensures swept { OnOk result (vertex_of vertex.new ≡ swept_vertex rule (graph_of model.now) (vertex_of vertex.old)) }
+    ensures applied { OnOk result (map application_of applications.new.items
+        ≡ map application_of applications.old.items ++ applied_to rule (graph_of model.now) (vertex_of vertex.old)) }
+{
+    let noted = applications.len();
+    note(alloc, rule, model, vertex, applications)?;
+    if noted < applications.len() {
         change(rule, model, vertex);
     }
     Ok(())

@@ -16,10 +16,10 @@ loop-vertex-preserved c =
     let same_length = ChangedTo-length vertex_of f i xs ys c.loop-vertex.invariant.swept in
     let below : i < length ys = omega (arith, same_length, c.loop-vertex-test.true) in
     record {
-      swept = rw add-one (ChangedTo-step vertex_of f i xs ys d c.change.new.vertex below c.change.ensures c.loop-vertex.invariant.swept);
+      swept = rw add-one (ChangedTo-step vertex_of f i xs ys d c.sweep_vertex.new.vertex below c.in_ok-sweep_vertex.ensures.swept c.loop-vertex.invariant.swept);
       applied = one_more (applied_to c.args.rule (graph_of c.args.model.now)) _ _ _ _ _ (vertex_of (get_or ys i d))
           (map_more vertex_of xs i d c.loop-vertex-test.true ∙ ap (λ (x : Vertex). map vertex_of (take i xs) ++ vertex_of x ∷ []) (sym (ChangedTo-at vertex_of f i xs ys d c.loop-vertex.invariant.swept)))
-          c.in_ok-note.ensures c.loop-vertex.invariant.applied;
+          c.in_ok-sweep_vertex.ensures.applied c.loop-vertex.invariant.applied;
     }
 
 pub returns-clause-swept : goal.returns-clause-swept
