@@ -9,9 +9,9 @@ use Rattle.model_core.specs.Rules.MarkedPlaces.{rank, marked_of, is_marked, unma
 use Rattle.model_core.specs.Rules.Reached.{Reachable, reach_first, reach_watched, reach_over, reached_marks, unreached}
 use Rattle.model_core.specs.Rules.Drop.{edge_renumbered, vertex_renumbered, watched_renumbered, only_marked}
 use Rattle.model_core.proofs.Marks.{Marked, marked-placed}
-use Rattle.edge_pruning.proofs.Among.{Among, among-contained, contained-among, among-map, of-among}
+use Rattle.model_core.proofs.Among.{Among, among-contained, contained-among, among-map, of-among}
 use Rattle.edge_pruning.proofs.ReachedMarks.{has_edges, reachable-marked, reached_marks-hold, reached_marks-long, reached_marks-reachable}
-use Rattle.edge_pruning.proofs.DropMarks.{rank-zero}
+use Rattle.model_core.proofs.Ranks.{rank-none}
 use Rattle.edge_pruning.proofs.DropSame.{at-map, NamesVertices}
 
 -- each place of what is left is the new place of a marked one
@@ -46,7 +46,7 @@ module _ (g : EventGraph) (names : NamesVertices g) where
 
   -- what could be reached can be reached at its new place
   still_reachable : {k : ℕ} → Reachable g k → Reachable h (rank marks k)
-  still_reachable reach_first = subst (Reachable h) (sym (rank-zero marks)) reach_first
+  still_reachable reach_first = subst (Reachable h) (sym (rank-none marks)) reach_first
   still_reachable (reach_watched vertex contains) =
       reach_watched (rank marks vertex) (contained-among h.watch (WatchedVertex (rank marks vertex)) (among-map (watched_renumbered (rank marks)) g.watch (WatchedVertex vertex) (among-contained g.watch (WatchedVertex vertex) contains)))
   still_reachable (reach_over vertex e before contains) =

@@ -1,24 +1,12 @@
 -- What dropping gives where its conditions hold: the graph of the vertices that can be reached.
-use Rattle.std.proofs.Common.{◌≡◌, ℕ, Bool, true, false, not, List, [], ◌∷◌, length, None, refl, sym, ap, ap₂, ◌∙◌}
+use Rattle.std.proofs.Common.{◌≡◌, ℕ, List, None, sym, ap, ◌∙◌}
 use Rattle.model_core.specs.EventGraph.{EventGraph}
 use Rattle.model_core.specs.Rules.Conditions.{first_failed}
 use Rattle.model_core.specs.Rules.Reached.{reached_marks, unreached}
 use Rattle.model_core.specs.Rules.Drop.{lists_some, lists_exactly, drop_conditions, staying_marks, only_marked, dropped}
 use Rattle.edge_pruning.proofs.FewerOrFreer.{both_hold}
 use Rattle.edge_pruning.proofs.ReachedMarks.{reached_marks-long}
-use Rattle.edge_pruning.proofs.DropMarks.{staying-unmarked, exactly-equal}
-
-pub some_listed : (vertices : List ℕ) → (length vertices ≡ 0 → ⊥) → lists_some vertices ≡ true
-some_listed [] some = absurd (some refl)
-some_listed (v ∷ vs) some = refl
-
-pub not_unequal : (b : Bool) → false ≡ not b → b ≡ true
-not_unequal true e = refl
-not_unequal false e = cc
-
--- both conditions hold
-pub drop_holds : (g : EventGraph) (vertices : List ℕ) → lists_some vertices ≡ true → lists_exactly vertices (unreached g) ≡ true → first_failed (drop_conditions g vertices) ≡ None
-drop_holds g vertices some exactly = ap₂ (λ a b. first_failed (a ∷ b ∷ [])) some exactly
+use Rattle.model_core.proofs.StayingMarks.{staying-unmarked, exactly-equal}
 
 pub lists_unreached : (g : EventGraph) (vertices : List ℕ) → first_failed (drop_conditions g vertices) ≡ None → vertices ≡ unreached g
 lists_unreached g vertices none = exactly-equal vertices (unreached g) (both_hold (lists_some vertices) (lists_exactly vertices (unreached g)) none).1

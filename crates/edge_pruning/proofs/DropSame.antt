@@ -8,8 +8,8 @@ use Rattle.model_core.specs.Rules.MarkedPlaces.{rank, marked_of}
 use Rattle.model_core.specs.Rules.Reached.{reached_marks}
 use Rattle.model_core.specs.Rules.Drop.{vertex_renumbered, only_marked}
 use Rattle.model_core.proofs.Marks.{Marked, rank-apart, marked-placed}
-use Rattle.edge_pruning.proofs.Among.{Among, each-among, of-among}
-use Rattle.edge_pruning.proofs.DropMarks.{rank-zero}
+use Rattle.model_core.proofs.Among.{Among, each-among, of-among}
+use Rattle.model_core.proofs.Ranks.{rank-none}
 use Rattle.edge_pruning.proofs.ReachedMarks.{first-begins, watched-begins, HoldReached, reached_marks-hold}
 use Rattle.edge_pruning.proofs.Renumbered.{WatchedLive, renumbered-Same}
 
@@ -38,7 +38,7 @@ reached_same g names =
       apart = rank-apart marks;
       placed = λ k live. at-map (vertex_renumbered (rank marks)) (marked_of marks g.vertices) (rank marks k) no_vertex ∙ ap (vertex_renumbered (rank marks)) (marked-placed marks g.vertices k no_vertex live);
       closed = λ k live. each-among (λ (e : EventEdge). Marked marks e.target) (vertex_at g k).edges (λ e among. hold.leads k live e among (of-among (λ (e : EventEdge). e.target < length g.vertices) (vertex_at g k).edges e (names.edges k) among));
-      first = rank-zero marks;
+      first = rank-none marks;
       first_live = hold.begins 0 (first-begins g) names.some;
       watched = watched-live g marks (λ k among. hold.begins k (watched-begins g k among) (names.watch k among));
     })

@@ -1,23 +1,22 @@
 -- Taking an edge away and making its condition `true` lessen edges; what their conditions give on a valid model.
-use Rattle.std.proofs.Common.{◌≡◌, ℕ, zero, suc, ◌≤◌, ◌+◌, Bool, true, false, ◌&&◌, IsTrue, All, List, [], ◌∷◌, ◌++◌, length, slice_get, Option, Some, None, is_some, refl, sym, ◌∙◌, ap, ap₂, arith}
+use Rattle.std.proofs.Common.{◌≡◌, ℕ, ◌≤◌, ◌+◌, Bool, true, false, List, [], ◌∷◌, ◌++◌, length, slice_get, Option, Some, None, is_some, refl, sym, ◌∙◌, ap, arith}
 use Rattle.std.specs.Prelude.{codes}
-use Rattle.std.specs.List.{AllByRecursion, remove}
+use Rattle.std.specs.List.{remove}
 use Rattle.std.specs.Option.{option_map_or, option_and_then}
 use Rattle.model_core.specs.EventGraph.{EventGraph, EventVertex, EventEdge, Variable}
-use Rattle.model_core.specs.Run.State.{within, in_range, initial_state}
 use Rattle.model_core.specs.Text.Canonical.{edge_line, edge_word, vertex_name, in_parentheses, expression_texts, timing_text, condition_text}
 use Rattle.model_core.specs.Text.Spellable.{Extent, SpellableEdge, expression_openings, values_openings, kind_openings}
-use Rattle.model_core.specs.Static.OwnRules.{KeepsVariable, KeepsEdge, KeepsVertex, parameters_of, KeepsParts}
+use Rattle.model_core.specs.Static.OwnRules.{KeepsEdge, KeepsVertex, parameters_of, KeepsParts}
 use Rattle.model_core.specs.Rules.Conditions.{first_failed}
 use Rattle.model_core.specs.Rules.BoundsOf.{bounds_of, refuted, proved}
 use Rattle.model_core.specs.Rules.PlacedEdges.{edge_at, with_place}
 use Rattle.model_core.specs.Rules.Prune.{has_refuted_condition, prune_conditions}
 use Rattle.model_core.specs.Rules.Settle.{is_conditional, has_proved_condition, settle_conditions, unconditional}
-use Rattle.model_core.proofs.InRange.{starts_in_range}
-use Rattle.model_core.proofs.Soundness.Ends.{of_le}
 use Rattle.model_core.proofs.StaticTwins.DeclaredNames.{every_item}
-use Rattle.edge_pruning.proofs.ListsChanged.{all_remove, length-remove-le, length-with_place, all_with_place}
-use Rattle.edge_pruning.proofs.Shorter.{NoLonger, behind, before, nothing, same_length, lines_remove, lines_with_place}
+use Rattle.model_core.proofs.PlacesChanged.{length_placed}
+use Rattle.edge_pruning.proofs.ListsChanged.{all_remove, length-remove-le, all_with_place}
+use Rattle.model_core.proofs.NoLongerTexts.{NoLonger, no_longer-behind, no_longer-before, no_longer-nothing, no_longer-same}
+use Rattle.edge_pruning.proofs.Shorter.{lines_remove, lines_with_place}
 use Rattle.edge_pruning.proofs.OneVertexChanged.{Lessens}
 
 -- ---- one edge fewer
@@ -50,17 +49,17 @@ spellable_unconditional x e s = record {
 
 unconditional_shorter : (g : EventGraph) (e : EventEdge) → NoLonger (edge_line g (unconditional e)) (edge_line g e)
 unconditional_shorter g e =
-    before (codes ";\n") (behind (edge_word e.kind ++ vertex_name g e.target ++ in_parentheses (expression_texts g e.values) ++ timing_text g e.kind) (nothing (condition_text g e.condition)))
+    no_longer-before (codes ";\n") (no_longer-behind (edge_word e.kind ++ vertex_name g e.target ++ in_parentheses (expression_texts g e.values) ++ timing_text g e.kind) (no_longer-nothing (condition_text g e.condition)))
 
 same_at_least : (k n : ℕ) → k ≡ n → k ≤ n
 same_at_least k n e = omega (arith, e)
 
 pub settle_lessens : (edge : ℕ) → Lessens (with_place unconditional edge)
 settle_lessens edge = record {
-  no_more_edges = λ es. same_at_least _ _ (length-with_place unconditional edge es);
+  no_more_edges = λ es. same_at_least _ _ (length_placed unconditional edge es);
   keeps_rules = λ variables tables takes es keep. all_with_place (KeepsEdge variables tables takes) unconditional (keeps_unconditional variables tables takes) edge es keep;
   spellable = λ x es s. all_with_place (SpellableEdge x) unconditional (spellable_unconditional x) edge es s;
-  lines = λ g es. lines_with_place (edge_line g) (edge_line g) unconditional (unconditional_shorter g) (λ e. same_length _ _ refl) edge es;
+  lines = λ g es. lines_with_place (edge_line g) (edge_line g) unconditional (unconditional_shorter g) (λ e. no_longer-same _ _ refl) edge es;
 }
 
 -- ---- where no condition of a rule fails
@@ -97,12 +96,3 @@ pub edge_keeps : (g : EventGraph) (vertex edge : ℕ) (e : EventEdge) → KeepsP
 edge_keeps g vertex edge e k is =
     let (v, there, is_it) = found_edge (slice_get g.vertices vertex) edge e is in
     every_item (KeepsEdge g.variables (length g.tables) (parameters_of g)) v.edges edge e (every_item (KeepsVertex g.variables (length g.tables) (parameters_of g)) g.vertices vertex v k.vertices there).edges is_it
-
-begins_within : (vs : List Variable) → AllByRecursion KeepsVariable vs → All (λ v. IsTrue (within v.lo v.hi v.initial)) vs
-begins_within [] keep k d below = absurd (omega arith)
-begins_within (v ∷ vs) keep zero d below = ap₂ (λ a b. a && b) (of_le v.lo v.initial keep.0.from_lo) (of_le v.initial v.hi keep.0.to_hi)
-begins_within (v ∷ vs) keep (suc k) d below = begins_within vs keep.1 k d (omega arith)
-
--- its runs begin in range
-pub begins_in_range : (g : EventGraph) → KeepsParts g → IsTrue (in_range g (initial_state g))
-begins_in_range g k = starts_in_range g (begins_within g.variables k.variables)

@@ -3,10 +3,7 @@ pub mod Shorter
 pub mod SameRuns
 pub mod OneVertexChanged
 pub mod FewerOrFreer
-pub mod Among
-pub mod MarksBelow
 pub mod ReachedMarks
-pub mod WalkLaws
 pub mod DropMarks
 pub mod DropResult
 pub mod Renumbered

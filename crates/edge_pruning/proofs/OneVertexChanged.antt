@@ -1,6 +1,6 @@
 -- A model in which one vertex has other edges, no more of them and none that asks for more, keeps the static rules, can be
 -- written, and has no longer text.
-use Rattle.std.proofs.Common.{◌≡◌, ℕ, ◌≤◌, List, [], ◌++◌, map, length, refl, sym, ap, subst}
+use Rattle.std.proofs.Common.{◌≡◌, ℕ, ◌≤◌, List, [], ◌++◌, map, length, refl, sym, ap, subst, le_trans}
 use Rattle.std.specs.Prelude.{codes}
 use Rattle.std.specs.List.{AllByRecursion, flat_map, IsDistinct}
 use Rattle.sig_base.specs.declared.limits.TheConstants.{VERTICES_MAX}
@@ -10,9 +10,11 @@ use Rattle.model_core.specs.Text.Canonical.{variable_name, vertex_lines, change_
 use Rattle.model_core.specs.Text.Spellable.{Extent, extent, SpellableEdge, SpellableVertex, SpellableWatched, IsSpellable}
 use Rattle.model_core.specs.Static.OwnRules.{KeepsEdge, KeepsVertex, IsWatchable, parameters_of, KeepsParts, KeepsStaticRules}
 use Rattle.model_core.specs.Rules.PlacedEdges.{with_place}
-use Rattle.model_core.proofs.SameNames.{SameNames, map_alike, flat_map_alike, change_alike, edge_alike, watched_alike}
-use Rattle.edge_pruning.proofs.ListsChanged.{map-with_place, length-with_place, all_with_place, has_one_with_place, shown-with_place}
-use Rattle.edge_pruning.proofs.Shorter.{NoLonger, behind, before, no_more, same_length, both_shorter, lines_with_place}
+use Rattle.model_core.proofs.SameNames.{SameNames, map_alike, watched_alike, vertex_alike}
+use Rattle.model_core.proofs.PlacesChanged.{shown_placed, map_placed, length_placed, has_one_placed}
+use Rattle.edge_pruning.proofs.ListsChanged.{all_with_place}
+use Rattle.model_core.proofs.NoLongerTexts.{NoLonger, no_longer-behind, no_longer-before, no_longer-same, no_longer-both}
+use Rattle.edge_pruning.proofs.Shorter.{lines_with_place}
 
 -- the vertex with its edges changed
 abbrev pub edges_changed : (List EventEdge → List EventEdge) → EventVertex → EventVertex
@@ -37,10 +39,10 @@ module _ (g : EventGraph) (vertex : ℕ) (change : List EventEdge → List Event
   f = edges_changed change
 
   same_names : SameNames g h
-  same_names = record { variable = λ v. refl; table = λ t. refl; vertex = λ v. shown-with_place (λ (x : EventVertex). x.name) f [] (λ x. refl) vertex g.vertices v }
+  same_names = record { variable = λ v. refl; table = λ t. refl; vertex = λ v. shown_placed (λ (x : EventVertex). x.name) f [] (λ x. refl) vertex g.vertices v }
 
   same_extent : extent h ≡ extent g
-  same_extent = ap (λ n. record { variables = length g.variables; tables = length g.tables; vertices = n }) (length-with_place f vertex g.vertices)
+  same_extent = ap (λ n. record { variables = length g.variables; tables = length g.tables; vertices = n }) (length_placed f vertex g.vertices)
 
   spellable_vertex : (x : Extent) (v : EventVertex) → SpellableVertex x v → SpellableVertex x (f v)
   spellable_vertex x v s = record { name = s.name; parameters = s.parameters; changes = s.changes; edges = ok.spellable x v.edges s.edges }
@@ -51,40 +53,34 @@ module _ (g : EventGraph) (vertex : ℕ) (change : List EventEdge → List Event
     variables = s.variables;
     tables = s.tables;
     watch = subst (λ x. AllByRecursion (SpellableWatched x) g.watch) (sym same_extent) s.watch;
-    has_vertex = has_one_with_place f vertex g.vertices s.has_vertex;
+    has_vertex = has_one_placed f vertex g.vertices s.has_vertex;
     vertices = subst (λ x. AllByRecursion (SpellableVertex x) h.vertices) (sym same_extent) (all_with_place (SpellableVertex (extent g)) f (spellable_vertex (extent g)) vertex g.vertices s.vertices);
   }
 
   -- ---- its text is no longer
 
-  lines_alike : (v : EventVertex) → vertex_lines g v ≡ vertex_lines h v
-  lines_alike v = λ i.
-      codes "vertex " ++ v.name ++ in_parentheses (map (variable_name g) v.parameters) ++ codes " {\n"
-      ++ flat_map_alike (change_line g) (change_line h) (change_alike g h same_names) v.changes i
-      ++ flat_map_alike (edge_line g) (edge_line h) (edge_alike g h same_names) v.edges i ++ codes "}\n"
-
   lines_changed : (v : EventVertex) → NoLonger (vertex_lines g (f v)) (vertex_lines g v)
-  lines_changed v = before (codes "}\n") (behind (codes "vertex " ++ v.name ++ in_parentheses (map (variable_name g) v.parameters) ++ codes " {\n" ++ flat_map (change_line g) v.changes) (ok.lines g v.edges))
+  lines_changed v = no_longer-before (codes "}\n") (no_longer-behind (codes "vertex " ++ v.name ++ in_parentheses (map (variable_name g) v.parameters) ++ codes " {\n" ++ flat_map (change_line g) v.changes) (ok.lines g v.edges))
 
   canonical_shorter : NoLonger (canonical h) (canonical g)
   canonical_shorter =
-      before (codes "end\n")
-      (both_shorter (behind (codes "model " ++ g.name ++ codes ";\n" ++ flat_map variable_line g.variables ++ flat_map table_line g.tables) watch)
+      no_longer-before (codes "end\n")
+      (no_longer-both (no_longer-behind (codes "model " ++ g.name ++ codes ";\n" ++ flat_map variable_line g.variables ++ flat_map table_line g.tables) watch)
       (lines_with_place (vertex_lines g) (vertex_lines h) f changed same vertex g.vertices))
     where
       watch : NoLonger (watch_line h) (watch_line g)
-      watch = same_length _ _ (ap watch_names_line (map_alike (watched_name h) (watched_name g) (λ w. sym (watched_alike g h same_names w)) g.watch))
+      watch = no_longer-same _ _ (ap watch_names_line (map_alike (watched_name h) (watched_name g) (λ w. sym (watched_alike g h same_names w)) g.watch))
 
       changed : (x : EventVertex) → NoLonger (vertex_lines h (f x)) (vertex_lines g x)
-      changed x = subst (λ y. NoLonger y (vertex_lines g x)) (lines_alike (f x)) (lines_changed x)
+      changed x = subst (λ y. NoLonger y (vertex_lines g x)) (vertex_alike g h same_names (f x)) (lines_changed x)
 
       same : (x : EventVertex) → NoLonger (vertex_lines h x) (vertex_lines g x)
-      same x = same_length _ _ (sym (lines_alike x))
+      same x = no_longer-same _ _ (sym (vertex_alike g h same_names x))
 
   -- ---- it keeps the rules
 
   same_parameters : parameters_of h ≡ parameters_of g
-  same_parameters = map-with_place (λ (v : EventVertex). v.parameters) f (λ v. refl) vertex g.vertices
+  same_parameters = map_placed (λ (v : EventVertex). v.parameters) f (λ v. refl) vertex g.vertices
 
   keeps_vertex : (variables : List Variable) (tables : ℕ) (takes : List (List ℕ)) (v : EventVertex) → KeepsVertex variables tables takes v → KeepsVertex variables tables takes (f v)
   keeps_vertex variables tables takes v k = record {
@@ -95,23 +91,23 @@ module _ (g : EventGraph) (vertex : ℕ) (change : List EventEdge → List Event
     changes = k.changes;
     few_changes = k.few_changes;
     edges = ok.keeps_rules variables tables takes v.edges k.edges;
-    few_edges = no_more _ _ _ (ok.no_more_edges v.edges) k.few_edges;
+    few_edges = le_trans (ok.no_more_edges v.edges) k.few_edges;
   }
 
   changed_parts : KeepsParts g → KeepsParts h
   changed_parts k = record {
     name = k.name;
-    declared_once = subst (IsDistinct same_bytes) (ap (λ ns. map (λ (v : Variable). v.name) g.variables ++ map (λ (t : WeightTable). t.name) g.tables ++ ns) (sym (map-with_place (λ (v : EventVertex). v.name) f (λ v. refl) vertex g.vertices))) k.declared_once;
+    declared_once = subst (IsDistinct same_bytes) (ap (λ ns. map (λ (v : Variable). v.name) g.variables ++ map (λ (t : WeightTable). t.name) g.tables ++ ns) (sym (map_placed (λ (v : EventVertex). v.name) f (λ v. refl) vertex g.vertices))) k.declared_once;
     variables = k.variables;
     few_variables = k.few_variables;
     tables = k.tables;
     few_tables = k.few_tables;
-    watch = subst (λ n. AllByRecursion (IsWatchable (length g.variables) n) g.watch) (sym (length-with_place f vertex g.vertices)) k.watch;
+    watch = subst (λ n. AllByRecursion (IsWatchable (length g.variables) n) g.watch) (sym (length_placed f vertex g.vertices)) k.watch;
     watched_once = k.watched_once;
     vertices = subst (λ ts. AllByRecursion (KeepsVertex g.variables (length g.tables) ts) h.vertices) (sym same_parameters)
         (all_with_place (KeepsVertex g.variables (length g.tables) (parameters_of g)) f (keeps_vertex g.variables (length g.tables) (parameters_of g)) vertex g.vertices k.vertices);
-    few_vertices = subst (λ n. n ≤ VERTICES_MAX) (sym (length-with_place f vertex g.vertices)) k.few_vertices;
+    few_vertices = subst (λ n. n ≤ VERTICES_MAX) (sym (length_placed f vertex g.vertices)) k.few_vertices;
   }
 
   pub changed_rules : KeepsStaticRules g → KeepsStaticRules h
-  changed_rules k = record { parts = changed_parts k.parts; short = no_more _ _ _ canonical_shorter.at_most k.short }
+  changed_rules k = record { parts = changed_parts k.parts; short = le_trans canonical_shorter.at_most k.short }

@@ -1,43 +1,128 @@
--- The vertices that are marked by passes are those that can be reached.
-use Rattle.std.proofs.Common.{◌≡◌, ◌⊎◌, inl, inr, ℕ, zero, suc, ◌<◌, ◌==◌, Bool, true, ◌||◌, List, [], ◌∷◌, length, map, slice_index_or, Contains, refl, sym, ap, subst, arith, ◌∙◌}
-use Rattle.std.proofs.lemmas.Bool.Decides.{nat_tests}
-use Rattle.std.specs.List.{range_with_len, list_any}
-use Rattle.std.proofs.lemmas.List.FromFn.{length-map-range_with_len}
+-- The vertices that are marked by passes are those that can be reached: those that the first and the watched vertices entail
+-- over the pairs of a vertex and a target of its edges.
+use Rattle.std.proofs.Common.{◌≡◌, inl, inr, ℕ, zero, suc, ◌<◌, ◌==◌, Bool, true, false, ◌||◌, List, [], ◌∷◌, length, slice_index_or, refl, sym, ap, ap₂, subst, arith, ◌∙◌}
+use Rattle.std.specs.List.{list_any}
 use Rattle.model_core.specs.EventGraph.{EventGraph, EventVertex, EventEdge, Watched, WatchedVariable, WatchedVertex}
 use Rattle.model_core.specs.Run.Step.{no_vertex, vertex_at}
 use Rattle.model_core.specs.Run.History.{watches}
-use Rattle.model_core.specs.Rules.MarkedPlaces.{marked_of, is_marked, passes}
+use Rattle.model_core.specs.Rules.MarkedPlaces.{marked_of, is_marked, is_among, passes}
+use Rattle.model_core.specs.Rules.Entailed.{Entailed, from_first, over_pair, is_entailed_by, one_pair_further, entailed_marks}
 use Rattle.model_core.specs.Rules.Reached.{Reachable, reach_first, reach_watched, reach_over, begins_reached, is_led_to, one_edge_further, reached_marks}
+use Rattle.marked_walks.specs.PlacePairs.{places_behind, pairs_from}
 use Rattle.model_core.proofs.Marks.{Marked}
-use Rattle.model_core.proofs.LeastSets.{Below, passes-close}
-use Rattle.edge_pruning.proofs.Among.{Among, among-contained, contained-among, either_true, first_true, second_true, any-among, among-any}
-use Rattle.edge_pruning.proofs.MarksBelow.{marked-within, below-by_places, tested-marked, marked-tested, among-marked, marked-among}
-
-pub same-number : (a b : ℕ) → (a == b) ≡ true → a ≡ b
-same-number a b e = grind (arith, nat_tests)
-
-pub number-same : (a b : ℕ) → a ≡ b → (a == b) ≡ true
-number-same a b e = grind (arith, nat_tests)
+use Rattle.model_core.proofs.PlacesChanged.{same_number, same_on_range}
+use Rattle.model_core.proofs.EntailedMarks.{same-place, among-place, entailed-by, by-entailed, HoldEntailed, entailed_marks-long, entailed_marks-entailed, entailed_marks-hold}
+use Rattle.model_core.proofs.Among.{Among, among-contained, contained-among, among-map, among-of_map, second_true, any-among, among-any}
+use Rattle.model_core.proofs.MarksBelow.{among-marked, marked-among}
+use Rattle.marked_walks.proofs.FindingLaws.{behind-pairs, pairs-behind}
+use Rattle.edge_pruning.specs.Inner.Walk.{targets_of, targets_behind, watched_vertices}
 
 -- ---- where one begins
-
-pub watched-watches : (k : ℕ) (w : Watched) → watches k w ≡ true → w ≡ WatchedVertex k
-watched-watches k (WatchedVariable v) e = cc
-watched-watches k (WatchedVertex v) e = ap WatchedVertex (same-number v k e)
-
-pub begins-reachable : (g : EventGraph) (k : ℕ) → begins_reached g k ≡ true → Reachable g k
-begins-reachable g k e = by (either_true (k == 0) (list_any (watches k) g.watch) e) where
-  by : ((k == 0) ≡ true) ⊎ (list_any (watches k) g.watch ≡ true) → Reachable g k
-  by (inl first) = subst (Reachable g) (sym (same-number k 0 first)) reach_first
-  by (inr watched) =
-      let (w, among, is) = any-among (watches k) g.watch watched in
-      reach_watched k (subst (Contains g.watch) (watched-watches k w is) (contained-among g.watch w among))
 
 pub first-begins : (g : EventGraph) → begins_reached g 0 ≡ true
 first-begins g = refl
 
 pub watched-begins : (g : EventGraph) (k : ℕ) → Among (WatchedVertex k) g.watch → begins_reached g k ≡ true
-watched-begins g k among = second_true (k == 0) (list_any (watches k) g.watch) (among-any (watches k) g.watch (WatchedVertex k) among (number-same k k refl))
+watched-begins g k among = second_true (k == 0) (list_any (watches k) g.watch) (among-any (watches k) g.watch (WatchedVertex k) among (same_number k k refl))
+
+among-watched : (watch : List Watched) (k : ℕ) → Among k (watched_vertices watch) → Among (WatchedVertex k) watch
+among-watched [] k h = absurd h
+among-watched (WatchedVariable v ∷ watch) k h = inr (among-watched watch k h)
+among-watched (WatchedVertex v ∷ watch) k (inl e) = inl (ap WatchedVertex e)
+among-watched (WatchedVertex v ∷ watch) k (inr h) = inr (among-watched watch k h)
+
+watches-alike : (watch : List Watched) (k : ℕ) → list_any (watches k) watch ≡ is_among (watched_vertices watch) k
+watches-alike [] k = refl
+watches-alike (WatchedVariable v ∷ watch) k = watches-alike watch k
+watches-alike (WatchedVertex v ∷ watch) k = ap (λ b. (v == k) || b) (watches-alike watch k)
+
+same-tests : (a b : Bool) → (a ≡ true → b ≡ true) → (b ≡ true → a ≡ true) → a ≡ b
+same-tests true b to from = sym (to refl)
+same-tests false true to from = from refl
+same-tests false false to from = refl
+
+zero-alike : (k : ℕ) → (k == 0) ≡ (0 == k)
+zero-alike k = same-tests (k == 0) (0 == k) (λ e. same_number 0 k (sym (same-place k 0 e))) (λ e. same_number k 0 (sym (same-place 0 k e)))
+
+-- ---- one edge, and one pair
+
+pub has_edges : (vs : List EventVertex) (k : ℕ) (e : EventEdge) → Among e (slice_index_or vs k no_vertex).edges → k < length vs
+has_edges [] k e h = absurd h
+has_edges (v ∷ vs) zero e h = omega arith
+has_edges (v ∷ vs) (suc k) e h = omega (arith, has_edges vs k e h)
+
+pub behind-targets : (vs : List EventVertex) (k : ℕ) → places_behind (targets_behind vs) k ≡ targets_of (slice_index_or vs k no_vertex).edges
+behind-targets [] k = refl
+behind-targets (v ∷ vs) zero = refl
+behind-targets (v ∷ vs) (suc k) = behind-targets vs k
+
+edge-pair : (vs : List EventVertex) (k : ℕ) (e : EventEdge) → Among e (slice_index_or vs k no_vertex).edges → Among (k, e.target) (pairs_from 0 (targets_behind vs))
+edge-pair vs k e among =
+    behind-pairs (targets_behind vs) 0 k k e.target (omega arith)
+    (subst (λ (ks : List ℕ). Among e.target ks) (sym (behind-targets vs k)) (among-map (λ (e : EventEdge). e.target) (slice_index_or vs k no_vertex).edges e among))
+
+pair-edge : (vs : List EventVertex) (k j : ℕ) → Among (k, j) (pairs_from 0 (targets_behind vs)) → (e : EventEdge) × Among e (slice_index_or vs k no_vertex).edges × (e.target ≡ j)
+pair-edge vs k j among =
+    let (i, is, there) = pairs-behind (targets_behind vs) 0 k j among in
+    let same : i ≡ k = omega (arith, is) in
+    among-of_map (λ (e : EventEdge). e.target) (slice_index_or vs k no_vertex).edges j (subst (λ (ks : List ℕ). Among j ks) (behind-targets vs k) (subst (λ (i : ℕ). Among j (places_behind (targets_behind vs) i)) same there))
+
+led-by : (vs : List EventVertex) (marks : List Bool) (k : ℕ) → is_led_to marks vs k ≡ true → is_entailed_by marks (pairs_from 0 (targets_behind vs)) k ≡ true
+led-by vs marks k led =
+    let (v, among, some) = any-among (λ (v : EventVertex). list_any (λ (e : EventEdge). e.target == k) v.edges) (marked_of marks vs) led in
+    let (e, among_edges, is) = any-among (λ (e : EventEdge). e.target == k) v.edges some in
+    let (vertex, marked, same) = marked-among marks vs v no_vertex among in
+    let there : Among (vertex, e.target) (pairs_from 0 (targets_behind vs)) = edge-pair vs vertex e (subst (λ (v : EventVertex). Among e v.edges) (sym same) among_edges) in
+    by-entailed marks (pairs_from 0 (targets_behind vs)) vertex k marked (subst (λ (j : ℕ). Among (vertex, j) (pairs_from 0 (targets_behind vs))) (same-place e.target k is) there)
+
+leads-to : (vs : List EventVertex) (marks : List Bool) (k : ℕ) → is_entailed_by marks (pairs_from 0 (targets_behind vs)) k ≡ true → is_led_to marks vs k ≡ true
+leads-to vs marks k entails =
+    let (vertex, marked, pair) = entailed-by marks (pairs_from 0 (targets_behind vs)) k entails in
+    let (e, among, is) = pair-edge vs vertex k pair in
+    among-any (λ (v : EventVertex). list_any (λ (f : EventEdge). f.target == k) v.edges) (marked_of marks vs) (slice_index_or vs vertex no_vertex)
+    (among-marked marks vs vertex no_vertex marked (has_edges vs vertex e among))
+    (among-any (λ (f : EventEdge). f.target == k) (slice_index_or vs vertex no_vertex).edges e among (same_number e.target k is))
+
+further-alike : (vs : List EventVertex) (marks : List Bool) → one_edge_further vs marks ≡ one_pair_further (pairs_from 0 (targets_behind vs)) marks
+further-alike vs marks =
+    same_on_range (λ k. is_marked marks k || is_led_to marks vs k) (λ k. is_marked marks k || is_entailed_by marks (pairs_from 0 (targets_behind vs)) k) 0 (length marks)
+    (λ k from. ap (λ b. is_marked marks k || b) (same-tests _ _ (led-by vs marks k) (leads-to vs marks k)))
+
+-- ---- what can be reached is what is entailed
+
+module _ (g : EventGraph) where
+  abbrev first : List ℕ
+  first = 0 ∷ watched_vertices g.watch
+
+  abbrev pairs : List (ℕ × ℕ)
+  pairs = pairs_from 0 (targets_behind g.vertices)
+
+  abbrev count : ℕ
+  count = length g.vertices
+
+  begins-alike : (k : ℕ) → begins_reached g k ≡ is_among first k
+  begins-alike k = ap₂ (λ a b. a || b) (zero-alike k) (watches-alike g.watch k)
+
+  pub reached_marks-entailed : reached_marks g ≡ entailed_marks count first pairs
+  reached_marks-entailed =
+      ap₂ (λ (pass : List Bool → List Bool) (marks : List Bool). passes pass (length marks) marks)
+      (λ i marks. further-alike g.vertices marks i)
+      (same_on_range (begins_reached g) (is_among first) 0 count (λ k from. begins-alike k))
+
+  pub reached_marks-long : length (reached_marks g) ≡ length g.vertices
+  reached_marks-long = ap length reached_marks-entailed ∙ entailed_marks-long count first pairs
+
+  entailed-reachable : {k : ℕ} → Entailed count first pairs k → Reachable g k
+  entailed-reachable (from_first k below contains) = begun (among-contained first k contains) where
+    begun : Among k first → Reachable g k
+    begun (inl e) = subst (Reachable g) e reach_first
+    begun (inr watched) = reach_watched k (contained-among g.watch (WatchedVertex k) (among-watched g.watch k watched))
+  entailed-reachable (over_pair j k below before contains) =
+      let (e, among, is) = pair-edge g.vertices j k (among-contained pairs (j, k) contains) in
+      subst (Reachable g) is (reach_over j e (entailed-reachable before) (contained-among (vertex_at g j).edges e among))
+
+  pub reached_marks-reachable : (k : ℕ) → Marked (reached_marks g) k → Reachable g k
+  reached_marks-reachable k marked = entailed-reachable (entailed_marks-entailed count first pairs k (subst (λ (marks : List Bool). Marked marks k) reached_marks-entailed marked))
 
 -- ---- marks that hold what begins and what is led to hold all that can be reached
 
@@ -49,11 +134,6 @@ pub record HoldReached (g : EventGraph) (marks : List Bool) : Type 0 where
   pub begins : (k : ℕ) → begins_reached g k ≡ true → k < length g.vertices → Marked marks k
   pub leads : (k : ℕ) → Marked marks k → Leads g marks k
 
-pub has_edges : (vs : List EventVertex) (k : ℕ) (e : EventEdge) → Among e (slice_index_or vs k no_vertex).edges → k < length vs
-has_edges [] k e h = absurd h
-has_edges (v ∷ vs) zero e h = omega arith
-has_edges (v ∷ vs) (suc k) e h = omega (arith, has_edges vs k e h)
-
 pub reachable-marked : (g : EventGraph) (marks : List Bool) → HoldReached g marks → {k : ℕ} → Reachable g k → k < length g.vertices → Marked marks k
 reachable-marked g marks ok reach_first below = ok.begins 0 (first-begins g) below
 reachable-marked g marks ok (reach_watched vertex contains) below = ok.begins vertex (watched-begins g vertex (among-contained g.watch (WatchedVertex vertex) contains)) below
@@ -61,67 +141,10 @@ reachable-marked g marks ok (reach_over vertex e before contains) below =
     let among = among-contained (vertex_at g vertex).edges e contains in
     ok.leads vertex (reachable-marked g marks ok before (has_edges g.vertices vertex e among)) e among below
 
--- ---- one pass
-
-led-by : (g : EventGraph) (marks : List Bool) (k : ℕ) → is_led_to marks g.vertices k ≡ true → (vertex : ℕ) × (e : EventEdge) × Marked marks vertex × Among e (vertex_at g vertex).edges × (e.target ≡ k)
-led-by g marks k led =
-    let (v, among, some) = any-among (λ (v : EventVertex). list_any (λ (e : EventEdge). e.target == k) v.edges) (marked_of marks g.vertices) led in
-    let (e, among_edges, is) = any-among (λ (e : EventEdge). e.target == k) v.edges some in
-    let (vertex, marked, same) = marked-among marks g.vertices v no_vertex among in
-    (vertex, e, marked, subst (λ (v : EventVertex). Among e v.edges) (sym same) among_edges, same-number e.target k is)
-
-leads-to : (g : EventGraph) (marks : List Bool) (vertex : ℕ) (e : EventEdge) → Marked marks vertex → Among e (vertex_at g vertex).edges → is_led_to marks g.vertices e.target ≡ true
-leads-to g marks vertex e marked among =
-    among-any (λ (v : EventVertex). list_any (λ (f : EventEdge). f.target == e.target) v.edges) (marked_of marks g.vertices) (vertex_at g vertex)
-    (among-marked marks g.vertices vertex no_vertex marked (has_edges g.vertices vertex e among))
-    (among-any (λ (f : EventEdge). f.target == e.target) (vertex_at g vertex).edges e among (number-same e.target e.target refl))
-
-module _ (g : EventGraph) where
-  abbrev pass : List Bool → List Bool
-  pass = one_edge_further g.vertices
-
-  pass-long : (marks : List Bool) → length (pass marks) ≡ length marks
-  pass-long marks = length-map-range_with_len (λ k. is_marked marks k || is_led_to marks g.vertices k) 0 (length marks)
-
-  pass-keeps : (marks : List Bool) (k : ℕ) → Marked marks k → Marked (pass marks) k
-  pass-keeps marks k marked = tested-marked (λ k. is_marked marks k || is_led_to marks g.vertices k) (length marks) k (marked-within marks k marked) (first_true (is_marked marks k) (is_led_to marks g.vertices k) marked)
-
-  pass-grows : (marks : List Bool) → Below marks (pass marks)
-  pass-grows marks = below-by_places marks (pass marks) (sym (pass-long marks)) (pass-keeps marks)
-
-  passes-long : (n : ℕ) (marks : List Bool) → length (passes pass n marks) ≡ length marks
-  passes-long zero marks = refl
-  passes-long (suc n) marks = passes-long n (pass marks) ∙ pass-long marks
-
-  passes-keep : (n : ℕ) (marks : List Bool) (k : ℕ) → Marked marks k → Marked (passes pass n marks) k
-  passes-keep zero marks k marked = marked
-  passes-keep (suc n) marks k marked = passes-keep n (pass marks) k (pass-keeps marks k marked)
-
-  passes-reachable : (n : ℕ) (marks : List Bool) → ((k : ℕ) → Marked marks k → Reachable g k) → (k : ℕ) → Marked (passes pass n marks) k → Reachable g k
-  passes-reachable zero marks reach k marked = reach k marked
-  passes-reachable (suc n) marks reach k marked = passes-reachable n (pass marks) next k marked where
-    next : (k : ℕ) → Marked (pass marks) k → Reachable g k
-    next k marked = by (either_true (is_marked marks k) (is_led_to marks g.vertices k) (marked-tested (λ k. is_marked marks k || is_led_to marks g.vertices k) (length marks) k marked)) where
-      by : (is_marked marks k ≡ true) ⊎ (is_led_to marks g.vertices k ≡ true) → Reachable g k
-      by (inl before) = reach k before
-      by (inr led) =
-          let (vertex, e, from, among, is) = led-by g marks k led in
-          subst (Reachable g) is (reach_over vertex e (reach vertex from) (contained-among (vertex_at g vertex).edges e among))
-
-  abbrev beginnings : List Bool
-  beginnings = map (begins_reached g) (range_with_len 0 (length g.vertices))
-
-  pub reached_marks-long : length (reached_marks g) ≡ length g.vertices
-  reached_marks-long = passes-long (length beginnings) beginnings ∙ length-map-range_with_len (begins_reached g) 0 (length g.vertices)
-
-  pub reached_marks-reachable : (k : ℕ) → Marked (reached_marks g) k → Reachable g k
-  reached_marks-reachable = passes-reachable (length beginnings) beginnings (λ k marked. begins-reachable g k (marked-tested (begins_reached g) (length g.vertices) k marked))
-
-  pub reached_marks-hold : HoldReached g (reached_marks g)
-  reached_marks-hold = record {
-    begins = λ k begins below. passes-keep (length beginnings) beginnings k (tested-marked (begins_reached g) (length g.vertices) k below begins);
-    leads = λ k marked e among below.
-        subst (λ (marks : List Bool). Marked marks e.target) (passes-close pass pass-grows beginnings)
-        (tested-marked (λ k. is_marked (reached_marks g) k || is_led_to (reached_marks g) g.vertices k) (length (reached_marks g)) e.target (omega (arith, below, reached_marks-long))
-        (second_true (is_marked (reached_marks g) e.target) (is_led_to (reached_marks g) g.vertices e.target) (leads-to g (reached_marks g) k e marked among)));
-  }
+pub reached_marks-hold : (g : EventGraph) → HoldReached g (reached_marks g)
+reached_marks-hold g = subst (HoldReached g) (sym (reached_marks-entailed g)) (record {
+  begins = λ k begins below. hold.begins k (among-place (first g) k (sym (begins-alike g k) ∙ begins)) below;
+  leads = λ k marked e among below. hold.leads k e.target marked (edge-pair g.vertices k e among) below;
+}) where
+  hold : HoldEntailed (count g) (first g) (pairs g) (entailed_marks (count g) (first g) (pairs g))
+  hold = entailed_marks-hold (count g) (first g) (pairs g)

@@ -1,6 +1,6 @@
 -- The graph of the marked vertices keeps the static rules, can be written, and has no longer text, where the marks hold what
 -- is reached.
-use Rattle.std.proofs.Common.{◌≡◌, inl, inr, ℕ, zero, suc, ◌+◌, ◌<◌, ◌≤◌, ◌==◌, nat_eq, Bool, true, false, List, [], ◌∷◌, ◌++◌, map, length, slice_get, slice_index_or, Option, Contains, refl, sym, ap, ap₂, subst, arith, ◌∙◌}
+use Rattle.std.proofs.Common.{◌≡◌, inl, inr, ℕ, zero, suc, ◌+◌, ◌<◌, ◌≤◌, ◌==◌, nat_eq, Bool, true, false, List, [], ◌∷◌, ◌++◌, map, length, slice_get, slice_index_or, Option, Contains, refl, sym, ap, ap₂, subst, arith, ◌∙◌, le_trans}
 use Rattle.std.specs.Prelude.{codes}
 use Rattle.std.specs.List.{AllByRecursion, flat_map, IsDistinct}
 use Rattle.std.specs.Option.{option_map_or}
@@ -17,10 +17,11 @@ use Rattle.model_core.specs.Rules.MarkedPlaces.{rank, marked_of}
 use Rattle.model_core.specs.Rules.Drop.{edge_renumbered, vertex_renumbered, watched_renumbered, only_marked}
 use Rattle.model_core.proofs.Marks.{Marked, rank-apart}
 use Rattle.round_trip.proofs.MadeAgain.{VertexFrom, EdgeFrom, ChangeFrom, made-spellable, same_change, same_edge}
-use Rattle.edge_pruning.proofs.Among.{Among, contained-among, of-among, each-among}
-use Rattle.edge_pruning.proofs.MarksBelow.{marked-among}
+use Rattle.model_core.proofs.Among.{Among, contained-among, of-among, each-among}
+use Rattle.model_core.proofs.MarksBelow.{marked-among}
+use Rattle.model_core.proofs.SomeOfAList.{some-marked_of, some-behind, some-distinct, some-few}
 use Rattle.edge_pruning.proofs.DropMarks.{marked_of-map}
-use Rattle.edge_pruning.proofs.Shorter.{NoLonger, behind, before, no_more, same_length, both_shorter}
+use Rattle.model_core.proofs.NoLongerTexts.{NoLonger, no_longer-behind, no_longer-before, no_longer-same, no_longer-both}
 use Rattle.edge_pruning.proofs.ReachedMarks.{watched-begins, HoldReached}
 use Rattle.edge_pruning.proofs.DropSame.{NamesVertices}
 
@@ -42,39 +43,11 @@ get-marked (false ∷ bs) (x ∷ xs) zero marked = cc
 get-marked (true ∷ bs) (x ∷ xs) (suc k) marked = get-marked bs xs k marked
 get-marked (false ∷ bs) (x ∷ xs) (suc k) marked = get-marked bs xs k marked
 
-marked-few : {A : Type 0} (marks : List Bool) (xs : List A) → length (marked_of marks xs) ≤ length xs
-marked-few [] xs = omega arith
-marked-few (b ∷ bs) [] = omega arith
-marked-few (true ∷ bs) (x ∷ xs) = omega (arith, marked-few bs xs)
-marked-few (false ∷ bs) (x ∷ xs) = omega (arith, marked-few bs xs)
-
-all-marked : {A : Type 0} (P : A → Type 0) (marks : List Bool) (xs : List A) → AllByRecursion P xs → AllByRecursion P (marked_of marks xs)
-all-marked P [] xs all = tt
-all-marked P (b ∷ bs) [] all = tt
-all-marked P (true ∷ bs) (x ∷ xs) all = (all.0, all-marked P bs xs all.1)
-all-marked P (false ∷ bs) (x ∷ xs) all = all-marked P bs xs all.1
-
-distinct-marked : {A : Type 0} (same : A → A → Bool) (marks : List Bool) (xs : List A) → IsDistinct same xs → IsDistinct same (marked_of marks xs)
-unfolding IsDistinct
-distinct-marked same [] xs distinct = tt
-distinct-marked same (b ∷ bs) [] distinct = tt
-distinct-marked same (true ∷ bs) (x ∷ xs) distinct = (all-marked (λ y. same x y ≡ false) bs xs distinct.0, distinct-marked same bs xs distinct.1)
-distinct-marked same (false ∷ bs) (x ∷ xs) distinct = distinct-marked same bs xs distinct.1
-
-all-behind : {A : Type 0} (P : A → Type 0) (front : List A) (marks : List Bool) (xs : List A) → AllByRecursion P (front ++ xs) → AllByRecursion P (front ++ marked_of marks xs)
-all-behind P [] marks xs all = all-marked P marks xs all
-all-behind P (x ∷ front) marks xs all = (all.0, all-behind P front marks xs all.1)
-
-distinct-behind : {A : Type 0} (same : A → A → Bool) (front : List A) (marks : List Bool) (xs : List A) → IsDistinct same (front ++ xs) → IsDistinct same (front ++ marked_of marks xs)
-unfolding IsDistinct
-distinct-behind same [] marks xs distinct = distinct-marked same marks xs distinct
-distinct-behind same (x ∷ front) marks xs distinct = (all-behind (λ y. same x y ≡ false) front marks xs distinct.0, distinct-behind same front marks xs distinct.1)
-
 lines-marked : {A : Type 0} (old new : A → List ℕ) (marks : List Bool) (xs : List A) → ((x : A) → Among x (marked_of marks xs) → new x ≡ old x) → NoLonger (flat_map new (marked_of marks xs)) (flat_map old xs)
 lines-marked old new [] xs same = record { at_most = omega arith }
 lines-marked old new (b ∷ bs) [] same = record { at_most = omega arith }
-lines-marked old new (true ∷ bs) (x ∷ xs) same = both_shorter (same_length (new x) (old x) (same x (inl refl))) (lines-marked old new bs xs (λ y there. same y (inr there)))
-lines-marked old new (false ∷ bs) (x ∷ xs) same = both_shorter (let e : NoLonger [] (old x) = record { at_most = omega arith } in e) (lines-marked old new bs xs same)
+lines-marked old new (true ∷ bs) (x ∷ xs) same = no_longer-both (no_longer-same (new x) (old x) (same x (inl refl))) (lines-marked old new bs xs (λ y there. same y (inr there)))
+lines-marked old new (false ∷ bs) (x ∷ xs) same = no_longer-both (let e : NoLonger [] (old x) = record { at_most = omega arith } in e) (lines-marked old new bs xs same)
 
 all-map : {A B : Type 0} (P : B → Type 0) (f : A → B) (xs : List A) → ((x : A) → Among x xs → P (f x)) → AllByRecursion P (map f xs)
 all-map P f [] each = tt
@@ -266,8 +239,8 @@ module _ (g : EventGraph) (marks : List Bool) (hold : HoldReached g marks) (name
 
   canonical_shorter : NoLonger (canonical h) (canonical g)
   canonical_shorter =
-      before (codes "end\n")
-      (both_shorter (behind (codes "model " ++ g.name ++ codes ";\n" ++ flat_map variable_line g.variables ++ flat_map table_line g.tables) (same_length (watch_line h) (watch_line g) watch_same))
+      no_longer-before (codes "end\n")
+      (no_longer-both (no_longer-behind (codes "model " ++ g.name ++ codes ";\n" ++ flat_map variable_line g.variables ++ flat_map table_line g.tables) (no_longer-same (watch_line h) (watch_line g) watch_same))
       vertices_shorter)
 
   -- ---- it keeps the rules
@@ -315,7 +288,7 @@ module _ (g : EventGraph) (marks : List Bool) (hold : HoldReached g marks) (name
       let front = map (λ (v : Variable). v.name) g.variables ++ map (λ (t : WeightTable). t.name) g.tables in
       let last : List (List ℕ) = map (λ (v : EventVertex). v.name) g.vertices in
       subst (λ (ns : List (List ℕ)). IsDistinct same_bytes (map (λ (v : Variable). v.name) g.variables ++ map (λ (t : WeightTable). t.name) g.tables ++ ns)) (sym names_kept)
-      (distinct-behind same_bytes front marks last k.declared_once)
+      (some-distinct same_bytes (some-behind front (some-marked_of marks last)) k.declared_once)
 
   dropped_parts : KeepsParts g → KeepsParts h
   dropped_parts k = record {
@@ -329,11 +302,11 @@ module _ (g : EventGraph) (marks : List Bool) (hold : HoldReached g marks) (name
     watched_once = watch_apart (length g.variables) marks g.watch (items_live k) k.watched_once;
     vertices = all-map (KeepsVertex g.variables (length g.tables) (parameters_of h)) (vertex_renumbered f) kept (λ v there.
         keeps_vertex v there (of-among (KeepsVertex g.variables (length g.tables) (parameters_of g)) g.vertices v k.vertices (among-of_marked marks g.vertices v there)));
-    few_vertices = no_more _ _ _ (subst (λ n. n ≤ length g.vertices) (sym (length-map kept (vertex_renumbered f))) (marked-few marks g.vertices)) k.few_vertices;
+    few_vertices = le_trans (subst (λ n. n ≤ length g.vertices) (sym (length-map kept (vertex_renumbered f))) (some-few (some-marked_of marks g.vertices))) k.few_vertices;
   }
 
   pub dropped_rules : KeepsStaticRules g → KeepsStaticRules h
-  dropped_rules k = record { parts = dropped_parts k.parts; short = no_more _ _ _ canonical_shorter.at_most k.short }
+  dropped_rules k = record { parts = dropped_parts k.parts; short = le_trans canonical_shorter.at_most k.short }
 
 -- ---- a valid model names vertices
 

@@ -1,4 +1,2 @@
 -- The code of this crate, restated for its proofs. Nobody has to believe these.
 pub mod Walk
-pub mod Walking
-pub mod Moving

@@ -67,3 +67,18 @@ every-staying P e es false (Some k) p all behind n done =
 pub next_among-every : (P : Entry → Type 0) (test : Entry → Bool) (es : List Entry) → AllByRecursion P es → (n : TakenOff) → next_among test es ≡ Some n → P n.entry × AllByRecursion P n.others
 next_among-every P test [] all n done = cc
 next_among-every P test (e ∷ es) (p, all) n done = every-staying P e es (test e) (next_among test es) p all (next_among-every P test es all) n done
+
+-- what is left after taking away was there
+pub without_next-every : (P : Entry → Type 0) (test : Entry → Bool) (p : List Entry) → AllByRecursion P p → AllByRecursion P (without_next test p)
+without_next-every P test p all = left (next_among test p) refl where
+  left : (o : Option TakenOff) → next_among test p ≡ o → AllByRecursion P (unwrap_or (option_map (λ n. n.others) o) p)
+  left None e = all
+  left (Some n) e = (next_among-every P test p all n e).1
+
+kept-every : (P : Entry → Type 0) (c : Bool) (e : Entry) (p : List Entry) → P e → AllByRecursion P p → AllByRecursion P (cond c (e ∷ p) p)
+kept-every P true e p now all = (now, all)
+kept-every P false e p now all = all
+
+pub without_all-every : (P : Entry → Type 0) (test : Entry → Bool) (p : List Entry) → AllByRecursion P p → AllByRecursion P (without_all test p)
+without_all-every P test [] all = tt
+without_all-every P test (e ∷ p) (now, all) = kept-every P (not (test e)) e (without_all test p) now (without_all-every P test p all)

@@ -10,5 +10,14 @@ pub mod Settle
 pub mod MarkedPlaces
 pub mod Reached
 pub mod Drop
+pub mod Uses
+pub mod Exclusive
+pub mod UrgentEdges
+pub mod Merge
+pub mod Entailed
+pub mod Needed
+pub mod Slice
 pub mod Reduction
 pub mod Certificate
+pub mod SameGraph
+pub mod Verdict

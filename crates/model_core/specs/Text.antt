@@ -12,3 +12,5 @@ pub mod Numbering
 pub mod Canonical
 pub mod HistoryText
 pub mod Spellable
+pub mod CertificateText
+pub mod DocumentText

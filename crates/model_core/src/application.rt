@@ -11,4 +11,8 @@ pub enum Application {
     Settle { vertex: Name, edge: u64 },
     /// Takes away the vertices that can't be reached, in the order of the text.
     Drop { vertices: List<Name> },
+    /// Lets a vertex do what its target does as well, which its plain urgent edge schedules at once.
+    Merge { vertex: Name, target: Name },
+    /// Takes away the variables that aren't needed, in the order of declaration.
+    Slice { vars: List<Name> },
 }

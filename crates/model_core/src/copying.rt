@@ -12,7 +12,7 @@ use sig_base::{List, Name, NoMemory, Table};
 use std::alloc::Global;
 
 /// A copy of a name.
-fn copy_name(alloc: Global, name: &Name) -> Result<Name, NoMemory>
+pub fn copy_name(alloc: Global, name: &Name) -> Result<Name, NoMemory>
     ensures { IfOk result (λ copy. copy ≡ name.now) }
 {
     Ok(Name::from_vec(Vec::from_slice(alloc, name.as_slice())?))

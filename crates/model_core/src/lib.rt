@@ -26,7 +26,7 @@ mod vertex;
 
 pub use application::Application;
 pub use bounds::Bounds;
-pub use copying::{copy_expr, copy_model};
+pub use copying::{copy_change, copy_edge, copy_expr, copy_model, copy_name, copy_vertex};
 pub use equality::{same_expr, same_model};
 pub use expr::Expr;
 pub use going_on::runs_go_on;
@@ -38,10 +38,10 @@ pub use raw::{
     RawName, RawNumber, RawRow, RawSigned, RawTable, RawTarget, RawVar, RawVertex,
 };
 pub use reading_laws::{
-    openings_have_a_limit, texts_end_with_their_word, texts_have_one_reading,
-    the_reader_reads_texts,
+    certificates_have_one_reading, openings_have_a_limit, texts_end_with_their_word,
+    texts_have_one_reading, the_reader_reads_texts,
 };
-pub use rule_error::RuleError;
+pub use rule_error::{RuleError, was_made};
 pub use rule_refused::RuleRefused;
 pub use sameness::sameness_is_a_preorder;
 pub use static_kind::StaticKind;

@@ -1,4 +1,4 @@
-//! Laws of the grammar of model texts. The functions do nothing: what they ensure holds of all tokens.
+//! Laws of the grammars of model texts and of certificates. The functions do nothing: what they ensure holds of all tokens.
 
 ghost use Rattle.std.specs.Prelude.{◌≡◌, ◌⊎◌, ◌++◌, ℕ, List, [], None, Ok, Err};
 ghost use Rattle.model_core.specs.Text.Lexing.{Lexeme};
@@ -7,6 +7,8 @@ ghost use Rattle.model_core.specs.Text.Language.{text_format, IsText, BeginsWith
 ghost use Rattle.model_core.specs.Text.FirstWrong.{FirstWrong, IsUnexpectedAt};
 ghost use Rattle.model_core.specs.Text.Openings.{front_to_end, too_deep_at, HasFewOpenings};
 ghost use Rattle.model_core.specs.Text.ModelText.{SpellsText};
+ghost use Rattle.model_core.specs.Text.CertificateText.{IsCertificate, IsNoCertificateAt};
+ghost use Rattle.model_core.specs.Rules.Reduction.{RuleApplication};
 ghost use Rattle.model_core.specs.Inner.OpeningCount.{deep_from};
 ghost use Rattle.model_core.specs.Inner.LanguageReader.{text_and_rest, text_read};
 
@@ -43,4 +45,12 @@ pub fn openings_have_a_limit()
     ensures counted { (limit : ℕ) (tokens : List Lexeme) → too_deep_at limit tokens ≡ deep_from limit limit tokens }
     ensures none { (limit : ℕ) (tokens : List Lexeme) → too_deep_at limit tokens ≡ None → HasFewOpenings limit tokens }
     ensures few { (limit : ℕ) (tokens : List Lexeme) → HasFewOpenings limit tokens → too_deep_at limit tokens ≡ None }
+{}
+
+/// Tokens are one certificate at most, and whether they are one is decided. Where they aren't, there is one first wrong
+/// place.
+pub fn certificates_have_one_reading()
+    ensures one_certificate { (tokens : List Lexeme) (a b : List RuleApplication) → IsCertificate tokens a → IsCertificate tokens b → a ≡ b }
+    ensures certificate_or_none { (text : List ℕ) (tokens : List Lexeme) → ((a : List RuleApplication) × IsCertificate tokens a) ⊎ ((at : ℕ) × IsNoCertificateAt text tokens at) }
+    ensures one_wrong_place { (text : List ℕ) (tokens : List Lexeme) (i j : ℕ) → IsNoCertificateAt text tokens i → IsNoCertificateAt text tokens j → i ≡ j }
 {}

@@ -1,6 +1,6 @@
 //! Why a rule that takes memory isn't applied.
 
-ghost use Rattle.std.specs.Prelude.{◌≡◌};
+ghost use Rattle.std.specs.Prelude.{◌≡◌, ℕ, true, false, Ok, Err};
 ghost use Rattle.model_core.specs.declared.rule_error.RuleError.TheVariants as errors;
 
 use sig_base::NoMemory;
@@ -39,5 +39,17 @@ impl<T: Drop> From<AllocFailed<T>> for RuleError {
 
     fn from(_error: AllocFailed<T>) -> RuleError {
         RuleError::NoMemory
+    }
+}
+
+/// Whether a rule was applied, or refused.
+pub fn was_made(given: Result<(), RuleError>) -> Result<bool, NoMemory>
+    ensures made { result ≡ Ok true → given ≡ Ok tt }
+    ensures refused { result ≡ Ok false → (condition : ℕ) × (given ≡ Err (errors.Refused condition)) }
+{
+    match given {
+        Ok(()) => Ok(true),
+        Err(RuleError::Refused { condition: _ }) => Ok(false),
+        Err(RuleError::NoMemory) => Err(NoMemory),
     }
 }

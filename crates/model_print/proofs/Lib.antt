@@ -1,2 +1,3 @@
 mod WrittenOperators
+mod OneEdgeLess
 pub mod Putting

@@ -1,14 +1,18 @@
 //! Lengths of canonical texts, in one walk and without memory.
 
-ghost use Rattle.std.specs.Prelude.{◌≡◌, ◌-◌, ◌^◌, length, min};
+ghost use Rattle.std.specs.Prelude.{◌≡◌, ◌++◌, ◌-◌, ◌^◌, length, map, min};
+ghost use Rattle.std.specs.List.{flat_map};
 ghost use Rattle.model_core.specs.Text.Canonical.{canonical, expression_text, change_line, edge_line};
+ghost use Rattle.model_core.specs.Rules.Merge.{set_parameters};
+ghost use Rattle.model_core.specs.Rules.Prune.{pruned};
 ghost use Rattle.model_core.specs.Code.Views.{graph_of, expression_of, change_of, edge_of};
 
 use crate::expressions::put_expression;
 use crate::model::put_model;
 use crate::pen::Count;
-use crate::vertices::{put_change, put_edge};
-use model_core::{Change, Edge, Expr, Model};
+use crate::vertices::{put_change, put_edge, put_taken_over};
+use crate::without_edge::put_model_without;
+use model_core::{Change, Edge, Expr, Model, Vertex};
 
 /// How many bytes the canonical text of a model has, or 2^64 - 1 where it has more.
 pub fn printed_length(model: &Model) -> u64
@@ -43,5 +47,25 @@ pub fn edge_length(edge: &Edge, model: &Model) -> u64
 {
     let mut count = Count { bytes: 0 };
     put_edge(&mut count, model, edge);
+    count.total()
+}
+
+/// How many bytes the canonical text of a model has without the edge at this place of the vertex at this place, or
+/// 2^64 - 1 where it has more.
+pub fn length_without_edge(model: &Model, vertex: usize, edge: usize) -> u64
+    ensures { result ≡ min (length (canonical (pruned (graph_of model.now) vertex edge))) (2 ^ 64 - 1) }
+{
+    let mut count = Count { bytes: 0 };
+    put_model_without(&mut count, model, vertex, edge);
+    count.total()
+}
+
+/// How many bytes the lines have by which another vertex of the model does what the event of this one does that is given
+/// these values, or 2^64 - 1 where they have more: a `set` of its parameters, its changes and its edges.
+pub fn taken_over_length(vertex: &Vertex, values: &[Expr], model: &Model) -> u64
+    ensures { result ≡ min (length (flat_map (change_line (graph_of model.now)) (set_parameters vertex.now.params (map expression_of values.now)) ++ flat_map (change_line (graph_of model.now)) (map change_of vertex.now.changes) ++ flat_map (edge_line (graph_of model.now)) (map edge_of vertex.now.edges))) (2 ^ 64 - 1) }
+{
+    let mut count = Count { bytes: 0 };
+    put_taken_over(&mut count, model, vertex, values);
     count.total()
 }

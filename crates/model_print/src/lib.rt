@@ -10,6 +10,9 @@ mod operators;
 mod pen;
 mod printed;
 mod vertices;
+mod without_edge;
 
-pub use lengths::{change_length, edge_length, expr_length, printed_length};
+pub use lengths::{
+    change_length, edge_length, expr_length, length_without_edge, printed_length, taken_over_length,
+};
 pub use printed::{print, print_expr};

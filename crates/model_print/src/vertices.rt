@@ -3,6 +3,7 @@
 ghost use Rattle.std.specs.Prelude.{◌≡◌, ◌++◌, map, option_map};
 ghost use Rattle.std.specs.List.{flat_map};
 ghost use Rattle.model_core.specs.Text.Canonical.{index_text, location_text, choice_text, change_line, delay_text, priority_text, edge_word, timing_text, condition_text, edge_line, vertex_lines, variable_name, joined, in_parentheses};
+ghost use Rattle.model_core.specs.Rules.Merge.{set_parameters};
 ghost use Rattle.model_core.specs.Code.Views.{graph_of, expression_of, location_of, choice_of, change_of, edge_kind_of, edge_of, vertex_of};
 
 use crate::expressions::{put_expression, put_expressions, put_passed};
@@ -177,7 +178,7 @@ fn put_variable_names<P: Pen>(out: &mut P, model: &Model, vars: &[usize])
 }
 
 /// Puts the parameters of a vertex in parentheses, or nothing where it has none.
-fn put_parameters<P: Pen>(out: &mut P, model: &Model, params: &[usize])
+pub fn put_parameters<P: Pen>(out: &mut P, model: &Model, params: &[usize])
     ensures { P.adds out.old out.new (in_parentheses (map (variable_name (graph_of model.now)) params.now)) }
 {
     if params.is_empty() {
@@ -189,7 +190,7 @@ fn put_parameters<P: Pen>(out: &mut P, model: &Model, params: &[usize])
 }
 
 /// Puts the lines of changes.
-fn put_changes<P: Pen>(out: &mut P, model: &Model, changes: &[Change])
+pub fn put_changes<P: Pen>(out: &mut P, model: &Model, changes: &[Change])
     ensures { P.adds out.old out.new (flat_map (change_line (graph_of model.now)) (map change_of changes.now)) }
 {
     for change in changes {
@@ -206,8 +207,31 @@ fn put_edges<P: Pen>(out: &mut P, model: &Model, edges: &[Edge])
     }
 }
 
+/// Puts the line by which variables take values, or nothing where there are no variables.
+fn put_set<P: Pen>(out: &mut P, model: &Model, vars: &[usize], values: &[Expr])
+    ensures { P.adds out.old out.new (flat_map (change_line (graph_of model.now)) (set_parameters vars.now (map expression_of values.now))) }
+{
+    if vars.is_empty() {
+        return;
+    }
+    out.put_bytes(b"  set ");
+    put_variable_names(out, model, vars);
+    out.put_bytes(b" := ");
+    put_expressions(out, model, values);
+    out.put_bytes(b";\n");
+}
+
+/// Puts the lines by which a vertex does what its event does that is given these values, in another vertex.
+pub fn put_taken_over<P: Pen>(out: &mut P, model: &Model, vertex: &Vertex, values: &[Expr])
+    ensures { P.adds out.old out.new (flat_map (change_line (graph_of model.now)) (set_parameters vertex.now.params (map expression_of values.now)) ++ flat_map (change_line (graph_of model.now)) (map change_of vertex.now.changes) ++ flat_map (edge_line (graph_of model.now)) (map edge_of vertex.now.edges)) }
+{
+    put_set(out, model, vertex.params.as_slice(), values);
+    put_changes(out, model, vertex.changes.as_slice());
+    put_edges(out, model, vertex.edges.as_slice());
+}
+
 /// Puts the lines of a vertex.
-fn put_vertex<P: Pen>(out: &mut P, model: &Model, vertex: &Vertex)
+pub fn put_vertex<P: Pen>(out: &mut P, model: &Model, vertex: &Vertex)
     ensures { P.adds out.old out.new (vertex_lines (graph_of model.now) (vertex_of vertex.now)) }
 {
     out.put_bytes(b"vertex ");

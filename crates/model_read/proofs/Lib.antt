@@ -1,8 +1,9 @@
 mod FirstToken
-mod ReadLoop
+pub mod ReadLoop
 mod FirstOperator
 mod OperandLevels
 mod LevelOperators
 mod OperatorsInTurn
 mod OpeningSteps
-mod WholeText
+pub mod WholeText
+pub mod PlacedReads

@@ -16,7 +16,7 @@ use Rattle.model_core.proofs.Formats.RuleLaws.{same_next, rule-is}
 use Rattle.model_core.proofs.Formats.OneTokenDecides.{levels-fine}
 use Rattle.model_read.specs.declared.stop.Stop.{Stop}
 use Rattle.model_read.specs.declared.stop.Stop.TheVariants as stops
-use Rattle.model_read.specs.Inner.ReadCalls.{Stops, Returned}
+use Rattle.model_read.specs.ReadCalls.{Stops, Returned}
 use Rattle.model_read.specs.Inner.Ladder.{operators_of, operand_level, rung, climb, not_format}
 
 pub next-next : {A B C : Type 0} (f : B → Parser C) (g : A → Parser B) (r : Parse A) → and_next f (and_next g r) ≡ and_next (λ a left. and_next f (g a left)) r

@@ -14,7 +14,7 @@ use Rattle.model_core.specs.Inner.LanguageReader.{level_lookahead}
 use Rattle.model_core.proofs.Formats.TokenSorts.{begins-none}
 use Rattle.model_core.proofs.Formats.RuleLaws.{same_next}
 use Rattle.model_read.specs.declared.stop.Stop.{Stop}
-use Rattle.model_read.specs.Inner.ReadCalls.{Returned}
+use Rattle.model_read.specs.ReadCalls.{Returned}
 use Rattle.model_read.specs.Inner.Ladder.{infix_of_kind, infix_at, operators_of, operand_level, next_level, rung, climb, at_levels, behind}
 use Rattle.model_read.proofs.FirstOperator.{is_at}
 use Rattle.model_read.proofs.OperandLevels.{next-next, of_level, isnt_below, climb-more, climb-none, stops_first}

@@ -14,7 +14,7 @@ use Rattle.model_core.proofs.Formats.ManyLaws.{repeated-is, one_more-ok, one_mor
 use Rattle.model_core.proofs.Formats.OneTokenDecides.{levels-fine}
 use Rattle.model_read.specs.declared.stop.Stop.{Stop}
 use Rattle.model_read.specs.declared.stop.Stop.TheVariants as stops
-use Rattle.model_read.specs.Inner.ReadCalls.{Stops, with_front}
+use Rattle.model_read.specs.ReadCalls.{Stops, with_front}
 
 -- what is read takes a token at least
 pub shorter : {A : Type 0} (f : LanguageFormat A) → nullable f ≡ false → Shorter (language_reader f) false

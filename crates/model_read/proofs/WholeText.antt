@@ -21,7 +21,7 @@ use Rattle.model_core.proofs.Formats.OneTokenDecides.{text-fine}
 use Rattle.model_core.proofs.OpeningLaws.{deep-is_counted, none-is_few}
 use Rattle.model_lex.specs.declared.parse_error.ParseError.{ParseError}
 use Rattle.model_lex.specs.declared.parse_error.ParseError.TheVariants as errors
-use Rattle.model_read.specs.Inner.ReadCalls.{Tells}
+use Rattle.model_read.specs.ReadCalls.{Tells}
 
 -- ---- openings
 

@@ -1,5 +1,4 @@
 -- The code of this crate, restated for its proofs. No public clause cites these, and nobody has to believe them.
-pub mod ReadCalls
 pub mod Ladder
 pub mod Infixes
 pub mod SomeTokens

@@ -1,2 +1,3 @@
 pub mod InText
+pub mod ReadCalls
 pub mod Inner

@@ -6,7 +6,7 @@ ghost use Rattle.model_core.specs.Text.Written.{WrittenExpression, WrittenTarget
 ghost use Rattle.model_core.specs.Text.Expressions.{expression_format};
 ghost use Rattle.model_core.specs.Text.Language.{target_format, choice_format, change_format};
 ghost use Rattle.model_core.specs.Inner.LanguageReader.{language_reader};
-ghost use Rattle.model_read.specs.Inner.ReadCalls.{Returned};
+ghost use Rattle.model_read.specs.ReadCalls.{Returned};
 ghost use Rattle.model_read.specs.Inner.LineFormats.{set_format, draw_format};
 ghost use Rattle.model_read.specs.Inner.SomeTokens.{target-some, change-some};
 

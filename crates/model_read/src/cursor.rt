@@ -8,7 +8,7 @@ ghost use Rattle.model_core.specs.Text.FirstWrong.{told_place};
 ghost use Rattle.model_core.specs.Inner.FirstTokens.{begins_as};
 ghost use Rattle.model_core.specs.Inner.FormatReader.{whole_read};
 ghost use Rattle.model_core.specs.Inner.LanguageReader.{language_reader};
-ghost use Rattle.model_read.specs.Inner.ReadCalls.{Returned};
+ghost use Rattle.model_read.specs.ReadCalls.{Returned};
 ghost use Rattle.model_read.specs.Inner.Ladder.{infix_at, at_levels, behind};
 ghost use Rattle.model_read.specs.Inner.Infixes.{infix_of};
 
@@ -21,7 +21,7 @@ use std::marker::Model;
 
 /// The tokens of a text that are left to read, which contracts see as the plain list of what they stand for.
 #[derive(Drop)]
-pub(crate) struct Cursor<'t> {
+pub struct Cursor<'t> {
     text: &'t [u8],
     tokens: &'t [Token],
 }
@@ -164,7 +164,7 @@ impl<'t> Cursor<'t> {
     }
 
     /// Whether an operator between two operands comes next, of a level below `under`.
-    pub fn goes_on(&self, under: usize) -> bool
+    pub(crate) fn goes_on(&self, under: usize) -> bool
         ensures yes { result ≡ true → at_levels 0 under (infix_at self.now) ≢ None }
         ensures no { result ≡ false → at_levels 0 under (infix_at self.now) ≡ None }
     {
@@ -184,7 +184,7 @@ impl<'t> Cursor<'t> {
     }
 
     /// Takes the operator between two operands that comes next, if its level is `least` or higher, and below `under`.
-    pub fn infix(&mut self, least: usize, under: usize) -> Option<Infix>
+    pub(crate) fn infix(&mut self, least: usize, under: usize) -> Option<Infix>
         ensures takes { option_map infix_of result ≡ at_levels least under (infix_at self.old) }
         ensures leaves { self.new ≡ behind (at_levels least under (infix_at self.old)) self.old }
         ensures below { IfSome result (λ i. i.level + 1 ≤ under) }

@@ -8,7 +8,7 @@ ghost use Rattle.model_core.specs.Text.Written.{WrittenName, WrittenVariable, Wr
 ghost use Rattle.model_core.specs.Text.Format.{mark, any_name, any_number, ◌*>◌, ◌<*◌, maybe};
 ghost use Rattle.model_core.specs.Text.Language.{variable_format, row_format, table_format, watch_format};
 ghost use Rattle.model_core.specs.Inner.LanguageReader.{language_reader};
-ghost use Rattle.model_read.specs.Inner.ReadCalls.{Returned};
+ghost use Rattle.model_read.specs.ReadCalls.{Returned};
 ghost use Rattle.model_read.specs.Inner.SomeTokens.{variable-some, row-some, table-some};
 
 use crate::cursor::Cursor;

@@ -9,7 +9,7 @@ ghost use Rattle.model_core.specs.Text.Format.{reserved, any_number, ◌*>◌, m
 ghost use Rattle.model_core.specs.Text.Expressions.{expression_format};
 ghost use Rattle.model_core.specs.Text.Language.{values_format, when_format, timing_format, schedule_format, urgent_format, cancelled_format, cancel_format, edge_format};
 ghost use Rattle.model_core.specs.Inner.LanguageReader.{language_reader};
-ghost use Rattle.model_read.specs.Inner.ReadCalls.{Returned};
+ghost use Rattle.model_read.specs.ReadCalls.{Returned};
 ghost use Rattle.model_read.specs.Inner.Cancels.{written_cancel};
 ghost use Rattle.model_read.specs.Inner.SomeTokens.{edge-some};
 

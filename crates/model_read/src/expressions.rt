@@ -10,7 +10,7 @@ ghost use Rattle.model_core.specs.Text.Expressions.{Unary, Primary, joining, who
 ghost use Rattle.model_core.specs.Inner.FirstTokens.{begins_as};
 ghost use Rattle.model_core.specs.Inner.FormatReader.{took, and_next};
 ghost use Rattle.model_core.specs.Inner.LanguageReader.{language_reader};
-ghost use Rattle.model_read.specs.Inner.ReadCalls.{Returned};
+ghost use Rattle.model_read.specs.ReadCalls.{Returned};
 ghost use Rattle.model_read.specs.Inner.Ladder.{operand_level, climb, if_format, not_format, negative_format, named_format};
 
 use crate::cursor::Cursor;

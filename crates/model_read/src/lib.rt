@@ -14,4 +14,6 @@ mod stop;
 mod text;
 mod vertices;
 
+pub use cursor::Cursor;
+pub use stop::{Stop, placed};
 pub use text::{parse, parse_front};

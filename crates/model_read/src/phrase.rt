@@ -6,7 +6,7 @@ ghost use Rattle.model_core.specs.Text.Format.{Many, mark, ◌*>◌, at_least_on
 ghost use Rattle.model_core.specs.Text.Expressions.{LanguageFormat};
 ghost use Rattle.model_core.specs.Inner.FirstTokens.{nullable, first_sorts, begins_among};
 ghost use Rattle.model_core.specs.Inner.LanguageReader.{level_lookahead, language_reader};
-ghost use Rattle.model_read.specs.Inner.ReadCalls.{Returned, with_front};
+ghost use Rattle.model_read.specs.ReadCalls.{Returned, with_front};
 
 use crate::cursor::Cursor;
 use crate::stop::Stop;

@@ -1,15 +1,21 @@
 //! Why a reader stops.
 
-ghost use Rattle.std.specs.Prelude.{◌≡◌};
+ghost use Rattle.std.specs.Prelude.{◌≡◌, ℕ, List, length};
+ghost use Rattle.model_core.specs.Text.FirstWrong.{told_place};
+ghost use Rattle.model_read.specs.ReadCalls.{placed_at};
 ghost use Rattle.model_read.specs.declared.stop.Stop.TheVariants.{NoMemory as OutOfMemory};
 
+use crate::cursor::Cursor;
+use model_lex::ParseError;
 use sig_base::NoMemory;
 use std::alloc::{AllocError, AllocFailed};
 
-/// Why a reader stops: at the first token that is left, or for want of memory.
+/// Why a reader stops.
 #[derive(Clone, Copy, Debug, PartialEq, Eq)]
-pub(crate) enum Stop {
+pub enum Stop {
+    /// The first token that is left can't stand where it stands, or no token is left where one must come.
     Unexpected,
+    /// Memory was refused.
     NoMemory,
 }
 
@@ -34,5 +40,18 @@ impl From<NoMemory> for Stop {
 
     fn from(_error: NoMemory) -> Stop {
         Stop::NoMemory
+    }
+}
+
+/// What was read, or why not, with the place of the next token. The text has so many bytes.
+pub fn placed<T>(read: Result<T, Stop>, cursor: &Cursor<'_>, bytes: usize) -> Result<T, ParseError>
+    ensures { (text : List ℕ) → bytes ≡ length text → result ≡ placed_at (told_place text cursor.now) read }
+{
+    match read {
+        Ok(value) => Ok(value),
+        Err(Stop::Unexpected) => Err(ParseError::Unexpected {
+            at: cursor.place(bytes),
+        }),
+        Err(Stop::NoMemory) => Err(ParseError::NoMemory),
     }
 }

@@ -6,17 +6,15 @@ ghost use Rattle.model_core.specs.Code.WrittenViews.{written_model};
 ghost use Rattle.model_core.specs.Text.Language.{IsText, BeginsWithText};
 ghost use Rattle.model_core.specs.Text.FirstWrong.{IsUnexpectedAt};
 ghost use Rattle.model_core.specs.Text.Openings.{front_to_end, too_deep_at, HasFewOpenings};
-ghost use Rattle.model_core.specs.Text.Written.{WrittenModel};
-ghost use Rattle.model_core.specs.Inner.FormatReader.{Parse};
 ghost use Rattle.model_core.specs.Inner.LanguageReader.{text_and_rest, text_read};
 ghost use Rattle.model_lex.specs.Lexemes.{lexemes};
-ghost use Rattle.model_read.specs.Inner.ReadCalls.{Returned, Tells};
+ghost use Rattle.model_read.specs.ReadCalls.{Returned};
 
 use crate::cursor::Cursor;
 use crate::declarations::watch;
 use crate::openings::{first_too_deep, front_length};
 use crate::phrase::{at_least_one, many};
-use crate::stop::Stop;
+use crate::stop::{Stop, placed};
 use model_core::{RawModel, Symbol, Word};
 use model_lex::{ParseError, Tokens, tokens_stand_in_order};
 use sig_base::OPENINGS_MAX;
@@ -53,23 +51,6 @@ fn whole(alloc: Global, cursor: &mut Cursor<'_>) -> Result<RawModel, Stop>
     let model = model(alloc, cursor)?;
     cursor.end()?;
     Ok(model)
-}
-
-/// What was read, or why not, with the place of the next token. The text has so many bytes.
-fn placed(
-    read: Result<RawModel, Stop>,
-    cursor: &Cursor<'_>,
-    bytes: usize,
-) -> Result<RawModel, ParseError>
-    ensures { (text : List ℕ) (parse : Parse WrittenModel) → bytes ≡ length text → Returned written_model read cursor.now parse → Tells written_model text result cursor.now parse }
-{
-    match read {
-        Ok(model) => Ok(model),
-        Err(Stop::Unexpected) => Err(ParseError::Unexpected {
-            at: cursor.place(bytes),
-        }),
-        Err(Stop::NoMemory) => Err(ParseError::NoMemory),
-    }
 }
 
 /// The model that all of the tokens spell, with its names, numbers and places as they are written.

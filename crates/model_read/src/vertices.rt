@@ -8,7 +8,7 @@ ghost use Rattle.model_core.specs.Text.Written.{WrittenVertex};
 ghost use Rattle.model_core.specs.Text.Format.{mark, any_name, ◌*>◌, ◌<*◌, maybe, separated};
 ghost use Rattle.model_core.specs.Text.Language.{vertex_format};
 ghost use Rattle.model_core.specs.Inner.LanguageReader.{language_reader};
-ghost use Rattle.model_read.specs.Inner.ReadCalls.{Returned};
+ghost use Rattle.model_read.specs.ReadCalls.{Returned};
 ghost use Rattle.model_read.specs.Inner.SomeTokens.{vertex-some};
 
 use crate::cursor::Cursor;

@@ -5,13 +5,19 @@
 mod branches;
 mod choices;
 mod ends;
+mod exclusion;
 mod expressions;
 mod number_rows;
 mod parts;
 mod soundness;
 mod truth_rows;
+mod urgency;
 mod variables;
 
+pub use exclusion::exclusive;
 pub use expressions::{bounds, proved, refuted};
-pub use parts::{quiet_change, quiet_edge, quiet_store};
-pub use soundness::{quiet_parts_have_no_fault, values_lie_in_bounds};
+pub use parts::{quiet_change, quiet_edge, quiet_set, quiet_store};
+pub use soundness::{
+    exclusive_conditions_are_never_both_true, quiet_parts_have_no_fault, values_lie_in_bounds,
+};
+pub use urgency::{plain_urgent, single_urgent};

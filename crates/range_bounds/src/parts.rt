@@ -54,7 +54,8 @@ fn quiet_place(model: &Model, target: &Target) -> bool
     }
 }
 
-fn quiet_set(model: &Model, target: &Target, value: &Expr) -> bool
+/// Whether a target takes what an expression gives without a fault: of its index, of the value, or of the store.
+pub fn quiet_set(model: &Model, target: &Target, value: &Expr) -> bool
     ensures { result ≡ quiet_set (graph_of model.now) (location_of target.now) (expression_of value.now) }
 {
     let of = bounds(model, value);

@@ -1,6 +1,6 @@
 //! Bounds are never wrong. The functions do nothing: what they ensure holds of all models.
 
-ghost use Rattle.std.specs.Prelude.{◌≡◌, ℕ, ◌≤◌, ◌^◌, ℤ, pos, IsTrue, true, length, Ok};
+ghost use Rattle.std.specs.Prelude.{◌≡◌, ◌↔◌, ℕ, ◌≤◌, ◌^◌, ℤ, pos, IsTrue, true, false, length, Ok};
 ghost use Rattle.std.specs.List.{AllByRecursion};
 ghost use Rattle.model_core.specs.declared.bounds.Bounds.{Bounds};
 ghost use Rattle.model_core.specs.declared.model.Kind.{Kind};
@@ -15,6 +15,7 @@ ghost use Rattle.model_core.specs.Static.OwnRules.{KeepsVariable, KeepsParts, Ke
 ghost use Rattle.model_core.specs.Rules.BoundsOf.{bounds_of, refuted, proved};
 ghost use Rattle.model_core.specs.Rules.BoundsOfParts.{quiet_store, quiet_change, quiet_edge};
 ghost use Rattle.model_core.specs.Rules.BoundsHold.{NumberIn, IsIn};
+ghost use Rattle.model_core.specs.Rules.Exclusive.{Comparison, NoneMeetsBoth, some_meets_both, exclusive};
 
 /// In every state in range and at each clock up to 2^48 each value that an expression gives lies in its bounds, and a
 /// truth value between their ends too, a quiet expression has no fault, a refuted condition is false and a proved one
@@ -50,4 +51,14 @@ pub fn quiet_parts_have_no_fault()
         → KeepsParts g → KeepsEdge g.variables (length g.tables) (parameters_of g) e
         → IsTrue (in_range g s) → clk ≤ 2 ^ 48 → quiet_edge g e ≡ true
         → (q : Planned) × (treat g seed s clk e p ≡ Ok q) }
+{}
+
+/// Of two exclusive conditions at most one is 1, in every state in range and at each clock up to 2^48. That some whole
+/// number meets two comparisons is told by the numbers that they name and those beside them.
+pub fn exclusive_conditions_are_never_both_true()
+    ensures apart { (g : EventGraph) (s : State) (clk : ℕ) (a b : Expression)
+        → AllByRecursion KeepsVariable g.variables → IsTrue (in_range g s) → clk ≤ 2 ^ 48
+        → HasKind g.variables a kinds.Truth → HasKind g.variables b kinds.Truth → exclusive g a b ≡ true
+        → value_of g s clk a ≡ Ok (pos 1) → value_of g s clk b ≡ Ok (pos 1) → ⊥ }
+    ensures numbers { (c d : Comparison) → (some_meets_both c d ≡ false) ↔ NoneMeetsBoth c d }
 {}

@@ -1,10 +1,13 @@
-pub mod DistinctNames
+pub mod PlacesByName
 pub mod StrategyIsChain
 pub mod OneStrategy
 pub mod FirstEdge
 pub mod FirstRules
 pub mod SweepRules
-pub mod DropStage
+pub mod FirstLaterRule
+pub mod NoEdgeRuleAnew
+pub mod StrategyEnds
+pub mod RuleByRule
 pub mod WholeStrategy
 pub mod SweepCode
 pub mod Retained

@@ -11,15 +11,17 @@ use Rattle.model_core.specs.Rules.Conditions.{first_failed}
 use Rattle.model_core.specs.Rules.PlacedEdges.{edge_at, with_place, first_edge}
 use Rattle.model_core.specs.Rules.Prune.{has_refuted_condition, prune_conditions, without_edge, pruned}
 use Rattle.model_core.specs.Rules.Settle.{is_conditional, has_proved_condition, settle_conditions, unconditional, with_settled, settled, can_be_settled, first_settle}
-use Rattle.model_core.specs.Rules.Reached.{unreached}
-use Rattle.model_core.specs.Rules.Reduction.{RuleApplication, Prune, Settle, place_of_vertex, from_zero, edge_named, unless_failed, applied, at_edge, drop_of, first_given, first_rule}
+use Rattle.model_core.specs.Rules.Reduction.{RuleApplication, Prune, Settle, place_of_vertex, from_zero, edge_named, unless_failed, applied, at_edge, first_rule}
 use Rattle.model_core.proofs.EdgesAlike.{with_vertices}
 use Rattle.edge_pruning.specs.declared.finding.EdgeRule.{EdgeRule}
 use Rattle.edge_pruning.specs.declared.finding.EdgeRule.TheVariants as rules
 use Rattle.edge_pruning.specs.EdgeRules.{test_of}
 use Rattle.reducer.specs.Inner.Sweep.{application_by, instead, width, left_by_sweep, swept_vertex, applied_or_not, applied_behind, applied_to_all}
-use Rattle.reducer.proofs.FirstEdge.{NoneOf, NoneIn, first_edge-none, first_edge-behind}
+use Rattle.reducer.specs.Inner.LaterRules.{NoneOf, NoneIn}
+use Rattle.reducer.proofs.PlacesByName.{same_bytes-refl}
+use Rattle.reducer.proofs.FirstEdge.{first_edge-none, first_edge-behind}
 use Rattle.reducer.proofs.FirstRules.{AreFirst, are_first-append}
+use Rattle.reducer.proofs.FirstLaterRule.{later_rule}
 
 abbrev pub with_edges : EventVertex → List EventEdge → EventVertex
 with_edges v es = record v { edges = es }
@@ -32,13 +34,6 @@ name_of v = v.name
 -- no vertex of the front has this name
 abbrev pub NotNamed : List ℕ → List EventVertex → Type 0
 NotNamed name front = AllByRecursion (λ (v : EventVertex). same_bytes v.name name ≡ false) front
-
-same_number : (n : ℕ) → eqb n n ≡ true
-same_number n = eq-eqb n n refl
-
-pub same_bytes-refl : (name : List ℕ) → same_bytes name name ≡ true
-same_bytes-refl [] = refl
-same_bytes-refl (n ∷ name) = ap (λ b. b && same_bytes name name) (same_number n) ∙ same_bytes-refl name
 
 pub place_of_vertex-behind : (front : List EventVertex) (v : EventVertex) (later : List EventVertex) → NotNamed v.name front → place_of_vertex v.name (front ++ v ∷ later) ≡ Some (length front)
 place_of_vertex-behind [] v later h = ap (λ b. cond b (Some 0) (option_map (λ k. k + 1) (place_of_vertex v.name later))) (same_bytes-refl v.name)
@@ -61,7 +56,7 @@ with_place-behind f (w ∷ front) x later = ap (λ xs. w ∷ xs) (with_place-beh
 
 -- ---- all elements of lists put together
 
-all-append : {A : Type 0} (P : A → Type 0) (xs ys : List A) → AllByRecursion P xs → AllByRecursion P ys → AllByRecursion P (xs ++ ys)
+pub all-append : {A : Type 0} (P : A → Type 0) (xs ys : List A) → AllByRecursion P xs → AllByRecursion P ys → AllByRecursion P (xs ++ ys)
 all-append P [] ys all more = more
 all-append P (x ∷ xs) ys all more = (all.0, all-append P xs ys all.1 more)
 
@@ -99,11 +94,11 @@ instead-length rules.Settle e = refl
 is_first : (rule : EdgeRule) (g : EventGraph) (vs : List EventVertex) (vertex edge : ℕ) → AreReady rule g vs → first_edge (test_of rule g) 0 vs ≡ Some (vertex, edge) → first_rule (with_vertices g vs) ≡ Some (application_by rule (vertex_name (with_vertices g vs) vertex) (edge + 1))
 is_first rules.Prune g vs vertex edge ready there =
     let h = with_vertices g vs in
-    ap (λ (o : Option (ℕ × ℕ)). option_or (at_edge h Prune o) (first_given (at_edge h Settle (first_settle h) ∷ drop_of h (unreached h) ∷ []))) there
+    ap (λ (o : Option (ℕ × ℕ)). option_or (at_edge h Prune o) (option_or (at_edge h Settle (first_settle h)) (later_rule h))) there
 is_first rules.Settle g vs vertex edge ready there =
     let h = with_vertices g vs in
-    ap (λ (o : Option (ℕ × ℕ)). option_or (at_edge h Prune o) (first_given (at_edge h Settle (first_settle h) ∷ drop_of h (unreached h) ∷ []))) (first_edge-none (has_refuted_condition g) 0 vs ready)
-    ∙ ap (λ (o : Option (ℕ × ℕ)). option_or (at_edge h Settle o) (first_given (drop_of h (unreached h) ∷ []))) there
+    ap (λ (o : Option (ℕ × ℕ)). option_or (at_edge h Prune o) (option_or (at_edge h Settle (first_settle h)) (later_rule h))) (first_edge-none (has_refuted_condition g) 0 vs ready)
+    ∙ ap (λ (o : Option (ℕ × ℕ)). option_or (at_edge h Settle o) (later_rule h)) there
 
 both_true : (a b : Bool) → (a && b) ≡ true → (a ≡ true) × (b ≡ true)
 both_true true b e = (refl, e)

@@ -1,7 +1,8 @@
 //! The reduction strategy: each time the first rule that is applicable, until none is.
 #![tactic(auto)]
 
-mod last_drop;
+mod later_rules;
+mod naming;
 mod strategy;
 mod strategy_law;
 mod sweeping;

@@ -1,13 +1,13 @@
-//! The strategy's result: one sweep of prune, one of settle, and then one drop at most.
+//! The strategy's result: one sweep of prune, one of settle, and then drops, merges and slices one at a time.
 
 ghost use Rattle.std.specs.Prelude.{map, IfOk};
 ghost use Rattle.model_core.specs.Static.Reading.{IsValid};
 ghost use Rattle.model_core.specs.Code.Views.{graph_of, application_of};
 ghost use Rattle.model_core.specs.Rules.Reduction.{Strategy};
 
-use crate::last_drop::drop_unreached;
+use crate::later_rules::apply_later_rules;
 use crate::sweeping::sweep;
-use edge_pruning::{EdgeRule, dropping_keeps_the_meaning};
+use edge_pruning::EdgeRule;
 use model_core::{Application, Model};
 use reduction_cert::chains_keep_the_meaning;
 use sig_base::{List, NoMemory};
@@ -20,18 +20,18 @@ pub struct Reduced {
     pub applications: List<Application>,
 }
 
-/// The strategy's result, in time linear in the model: no rule applies anew to what was swept.
+/// The strategy's result. Neither prune nor settle applies anew to what was swept: the rules behind them leave bounds and
+/// conditions of edges as they were.
 pub fn reduce(alloc: Global, model: Model) -> Result<Reduced, NoMemory>
     requires { IsValid (graph_of model) }
     ensures { IfOk result (λ r. Strategy (graph_of model) (map application_of r.applications) (graph_of r.model)) }
 {
     chains_keep_the_meaning();
-    dropping_keeps_the_meaning();
     let mut reduced = model;
     let mut applications = Vec::new(alloc);
     sweep(alloc, EdgeRule::Prune, &mut reduced, &mut applications)?;
     sweep(alloc, EdgeRule::Settle, &mut reduced, &mut applications)?;
-    drop_unreached(alloc, &mut reduced, &mut applications)?;
+    apply_later_rules(alloc, &mut reduced, &mut applications)?;
     Ok(Reduced {
         model: reduced,
         applications: List::from_vec(applications),

@@ -6,8 +6,8 @@ ghost use Rattle.model_core.specs.Run.Same.{Same};
 ghost use Rattle.model_core.specs.Static.Reading.{IsValid};
 ghost use Rattle.model_core.specs.Rules.Reduction.{RuleApplication, Chain, Strategy};
 
-use edge_pruning::dropping_keeps_the_meaning;
 use reduction_cert::chains_keep_the_meaning;
+use var_slicing::slicing_leaves_the_rules_of_edges;
 
 /// The strategy's applications are a chain, and what they make of a valid model is valid and means the same.
 pub fn strategies_keep_the_meaning()
@@ -34,5 +34,5 @@ pub fn strategies_end()
     ensures { (g : EventGraph) → IsValid g → (applications : List RuleApplication) × (h : EventGraph) × Strategy g applications h }
 {
     chains_keep_the_meaning();
-    dropping_keeps_the_meaning();
+    slicing_leaves_the_rules_of_edges();
 }

@@ -7,7 +7,7 @@ ghost use Rattle.edge_pruning.specs.EdgeRules.{test_of};
 ghost use Rattle.reducer.specs.Inner.Sweep.{application_by, width, swept_vertex, applied_to, applied_to_all, settled_if_proved, application_here, next_before};
 
 use edge_pruning::{EdgeRule, can_apply};
-use model_core::{Application, Edge, Expr, Model, Vertex};
+use model_core::{Application, Edge, Expr, Model, Vertex, copy_name};
 use sig_base::{List, Name, NoMemory};
 use std::alloc::Global;
 use std::mem;
@@ -126,7 +126,7 @@ fn application(
 ) -> Result<Application, NoMemory>
     ensures { IfOk result (λ a. application_of a ≡ application_by rule vertex.now edge) }
 {
-    let vertex = Name::from_vec(Vec::from_slice(alloc, vertex.as_slice())?);
+    let vertex = copy_name(alloc, vertex)?;
     Ok(match rule {
         EdgeRule::Prune => Application::Prune { vertex, edge },
         EdgeRule::Settle => Application::Settle { vertex, edge },

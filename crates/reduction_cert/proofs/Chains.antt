@@ -8,7 +8,9 @@ use Rattle.model_core.specs.Rules.Conditions.{first_failed}
 use Rattle.model_core.specs.Rules.Prune.{prune_conditions, pruned}
 use Rattle.model_core.specs.Rules.Settle.{settle_conditions, settled}
 use Rattle.model_core.specs.Rules.Drop.{drop_conditions, dropped}
-use Rattle.model_core.specs.Rules.Reduction.{RuleApplication, Prune, Settle, Drop, edge_named, vertices_named, failed_condition, result_of, unless_failed, applied, Chain, first_bad}
+use Rattle.model_core.specs.Rules.Merge.{merge_conditions, merged}
+use Rattle.model_core.specs.Rules.Slice.{slice_conditions, sliced}
+use Rattle.model_core.specs.Rules.Reduction.{RuleApplication, Prune, Settle, Drop, Merge, Slice, edge_named, vertices_named, two_vertices_named, variables_named, failed_condition, result_of, unless_failed, applied, Chain, first_bad}
 use Rattle.model_core.proofs.SameLaws.{same_refl, same_trans}
 
 -- ---- one application
@@ -60,6 +62,8 @@ pub record Laws : Type 0 where
   pub prune : RuleLaw (ℕ × ℕ) (λ g (vertex, edge). prune_conditions g vertex edge) (λ g (vertex, edge). pruned g vertex edge)
   pub settle : RuleLaw (ℕ × ℕ) (λ g (vertex, edge). settle_conditions g vertex edge) (λ g (vertex, edge). settled g vertex edge)
   pub drop : RuleLaw (List ℕ) drop_conditions dropped
+  pub merge : RuleLaw (ℕ × ℕ) (λ g (first, second). merge_conditions g first second) (λ g (first, second). merged g first second)
+  pub slice : RuleLaw (List ℕ) slice_conditions sliced
 
 -- what is named by an application is there, and the rule's law says the rest
 named-keeps : {P : Type 0} (conditions : EventGraph → P → List Bool) (result : EventGraph → P → EventGraph) → RuleLaw P conditions result → (g h : EventGraph) → IsValid g → (missing : ℕ) (o : Option P) → option_map_or (λ p. first_failed (conditions g p)) o (Some missing) ≡ None → option_map_or (λ p. result g p) o g ≡ h → Keeps g h
@@ -76,6 +80,12 @@ applied-keeps laws g h (Settle name number) valid made =
 applied-keeps laws g h (Drop names) valid made =
     let (none, is) = unless_failed-Some (failed_condition g (Drop names)) (result_of g (Drop names)) h made in
     named-keeps drop_conditions dropped laws.drop g h valid 2 (vertices_named g names) none is
+applied-keeps laws g h (Merge name target) valid made =
+    let (none, is) = unless_failed-Some (failed_condition g (Merge name target)) (result_of g (Merge name target)) h made in
+    named-keeps (λ g (first, second). merge_conditions g first second) (λ g (first, second). merged g first second) laws.merge g h valid 1 (two_vertices_named g name target) none is
+applied-keeps laws g h (Slice names) valid made =
+    let (none, is) = unless_failed-Some (failed_condition g (Slice names)) (result_of g (Slice names)) h made in
+    named-keeps slice_conditions sliced laws.slice g h valid 2 (variables_named g names) none is
 
 pub chain-keeps : Laws → (g : EventGraph) (applications : List RuleApplication) (h : EventGraph) → IsValid g → Chain g applications h → Keeps g h
 chain-keeps laws g [] h valid e = subst (Keeps g) e (record { valid = valid; same = same_refl g })

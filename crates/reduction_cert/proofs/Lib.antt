@@ -1,1 +1,5 @@
 pub mod Chains
+pub mod Verdicts
+mod CertificateReads
+pub mod Tables
+pub mod NamesKept

@@ -1,0 +1,2 @@
+pub mod VerdictView
+pub mod Inner

@@ -3,6 +3,7 @@
 ghost use Rattle.std.specs.Prelude.{◌≡◌, ◌++◌, List, ℕ, map, codes, decimal, OnOk};
 ghost use Rattle.std.specs.List.{flat_map};
 ghost use Rattle.model_core.specs.Code.Views.{application_of};
+ghost use Rattle.model_core.specs.Rules.Reduction.{Merge};
 ghost use Rattle.model_core.specs.Rules.Certificate.{application_line, certificate};
 
 use model_core::Application;
@@ -38,6 +39,17 @@ fn put_edge(out: &mut Vec<u8>, vertex: &Name, edge: u64) -> Result<(), NoMemory>
     put_bytes(out, b"\n")
 }
 
+/// Adds the line of a merge.
+fn put_merge(out: &mut Vec<u8>, vertex: &Name, target: &Name) -> Result<(), NoMemory>
+    ensures { OnOk result (out.new.items ≡ out.old.items ++ application_line (Merge vertex.now target.now)) }
+{
+    put_bytes(out, b"merge ")?;
+    put_bytes(out, vertex.as_slice())?;
+    put_bytes(out, b" ")?;
+    put_bytes(out, target.as_slice())?;
+    put_bytes(out, b"\n")
+}
+
 /// Adds names, each behind a space.
 fn put_names(out: &mut Vec<u8>, names: &[Name]) -> Result<(), NoMemory>
     ensures { OnOk result (out.new.items ≡ out.old.items ++ flat_map (λ (name : List ℕ). codes " " ++ name) names.now) }
@@ -65,6 +77,12 @@ fn put_application(out: &mut Vec<u8>, application: &Application) -> Result<(), N
         Application::Drop { vertices } => {
             put_bytes(out, b"drop")?;
             put_names(out, vertices.as_slice())?;
+            put_bytes(out, b"\n")
+        }
+        Application::Merge { vertex, target } => put_merge(out, vertex, target),
+        Application::Slice { vars } => {
+            put_bytes(out, b"slice")?;
+            put_names(out, vars.as_slice())?;
             put_bytes(out, b"\n")
         }
     }

@@ -1,9 +1,15 @@
-//! Applications of rules in order: their certificate, and that a chain of them keeps a model valid and its
-//! meaning.
+//! Applications of rules in order: their certificate, printed and read, the checker that says whether they lead from
+//! one model to another, and that a chain of them keeps a model valid and its meaning.
 #![tactic(auto)]
 
+mod by_name;
 mod certificate;
 mod chain_law;
+mod checking;
+mod places;
+mod reading;
 
 pub use certificate::put_certificate;
-pub use chain_law::{applications_have_results, chains_keep_the_meaning};
+pub use chain_law::{applications_have_results, chains_keep_the_meaning, verdicts_tell_chains};
+pub use checking::{Verdict, check_chain};
+pub use reading::read_certificate;

@@ -4,6 +4,7 @@ use Rattle.std.proofs.Common.{◌≡◌, ℕ, zero, suc, ◌≤◌, ◌<◌, tru
 use Rattle.std.specs.Prelude.{None, Contains}
 use Rattle.std.specs.List.{AllByRecursion}
 use Rattle.sig_base.specs.declared.limits.TheConstants.{OPENINGS_MAX}
+use Rattle.model_core.proofs.EachOne.{every-map}
 use Rattle.model_core.specs.EventGraph.{Expression, Truth, Location, StateChange, Set, Draw, Uniform, ByTable, EdgeKind, Schedule, Urgent, CancelNext, CancelEqual, CancelAll, EventEdge, EventVertex, EventGraph}
 use Rattle.model_core.specs.Text.Spellable.{Extent, extent, IsName, HasOne, SpellableExpression, SpellableLocation, SpellableParts, SpellableChange, SpellableKind, CarriesAsWritten, SpellableEdge, SpellableVertex, SpellableWatched, SpellableVariable, SpellableTable, IsSpellable, expression_openings, openings_together, location_openings, change_openings, values_openings, edge_openings}
 
@@ -13,10 +14,6 @@ pub of-element : {X : Type 0} (P : X → Type 0) (xs : List X) (x : X) → AllBy
 of-element P [] x all (k, l, e) = absurd (omega arith)
 of-element P (y ∷ ys) x all (zero, l, e) = subst P e all.0
 of-element P (y ∷ ys) x all (suc k, l, e) = of-element P ys x all.1 (k, omega arith, e)
-
-pub each-into : {X : Type 0} (P Q : X → Type 0) → ((x : X) → P x → Q x) → (xs : List X) → AllByRecursion P xs → AllByRecursion Q xs
-each-into P Q into [] all = tt
-each-into P Q into (x ∷ xs) all = (into x all.0, each-into P Q into xs all.1)
 
 -- ---- the model
 
@@ -68,15 +65,15 @@ few g s n (than_edge v e is_vertex is_edge le) =
 pub made-spellable : (g h : EventGraph) → IsSpellable g → MadeFrom g h → IsSpellable h
 made-spellable g h s m = record {
   name = subst IsName (sym m.name) s.name;
-  variables = each-into (Contains g.variables) SpellableVariable (λ v is. of-element SpellableVariable g.variables v s.variables is) h.variables m.variables;
-  tables = each-into (Contains g.tables) SpellableTable (λ t is. of-element SpellableTable g.tables t s.tables is) h.tables m.tables;
+  variables = every-map (Contains g.variables) SpellableVariable (λ v is. of-element SpellableVariable g.variables v s.variables is) h.variables m.variables;
+  tables = every-map (Contains g.tables) SpellableTable (λ t is. of-element SpellableTable g.tables t s.tables is) h.tables m.tables;
   watch = m.watch;
   has_vertex = m.has_vertex;
-  vertices = each-into (VertexFrom g (extent h)) (SpellableVertex (extent h)) (λ v f. record {
+  vertices = every-map (VertexFrom g (extent h)) (SpellableVertex (extent h)) (λ v f. record {
     name = subst IsName (sym f.name) (of-element (SpellableVertex (extent g)) g.vertices f.old s.vertices f.is_old).name;
     parameters = f.parameters;
-    changes = each-into (ChangeFrom g (extent h)) (SpellableChange (extent h)) (λ c k. record { parts = k.parts; few_openings = few g s (change_openings c) k.openings }) v.changes f.changes;
-    edges = each-into (EdgeFrom g (extent h)) (SpellableEdge (extent h)) (λ e k. record { target = k.target; values = k.values; carries = k.carries; kind = k.kind; condition = k.condition; few_openings = few g s (edge_openings e) k.openings }) v.edges f.edges;
+    changes = every-map (ChangeFrom g (extent h)) (SpellableChange (extent h)) (λ c k. record { parts = k.parts; few_openings = few g s (change_openings c) k.openings }) v.changes f.changes;
+    edges = every-map (EdgeFrom g (extent h)) (SpellableEdge (extent h)) (λ e k. record { target = k.target; values = k.values; carries = k.carries; kind = k.kind; condition = k.condition; few_openings = few g s (edge_openings e) k.openings }) v.edges f.edges;
   }) h.vertices m.vertices;
 }
 

@@ -14,10 +14,12 @@ use Rattle.model_core.specs.Text.Numbering.{Declared, declared_by, declared_plac
 use Rattle.model_core.specs.Text.Spellable.{Extent, extent, IsName, IsNatural, IsSigned, SpellableVariable, SpellableRow, SpellableTable, SpellableWatched, SpellableChange, SpellableEdge, SpellableVertex, IsSpellable}
 use Rattle.model_core.specs.Text.Format.{by_rule, mark, maybe, any_number, ◌*>◌, ◌<*◌}
 use Rattle.model_core.specs.Text.Expressions.{level_format}
-use Rattle.model_core.specs.Text.Language.{is_there, kind_format, literal_format, variable_format, row_format, row_written, table_format, watch_format, vertex_format, text_format}
+use Rattle.model_core.specs.Text.Language.{is_there, kind_format, literal_format, variable_format, row_format, row_written, table_format, watch_format, vertex_format, text_format, IsText}
+use Rattle.model_core.specs.Text.Lexing.{Lexeme}
+use Rattle.model_core.specs.Text.Openings.{HasFewOpenings}
 use Rattle.model_core.specs.Text.ModelText.{SpellsText}
 use Rattle.model_core.proofs.OpeningLaws.{deep-is_counted, few-is_none}
-use Rattle.round_trip.proofs.TokensOfTexts.{IsLiteral, tokens_good}
+use Rattle.round_trip.proofs.TokensOfTexts.{IsLiteral, GoodTokens, tokens_good}
 use Rattle.round_trip.proofs.Telling.{Tells, Sound, Then, Past, made, kept, AWordAt, AMarkAt, AWrittenName, AWrittenNumber, MaybeSo, EachSo, SomeSo, tells-reserved, tells-mark, tells-name, tells-number, tells-then, tells-made, tells-past, tells-behind, tells-as, tells-either, tells-maybe, tells-many, tells-some, tells-separated, bound, mapped, some_same, place-within}
 use Rattle.round_trip.proofs.ExpressionTold.{extent_of}
 use Rattle.round_trip.proofs.LinesTold.{ASigned, tells-signed, LineSo, lines-told, has-one, natural-within, AChange, tells-change}
@@ -252,8 +254,12 @@ tells-text d =
     model-told d (record { at = at; name = n; variables = vs; tables = ts; watch = o; vertices = xs; end_at = e }) i3 i4 i5 i6 i7 named.0 end hv ht hw hx same g is)))))))))
     tells-name) (tells-mark symbols.Semicolon)) (tells-many AVariable tells-variable)) (tells-many ATable tells-table)) (tells-watch d)) (tells-some (AVertex d) (tells-vertex d))) (tells-reserved words.End)
 
-pub spelled-spellable : (text : List ℕ) (w : WrittenModel) (g : EventGraph) → SpellsText text w → numbered w ≡ Some g → IsSpellable g
-spelled-spellable text w g spells is =
-    let sound : Sound OPENINGS_MAX spells.tokens = record { good = tokens_good text spells.tokens spells.cut; few = sym (deep-is_counted OPENINGS_MAX spells.tokens) ∙ few-is_none OPENINGS_MAX spells.tokens spells.few_openings } in
-    let told = (tells-text (declared_by w)).run OPENINGS_MAX spells.tokens w [] sound spells.derived in
+-- the same of tokens, wherever they stand
+pub derived-spellable : (tokens : List Lexeme) (w : WrittenModel) (g : EventGraph) → GoodTokens tokens → IsText tokens w → HasFewOpenings OPENINGS_MAX tokens → numbered w ≡ Some g → IsSpellable g
+derived-spellable tokens w g good derived few is =
+    let sound : Sound OPENINGS_MAX tokens = record { good = good; few = sym (deep-is_counted OPENINGS_MAX tokens) ∙ few-is_none OPENINGS_MAX tokens few } in
+    let told = (tells-text (declared_by w)).run OPENINGS_MAX tokens w [] sound derived in
     told.1 refl refl g is
+
+pub spelled-spellable : (text : List ℕ) (w : WrittenModel) (g : EventGraph) → SpellsText text w → numbered w ≡ Some g → IsSpellable g
+spelled-spellable text w g spells is = derived-spellable spells.tokens w g (tokens_good text spells.tokens spells.cut) spells.derived spells.few_openings is

@@ -1,14 +1,20 @@
-//! What a text spells can be written again: laws of the definitions of model texts alone, with no code.
+//! What a text spells can be written again: laws of the definitions of model texts, certificates and documents alone, with
+//! no code.
 #![tactic(auto)]
 
-ghost use Rattle.std.specs.Prelude.{◌≡◌, ◌↔◌, ℕ, List, Some};
+ghost use Rattle.std.specs.Prelude.{◌≡◌, ◌↔◌, ℕ, List, Some, Ok};
+ghost use Rattle.std.specs.List.{AllByRecursion};
 ghost use Rattle.model_core.specs.EventGraph.{EventGraph};
+ghost use Rattle.model_core.specs.Rules.Reduction.{RuleApplication};
+ghost use Rattle.model_core.specs.Rules.Certificate.{certificate};
+ghost use Rattle.model_core.specs.Text.Lexing.{Lexeme, tokens_of};
+ghost use Rattle.model_core.specs.Text.CertificateText.{SpellableApplication, IsCertificate};
 ghost use Rattle.model_core.specs.Text.Written.{WrittenModel};
 ghost use Rattle.model_core.specs.Text.Numbering.{numbered};
 ghost use Rattle.model_core.specs.Text.Canonical.{canonical};
 ghost use Rattle.model_core.specs.Text.ModelText.{SpellsText};
 ghost use Rattle.model_core.specs.Static.OwnRules.{KeepsStaticRules};
-ghost use Rattle.model_core.specs.Static.Reading.{Reads, IsValid};
+ghost use Rattle.model_core.specs.Static.Reading.{Reads, IsValid, ReadsDocument};
 ghost use Rattle.model_core.specs.Static.WrittenByKind.{VariablesByKind};
 ghost use Rattle.model_core.specs.Text.Spellable.{IsSpellable, ReadsBack};
 
@@ -28,4 +34,16 @@ pub fn canonical_texts_read_back()
 pub fn validity_is_by_parts()
     ensures by_parts { (g : EventGraph) → IsValid g ↔ KeepsStaticRules g × IsSpellable g }
     ensures reads_back { (g : EventGraph) → IsValid g → Reads (canonical g) g }
+{}
+
+/// The certificate of applications that a certificate can write reads back as these applications.
+pub fn certificates_read_back()
+    ensures { (applications : List RuleApplication) → AllByRecursion SpellableApplication applications
+        → (tokens : List Lexeme) × (tokens_of (certificate applications) ≡ Ok tokens) × IsCertificate tokens applications }
+{}
+
+/// The two models that a document reads as are valid.
+pub fn documents_have_valid_models()
+    ensures original { (text : List ℕ) (g : EventGraph) (applications : List RuleApplication) (h : EventGraph) → ReadsDocument text g applications h → IsValid g }
+    ensures reduced { (text : List ℕ) (g : EventGraph) (applications : List RuleApplication) (h : EventGraph) → ReadsDocument text g applications h → IsValid h }
 {}

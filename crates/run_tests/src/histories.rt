@@ -80,30 +80,21 @@ fn model_of(alloc: Global, text: &[u8]) -> Result<Model, Refused>
     Ok(model)
 }
 
-/// A run with the seed 42, these starting values and room for two events, as it begins.
-fn begun<'m>(
-    alloc: Global,
-    model: &'m Model,
-    starts: &[i64],
-) -> Result<Run<'m, PlainPending>, Refused>
+/// A run with the seed 42, no starting values and room for two events, as it begins.
+fn begun<'m>(alloc: Global, model: &'m Model) -> Result<Run<'m, PlainPending>, Refused>
     requires { PossibleModel (graph_of model.now) }
     ensures model { IfOk result (λ run. run.model ≡ model.now) }
     ensures fresh { IfOk result (λ run. run.turns ≡ 0) }
     ensures goes_on { IfOk result (λ run. run.faulted ≡ None) }
 {
-    let mut listed = List::new(alloc);
-    for value in starts {
-        listed.push(*value)?;
-    }
     let pending = PlainPending::begin(alloc, model.vertices.len());
-    Ok(Run::begin(alloc, model, pending, 42, &listed, 2)?)
+    Ok(Run::begin(alloc, model, pending, 42, &List::new(alloc), 2)?)
 }
 
 /// What following a run from its beginning comes to.
 fn followed<K: Sink, L: Ledger>(
     alloc: Global,
     model: &Model,
-    starts: &[i64],
     until: u64,
     events: u64,
     sink: &mut K,
@@ -118,7 +109,7 @@ fn followed<K: Sink, L: Ledger>(
 {
     let mut steps: Steps<L> = Steps::begin(blank);
     let mut tracer = Tracer::begin(alloc, model)?;
-    let mut run = begun(alloc, model, starts)?;
+    let mut run = begun(alloc, model)?;
     Ok(follow(&mut tracer, &mut run, until, events, sink, &mut steps))
 }
 
@@ -138,7 +129,7 @@ fn followed_twice<K: Sink, L: Ledger>(
 {
     let mut steps: Steps<L> = Steps::begin(blank);
     let mut tracer = Tracer::begin(alloc, model)?;
-    let mut run = begun(alloc, model, &[])?;
+    let mut run = begun(alloc, model)?;
     let first = follow(&mut tracer, &mut run, until, 2, sink, &mut steps);
     match first {
         Outcome::Budget => Ok((
@@ -182,187 +173,25 @@ vertex B(X) { }
 end
 ";
 
-const CUT_THRICE: &[u8] = b"model CUT;
-var X : 0..9 = 0;
-watch X, B;
-vertex RUN {
-  schedule B(3) after 5;
-  schedule B(4) after 5;
-  schedule B(3) after 6;
-  cancel B(3);
-  cancel B(3);
-  cancel B(3);
-}
-vertex B(X) { }
-end
-";
-
-const CUT_ALL: &[u8] = b"model CUT;
-var X : 0..9 = 0;
-watch X, B;
-vertex RUN {
-  schedule B(3) after 5;
-  schedule B(4) after 5;
-  schedule B(3) after 6;
-  cancel all B;
-}
-vertex B(X) { }
-end
-";
-
-const PRIORITY: &[u8] = b"model TWO;
-watch A, B;
-vertex RUN {
-  schedule A after 2 priority 7;
-  schedule B after 2;
-}
-vertex A { }
-vertex B { }
-end
-";
-
-const NO_PRIORITY: &[u8] = b"model TWO;
-watch A, B;
-vertex RUN {
-  schedule A after 2;
-  schedule B after 2;
-}
-vertex A { }
-vertex B { }
-end
-";
-
-const CANCELLED_NEXT: &[u8] = b"model TWO;
-watch A, B;
-vertex RUN {
-  schedule B after 3;
-  schedule B after 2;
-  cancel B;
-}
-vertex A { }
-vertex B { }
-end
-";
-
-const LATE: &[u8] = b"model LATE;
-vertex RUN {
-  schedule RUN after 0 - 1;
-}
-end
-";
-
-const DRAWN: &[u8] = b"model DRAWN;
-var X : 1..6 = 1;
-var Y : 1..6 = 1;
-watch X;
-vertex RUN {
-  draw Y from 54 in 1..6;
-  draw X from 54 in 1..6;
-}
-end
-";
-
-const LOOP: &[u8] = b"model LOOP;
-vertex RUN { urgent A; }
-vertex A { urgent B; }
-vertex B { urgent A; }
-end
-";
-
-const DRAWN_FROM_OTHERS: &[u8] = b"model DRAWN;
-var X : 1..6 = 1;
-var Y : 1..6 = 1;
-watch X;
-vertex RUN {
-  draw Y from 53 in 1..6;
-  draw X from 54 in 1..6;
-}
-end
-";
-
-const BANK: &[u8] = b"model BANK;
-var QUEUE : 0..1000000 = 0;
-var IDLE : 0..2 = 0;
-var GAP : 1..6 = 1;
-var SEEN : 0..1000000 clip = 0;
-watch QUEUE, IDLE;
-vertex RUN(IDLE) {
-  urgent ENTER;
-}
-vertex ENTER {
-  set QUEUE, SEEN := QUEUE + 1, SEEN + 1;
-  draw GAP from 54 in 1..6;
-  schedule ENTER after GAP;
-  urgent START when IDLE > 0;
-}
-vertex START {
-  set QUEUE, IDLE := QUEUE - 1, IDLE - 1;
-  schedule LEAVE after 7;
-}
-vertex LEAVE {
-  set IDLE := IDLE + 1;
-  urgent START when QUEUE > 0;
-}
-end
-";
-
-/// A model's text, the starting values, the stop time and the number of events of a run, and what following it comes
-/// to and writes.
+/// A model's text and the stop time of a run of up to 1,000 events, what following it comes to, and what is written of it.
 struct Told {
     text: &'static [u8],
-    starts: &'static [i64],
     until: u64,
-    events: u64,
     outcome: Outcome,
     written: &'static [u8],
 }
 
-const TOLD: [Told; 17] = [
+/// A run for each outcome but those of `a_run_is_followed_on_from_its_budget` and `no_call_is_made_after_one_that_failed`.
+const TOLD: [Told; 3] = [
     Told {
         text: CLOCK,
-        starts: &[],
         until: 12,
-        events: 1000,
         outcome: Outcome::Stopped,
         written: b"at 0 N=1\nat 5 N=2\nat 10 N=3\nstopped 12\n",
-    },
-    Told {
-        text: CLOCK,
-        starts: &[],
-        until: 0,
-        events: 1000,
-        outcome: Outcome::Stopped,
-        written: b"at 0 N=1\nstopped 0\n",
-    },
-    Told {
-        text: CLOCK,
-        starts: &[],
-        until: 12,
-        events: 2,
-        outcome: Outcome::Budget,
-        written: b"at 0 N=1\nbudget 2\n",
-    },
-    Told {
-        text: CLOCK,
-        starts: &[],
-        until: 12,
-        events: 3,
-        outcome: Outcome::Stopped,
-        written: b"at 0 N=1\nat 5 N=2\nat 10 N=3\nstopped 12\n",
-    },
-    Told {
-        text: CLOCK,
-        starts: &[],
-        until: 1000,
-        events: 1000,
-        outcome: Outcome::Stopped,
-        written: b"at 0 N=1\nat 5 N=2\nat 10 N=3\nstopped 1000\n",
     },
     Told {
         text: BOUNDED_CLOCK,
-        starts: &[],
         until: 1000,
-        events: 1000,
         outcome: Outcome::Faulted {
             time: 15,
             kind: FaultKind::RangeOutside,
@@ -370,95 +199,10 @@ const TOLD: [Told; 17] = [
         written: b"at 0 N=1\nat 5 N=2\nat 10 N=3\nfault 15 range\n",
     },
     Told {
-        text: BANK,
-        starts: &[1],
-        until: 16,
-        events: 1000,
-        outcome: Outcome::Stopped,
-        written: b"at 0 QUEUE=0 IDLE=0\nat 4 QUEUE=1 IDLE=0\nat 12 QUEUE=2 IDLE=0\nat 14 QUEUE=1 IDLE=0\nat 16 QUEUE=2 IDLE=0\nstopped 16\n",
-    },
-    Told {
-        text: LOOP,
-        starts: &[],
-        until: 100,
-        events: 50,
-        outcome: Outcome::Budget,
-        written: b"budget 50\n",
-    },
-    Told {
-        text: DRAWN,
-        starts: &[],
-        until: 100,
-        events: 1000,
-        outcome: Outcome::Ended { time: 0 },
-        written: b"at 0 X=3\nended 0\n",
-    },
-    Told {
-        text: DRAWN_FROM_OTHERS,
-        starts: &[],
-        until: 100,
-        events: 1000,
-        outcome: Outcome::Ended { time: 0 },
-        written: b"at 0 X=4\nended 0\n",
-    },
-    Told {
         text: CUT,
-        starts: &[],
         until: 100,
-        events: 1000,
         outcome: Outcome::Ended { time: 6 },
         written: b"at 0 X=0\non 5 B X=4\nat 5 X=4\non 6 B X=3\nat 6 X=3\nended 6\n",
-    },
-    Told {
-        text: CUT_THRICE,
-        starts: &[],
-        until: 100,
-        events: 1000,
-        outcome: Outcome::Ended { time: 5 },
-        written: b"at 0 X=0\non 5 B X=4\nat 5 X=4\nended 5\n",
-    },
-    Told {
-        text: CUT_ALL,
-        starts: &[],
-        until: 100,
-        events: 1000,
-        outcome: Outcome::Ended { time: 0 },
-        written: b"at 0 X=0\nended 0\n",
-    },
-    Told {
-        text: PRIORITY,
-        starts: &[],
-        until: 100,
-        events: 1000,
-        outcome: Outcome::Ended { time: 2 },
-        written: b"at 0\non 2 B\non 2 A\nended 2\n",
-    },
-    Told {
-        text: NO_PRIORITY,
-        starts: &[],
-        until: 100,
-        events: 1000,
-        outcome: Outcome::Ended { time: 2 },
-        written: b"at 0\non 2 A\non 2 B\nended 2\n",
-    },
-    Told {
-        text: CANCELLED_NEXT,
-        starts: &[],
-        until: 100,
-        events: 1000,
-        outcome: Outcome::Ended { time: 3 },
-        written: b"at 0\non 3 B\nended 3\n",
-    },
-    Told {
-        text: LATE,
-        starts: &[],
-        until: 100,
-        events: 1000,
-        outcome: Outcome::Faulted {
-            time: 0,
-            kind: FaultKind::NegativeDelay,
-        },
-        written: b"fault 0 delay\n",
     },
 ];
 
@@ -468,13 +212,12 @@ fn histories_are_written_whole(rt: HostRuntime) -> Result<(), Fail> {
     for told in &TOLD {
         let mut sink = MemorySink::begin(alloc, 1000, 1000, List::new(alloc))?;
         let model = model_of(alloc, told.text)?;
-        if told.until <= 1000 && told.events <= 1000 {
+        if told.until <= 1000 {
             let outcome = followed::<MemorySink, Brand>(
                 alloc,
                 &model,
-                told.starts,
                 told.until,
-                told.events,
+                1000,
                 &mut sink,
                 Blank::new(1),
             )?;
@@ -490,7 +233,7 @@ fn each_line_is_one_call(rt: HostRuntime) -> Result<(), Fail> {
     let alloc = rt.alloc();
     let model = model_of(alloc, CLOCK)?;
     let mut sink = MemorySink::begin(alloc, 1000, 1000, List::new(alloc))?;
-    followed::<MemorySink, Brand>(alloc, &model, &[], 12, 1000, &mut sink, Blank::new(1))?;
+    followed::<MemorySink, Brand>(alloc, &model, 12, 1000, &mut sink, Blank::new(1))?;
     assert_eq!(rt; sink.calls(), 4);
     Ok(())
 }
@@ -527,7 +270,6 @@ fn no_call_is_made_after_one_that_failed(rt: HostRuntime) -> Result<(), Fail> {
         let outcome = followed::<MemorySink, Brand>(
             alloc,
             &model,
-            &[],
             12,
             1000,
             &mut sink,

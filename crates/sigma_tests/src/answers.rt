@@ -1,6 +1,7 @@
 //! The top call over memory: worked texts, words, limits, and devices that fail at one call.
 
 use crate::calls::{Answer, Failing, SOUND, Seen, done, run, told, words};
+use crate::histories::BANK;
 use sig_base::{NoMemory, TEXT_MAX};
 use sigma_top::Status;
 use std::alloc::Global;
@@ -113,7 +114,7 @@ const REFUSED: [(&[u8], &[u8]); 21] = [
 ];
 
 /// A model of which nothing is to be reduced.
-const CLIPPED: &[u8] = b"model M; var N : 0..9 clip = 0; vertex RUN { } end";
+const CLIPPED: &[u8] = b"model M; var N : 0..9 clip = 0; watch N; vertex RUN { } end";
 
 /// A text, and the one in its canonical form.
 const LOOSE: &[u8] = b"model M;vertex RUN{schedule RUN after(0)priority 5 when true;}end";
@@ -121,7 +122,10 @@ const LOOSE: &[u8] = b"model M;vertex RUN{schedule RUN after(0)priority 5 when t
 const LOOSE_WRITTEN: &[u8] = b"model M;\nvertex RUN {\n  schedule RUN;\n}\nend\n";
 
 const CLIPPED_WRITTEN: &[u8] =
-    b"model M;\nvar N : 0..9 clip = 0;\nvertex RUN {\n}\nend\ncertificate\nend\n";
+    b"model M;\nvar N : 0..9 clip = 0;\nwatch N;\nvertex RUN {\n}\nend\ncertificate\nend\n";
+
+const BANK_USES: &[u8] =
+    b"QUEUE readers ENTER,START,LEAVE writers ENTER,START watched yes\nIDLE readers ENTER,START,LEAVE writers RUN,START,LEAVE watched yes\nGAP readers ENTER writers ENTER watched no\nSEEN readers ENTER writers ENTER watched no\n";
 
 const TOO_LONG: &[u8] = b"sigma: text too long\n";
 
@@ -176,9 +180,29 @@ fn models_are_checked_and_printed(rt: HostRuntime) -> Result<(), Fail> {
 }
 
 #[test]
+fn users_of_variables_are_told(rt: HostRuntime) -> Result<(), Fail> {
+    for (text, written) in [
+        (BANK, BANK_USES),
+        (ONE, b"N readers - writers RUN watched yes\n".as_slice()),
+        (LOOSE, b""),
+    ] {
+        assert!(rt; commanded(rt.alloc(), "uses", text, SOUND, done(written))?.is_wanted);
+    }
+    Ok(())
+}
+
+#[test]
+fn finishing_may_fail_where_there_is_nothing_to_write(rt: HostRuntime) -> Result<(), Fail> {
+    let failing = Failing { write: 1, ..SOUND };
+    let wanted = told(Status::WriteFault, b"sigma: cannot write\n");
+    assert!(rt; commanded(rt.alloc(), "uses", LOOSE, failing, wanted)?.is_wanted);
+    Ok(())
+}
+
+#[test]
 fn other_texts_are_refused(rt: HostRuntime) -> Result<(), Fail> {
     for (text, line) in REFUSED {
-        for word in ["check", "print", "reduce"] {
+        for word in ["check", "print", "reduce", "uses"] {
             let refused = told(Status::Refused, line);
             assert!(rt; commanded(rt.alloc(), word, text, SOUND, refused)?.is_wanted);
         }

@@ -302,6 +302,8 @@ fn other_commands_take_no_option(rt: HostRuntime) -> Result<(), Fail> {
     assert!(rt; matches!(words(rt.alloc(), &print), Ok(Job::Print)));
     let reduce = given(rt.alloc(), &["reduce"])?;
     assert!(rt; matches!(words(rt.alloc(), &reduce), Ok(Job::Reduce)));
+    let uses = given(rt.alloc(), &["uses"])?;
+    assert!(rt; matches!(words(rt.alloc(), &uses), Ok(Job::Uses)));
     Ok(())
 }
 

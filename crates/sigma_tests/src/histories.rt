@@ -12,7 +12,7 @@ const CLOCK: &[u8] =
 const TIGHT: &[u8] =
     b"model CLOCK;\nvar N : 0..3 = 0;\nwatch N;\nvertex RUN {\n  set N := N + 1;\n  schedule RUN after 5;\n}\nend\n";
 
-const BANK: &[u8] =
+pub const BANK: &[u8] =
     b"model BANK;\nvar QUEUE : 0..1000000 = 0;\nvar IDLE : 0..2 = 0;\nvar GAP : 1..6 = 1;\nvar SEEN : 0..1000000 clip = 0;\nwatch QUEUE, IDLE;\nvertex RUN(IDLE) {\n  urgent ENTER;\n}\nvertex ENTER {\n  set QUEUE, SEEN := QUEUE + 1, SEEN + 1;\n  draw GAP from 54 in 1..6;\n  schedule ENTER after GAP;\n  urgent START when IDLE > 0;\n}\nvertex START {\n  set QUEUE, IDLE := QUEUE - 1, IDLE - 1;\n  schedule LEAVE after 7;\n}\nvertex LEAVE {\n  set IDLE := IDLE + 1;\n  urgent START when QUEUE > 0;\n}\nend\n";
 
 const LOOP: &[u8] =
@@ -21,8 +21,14 @@ const LOOP: &[u8] =
 const DRAWN: &[u8] =
     b"model DRAWN; var X : 1..6 = 1; var Y : 1..6 = 1; watch X; vertex RUN { draw Y from 54 in 1..6; draw X from 54 in 1..6; } end";
 
+const DRAWN_FROM_OTHERS: &[u8] =
+    b"model DRAWN; var X : 1..6 = 1; var Y : 1..6 = 1; watch X; vertex RUN { draw Y from 53 in 1..6; draw X from 54 in 1..6; } end";
+
 const CUT: &[u8] =
     b"model CUT; var X : 0..9 = 0; watch X, B; vertex RUN { schedule B(3) after 5; schedule B(4) after 5; schedule B(3) after 6; cancel B(3); } vertex B(X) { } end";
+
+const CUT_THRICE: &[u8] =
+    b"model CUT; var X : 0..9 = 0; watch X, B; vertex RUN { schedule B(3) after 5; schedule B(4) after 5; schedule B(3) after 6; cancel B(3); cancel B(3); cancel B(3); } vertex B(X) { } end";
 
 const CUT_ALL: &[u8] =
     b"model CUT; var X : 0..9 = 0; watch X, B; vertex RUN { schedule B(3) after 5; schedule B(4) after 5; schedule B(3) after 6; cancel all B; } vertex B(X) { } end";
@@ -30,10 +36,16 @@ const CUT_ALL: &[u8] =
 const LATE: &[u8] =
     b"model LATE; watch A, B; vertex RUN { schedule A after 2 priority 7; schedule B after 2; } vertex A { } vertex B { } end";
 
+const ALIKE: &[u8] =
+    b"model ALIKE; watch A, B; vertex RUN { schedule A after 2; schedule B after 2; } vertex A { } vertex B { } end";
+
+const NEXT: &[u8] =
+    b"model NEXT; watch A, B; vertex RUN { schedule B after 3; schedule B after 2; cancel B; } vertex A { } vertex B { } end";
+
 const EARLY: &[u8] = b"model EARLY; vertex RUN { schedule RUN after 0 - 1; } end";
 
 /// Runs that end, each with its words, its text, its status and its history.
-const HISTORIES: [(&str, &[u8], Status, &[u8]); 17] = [
+const HISTORIES: [(&str, &[u8], Status, &[u8]); 21] = [
     (
         "run --seed 42 --events 1000 --until 12",
         CLOCK,
@@ -104,9 +116,21 @@ const HISTORIES: [(&str, &[u8], Status, &[u8]); 17] = [
     ),
     (
         "run --seed 42 --events 1000 --until 100",
+        DRAWN_FROM_OTHERS,
+        Status::Done,
+        b"at 0 X=4\nended 0\n",
+    ),
+    (
+        "run --seed 42 --events 1000 --until 100",
         CUT,
         Status::Done,
         b"at 0 X=0\non 5 B X=4\nat 5 X=4\non 6 B X=3\nat 6 X=3\nended 6\n",
+    ),
+    (
+        "run --seed 42 --events 1000 --until 100",
+        CUT_THRICE,
+        Status::Done,
+        b"at 0 X=0\non 5 B X=4\nat 5 X=4\nended 5\n",
     ),
     (
         "run --seed 42 --events 1000 --until 100",
@@ -119,6 +143,18 @@ const HISTORIES: [(&str, &[u8], Status, &[u8]); 17] = [
         LATE,
         Status::Done,
         b"at 0\non 2 B\non 2 A\nended 2\n",
+    ),
+    (
+        "run --seed 42 --events 1000 --until 100",
+        ALIKE,
+        Status::Done,
+        b"at 0\non 2 A\non 2 B\nended 2\n",
+    ),
+    (
+        "run --seed 42 --events 1000 --until 100",
+        NEXT,
+        Status::Done,
+        b"at 0\non 3 B\nended 3\n",
     ),
     (
         "run --seed 42 --events 1000 --until 100",

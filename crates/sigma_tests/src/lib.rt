@@ -8,6 +8,8 @@ mod calls;
 #[cfg(test)]
 mod command_lines;
 #[cfg(test)]
+mod documents;
+#[cfg(test)]
 mod histories;
 #[cfg(test)]
-mod three_rules;
+mod reductions;

@@ -60,6 +60,8 @@ with_within : (command : Command) (given : List PlainArgument) (job : Job) → j
 with_within commands.Check given job e = subst IsWithinLimits (same_asked e) tt
 with_within commands.Print given job e = subst IsWithinLimits (same_asked e) tt
 with_within commands.Reduce given job e = subst IsWithinLimits (same_asked e) tt
+with_within commands.Uses given job e = subst IsWithinLimits (same_asked e) tt
+with_within commands.Certify given job e = subst IsWithinLimits (same_asked e) tt
 with_within commands.Run given job e = run_within _ _ _ _ _ (needed_at_most 0 STOP_MAX (values_of (codes "until") given)) (needed_at_most 1 EVENTS_MAX (values_of (codes "events") given)) job e
 
 if_some : {A : Type 0} (b : Bool) (o : Option A) (x : A) → cond b o None ≡ Some x → o ≡ Some x

@@ -5,6 +5,8 @@ pub mod Streaming
 pub mod Performing
 pub mod TopCall
 pub mod Complaining
+pub mod DocumentOutcome
 pub mod Determined
 pub mod HasAnswer
 pub mod RunLaws
+mod PassedOn

@@ -1,12 +1,14 @@
 -- From the text that was taken, and the answer to it, to how the job ended.
-use Rattle.std.proofs.Common.{◌≡◌, ◌⊎◌, inl, inr, ℕ, zero, suc, ◌+◌, ◌<◌, Bool, true, false, List, [], ◌∷◌, ◌++◌, length, Option, Some, None, Result, Ok, Err, refl, sym, subst, arith}
-use Rattle.std.specs.Prelude.{IfSome, codes}
+use Rattle.std.proofs.Common.{◌≡◌, ◌⊎◌, inl, inr, ℕ, zero, suc, ◌+◌, ◌<◌, ◌≤◌, Bool, true, false, List, [], ◌∷◌, ◌++◌, length, Option, Some, None, Result, Ok, Err, refl, sym, subst, arith}
+use Rattle.std.specs.Prelude.{IfSome, codes, decimal}
+use Rattle.sig_base.specs.declared.limits.TheConstants.{TEXT_MAX, DOCUMENT_MAX}
 use Rattle.std.proofs.lemmas.List.{length-append, append-nil}
 use Rattle.model_core.specs.EventGraph.{EventGraph}
 use Rattle.model_core.specs.Run.Machine.{Look}
 use Rattle.model_core.specs.Run.History.{look}
 use Rattle.model_core.specs.Text.Canonical.{canonical}
 use Rattle.model_core.specs.Rules.Certificate.{certificate}
+use Rattle.model_core.specs.Rules.Verdict.{Verdict, Sound, Rejected, Differs, verdict}
 use Rattle.watch_trace.proofs.HistoryBytes.{history_has_bytes}
 use Rattle.sigma_top.specs.declared.answer.Answer.{Answer}
 use Rattle.sigma_top.specs.declared.answer.Answer.TheVariants.{Given, Refused}
@@ -20,14 +22,15 @@ use Rattle.sigma_top.specs.declared.status.End.{End}
 use Rattle.sigma_top.specs.declared.status.Refusal.{Refusal}
 use Rattle.sigma_top.specs.declared.status.Failure.{Failure}
 use Rattle.sigma_top.specs.declared.status.Failure.TheVariants as failures
-use Rattle.sigma_top.specs.Answer.{done, refused, too_long, accepted_line, Reduces, AnswersModel, AnswersJob, MayStopShort, IsOver}
+use Rattle.sigma_top.specs.Answer.{done, refused, too_long, accepted_line, Reduces, AnswersModel, AnswersText, AnswersJob, MayStopShort, HasNothingToWrite, IsWithin, IsOver}
+use Rattle.sigma_top.specs.CertifyAnswer.{answer_of_verdict, AnswersDocument}
 use Rattle.sigma_top.specs.RunAnswer.{start_refusal, told_of, refused_or}
 use Rattle.sigma_top.specs.Delivery.{Inlet, Outlet, text_of, IsReadThrough, AnswersInput, HasBegun}
 use Rattle.sigma_top.specs.Inner.Frame.{TakesText, StopsShort, Answering, Performs}
-use Rattle.sigma_top.specs.Jobs.{limit_of}
+use Rattle.sigma_top.specs.Jobs.{limit_of, reads_document}
 use Rattle.sigma_top.proofs.InputRead.{read_through, read_in_part}
 
--- ---- an answer that is given has bytes
+-- ---- an answer that is given has bytes, unless its job may have none
 
 pub given_is_no_refusal : {end : End} {bytes line : List ℕ} {why : Refusal} → Given end bytes ≡ Refused why line → ⊥
 given_is_no_refusal e = cc
@@ -56,16 +59,75 @@ told_has_bytes : (g : EventGraph) (until events : ℕ) (refusal : Option (List �
 told_has_bytes g until events (Some line) seen end bytes h = absurd (given_is_no_refusal h)
 told_has_bytes g until events None seen end bytes h = subst (λ (b : List ℕ). 0 < length b) (sym (given_bytes h)) (history_has_bytes g until events seen)
 
--- of whatever model a job writes at least a byte
-model_has_bytes : (job : Job) (g : EventGraph) (end : End) (bytes : List ℕ) → AnswersModel job g (Given end bytes) → 0 < length bytes
-model_has_bytes jobs.Check g end bytes h = written_has_bytes bytes end (accepted_line g) (accepted_has_bytes g) h
-model_has_bytes jobs.Print g end bytes h = written_has_bytes bytes end (canonical g) (subst (λ (b : List ℕ). 0 < length b) (append-nil (canonical g)) (canonical_has_bytes g [])) h
-model_has_bytes jobs.Reduce g end bytes h = written_has_bytes bytes end h.0 (reduced_has_bytes g h.0 h.1) h.2
-model_has_bytes (jobs.Run until seed events starts room) g end bytes h = told_has_bytes g until events (start_refusal g starts) (look g seed starts until events) end bytes h
+none_or_some : (bytes : List ℕ) → (bytes ≡ []) ⊎ (0 < length bytes)
+none_or_some [] = inl refl
+none_or_some (b ∷ bytes) = inr (omega arith)
 
-given_has_bytes : (job : Job) (text : List ℕ) (end : End) (bytes : List ℕ) → AnswersJob job text (Given end bytes) → 0 < length bytes
-given_has_bytes job text end bytes (inl h) = absurd (given_is_no_refusal h.told)
-given_has_bytes job text end bytes (inr h) = model_has_bytes job h.0 end bytes h.2
+-- of whatever model a job writes at least a byte, but for the one that may have none
+model_has_bytes : (job : Job) (g : EventGraph) (end : End) (bytes : List ℕ) → AnswersModel job g (Given end bytes) → HasNothingToWrite job bytes ⊎ (0 < length bytes)
+model_has_bytes jobs.Check g end bytes h = inr (written_has_bytes bytes end (accepted_line g) (accepted_has_bytes g) h)
+model_has_bytes jobs.Print g end bytes h = inr (written_has_bytes bytes end (canonical g) (subst (λ (b : List ℕ). 0 < length b) (append-nil (canonical g)) (canonical_has_bytes g [])) h)
+model_has_bytes jobs.Reduce g end bytes h = inr (written_has_bytes bytes end h.0 (reduced_has_bytes g h.0 h.1) h.2)
+model_has_bytes jobs.Uses g end bytes h = none_or_some bytes
+model_has_bytes jobs.Certify g end bytes h = absurd h
+model_has_bytes (jobs.Run until seed events starts room) g end bytes h = inr (told_has_bytes g until events (start_refusal g starts) (look g seed starts until events) end bytes h)
+
+text_has_bytes : (job : Job) (text : List ℕ) (end : End) (bytes : List ℕ) → AnswersText job text (Given end bytes) → HasNothingToWrite job bytes ⊎ (0 < length bytes)
+text_has_bytes job text end bytes (inl h) = absurd (given_is_no_refusal h.told)
+text_has_bytes job text end bytes (inr h) = model_has_bytes job h.0 end bytes h.2
+
+-- and so it does of whatever document
+verdict_has_bytes : (v : Verdict) (end : End) (bytes : List ℕ) → Given end bytes ≡ answer_of_verdict v → 0 < length bytes
+verdict_has_bytes Sound end bytes h = subst (λ (b : List ℕ). 0 < length b) (sym (given_bytes h)) (omega arith)
+verdict_has_bytes (Rejected line) end bytes h = subst (λ (b : List ℕ). 0 < length b) (sym (given_bytes h)) (begins_with (codes "rejected ") (decimal line) (codes "\n") (omega arith))
+verdict_has_bytes Differs end bytes h = subst (λ (b : List ℕ). 0 < length b) (sym (given_bytes h)) (omega arith)
+
+document_has_bytes : (text : List ℕ) (end : End) (bytes : List ℕ) → AnswersDocument text (Given end bytes) → 0 < length bytes
+document_has_bytes text end bytes (inl h) = absurd (given_is_no_refusal h.told)
+document_has_bytes text end bytes (inr h) = verdict_has_bytes (verdict h.original h.applications h.reduced) end bytes h.told
+
+given_has_bytes : (job : Job) (text : List ℕ) (end : End) (bytes : List ℕ) → AnswersJob job text (Given end bytes) → HasNothingToWrite job bytes ⊎ (0 < length bytes)
+given_has_bytes jobs.Certify text end bytes h = inr (document_has_bytes text end bytes h)
+given_has_bytes jobs.Check text end bytes h = text_has_bytes jobs.Check text end bytes h
+given_has_bytes jobs.Print text end bytes h = text_has_bytes jobs.Print text end bytes h
+given_has_bytes jobs.Reduce text end bytes h = text_has_bytes jobs.Reduce text end bytes h
+given_has_bytes jobs.Uses text end bytes h = text_has_bytes jobs.Uses text end bytes h
+given_has_bytes (jobs.Run until seed events starts room) text end bytes h = text_has_bytes (jobs.Run until seed events starts room) text end bytes h
+
+-- ---- a job that reads a model answers its text
+
+pub answers_text : (job : Job) (text : List ℕ) → reads_document job ≡ false → (a : Answer) → AnswersText job text a → AnswersJob job text a
+answers_text jobs.Certify text e a h = absurd cc
+answers_text jobs.Check text e a h = h
+answers_text jobs.Print text e a h = h
+answers_text jobs.Reduce text e a h = h
+answers_text jobs.Uses text e a h = h
+answers_text (jobs.Run until seed events starts room) text e a h = h
+
+-- a document that a job reads is within its limit, and its answer is that of the job
+pub answers_document : (job : Job) (text : List ℕ) → reads_document job ≡ true → (a : Answer) → AnswersDocument text a → AnswersJob job text a
+answers_document jobs.Certify text e a h = h
+answers_document jobs.Check text e a h = absurd cc
+answers_document jobs.Print text e a h = absurd cc
+answers_document jobs.Reduce text e a h = absurd cc
+answers_document jobs.Uses text e a h = absurd cc
+answers_document (jobs.Run until seed events starts room) text e a h = absurd cc
+
+pub document_within : (job : Job) (text : List ℕ) → reads_document job ≡ true → IsWithin (limit_of job) text → length text ≤ DOCUMENT_MAX
+document_within jobs.Certify text e within = within
+document_within jobs.Check text e within = absurd cc
+document_within jobs.Print text e within = absurd cc
+document_within jobs.Reduce text e within = absurd cc
+document_within jobs.Uses text e within = absurd cc
+document_within (jobs.Run until seed events starts room) text e within = absurd cc
+
+pub text_within : (job : Job) (text : List ℕ) → reads_document job ≡ false → IsWithin (limit_of job) text → length text ≤ TEXT_MAX
+text_within jobs.Certify text e within = absurd cc
+text_within jobs.Check text e within = within
+text_within jobs.Print text e within = within
+text_within jobs.Reduce text e within = within
+text_within jobs.Uses text e within = within
+text_within (jobs.Run until seed events starts room) text e within = within
 
 -- ---- the answer to the text is that to the input
 
@@ -146,7 +208,7 @@ module _ {S K : Type 0} (job : Job) (i j : Inlet S) (o : Outlet K) where
         input_read = h.2;
         input_steady = h.3;
         output_grown = k.grown;
-        output_unsettled = k.unsettled (given_has_bytes job text k.end k.bytes k.answers);
+        output_unsettled = elim (given_has_bytes job text k.end k.bytes k.answers) [ inl none ↦ inl none | inr some ↦ inr (k.unsettled some) ];
         output_failed = k.failed;
       }
       performed (Err failures.NoMemory) k = record { input_read = read_in_part i j (limit_of job) through; input_steady = h.3; output_grown = begun k.0; output_steady = k.1 }

@@ -1,5 +1,5 @@
 -- From the job to the call, and from its table of statuses to its other clauses.
-use Rattle.std.proofs.Common.{◌≡◌, ◌⊎◌, inl, inr, ℕ, ℤ, Bool, true, false, List, [], Option, Some, None, Result, Ok, Err, refl, ap, sym, subst, ◌∙◌, arith}
+use Rattle.std.proofs.Common.{◌≡◌, ◌⊎◌, inl, inr, ℕ, ℤ, List, [], Option, Some, None, Result, Ok, Err, refl, ap, sym, subst, ◌∙◌, arith}
 use Rattle.std.specs.Prelude.{IfSome}
 use Rattle.std.proofs.lemmas.List.{append-nil}
 use Rattle.sig_base.specs.Faults.{HasRisen}
@@ -22,6 +22,7 @@ use Rattle.sigma_top.specs.declared.status.Status.{Status}
 use Rattle.sigma_top.specs.declared.status.Status.TheVariants as statuses
 use Rattle.sigma_top.specs.Answer.{Answers, AnswersJob, MayStopShort, Reduces, KeepsMeaning}
 use Rattle.sigma_top.specs.RunAnswer.{ExceedsRoom, FitsRoom}
+use Rattle.sigma_top.specs.CertifyAnswer.{AnswersDocument, Certifies}
 use Rattle.sigma_top.specs.Delivery.{Inlet, Outlet, text_of, Told, WritesAnswer, Refuses, AnswersInput, HasBegun, LacksMemory, ForJob, Ends}
 use Rattle.sigma_top.specs.Ending.{status_of_answer, bytes_of_answer, status_of_end, status_of_refusal, status_of_failure, failure_line}
 use Rattle.sigma_top.specs.Inner.Frame.{Performs, Serves}
@@ -49,6 +50,19 @@ answer_means : MeansTheSame → (left : Option (List ℕ)) (Grows : List ℕ →
     → IfSome left (λ told. (out : List ℕ) × KeepsMeaning told out × Grows out)
 answer_means law None Grows text bytes end same answers grows = tt
 answer_means law (Some told) Grows text bytes end same answers grows = (bytes, subst (λ (t : List ℕ). KeepsMeaning t bytes) same (text_means law text bytes end answers), grows)
+
+-- ---- what `certify` finds sound
+
+abbrev pub SoundMeansTheSame : Type 0
+SoundMeansTheSame = (text bytes : List ℕ) → AnswersDocument text (Given ends.Done bytes) → Certifies text
+
+sound_means : SoundMeansTheSame → (text bytes : List ℕ) → Answers jobs.Certify text (Given ends.Done bytes) → Certifies text
+sound_means law text bytes (inl over) = absurd (given_is_no_refusal over.1)
+sound_means law text bytes (inr h) = law text bytes h.1
+
+told_sound : (left : Option (List ℕ)) (text : List ℕ) → IfSome left (λ told. text ≡ told) → Certifies text → IfSome left Certifies
+told_sound None text same h = tt
+told_sound (Some bytes) text same h = subst Certifies same h
 
 -- ---- where `run` lacks memory
 
@@ -116,6 +130,7 @@ module _ {S K E : Type 0} (words : List (List ℕ)) (i j : Inlet S) (o p : Outle
   gave ends.Done h = (h, refl)
   gave ends.ModelFault h = (h, refl)
   gave ends.Budget h = (h, refl)
+  gave ends.Rejected h = (h, refl)
 
   pub gave_ends : (end : End) (r : Result Said Failure) (status : Status) → r ≡ Ok (said.Gave end) → status ≡ status_of_end end → Serves words r i j o p → Ends status words i j o p e e
   gave_ends end r status is known h = subst (λ (s : Status). Ends s words i j o p e e) (sym known) (gave end (subst (λ (x : Result Said Failure). Serves words x i j o p) is h))
@@ -151,6 +166,13 @@ module _ {S K E : Type 0} (words : List (List ℕ)) (i j : Inlet S) (o p : Outle
         let answer = subst (λ (job : Job). AnswersInput job i (Given ends.Done done.2.bytes)) (same_job (sym done.1 ∙ asked)) done.2.answer in
         answer_means law i.left (GrowsBy o.written p.written) answer.text done.2.bytes ends.Done answer.told answer.answers done.2.output_grown
 
+    -- what `certify` finds sound means the same
+    pub certified_means : SoundMeansTheSame → (status : Status) → Ends status words i j o p e f → job_of words ≡ Some jobs.Certify → status ≡ statuses.Done → IfSome i.left Certifies
+    certified_means law status h asked is_done =
+        let done = (subst (λ (s : Status). Ends s words i j o p e f) is_done h).0 in
+        let answer = subst (λ (job : Job). AnswersInput job i (Given ends.Done done.2.bytes)) (same_job (sym done.1 ∙ asked)) done.2.answer in
+        told_sound i.left answer.text answer.told (sound_means law answer.text done.2.bytes answer.answers)
+
     -- where `run` lacks memory it has written nothing, if it fits its room
     pub within_room : (until seed events : ℕ) (starts : List ℤ) (room : ℕ) → job_of words ≡ Some (jobs.Run until seed events starts room) → (status : Status) → Ends status words i j o p e f → status ≡ statuses.NoMemory
         → IfSome i.left (λ told. RunsFit until seed events starts room told → p.state ≡ o.state)
@@ -177,4 +199,5 @@ module _ {S K E : Type 0} (words : List (List ℕ)) (i j : Inlet S) (o p : Outle
       complete statuses.NoMemory h = inl refl
       complete statuses.ModelFault h = inr (given ends.ModelFault h.0)
       complete statuses.Budget h = inr (given ends.Budget h.0)
+      complete statuses.Rejected h = inr (given ends.Rejected h.0)
       complete statuses.BadStart h = inr (refusal refusals.BadStart h.0 h.1)

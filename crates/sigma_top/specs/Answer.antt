@@ -1,11 +1,12 @@
 -- What each job answers to a text. Nothing is said here of where the text comes from or where the answer goes.
-use Rattle.std.specs.Prelude.{◌≡◌, ◌≤◌, ◌<◌, ◌⊎◌, ℕ, Bool, true, false, List, ◌++◌, codes, length, Option, Some, None}
+use Rattle.std.specs.Prelude.{◌≡◌, ◌≤◌, ◌<◌, ◌⊎◌, ℕ, List, [], ◌++◌, codes, length, Option, Some, None}
 use Rattle.model_core.specs.EventGraph.{EventGraph}
 use Rattle.model_core.specs.Static.Reading.{Reads}
 use Rattle.model_core.specs.Text.Canonical.{canonical}
 use Rattle.model_core.specs.Rules.Reduction.{RuleApplication, Strategy}
 use Rattle.model_core.specs.Rules.Certificate.{certificate}
 use Rattle.model_core.specs.Run.Same.{Same}
+use Rattle.use_analysis.specs.UsesText.{uses_text}
 use Rattle.sigma_top.specs.declared.answer.Answer.{Answer}
 use Rattle.sigma_top.specs.declared.answer.Answer.TheVariants.{Given, Refused}
 use Rattle.sigma_top.specs.declared.complaint.Complaint.{Complaint}
@@ -16,6 +17,7 @@ use Rattle.sigma_top.specs.declared.status.Refusal.TheVariants as refusals
 use Rattle.sigma_top.specs.Complaints.{IsComplaint, message_of, byte_line}
 use Rattle.sigma_top.specs.Jobs.{limit_of}
 use Rattle.sigma_top.specs.RunAnswer.{run_answer, ExceedsRoom}
+use Rattle.sigma_top.specs.CertifyAnswer.{AnswersDocument}
 
 -- ---- the forms of an answer
 
@@ -48,13 +50,15 @@ accepted_line g = codes "accepted " ++ g.name ++ codes "\n"
 abbrev pub IsDone : (List ℕ → Type 0) → Answer → Type 0
 IsDone AreWritten a = (out : List ℕ) × AreWritten out × (a ≡ done out)
 
--- `check` says that the model is accepted, `print` writes its canonical text, `reduce` a smaller model with its certificate,
--- and `run` tells the history of a run
+-- `check` says that the model is accepted, `print` writes its canonical text, `reduce` a smaller model with its certificate
+-- and `uses` who uses each variable, and `run` tells the history of a run. `certify` reads no model but a document.
 abbrev pub AnswersModel : Job → EventGraph → Answer → Type 0
 AnswersModel jobs.Check g a = a ≡ done (accepted_line g)
 AnswersModel jobs.Print g a = a ≡ done (canonical g)
 AnswersModel jobs.Reduce g a = IsDone (Reduces g) a
+AnswersModel jobs.Uses g a = a ≡ done (uses_text g)
 AnswersModel (jobs.Run until seed events starts room) g a = a ≡ run_answer g until seed events starts
+AnswersModel jobs.Certify g a = ⊥
 
 -- ---- the answer to a text
 
@@ -65,9 +69,14 @@ pub record IsRefused (text : List ℕ) (a : Answer) : Type 0 where
   pub complaint : IsComplaint text what at
   pub told : a ≡ refused (byte_line at (message_of what))
 
--- the answer of a job to a text within its limit: the text is refused, or it reads as a model that has this answer
+-- the answer of a job that reads a model: the text is refused, or it reads as a model that has this answer
+abbrev pub AnswersText : Job → List ℕ → Answer → Type 0
+AnswersText job text a = IsRefused text a ⊎ ((g : EventGraph) × Reads text g × AnswersModel job g a)
+
+-- the answer of a job to a text within its limit, which for `certify` is a document
 abbrev pub AnswersJob : Job → List ℕ → Answer → Type 0
-AnswersJob job text a = IsRefused text a ⊎ ((g : EventGraph) × Reads text g × AnswersModel job g a)
+AnswersJob jobs.Certify text a = AnswersDocument text a
+AnswersJob job text a = AnswersText job text a
 
 -- the text has at most so many bytes
 abbrev pub IsWithin : Option ℕ → List ℕ → Type 0
@@ -93,6 +102,13 @@ MayFallShort job g = ⊥
 -- the same on a text
 abbrev pub MayStopShort : Job → List ℕ → Type 0
 MayStopShort job text = (g : EventGraph) × Reads text g × MayFallShort job g
+
+-- ---- where there may be nothing to write
+
+-- these bytes are none, of a job that may have none: `uses` where the model has no variables
+abbrev pub HasNothingToWrite : Job → List ℕ → Type 0
+HasNothingToWrite jobs.Uses bytes = bytes ≡ []
+HasNothingToWrite job bytes = ⊥
 
 -- ---- what `reduce` is for
 

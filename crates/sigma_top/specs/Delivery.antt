@@ -13,7 +13,7 @@ use Rattle.sigma_top.specs.declared.status.End.TheVariants as ends
 use Rattle.sigma_top.specs.declared.status.Refusal.{Refusal}
 use Rattle.sigma_top.specs.declared.status.Refusal.TheVariants as refusals
 use Rattle.sigma_top.specs.declared.status.Failure.TheVariants as failures
-use Rattle.sigma_top.specs.Answer.{Answers, MayStopShort}
+use Rattle.sigma_top.specs.Answer.{Answers, MayStopShort, HasNothingToWrite}
 use Rattle.sigma_top.specs.Ending.{failure_line}
 use Rattle.sigma_top.specs.Jobs.{job_of, limit_of}
 
@@ -106,7 +106,8 @@ pub record FailsToRead {S K : Type 0} (job : Job) (i j : Inlet S) (o p : Outlet 
   pub input_failed : HasRisen i.faults j.faults
   pub output_untouched : p ≡ o
 
--- A write failed, or finishing did. The input was read, and a front of its answer was written; the output isn't finished.
+-- A write failed, or finishing did. The input was read, and a front of its answer was written; the output isn't finished,
+-- unless there was nothing to write.
 pub record FailsToWrite {S K : Type 0} (job : Job) (i j : Inlet S) (o p : Outlet K) : Type 0 where
   pub end : End
   pub bytes : List ℕ
@@ -114,7 +115,7 @@ pub record FailsToWrite {S K : Type 0} (job : Job) (i j : Inlet S) (o p : Outlet
   pub input_read : IsReadToEnd (limit_of job) i j
   pub input_steady : j.faults ≡ i.faults
   pub output_grown : GrowsByFront o p bytes
-  pub output_unsettled : p.settled ≡ false
+  pub output_unsettled : HasNothingToWrite job bytes ⊎ (p.settled ≡ false)
   pub output_failed : HasRisen o.faults p.faults
 
 -- a job that writes as it goes has written a front of its answer
@@ -149,4 +150,5 @@ Ends statuses.WriteFault words i j o p e f = ForJob words (λ job. FailsToWrite 
 Ends statuses.NoMemory words i j o p e f = (((j ≡ i) × (p ≡ o)) ⊎ ForJob words (λ job. LacksMemory job i j o p)) × Told e f (failure_line failures.NoMemory)
 Ends statuses.ModelFault words i j o p e f = ForJob words (λ job. WritesAnswer job ends.ModelFault i j o p) × (f ≡ e)
 Ends statuses.Budget words i j o p e f = ForJob words (λ job. WritesAnswer job ends.Budget i j o p) × (f ≡ e)
+Ends statuses.Rejected words i j o p e f = ForJob words (λ job. WritesAnswer job ends.Rejected i j o p) × (f ≡ e)
 Ends statuses.BadStart words i j o p e f = (line : List ℕ) × ForJob words (λ job. Refuses job refusals.BadStart line i j o p) × Told e f line

@@ -21,6 +21,7 @@ exit_status_of statuses.WriteFault = 4
 exit_status_of statuses.NoMemory = 5
 exit_status_of statuses.ModelFault = 6
 exit_status_of statuses.Budget = 7
+exit_status_of statuses.Rejected = 8
 exit_status_of statuses.BadStart = 9
 
 -- the status of a job that writes
@@ -28,6 +29,7 @@ abbrev pub status_of_end : End → Status
 status_of_end ends.Done = statuses.Done
 status_of_end ends.ModelFault = statuses.ModelFault
 status_of_end ends.Budget = statuses.Budget
+status_of_end ends.Rejected = statuses.Rejected
 
 -- the status of a refusal
 abbrev pub status_of_refusal : Refusal → Status

@@ -4,6 +4,8 @@ pub mod Jobs
 pub mod Ending
 pub mod Complaints
 pub mod RunAnswer
+pub mod DocumentComplaints
+pub mod CertifyAnswer
 pub mod Answer
 pub mod Delivery
 pub mod Inner

@@ -17,6 +17,7 @@ use reducer::{Reduced, reduce};
 use reduction_cert::put_certificate;
 use sig_base::{NoMemory, Text, put_bytes};
 use std::alloc::Global;
+use use_analysis::put_uses;
 
 /// What a job answers to a text.
 #[derive(Drop)]
@@ -95,4 +96,13 @@ pub fn reduced(alloc: Global, model: Model) -> Result<Answer, NoMemory>
 {
     let out = reduction(alloc, model)?;
     Ok(Answer::Given(End::Done, out))
+}
+
+/// `uses`: who reads and who writes each variable, and whether it is watched.
+pub fn uses(alloc: Global, model: &Model) -> Result<Answer, NoMemory>
+    ensures { IfOk result (AnswersModel Job.Uses (graph_of model.now)) }
+{
+    let mut out = Vec::new(alloc);
+    put_uses(alloc, &mut out, model)?;
+    Ok(Answer::Given(End::Done, Text::from_vec(out)))
 }

@@ -156,6 +156,8 @@ fn job_with(alloc: Global, command: Command, given: &[Argument<'_>]) -> Result<J
         Command::Check => Ok(Job::Check),
         Command::Print => Ok(Job::Print),
         Command::Reduce => Ok(Job::Reduce),
+        Command::Uses => Ok(Job::Uses),
+        Command::Certify => Ok(Job::Certify),
         Command::Run => run_of(alloc, given),
     }
 }

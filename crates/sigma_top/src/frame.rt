@@ -1,24 +1,26 @@
 //! The top call: from the words, the input and the outputs to a status. It knows a job by its limit and by what
 //! `respond` says of it, and everything else is proved once for all jobs.
 
-ghost use Rattle.std.specs.Prelude.{◌≡◌, ◌⊎◌, ℕ, ℤ, List, Some, map, IfSome};
+ghost use Rattle.std.specs.Prelude.{◌≡◌, ◌⊎◌, ℕ, ℤ, false, List, Some, map, IfSome};
 ghost use Rattle.std.specs.String.{string_bytes};
 ghost use Rattle.sig_base.specs.Sink.{GrowsBy};
 ghost use Rattle.sig_base.specs.Faults.{HasRisen};
 ghost use Rattle.model_core.specs.EventGraph.{EventGraph};
 ghost use Rattle.model_core.specs.Static.Reading.{Reads, IsValid};
 ghost use Rattle.model_core.specs.Code.Views.{graph_of};
-ghost use Rattle.sigma_top.specs.Answer.{IsWithin, Answers, AnswersModel, AnswersJob, MayFallShort, MayStopShort, KeepsMeaning};
+ghost use Rattle.sigma_top.specs.Answer.{IsWithin, Answers, AnswersModel, AnswersText, AnswersJob, MayFallShort, MayStopShort, KeepsMeaning};
+ghost use Rattle.sigma_top.specs.CertifyAnswer.{Certifies};
 ghost use Rattle.sigma_top.specs.RunAnswer.{FitsRoom};
 ghost use Rattle.sigma_top.specs.Ending.{status_of_answer, bytes_of_answer};
 ghost use Rattle.sigma_top.specs.Delivery.{inlet, outlet, text_of, Told, Ends};
 ghost use Rattle.sigma_top.specs.Inner.Asking.{IsWithinLimits};
 ghost use Rattle.sigma_top.specs.Inner.Frame.{Answering, Performs, Serves};
-ghost use Rattle.sigma_top.specs.Jobs.{job_of, limit_of};
+ghost use Rattle.sigma_top.specs.Jobs.{job_of, limit_of, reads_document};
 ghost use Rattle.sigma_top.specs.declared.answer.Answer.{Answer};
 ghost use Rattle.sigma_top.specs.declared.job.Job.{Job};
 
-use crate::answer::{acceptance, complain, printed, reduced, too_long};
+use crate::answer::{acceptance, complain, printed, reduced, too_long, uses};
+use crate::certifying::{certified, sound_documents_mean_the_same};
 use crate::command_line;
 use crate::delivering::{Said, deliver};
 use crate::job::Job;
@@ -42,6 +44,7 @@ fn respond_to_model<K: Sink>(
 ) -> Result<Said, Failure>
     requires valid { IsValid (graph_of model) }
     requires limits { IsWithinLimits job }
+    requires of_model { reads_document job ≡ false }
     ensures { Answering (AnswersModel job (graph_of model)) (MayFallShort job (graph_of model)) result
         (outlet K.written K.faults K.settled output.old) (outlet K.written K.faults K.settled output.new) }
 {
@@ -49,6 +52,8 @@ fn respond_to_model<K: Sink>(
         Job::Check => deliver(output, acceptance(alloc, &model)),
         Job::Print => deliver(output, printed(alloc, &model)),
         Job::Reduce => deliver(output, reduced(alloc, model)),
+        Job::Uses => deliver(output, uses(alloc, &model)),
+        Job::Certify => unreachable!(),
         Job::Run {
             until,
             seed,
@@ -59,6 +64,26 @@ fn respond_to_model<K: Sink>(
     }
 }
 
+/// Answers the text of a model, and writes the answer.
+fn respond_to_text<K: Sink>(
+    alloc: Global,
+    job: Job,
+    text: &[u8],
+    output: &mut K,
+) -> Result<Said, Failure>
+    requires within { IsWithin (limit_of job) text.now }
+    requires limits { IsWithinLimits job }
+    requires of_model { reads_document job ≡ false }
+    ensures { Answering (AnswersText job text.now) (MayStopShort job text.now) result
+        (outlet K.written K.faults K.settled output.old) (outlet K.written K.faults K.settled output.new) }
+{
+    match model_of(alloc, text) {
+        Ok(model) => respond_to_model(alloc, job, model, output),
+        Err(ReadingError::At { what, at }) => deliver(output, complain(alloc, what, at)),
+        Err(ReadingError::NoMemory) => Err(Failure::NoMemory),
+    }
+}
+
 /// Answers the text, and writes the answer.
 fn respond<K: Sink>(alloc: Global, job: Job, text: &[u8], output: &mut K) -> Result<Said, Failure>
     requires within { IsWithin (limit_of job) text.now }
@@ -66,10 +91,10 @@ fn respond<K: Sink>(alloc: Global, job: Job, text: &[u8], output: &mut K) -> Res
     ensures { Answering (AnswersJob job text.now) (MayStopShort job text.now) result
         (outlet K.written K.faults K.settled output.old) (outlet K.written K.faults K.settled output.new) }
 {
-    match model_of(alloc, text) {
-        Ok(model) => respond_to_model(alloc, job, model, output),
-        Err(ReadingError::At { what, at }) => deliver(output, complain(alloc, what, at)),
-        Err(ReadingError::NoMemory) => Err(Failure::NoMemory),
+    if job.reads_document() {
+        deliver(output, certified(alloc, text))
+    } else {
+        respond_to_text(alloc, job, text, output)
     }
 }
 
@@ -173,7 +198,11 @@ pub fn sigma<S: Source, K: Sink, E: Sink>(
     // What `reduce` writes means the same as what it read.
     ensures reduced { job_of (map string_bytes words.now) ≡ Some Job.Reduce → result ≡ Status.Done → IfSome (S.left input.old) (λ text.
         (out : List ℕ) × KeepsMeaning text out × GrowsBy (K.written output.old) (K.written output.new) out) }
+
+    // The two models of a document that `certify` finds sound mean the same.
+    ensures certified { job_of (map string_bytes words.now) ≡ Some Job.Certify → result ≡ Status.Done → IfSome (S.left input.old) Certifies }
 {
     written_models_mean_the_same();
+    sound_documents_mean_the_same();
     work(alloc, words, input, output, errors)
 }

@@ -1,9 +1,9 @@
 //! The jobs of the program.
 
 ghost use Rattle.std.specs.Prelude.{◌≡◌};
-ghost use Rattle.sigma_top.specs.Jobs.{limit_of};
+ghost use Rattle.sigma_top.specs.Jobs.{limit_of, reads_document};
 
-use sig_base::{List, TEXT_MAX};
+use sig_base::{DOCUMENT_MAX, List, TEXT_MAX};
 
 /// The most pending events for which a run can be asked to have room from its beginning.
 pub const ROOM_MAX: usize = 4_194_304;
@@ -20,6 +20,10 @@ pub enum Job {
     Print,
     /// The model made smaller, and the certificate of that.
     Reduce,
+    /// Who reads and who writes each variable of the model, and whether it is watched.
+    Uses,
+    /// Whether a document's certificate holds between its two models.
+    Certify,
     /// The watched history of a run of the model, as it happens.
     Run {
         /// The stop time, in ticks.
@@ -41,7 +45,15 @@ impl Job {
         ensures { result ≡ limit_of self.now }
     {
         match self {
-            Job::Check | Job::Print | Job::Reduce | Job::Run { .. } => Some(TEXT_MAX),
+            Job::Check | Job::Print | Job::Reduce | Job::Uses | Job::Run { .. } => Some(TEXT_MAX),
+            Job::Certify => Some(DOCUMENT_MAX),
         }
+    }
+
+    /// Whether the job reads a document, and no single model text.
+    pub fn reads_document(&self) -> bool
+        ensures { result ≡ reads_document self.now }
+    {
+        matches!(self, Job::Certify)
     }
 }

@@ -22,6 +22,8 @@ pub enum Status {
     ModelFault,
     /// The run was written up to its event budget, and goes on.
     Budget,
+    /// The certificate doesn't hold, and why is written.
+    Rejected,
     /// The starting values of the run aren't those of the model's first vertex.
     BadStart,
 }
@@ -40,6 +42,7 @@ impl Status {
             Status::NoMemory => 5,
             Status::ModelFault => 6,
             Status::Budget => 7,
+            Status::Rejected => 8,
             Status::BadStart => 9,
         }
     }
@@ -54,6 +57,8 @@ pub enum End {
     ModelFault,
     /// The run goes on after its last event.
     Budget,
+    /// The certificate doesn't hold.
+    Rejected,
 }
 
 impl End {
@@ -65,6 +70,7 @@ impl End {
             End::Done => Status::Done,
             End::ModelFault => Status::ModelFault,
             End::Budget => Status::Budget,
+            End::Rejected => Status::Rejected,
         }
     }
 }

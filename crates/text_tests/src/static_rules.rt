@@ -14,7 +14,7 @@ fn read(alloc: Global, text: &[u8]) -> Result<RawModel, ParseError> {
 }
 
 /// The model that a text spells, where its grammar is right.
-fn checked(alloc: Global, text: &[u8]) -> Result<Model, StaticError> {
+pub fn checked(alloc: Global, text: &[u8]) -> Result<Model, StaticError> {
     match read(alloc, text) {
         Ok(raw) => check(alloc, raw),
         Err(_) => Err(StaticError::NoMemory),

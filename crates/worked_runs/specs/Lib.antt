@@ -5,6 +5,7 @@ pub mod Moments
 pub mod Reductions
 pub mod ThreeRules
 pub mod ReachedVertices
+pub mod MergingModels
 pub mod BoundedModel
 pub mod Pairs
 pub mod Texts
@@ -15,3 +16,5 @@ pub mod WrittenModels
 pub mod StockText
 pub mod GrammarTexts
 pub mod WholeTexts
+pub mod NeedingModels
+pub mod CertificateTexts

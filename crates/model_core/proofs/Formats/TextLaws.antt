@@ -6,7 +6,7 @@ use Rattle.model_core.specs.Text.Written.{WrittenModel}
 use Rattle.model_core.specs.Text.Format.{Spells, by_rule}
 use Rattle.model_core.specs.Text.Expressions.{LanguageFormat, level_format}
 use Rattle.model_core.specs.Text.Language.{text_format, BeginsWithText, IsText}
-use Rattle.model_core.specs.Text.FirstWrong.{CanBegin, CantGoOn, FirstWrong, told_place, IsUnexpectedAt}
+use Rattle.model_core.specs.Text.FirstWrong.{CanBegin, CantGoOn, FirstWrong, told_place, IsWrongAt, IsUnexpectedAt}
 use Rattle.model_core.specs.Text.ModelText.{SpellsText}
 use Rattle.model_core.specs.Inner.FirstTokens.{begins_among, fine, stop_sorts}
 use Rattle.model_core.specs.Inner.FormatReader.{Parse, took, stuck, and_next, whole_read}
@@ -65,39 +65,56 @@ left-is_wrong f ok tokens x t rest e =
       cant_go_on = λ c. left-there level_lookahead level_format levels-fine f ok a.0 t rest x (subst (λ (l : List Lexeme). language_reader f l ≡ took x (t ∷ rest)) a.1 e) c.0 c.1 (begins-none (stop_sorts level_lookahead f)) (subst (λ (l : List Lexeme). Spells level_format f l c.1 []) (append_assoc a.0 (t ∷ []) c.0) c.2);
     }
 
--- ---- all tokens are one text, or not
+-- ---- all tokens are one whole of a format, or not
 
 pub none_left : {A : Type 0} (r : Parse A) (x : A) (left : List Lexeme) → and_next whole_read r ≡ took x left → (r ≡ took x []) × (left ≡ [])
 none_left (Ok (y, [])) x left e = let s = same_reading y x [] left e in (ap (λ z. took z []) s.0, sym s.1)
 none_left (Ok (y, t ∷ rest)) x left e = absurd cc
 none_left (Err rest) x left e = absurd cc
 
+pub all-is_spelled : {A : Type 0} (f : LanguageFormat A) (tokens : List Lexeme) (x : A) (left : List Lexeme) → and_next whole_read (language_reader f tokens) ≡ took x left → Spells level_format f tokens x []
+all-is_spelled f tokens x left e = sound level_lookahead level_format f tokens x [] (none_left (language_reader f tokens) x left e).0
+
+pub spelled-is_all : {A : Type 0} (f : LanguageFormat A) → fine level_lookahead f ≡ true → (tokens : List Lexeme) (x : A) → Spells level_format f tokens x [] → and_next whole_read (language_reader f tokens) ≡ took x []
+spelled-is_all f ok tokens x d = ap (and_next whole_read) (complete level_lookahead level_format levels-fine f ok tokens x [] (begins-none (stop_sorts level_lookahead f)) d)
+
+pub one_value : {A : Type 0} (f : LanguageFormat A) → fine level_lookahead f ≡ true → (tokens : List Lexeme) (x y : A) → Spells level_format f tokens x [] → Spells level_format f tokens y [] → x ≡ y
+one_value f ok tokens x y d e = (same_reading x y [] [] (sym (spelled-is_all f ok tokens x d) ∙ spelled-is_all f ok tokens y e)).0
+
+stuck_or_left : {A : Type 0} (f : LanguageFormat A) → fine level_lookahead f ≡ true → (tokens rest : List Lexeme) (r : Parse A) → language_reader f tokens ≡ r → and_next whole_read r ≡ stuck rest → FirstWrong f tokens rest
+stuck_or_left f ok tokens rest (Ok (m, [])) e g = absurd cc
+stuck_or_left f ok tokens rest (Ok (m, t ∷ others)) e g = subst (λ (l : List Lexeme). FirstWrong f tokens l) (rests (t ∷ others) rest g) (left-is_wrong f ok tokens m t others e)
+stuck_or_left f ok tokens rest (Err others) e g = subst (λ (l : List Lexeme). FirstWrong f tokens l) (rests others rest g) (stuck-is_wrong f ok tokens others e)
+
+none_spelled : {A : Type 0} (f : LanguageFormat A) → fine level_lookahead f ≡ true → (tokens rest : List Lexeme) (x : A) → and_next whole_read (language_reader f tokens) ≡ stuck rest → Spells level_format f tokens x [] → ⊥
+none_spelled f ok tokens rest x e d = let g : and_next whole_read (language_reader f tokens) ≡ took x [] = spelled-is_all f ok tokens x d in absurd cc
+
+pub all-is_wrong : {A : Type 0} (f : LanguageFormat A) → fine level_lookahead f ≡ true → (text : List ℕ) (tokens rest : List Lexeme) → and_next whole_read (language_reader f tokens) ≡ stuck rest → IsWrongAt f text tokens (told_place text rest)
+all-is_wrong f ok text tokens rest e = record { none = λ x d. none_spelled f ok tokens rest x e d; rest = rest; wrong = stuck_or_left f ok tokens rest (language_reader f tokens) refl e; told = refl }
+
+pub spelled_or_wrong : {A : Type 0} (f : LanguageFormat A) → fine level_lookahead f ≡ true → (text : List ℕ) (tokens : List Lexeme) → ((x : A) × Spells level_format f tokens x []) ⊎ ((at : ℕ) × IsWrongAt f text tokens at)
+spelled_or_wrong {A} f ok text tokens = go (and_next whole_read (language_reader f tokens)) refl
+  where
+    go : (r : Parse A) → and_next whole_read (language_reader f tokens) ≡ r → ((x : A) × Spells level_format f tokens x []) ⊎ ((at : ℕ) × IsWrongAt f text tokens at)
+    go (Ok r) e = inl (r.0, all-is_spelled f tokens r.0 r.1 e)
+    go (Err rest) e = inr (told_place text rest, all-is_wrong f ok text tokens rest e)
+
+-- ---- all tokens are one text, or not
+
 pub whole-is_spelled : (tokens : List Lexeme) (m : WrittenModel) (left : List Lexeme) → text_read tokens ≡ took m left → IsText tokens m
-whole-is_spelled tokens m left e = read-is_spelled tokens m [] (none_left (text_and_rest tokens) m left e).0
+whole-is_spelled tokens m left e = all-is_spelled text_format tokens m left e
 
 pub spelled-is_whole : (tokens : List Lexeme) (m : WrittenModel) → IsText tokens m → text_read tokens ≡ took m []
-spelled-is_whole tokens m d = ap (and_next whole_read) (spelled-is_read tokens m [] d)
-
-stuck_or_left : (tokens rest : List Lexeme) (r : Parse WrittenModel) → text_and_rest tokens ≡ r → and_next whole_read r ≡ stuck rest → FirstWrong text_format tokens rest
-stuck_or_left tokens rest (Ok (m, [])) e g = absurd cc
-stuck_or_left tokens rest (Ok (m, t ∷ others)) e g = subst (λ (l : List Lexeme). FirstWrong text_format tokens l) (rests (t ∷ others) rest g) (left-is_wrong text_format text-fine tokens m t others e)
-stuck_or_left tokens rest (Err others) e g = subst (λ (l : List Lexeme). FirstWrong text_format tokens l) (rests others rest g) (stuck-is_wrong text_format text-fine tokens others e)
-
-pub refused-is_wrong : (tokens rest : List Lexeme) → text_read tokens ≡ stuck rest → FirstWrong text_format tokens rest
-refused-is_wrong tokens rest e = stuck_or_left tokens rest (text_and_rest tokens) refl e
-
-refused-is_none : (tokens rest : List Lexeme) (m : WrittenModel) → text_read tokens ≡ stuck rest → IsText tokens m → ⊥
-refused-is_none tokens rest m e d = let f : text_read tokens ≡ took m [] = spelled-is_whole tokens m d in absurd cc
+spelled-is_whole tokens m d = spelled-is_all text_format text-fine tokens m d
 
 pub refused-is_unexpected : (text : List ℕ) (tokens rest : List Lexeme) → text_read tokens ≡ stuck rest → IsUnexpectedAt text tokens (told_place text rest)
-refused-is_unexpected text tokens rest e = record { none = λ m d. refused-is_none tokens rest m e d; rest = rest; wrong = refused-is_wrong tokens rest e; told = refl }
+refused-is_unexpected text tokens rest e = all-is_wrong text_format text-fine text tokens rest e
+
+pub refused-is_wrong : (tokens rest : List Lexeme) → text_read tokens ≡ stuck rest → FirstWrong text_format tokens rest
+refused-is_wrong tokens rest e = stuck_or_left text_format text-fine tokens rest (text_and_rest tokens) refl e
 
 pub spelled_or_unexpected : (text : List ℕ) (tokens : List Lexeme) → ((m : WrittenModel) × IsText tokens m) ⊎ ((at : ℕ) × IsUnexpectedAt text tokens at)
-spelled_or_unexpected text tokens = go (text_read tokens) refl
-  where
-    go : (r : Parse WrittenModel) → text_read tokens ≡ r → ((m : WrittenModel) × IsText tokens m) ⊎ ((at : ℕ) × IsUnexpectedAt text tokens at)
-    go (Ok r) e = inl (r.0, whole-is_spelled tokens r.0 r.1 e)
-    go (Err rest) e = inr (told_place text rest, refused-is_unexpected text tokens rest e)
+spelled_or_unexpected text tokens = spelled_or_wrong text_format text-fine text tokens
 
 -- ---- there is one first wrong token
 
@@ -133,5 +150,8 @@ one_first_wrong f tokens r s a b = elim (two_fronts a.front r b.front s (sym a.w
   | inr (inr w) ↦ absurd (not_longer f b.front s a.front b.cant_go_on a.can_begin w)
 ]
 
+pub one_wrong_place : {A : Type 0} (f : LanguageFormat A) (text : List ℕ) (tokens : List Lexeme) (i j : ℕ) → IsWrongAt f text tokens i → IsWrongAt f text tokens j → i ≡ j
+one_wrong_place f text tokens i j a b = sym a.told ∙ ap (told_place text) (one_first_wrong f tokens a.rest b.rest a.wrong b.wrong) ∙ b.told
+
 pub one_place : (text : List ℕ) (tokens : List Lexeme) (i j : ℕ) → IsUnexpectedAt text tokens i → IsUnexpectedAt text tokens j → i ≡ j
-one_place text tokens i j a b = sym a.told ∙ ap (told_place text) (one_first_wrong text_format tokens a.rest b.rest a.wrong b.wrong) ∙ b.told
+one_place text tokens i j a b = one_wrong_place text_format text tokens i j a b

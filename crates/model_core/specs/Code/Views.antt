@@ -23,7 +23,7 @@ use Rattle.model_core.specs.declared.op.Op.TheVariants as ops
 use Rattle.model_core.specs.declared.application.Application.{Application}
 use Rattle.model_core.specs.declared.application.Application.TheVariants as applications
 use Rattle.model_core.specs.EventGraph.{EventGraph, EventVertex, EventEdge, EdgeKind, Schedule, Urgent, CancelNext, CancelEqual, CancelAll, StateChange, Set, Draw, Choice, Uniform, ByTable, Location, Operator, Add, Subtract, Multiply, Divide, Remainder, Least, Greatest, Equal, NotEqual, Below, AtMost, Above, AtLeast, And, Or, Expression, Number, Truth, Clock, Scalar, Cell, Negative, Not, Binary, If, Variable, Weighted, WeightTable, Watched, WatchedVariable, WatchedVertex}
-use Rattle.model_core.specs.Rules.Reduction.{RuleApplication, Prune, Settle, Drop}
+use Rattle.model_core.specs.Rules.Reduction.{RuleApplication, Prune, Settle, Drop, Merge, Slice}
 
 abbrev pub operator_of : Op → Operator
 operator_of ops.Add = Add
@@ -100,3 +100,5 @@ abbrev pub application_of : Application → RuleApplication
 application_of (applications.Prune vertex edge) = Prune vertex edge
 application_of (applications.Settle vertex edge) = Settle vertex edge
 application_of (applications.Drop vertices) = Drop vertices
+application_of (applications.Merge vertex target) = Merge vertex target
+application_of (applications.Slice vars) = Slice vars

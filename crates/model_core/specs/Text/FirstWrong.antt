@@ -2,10 +2,9 @@
 -- derives, with any number of openings.
 use Rattle.std.specs.Prelude.{◌≡◌, ℕ, List, [], ◌∷◌, ◌++◌, length}
 use Rattle.model_core.specs.Text.Lexing.{Lexeme}
-use Rattle.model_core.specs.Text.Written.{WrittenModel}
 use Rattle.model_core.specs.Text.Format.{Spells}
 use Rattle.model_core.specs.Text.Expressions.{LanguageFormat, level_format}
-use Rattle.model_core.specs.Text.Language.{text_format, IsText}
+use Rattle.model_core.specs.Text.Language.{text_format}
 
 -- some tokens after these make a whole that is spelled
 abbrev pub CanBegin : {A : Type 0} → LanguageFormat A → List Lexeme → Type 0
@@ -29,9 +28,13 @@ abbrev pub told_place : List ℕ → List Lexeme → ℕ
 told_place text [] = length text
 told_place text (t ∷ rest) = t.from
 
--- the tokens of this text are no model text, and this is the place at which they stop to begin one
-pub record IsUnexpectedAt (text : List ℕ) (tokens : List Lexeme) (at : ℕ) : Type 0 where
-  pub none : (m : WrittenModel) → IsText tokens m → ⊥
+-- the tokens of this text are no whole of this format, and this is the place at which they stop to begin one
+pub record IsWrongAt {A : Type 0} (f : LanguageFormat A) (text : List ℕ) (tokens : List Lexeme) (at : ℕ) : Type 0 where
+  pub none : (value : A) → Spells level_format f tokens value [] → ⊥
   pub rest : List Lexeme
-  pub wrong : FirstWrong text_format tokens rest
+  pub wrong : FirstWrong f tokens rest
   pub told : told_place text rest ≡ at
+
+-- the tokens of this text are no model text, and this is the place at which they stop to begin one
+abbrev pub IsUnexpectedAt : List ℕ → List Lexeme → ℕ → Type 0
+IsUnexpectedAt text tokens at = IsWrongAt text_format text tokens at

@@ -1,18 +1,12 @@
--- What one sweep of a rule over vertices applies, and what it leaves; and the drop behind the sweeps: the code's way to the
--- strategy's result.
+-- What one sweep of a rule of edges over vertices applies, and what it leaves.
 use Rattle.std.specs.Prelude.{ℕ, ◌+◌, Bool, true, false, cond, List, [], ◌∷◌, map}
 use Rattle.std.specs.List.{flat_map}
 use Rattle.model_core.specs.EventGraph.{EventEdge, EventVertex, EventGraph}
 use Rattle.model_core.specs.Rules.Settle.{unconditional}
-use Rattle.model_core.specs.Rules.Drop.{dropped}
-use Rattle.model_core.specs.Text.Canonical.{vertex_name}
-use Rattle.model_core.specs.Rules.Reduction.{RuleApplication, Prune, Settle, Drop}
+use Rattle.model_core.specs.Rules.Reduction.{RuleApplication, Prune, Settle}
 use Rattle.edge_pruning.specs.declared.finding.EdgeRule.{EdgeRule}
 use Rattle.edge_pruning.specs.declared.finding.EdgeRule.TheVariants as rules
 use Rattle.edge_pruning.specs.EdgeRules.{test_of}
-
-abbrev pub vertex_names : EventGraph → List (List ℕ)
-vertex_names g = map (λ (v : EventVertex). v.name) g.vertices
 
 -- ---- one rule of edges
 
@@ -52,16 +46,6 @@ applied_to rule g v = applied_behind rule g v.name 0 v.edges
 
 abbrev pub applied_to_all : EdgeRule → EventGraph → List EventVertex → List RuleApplication
 applied_to_all rule g vs = flat_map (applied_to rule g) vs
-
--- ---- the drop
-
-abbrev pub drops : EventGraph → List ℕ → List RuleApplication
-drops g [] = []
-drops g (v ∷ vs) = Drop (map (vertex_name g) (v ∷ vs)) ∷ []
-
-abbrev pub left_by_drop : EventGraph → List ℕ → EventGraph
-left_by_drop g [] = g
-left_by_drop g (v ∷ vs) = dropped g (v ∷ vs)
 
 -- ---- one edge
 

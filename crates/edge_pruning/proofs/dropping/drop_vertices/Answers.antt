@@ -4,8 +4,8 @@ use Rattle.model_core.specs.Code.Views.{graph_of}
 use Rattle.model_core.specs.Rules.MarkedPlaces.{unmarked_places}
 use Rattle.model_core.specs.Rules.Reached.{unreached}
 use Rattle.model_core.specs.Rules.Drop.{lists_exactly, only_marked, dropped}
-use Rattle.edge_pruning.proofs.DropMarks.{exactly-equal}
-use Rattle.edge_pruning.proofs.DropResult.{some_listed, not_unequal, drop_holds, without_unreached}
+use Rattle.model_core.proofs.StayingMarks.{exactly-equal, some_given, none_unequal, both_conditions}
+use Rattle.edge_pruning.proofs.DropResult.{without_unreached}
 use Rattle.edge_pruning.proofs.dropping.drop_vertices.Goals as goal
 
 pub returns-clause-done : goal.returns-clause-done
@@ -14,8 +14,8 @@ returns-clause-done c =
     let vertices = c.args.vertices.now in
     let others : c.in_ok-others.others ≡ unreached g = c.in_ok-others.ensures ∙ ap unmarked_places (c.as_slice.ensures.value ∙ c.in_ok-marks.ensures) in
     let exactly : lists_exactly vertices (unreached g) ≡ true =
-    ap₂ (λ (a b : List ℕ). lists_exactly a b) (sym c.as_slice-2.ensures) (sym (c.as_slice-3.ensures ∙ others)) ∙ not_unequal _ c.if-ne.ensures in
-    let some = some_listed vertices (λ none. c.if-len-eq0.false (c.len.ensures ∙ none)) in (
-      drop_holds g vertices some exactly,
-      c.leave_marked.ensures ∙ ap (only_marked g) (c.as_slice-5.ensures.value ∙ c.in_ok-marks.ensures) ∙ sym (without_unreached g) ∙ ap (dropped g) (sym (exactly-equal vertices (unreached g) exactly)),
+    ap₂ (λ (a b : List ℕ). lists_exactly a b) (sym c.as_slice-2.ensures) (sym (c.as_slice-3.ensures ∙ others)) ∙ none_unequal _ c.if-ne.ensures in
+    let some = some_given vertices (λ none. c.if-len-eq0.false (c.len.ensures ∙ none)) in (
+      both_conditions vertices (unreached g) some exactly,
+      c.leave_staying.ensures ∙ ap (only_marked g) (c.in_ok-staying.ensures ∙ c.in_ok-marks.ensures) ∙ sym (without_unreached g) ∙ ap (dropped g) (sym (exactly-equal vertices (unreached g) exactly)),
     )

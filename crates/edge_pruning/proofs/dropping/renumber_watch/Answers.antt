@@ -4,12 +4,12 @@ use Rattle.model_core.specs.declared.model.Watch.{Watch}
 use Rattle.model_core.specs.Rules.Drop.{watched_renumbered}
 use Rattle.model_core.specs.Code.Views.{watched_of}
 use Rattle.sig_base.proofs.Lists.{ChangedTo-step, ChangedTo-all, ChangedTo-length}
-use Rattle.edge_pruning.specs.Inner.Moving.{new_place}
+use Rattle.model_core.specs.Rules.MarkedPlaces.{rank}
 use Rattle.edge_pruning.proofs.dropping.renumber_watch.Goals as goal
 
 pub loop-watched-preserved : goal.loop-watched-preserved
 loop-watched-preserved c =
-    let f = watched_renumbered (new_place c.args.places.now) in
+    let f = watched_renumbered (rank c.args.staying.now) in
     let i = c.loop-watched.watched-index in
     let xs = c.deref_mut-watched-items.result.now in
     let ys = c.loop-watched.watched-items in
@@ -19,7 +19,7 @@ loop-watched-preserved c =
 
 pub returns : goal.returns
 returns c =
-    let f = watched_renumbered (new_place c.args.places.now) in
+    let f = watched_renumbered (rank c.args.staying.now) in
     let i = c.loop-watched.watched-index in
     let xs = c.deref_mut-watched-items.result.now in
     let ys = c.loop-watched.watched-items in

@@ -5,7 +5,7 @@ use Rattle.model_core.specs.EventGraph.{EventEdge}
 use Rattle.model_core.specs.Rules.PlacedEdges.{with_place}
 use Rattle.model_core.specs.Rules.Settle.{unconditional}
 use Rattle.model_core.specs.Code.Views.{vertex_of, edge_of}
-use Rattle.edge_pruning.proofs.ListsChanged.{map-set-with_place, with_place-beyond}
+use Rattle.model_core.proofs.PlacesChanged.{map-set-with_place, with_place-beyond}
 use Rattle.edge_pruning.proofs.one_edge.make_unconditional.Goals as goal
 
 pub returns-in-Some : goal.returns-in-Some

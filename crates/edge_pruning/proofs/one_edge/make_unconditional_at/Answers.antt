@@ -5,7 +5,7 @@ use Rattle.model_core.specs.EventGraph.{EventVertex}
 use Rattle.model_core.specs.Rules.PlacedEdges.{with_place}
 use Rattle.model_core.specs.Rules.Settle.{with_settled}
 use Rattle.model_core.specs.Code.Views.{graph_of, vertex_of}
-use Rattle.edge_pruning.proofs.ListsChanged.{map-set-with_place, with_place-beyond}
+use Rattle.model_core.proofs.PlacesChanged.{map-set-with_place, with_place-beyond}
 use Rattle.edge_pruning.proofs.one_edge.make_unconditional_at.Goals as goal
 
 pub returns-in-Some : goal.returns-in-Some

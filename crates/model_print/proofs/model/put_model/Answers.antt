@@ -1,7 +1,6 @@
 -- what is put, piece by piece
-use Rattle.model_print.proofs.Putting.{eight}
+use Rattle.model_print.proofs.Putting.{three}
 use Rattle.model_print.proofs.model.put_model.Goals as goal
 
 pub returns : goal.returns
-returns g c =
-    eight g.met.P.Pen.both c.put_bytes.ensures (rw c.as_slice.ensures at c.put_bytes-2.ensures) c.put_bytes-3.ensures (rw c.as_slice-2.ensures at c.put_variables.ensures) (rw c.as_slice-3.ensures at c.put_tables.ensures) (rw c.as_slice-4.ensures at c.put_watch.ensures) (rw c.as_slice-5.ensures at c.put_vertices.ensures) c.put_bytes-4.ensures
+returns g c = three g.met.P.Pen.both c.put_declarations.ensures (rw c.as_slice.ensures at c.put_vertices.ensures) c.put_bytes.ensures

@@ -2,9 +2,11 @@
 use Rattle.std.proofs.Common.{◌≡◌, refl, ap, ◌∙◌, map}
 use Rattle.sig_base.specs.declared.limits.TheConstants.{OPENINGS_MAX}
 use Rattle.model_core.specs.Code.TokenViews.{lexeme_of}
+use Rattle.model_core.specs.Code.WrittenViews.{written_model}
 use Rattle.model_core.specs.Inner.LanguageReader.{text_read}
 use Rattle.model_lex.specs.Lexemes.{lexemes}
 use Rattle.model_read.proofs.WholeText.{is_deep, is_few, deep-place, whole-ok, whole-unexpected, never_deep}
+use Rattle.model_read.proofs.PlacedReads.{placed-tells}
 use Rattle.model_read.proofs.text.parse.Goals as goal
 
 pub returns-in-Some-clause-too_deep : goal.returns-in-Some-clause-too_deep
@@ -14,7 +16,7 @@ pub returns-clause-ok : goal.returns-clause-ok
 returns-clause-ok c =
     let are : c.new-cursor.result ≡ lexemes c.args.tokens.now = c.new-cursor.ensures ∙ ap (map (lexeme_of c.args.tokens.now.text.now)) c.as_slice-list.ensures in
     whole-ok c.args.tokens.now.text.now (lexemes c.args.tokens.now) c.whole-read.new.cursor OPENINGS_MAX c.placed.result
-    (c.placed.ensures c.args.tokens.now.text.now (text_read (lexemes c.args.tokens.now)) refl (rw are at c.whole-read.ensures))
+    (placed-tells written_model c.args.tokens.now.text.now c.whole-read.result c.whole-read.new.cursor (text_read (lexemes c.args.tokens.now)) c.placed.result (c.placed.ensures c.args.tokens.now.text.now refl) (rw are at c.whole-read.ensures))
     (is_few OPENINGS_MAX (lexemes c.args.tokens.now) c.first_too_deep.result (rw c.as_slice-list.ensures at (c.first_too_deep.ensures c.args.tokens.now.text.now)) c.in_default.is)
 
 pub returns-clause-unexpected : goal.returns-clause-unexpected
@@ -22,11 +24,11 @@ returns-clause-unexpected c = λ at e.
     let are : c.new-cursor.result ≡ lexemes c.args.tokens.now = c.new-cursor.ensures ∙ ap (map (lexeme_of c.args.tokens.now.text.now)) c.as_slice-list.ensures in (
       is_deep OPENINGS_MAX (lexemes c.args.tokens.now) c.first_too_deep.result (rw c.as_slice-list.ensures at (c.first_too_deep.ensures c.args.tokens.now.text.now)) ∙ c.in_default.is,
       whole-unexpected c.args.tokens.now.text.now (lexemes c.args.tokens.now) c.whole-read.new.cursor c.placed.result at
-          (c.placed.ensures c.args.tokens.now.text.now (text_read (lexemes c.args.tokens.now)) refl (rw are at c.whole-read.ensures)) e,
+          (placed-tells written_model c.args.tokens.now.text.now c.whole-read.result c.whole-read.new.cursor (text_read (lexemes c.args.tokens.now)) c.placed.result (c.placed.ensures c.args.tokens.now.text.now refl) (rw are at c.whole-read.ensures)) e,
     )
 
 pub returns-clause-too_deep : goal.returns-clause-too_deep
 returns-clause-too_deep c = λ at e.
     let are : c.new-cursor.result ≡ lexemes c.args.tokens.now = c.new-cursor.ensures ∙ ap (map (lexeme_of c.args.tokens.now.text.now)) c.as_slice-list.ensures in
     absurd (never_deep c.args.tokens.now.text.now (lexemes c.args.tokens.now) c.whole-read.new.cursor c.placed.result at
-    (c.placed.ensures c.args.tokens.now.text.now (text_read (lexemes c.args.tokens.now)) refl (rw are at c.whole-read.ensures)) e)
+    (placed-tells written_model c.args.tokens.now.text.now c.whole-read.result c.whole-read.new.cursor (text_read (lexemes c.args.tokens.now)) c.placed.result (c.placed.ensures c.args.tokens.now.text.now refl) (rw are at c.whole-read.ensures)) e)

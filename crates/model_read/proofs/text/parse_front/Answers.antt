@@ -1,5 +1,6 @@
 -- The openings of the front are counted, and then the reader of the grammar tells.
 use Rattle.std.proofs.Common.{◌≡◌, refl, sym, ◌∙◌, drop}
+use Rattle.std.specs.Prelude.{Ok, Err}
 use Rattle.std.proofs.lemmas.Result.{err_from_is_err_and}
 use Rattle.std.proofs.lemmas.List.{length-map}
 use Rattle.sig_base.specs.declared.limits.TheConstants.{OPENINGS_MAX}
@@ -10,6 +11,7 @@ use Rattle.model_core.specs.Inner.LanguageReader.{text_and_rest}
 use Rattle.model_lex.specs.Lexemes.{lexemes}
 use Rattle.model_lex.specs.declared.parse_error.ParseError.TheVariants as errors
 use Rattle.model_read.proofs.WholeText.{is_deep, is_few, deep-place, front-left, front-ok, some-are, front-counted, same-error, error-unexpected, error-never_deep}
+use Rattle.model_read.proofs.PlacedReads.{placed-tells}
 use Rattle.model_read.proofs.text.parse_front.Goals as goal
 
 pub returns-in-Some-clause-too_deep : goal.returns-in-Some-clause-too_deep
@@ -21,13 +23,13 @@ pub overflow_sub-result : goal.overflow_sub-result
 overflow_sub-result c =
     let are : c.new-cursor.result ≡ drop c.args.from (lexemes c.args.tokens.now) = c.new-cursor.ensures ∙ some-are c.args.tokens.now.text.now c.as_slice.result.now c.args.tokens.now.list c.args.from c.as_slice.ensures in
     rw (c.len-left.ensures, c.len.ensures) (front-left (lexemes c.args.tokens.now) c.model-read.new.cursor c.args.from _ (written_model c.in_ok-model.model) (sym (length-map c.args.tokens.now.list (lexeme_of c.args.tokens.now.text.now))) c.requires
-    (c.in_ok-model.ensures c.args.tokens.now.text.now (text_and_rest (drop c.args.from (lexemes c.args.tokens.now))) refl (rw are at c.model-read.ensures)))
+    (placed-tells written_model c.args.tokens.now.text.now c.model-read.result c.model-read.new.cursor (text_and_rest (drop c.args.from (lexemes c.args.tokens.now))) (Ok c.in_ok-model.model) (c.in_ok-model.ensures c.args.tokens.now.text.now refl) (rw are at c.model-read.ensures)))
 
 pub returns-clause-ok : goal.returns-clause-ok
 returns-clause-ok c =
     let are : c.new-cursor.result ≡ drop c.args.from (lexemes c.args.tokens.now) = c.new-cursor.ensures ∙ some-are c.args.tokens.now.text.now c.as_slice.result.now c.args.tokens.now.list c.args.from c.as_slice.ensures in
     rw (c.len-left.ensures, c.len.ensures) (front-ok (lexemes c.args.tokens.now) c.model-read.new.cursor c.args.from _ OPENINGS_MAX (written_model c.in_ok-model.model) (sym (length-map c.args.tokens.now.list (lexeme_of c.args.tokens.now.text.now))) c.requires
-    (c.in_ok-model.ensures c.args.tokens.now.text.now (text_and_rest (drop c.args.from (lexemes c.args.tokens.now))) refl (rw are at c.model-read.ensures))
+    (placed-tells written_model c.args.tokens.now.text.now c.model-read.result c.model-read.new.cursor (text_and_rest (drop c.args.from (lexemes c.args.tokens.now))) (Ok c.in_ok-model.model) (c.in_ok-model.ensures c.args.tokens.now.text.now refl) (rw are at c.model-read.ensures))
     (is_few OPENINGS_MAX (front_to_end (drop c.args.from (lexemes c.args.tokens.now))) c.first_too_deep.result
     (front-counted c.args.tokens.now.text.now c.as_slice.result.now c.args.tokens.now.list c.args.from c.front_length.result OPENINGS_MAX c.first_too_deep.result c.as_slice.ensures (c.first_too_deep.ensures c.args.tokens.now.text.now) (c.front_length.ensures.front c.args.tokens.now.text.now)) c.in_default.is))
 
@@ -39,7 +41,7 @@ returns-in_err-model-clause-unexpected c = λ at e.
           (front-counted c.args.tokens.now.text.now c.as_slice.result.now c.args.tokens.now.list c.args.from c.front_length.result OPENINGS_MAX c.first_too_deep.result c.as_slice.ensures (c.first_too_deep.ensures c.args.tokens.now.text.now) (c.front_length.ensures.front c.args.tokens.now.text.now))
           ∙ c.in_default.is,
       error-unexpected c.args.tokens.now.text.now (drop c.args.from (lexemes c.args.tokens.now)) c.model-read.new.cursor c.in_err-model.field-0.0 at
-          (c.in_err-model.ensures c.args.tokens.now.text.now (text_and_rest (drop c.args.from (lexemes c.args.tokens.now))) refl (rw are at c.model-read.ensures))
+          (placed-tells written_model c.args.tokens.now.text.now c.model-read.result c.model-read.new.cursor (text_and_rest (drop c.args.from (lexemes c.args.tokens.now))) (Err c.in_err-model.field-0.0) (c.in_err-model.ensures c.args.tokens.now.text.now refl) (rw are at c.model-read.ensures))
           (same-error c.from_residual.result p.0 c.in_err-model.field-0.0 (errors.Unexpected at) p.1 p.2 e),
     )
 
@@ -48,5 +50,5 @@ returns-in_err-model-clause-too_deep c = λ at e.
     let are : c.new-cursor.result ≡ drop c.args.from (lexemes c.args.tokens.now) = c.new-cursor.ensures ∙ some-are c.args.tokens.now.text.now c.as_slice.result.now c.args.tokens.now.list c.args.from c.as_slice.ensures in
     let p = err_from_is_err_and c.from_residual.result c.from_residual.ensures.1 in
     absurd (error-never_deep c.args.tokens.now.text.now (drop c.args.from (lexemes c.args.tokens.now)) c.model-read.new.cursor c.in_err-model.field-0.0 at
-    (c.in_err-model.ensures c.args.tokens.now.text.now (text_and_rest (drop c.args.from (lexemes c.args.tokens.now))) refl (rw are at c.model-read.ensures))
+    (placed-tells written_model c.args.tokens.now.text.now c.model-read.result c.model-read.new.cursor (text_and_rest (drop c.args.from (lexemes c.args.tokens.now))) (Err c.in_err-model.field-0.0) (c.in_err-model.ensures c.args.tokens.now.text.now refl) (rw are at c.model-read.ensures))
     (same-error c.from_residual.result p.0 c.in_err-model.field-0.0 (errors.TooDeep at) p.1 p.2 e))

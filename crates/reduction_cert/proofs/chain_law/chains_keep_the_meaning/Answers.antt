@@ -7,6 +7,8 @@ returns c =
       prune = record { valid = λ g (vertex, edge). c.pruning_keeps_the_meaning.ensures.valid g vertex edge; same = λ g (vertex, edge). c.pruning_keeps_the_meaning.ensures.same g vertex edge };
       settle = record { valid = λ g (vertex, edge). c.settling_keeps_the_meaning.ensures.valid g vertex edge; same = λ g (vertex, edge). c.settling_keeps_the_meaning.ensures.same g vertex edge };
       drop = record { valid = c.dropping_keeps_the_meaning.ensures.valid; same = c.dropping_keeps_the_meaning.ensures.same };
+      merge = record { valid = λ g (first, second). c.merging_keeps_the_meaning.ensures.valid g first second; same = λ g (first, second). c.merging_keeps_the_meaning.ensures.same g first second };
+      slice = record { valid = c.slicing_keeps_the_meaning.ensures.valid; same = c.slicing_keeps_the_meaning.ensures.same };
     } in
     record {
       one_valid = λ g h a valid made. (applied-keeps laws g h a valid made).valid;

@@ -1,7 +1,7 @@
 use Rattle.std.specs.Prelude.{map}
 use Rattle.std.specs.String.{string_bytes}
 use Rattle.sigma_top.specs.Delivery.{inlet, outlet}
-use Rattle.sigma_top.proofs.TopCall.{within_room, reduced_means, complete}
+use Rattle.sigma_top.proofs.TopCall.{within_room, reduced_means, certified_means, complete}
 use Rattle.sigma_top.proofs.frame.sigma.Goals as goal
 
 pub returns-clause-complete : goal.returns-clause-complete
@@ -27,3 +27,11 @@ returns-clause-reduced g c = λ asked is_done.
     (outlet g.K.Sink.written g.K.Sink.faults g.K.Sink.settled c.args.output.now) (outlet g.K.Sink.written g.K.Sink.faults g.K.Sink.settled c.work.new.output)
     (outlet g.E.Sink.written g.E.Sink.faults g.E.Sink.settled c.args.errors.now) (outlet g.E.Sink.written g.E.Sink.faults g.E.Sink.settled c.work.new.errors)
     c.written_models_mean_the_same.ensures c.work.result c.work.ensures asked is_done
+
+pub returns-clause-certified : goal.returns-clause-certified
+returns-clause-certified g c = λ asked is_done.
+    certified_means (map string_bytes c.args.words.now)
+    (inlet g.S.Source.left g.S.Source.faults c.args.input.now) (inlet g.S.Source.left g.S.Source.faults c.work.new.input)
+    (outlet g.K.Sink.written g.K.Sink.faults g.K.Sink.settled c.args.output.now) (outlet g.K.Sink.written g.K.Sink.faults g.K.Sink.settled c.work.new.output)
+    (outlet g.E.Sink.written g.E.Sink.faults g.E.Sink.settled c.args.errors.now) (outlet g.E.Sink.written g.E.Sink.faults g.E.Sink.settled c.work.new.errors)
+    c.sound_documents_mean_the_same.ensures c.work.result c.work.ensures asked is_done

@@ -1,8 +1,0 @@
-use Rattle.std.proofs.Common.{◌≡◌, not}
-use Rattle.std.specs.Prelude.{filter}
-use Rattle.std.specs.List.{range_with_len}
-use Rattle.model_core.specs.Rules.MarkedPlaces.{is_marked}
-use Rattle.edge_pruning.proofs.dropping.unmarked.Given as goal
-
-abbrev pub invariant-loop-place : goal.invariant-loop-place
-invariant-loop-place l = l.places.items ≡ filter (λ k. not (is_marked l.marks k)) (range_with_len 0 l.place)

@@ -1,0 +1,3 @@
+-- The code of this crate, restated for its proofs. Nobody has to believe these.
+pub mod Finding
+pub mod Numbers

@@ -1,0 +1,2 @@
+pub mod PlacePairs
+pub mod Inner

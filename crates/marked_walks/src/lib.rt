@@ -1,0 +1,13 @@
+//! Places with marks: those that follow from some by a walk, those that aren't marked, and the new numbers of those that
+//! stay.
+#![tactic(auto)]
+
+mod entailing;
+mod marks;
+mod places_behind;
+mod staying;
+
+pub use entailing::entailed;
+pub use marks::{is_marked, unmarked};
+pub use places_behind::PlacesBehind;
+pub use staying::Staying;

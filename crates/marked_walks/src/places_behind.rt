@@ -1,0 +1,23 @@
+//! What a walk follows: the places behind each place, wherever they are kept.
+#![tactic(auto)]
+
+ghost use Rattle.std.specs.Prelude.{◌≡◌, ℕ, List, length, slice_get};
+ghost use Rattle.marked_walks.specs.PlacePairs.{places_behind};
+
+/// For each of some places, counted from 0, the places behind it.
+pub trait PlacesBehind {
+    // The places behind each place.
+    ghost lists: { Self → List (List ℕ) };
+
+    /// How many places there are.
+    fn place_count(&self) -> usize
+        ensures { result ≡ length (lists self.now) };
+
+    /// How many places are behind this one: none where there is no such place.
+    fn count_behind(&self, place: usize) -> usize
+        ensures { result ≡ length (places_behind (lists self.now) place) };
+
+    /// The place behind this one that has so many before it, if there are more than these.
+    fn nth_behind(&self, place: usize, nth: usize) -> Option<usize>
+        ensures { result ≡ slice_get (places_behind (lists self.now) place) nth };
+}

@@ -1,0 +1,154 @@
+-- One event in place of two: the merged event does what the first does and then the second.
+use Rattle.std.proofs.Common.{◌≡◌, ℕ, ℤ, List, [], ◌∷◌, ◌++◌, map, zip, Some, Ok, Err, refl, sym, ◌∙◌, ap, subst}
+use Rattle.sig_base.specs.declared.fault.FaultKind.{FaultKind}
+use Rattle.model_core.specs.EventGraph.{EventGraph, EventVertex, EventEdge, Expression, StateChange}
+use Rattle.model_core.specs.Run.State.{State, Place, scalar}
+use Rattle.model_core.specs.Run.Value.{OrFault, ◌>>=◌, each, in_turn, value_of, place_of}
+use Rattle.model_core.specs.Run.Changes.{Drawn, store, make_change}
+use Rattle.model_core.specs.Run.Pending.{Entry, TakenOff, next_entry}
+use Rattle.merge_rules.proofs.EdgesOnLists.{bind-assoc, list_treat, list_occur}
+use Rattle.model_core.specs.Run.Step.{Configuration, vertex_at, receive}
+use Rattle.model_core.specs.Rules.Merge.{scalar_location, set_parameters}
+use Rattle.model_core.proofs.Results.{bind_same, in_turn-append}
+use Rattle.std.specs.List.{AllByRecursion}
+use Rattle.model_core.proofs.Alongside.{Alongside, both_go, both_fail}
+use Rattle.merge_rules.proofs.InsertedEntry.{inserted_last, DueBefore, next_entry-inserted}
+use Rattle.merge_rules.proofs.EdgesAside.{Aside, Calm, urgent_entry, Pair, edges-pair, edges-calm, urgent_edge}
+
+alongside-ok : {S T : Type 0} (R : S → T → Type 0) {r : OrFault S} {q : OrFault T} → Alongside R r q → (s : S) → r ≡ Ok s → (t : T) × (q ≡ Ok t) × R s t
+alongside-ok R (both_go {s = u} {t = t} rel) s e =
+    let same : u ≡ s = cc in (t, refl, subst (λ s. R s t) same rel)
+alongside-ok R (both_fail k) s e = cc
+
+-- the edges of the first event, with its plain urgent edge and without
+record Both (g : EventGraph) (s : State) (clk vertex : ℕ) (values : List ℤ) (whole rest : List EventEdge) (p : List Entry) : Type 0 where
+  with_it : List Entry
+  without_it : List Entry
+  to_with : in_turn (list_treat g s clk) whole p ≡ Ok with_it
+  to_without : in_turn (list_treat g s clk) rest p ≡ Ok without_it
+  next_is : next_entry with_it ≡ Some (record { entry = urgent_entry g s clk vertex values; others = without_it })
+
+both-edges : (g : EventGraph) (s : State) (clk vertex : ℕ) (rights : List Expression) (values : List ℤ) → each (value_of g s clk) rights ≡ Ok values → (before after : List EventEdge) → AllByRecursion (λ (e : EventEdge). Aside vertex e.target e.kind) before → AllByRecursion (λ (e : EventEdge). Aside vertex e.target e.kind) after → AllByRecursion (Calm g s clk) before → AllByRecursion (Calm g s clk) after → (p : List Entry) → AllByRecursion (DueBefore (urgent_entry g s clk vertex values)) p → Both g s clk vertex values (before ++ urgent_edge vertex rights ∷ after) (before ++ after) p
+both-edges g s clk vertex rights values are before after aside_before aside_after calm_before calm_after p due =
+    let b = urgent_entry g s clk vertex values in
+    let T : EventEdge → List Entry → OrFault (List Entry) = list_treat g s clk in
+    let (p1, first) = edges-calm g s clk before calm_before p in
+    let (q, last) = edges-calm g s clk after calm_after p1 in
+    let (_, _, (_, due1)) = alongside-ok (Pair g s clk vertex values) (edges-pair g s clk vertex values before aside_before p (p ++ b ∷ []) (inserted_last b p, due)) p1 first in
+    let (w, w_is, (i, due2)) = alongside-ok (Pair g s clk vertex values) (edges-pair g s clk vertex values after aside_after p1 (p1 ++ b ∷ []) (inserted_last b p1, due1)) q last in
+    record {
+      with_it = w;
+      without_it = q;
+      to_with = in_turn-append T before (urgent_edge vertex rights ∷ after) p ∙ (ap (λ (r : OrFault (List Entry)). r >>= in_turn T (urgent_edge vertex rights ∷ after)) first ∙ (ap (λ (r : OrFault (List ℤ)). (r >>= λ values. Ok (p1 ++ urgent_entry g s clk vertex values ∷ [])) >>= in_turn T after) are ∙ w_is));
+      to_without = in_turn-append T before after p ∙ (ap (λ (r : OrFault (List Entry)). r >>= in_turn T after) first ∙ last);
+      next_is = next_entry-inserted b i due2;
+    }
+
+fault-edges : (g : EventGraph) (s : State) (clk vertex : ℕ) (rights : List Expression) (k : FaultKind) → each (value_of g s clk) rights ≡ Err k → (before after : List EventEdge) → AllByRecursion (Calm g s clk) before → (p : List Entry) → in_turn (list_treat g s clk) (before ++ urgent_edge vertex rights ∷ after) p ≡ Err k
+fault-edges g s clk vertex rights k are before after calm p =
+    let T : EventEdge → List Entry → OrFault (List Entry) = list_treat g s clk in
+    let (p1, first) = edges-calm g s clk before calm p in
+    in_turn-append T before (urgent_edge vertex rights ∷ after) p ∙ (ap (λ (r : OrFault (List Entry)). r >>= in_turn T (urgent_edge vertex rights ∷ after)) first ∙ ap (λ (r : OrFault (List ℤ)). (r >>= λ values. Ok (p1 ++ urgent_entry g s clk vertex values ∷ [])) >>= in_turn T after) are)
+
+places-are : (g : EventGraph) (s : State) (clk : ℕ) (vs : List ℕ) → each (place_of g s clk) (map scalar_location vs) ≡ Ok (map scalar vs)
+places-are g s clk [] = refl
+places-are g s clk (v ∷ vs) = ap (λ (r : OrFault (List Place)). r >>= λ ps. Ok (scalar v ∷ ps)) (places-are g s clk vs)
+
+right-unit : {A : Type 0} (r : OrFault A) → (r >>= λ a. Ok a) ≡ r
+right-unit (Ok a) = refl
+right-unit (Err k) = refl
+
+pub set_parameters-receives : (g : EventGraph) (seed clk : ℕ) (vs : List ℕ) (rights : List Expression) → (vs ≡ [] → rights ≡ []) → (d : Drawn) → in_turn (make_change g seed clk) (set_parameters vs rights) d ≡ (each (value_of g d.state clk) rights >>= λ values. receive g vs values d.state >>= λ t. Ok (record { state = t; taken = d.taken }))
+set_parameters-receives g seed clk [] rights none d = ap (λ rights. each (value_of g d.state clk) rights >>= λ values. Ok d) (sym (none refl))
+set_parameters-receives g seed clk (v ∷ vs) rights none d =
+    right-unit _ ∙ (bind-assoc (each (value_of g d.state clk) rights) (λ values. each (place_of g d.state clk) (map scalar_location (v ∷ vs)) >>= λ places. in_turn (store g) (zip places values) d.state) (λ t. Ok (record d { state = t })) ∙
+    bind_same (each (value_of g d.state clk) rights) _ _ (λ values e. ap (λ (r : OrFault (List Place)). (r >>= λ places. in_turn (store g) (zip places values) d.state) >>= λ t. Ok (record d { state = t })) (places-are g d.state clk (v ∷ vs))))
+
+-- ---- the two events and the merged one
+
+-- the merged event faults as the first does, or the next event is the second and gives what the merged one gives
+pub data Split (g : EventGraph) (seed second : ℕ) (rights : List Expression) (clk : ℕ) : OrFault Configuration → OrFault Configuration → Type 0 where
+  faults : (k : FaultKind) → Split g seed second rights clk (Err k) (Err k)
+  goes_on : (c : Configuration) (n : TakenOff) → c.clock ≡ clk → each (value_of g c.state clk) rights ≡ Ok n.entry.values → next_entry c.pending ≡ Some n → n.entry.vertex ≡ second → n.entry.time ≡ clk → (r : OrFault Configuration) → list_occur g seed (vertex_at g second) n c.state c.taken ≡ r → Split g seed second rights clk (Ok c) r
+
+bind-split : {A : Type 0} (g : EventGraph) (seed second : ℕ) (rights : List Expression) (clk : ℕ) (r : OrFault A) (f h : A → OrFault Configuration) → ((a : A) → r ≡ Ok a → Split g seed second rights clk (f a) (h a)) → Split g seed second rights clk (r >>= f) (r >>= h)
+bind-split g seed second rights clk (Ok a) f h next = next a refl
+bind-split g seed second rights clk (Err k) f h next = faults k
+
+same-edges : (g : EventGraph) (s t : State) (clk : ℕ) (es : List EventEdge) → AllByRecursion (λ (e : EventEdge). (p : List Entry) → list_treat g s clk e p ≡ list_treat g t clk e p) es → (p : List Entry) → in_turn (list_treat g s clk) es p ≡ in_turn (list_treat g t clk) es p
+same-edges g s t clk [] same p = refl
+same-edges g s t clk (e ∷ es) (now, same) p =
+    ap (λ (r : OrFault (List Entry)). r >>= in_turn (list_treat g s clk) es) (now p) ∙ bind_same (list_treat g t clk e p) (in_turn (list_treat g s clk) es) (in_turn (list_treat g t clk) es) (λ q e. same-edges g s t clk es same q)
+
+-- the vertex with the changes and edges of the second one in place of its plain urgent edge
+abbrev pub joined_vertex : EventVertex → List EventEdge → List Expression → EventVertex → EventVertex
+joined_vertex v others rights b = record { name = v.name; parameters = v.parameters; changes = v.changes ++ (set_parameters b.parameters rights ++ b.changes); edges = others ++ b.edges }
+
+module _ (g : EventGraph) (seed second : ℕ) (v : EventVertex) (before after : List EventEdge) (rights : List Expression) (clk : ℕ) where
+  abbrev b : EventVertex
+  b = vertex_at g second
+
+  abbrev T : State → EventEdge → List Entry → OrFault (List Entry)
+  T s = list_treat g s clk
+
+  -- what comes behind the changes: the edges, and the configuration
+  abbrev ending : List EventEdge → List Entry → Drawn → OrFault Configuration
+  ending es p d = in_turn (list_treat g d.state clk) es p >>= λ q. Ok (record { clock = clk; state = d.state; taken = d.taken; pending = q })
+
+  abbrev Unread : Drawn → Type 0
+  Unread d = (values : List ℤ) (t : State) (d2 : Drawn) → receive g b.parameters values d.state ≡ Ok t → in_turn (make_change g seed clk) b.changes (record { state = t; taken = d.taken }) ≡ Ok d2 → AllByRecursion (λ (e : EventEdge). (p : List Entry) → T d.state e p ≡ T d2.state e p) (before ++ after)
+
+  -- an event with these carried values, at the clock
+  abbrev occurring : EventVertex → List ℤ → List Entry → State → List ℕ → OrFault Configuration
+  occurring v carried p s taken = receive g v.parameters carried s >>= λ t. in_turn (make_change g seed clk) v.changes (record { state = t; taken = taken }) >>= ending v.edges p
+
+  -- where the other edges don't fault after the changes, and read nothing that the second event writes
+  abbrev pub Known : List ℤ → State → List ℕ → Type 0
+  Known carried s taken = (t : State) (d : Drawn) → receive g v.parameters carried s ≡ Ok t → in_turn (make_change g seed clk) v.changes (record { state = t; taken = taken }) ≡ Ok d → AllByRecursion (Calm g d.state clk) before × AllByRecursion (Calm g d.state clk) after × Unread d
+
+  module _
+      (aside_before : AllByRecursion (λ (e : EventEdge). Aside second e.target e.kind) before)
+      (aside_after : AllByRecursion (λ (e : EventEdge). Aside second e.target e.kind) after)
+      (whole : v.edges ≡ before ++ urgent_edge second rights ∷ after)
+      (none : (vertex_at g second).parameters ≡ [] → rights ≡ []) where
+    tail-split : (d : Drawn) (p : List Entry) → AllByRecursion (Calm g d.state clk) before → AllByRecursion (Calm g d.state clk) after → Unread d → AllByRecursion (DueBefore (urgent_entry g d.state clk second [])) p → (o : OrFault (List ℤ)) → each (value_of g d.state clk) rights ≡ o → Split g seed second rights clk (ending (before ++ urgent_edge second rights ∷ after) p d) (o >>= λ values. receive g b.parameters values d.state >>= λ t. in_turn (make_change g seed clk) b.changes (record { state = t; taken = d.taken }) >>= ending ((before ++ after) ++ b.edges) p)
+    tail-split d p calm_before calm_after unread due (Err k) are =
+        subst (λ (r : OrFault (List Entry)). Split g seed second rights clk (r >>= λ q. Ok (record { clock = clk; state = d.state; taken = d.taken; pending = q })) (Err k)) (sym (fault-edges g d.state clk second rights k are before after calm_before p)) (faults k)
+    tail-split d p calm_before calm_after unread due (Ok values) are =
+        let both = both-edges g d.state clk second rights values are before after aside_before aside_after calm_before calm_after p due in
+        let off : TakenOff = record { entry = urgent_entry g d.state clk second values; others = both.without_it } in
+        let then_second : list_occur g seed b off d.state d.taken ≡ (receive g b.parameters values d.state >>= λ t. in_turn (make_change g seed clk) b.changes (record { state = t; taken = d.taken }) >>= ending ((before ++ after) ++ b.edges) p) =
+        bind_same (receive g b.parameters values d.state) _ _ (λ t received.
+        bind_same (in_turn (make_change g seed clk) b.changes (record { state = t; taken = d.taken })) _ _ (λ d2 changed.
+        let edges_same : in_turn (T d2.state) ((before ++ after) ++ b.edges) p ≡ in_turn (T d2.state) b.edges both.without_it = in_turn-append (T d2.state) (before ++ after) b.edges p ∙ ap (λ (r : OrFault (List Entry)). r >>= in_turn (T d2.state) b.edges) (sym (same-edges g d.state d2.state clk (before ++ after) (unread values t d2 received changed) p) ∙ both.to_without) in
+        ap (λ (r : OrFault (List Entry)). r >>= λ q. Ok (record { clock = clk; state = d2.state; taken = d2.taken; pending = q })) (sym edges_same))) in
+        subst (λ (r : OrFault (List Entry)). Split g seed second rights clk (r >>= λ q. Ok (record { clock = clk; state = d.state; taken = d.taken; pending = q })) (receive g b.parameters values d.state >>= λ t. in_turn (make_change g seed clk) b.changes (record { state = t; taken = d.taken }) >>= ending ((before ++ after) ++ b.edges) p)) (sym both.to_with)
+        (goes_on (record { clock = clk; state = d.state; taken = d.taken; pending = both.with_it }) off refl are both.next_is refl refl _ then_second)
+
+    carried-first : (d : Drawn) (p : List Entry) → (in_turn (make_change g seed clk) (set_parameters b.parameters rights ++ b.changes) d >>= ending ((before ++ after) ++ b.edges) p) ≡ (each (value_of g d.state clk) rights >>= λ values. receive g b.parameters values d.state >>= λ t. in_turn (make_change g seed clk) b.changes (record { state = t; taken = d.taken }) >>= ending ((before ++ after) ++ b.edges) p)
+    carried-first d p =
+        let mk : StateChange → Drawn → OrFault Drawn = make_change g seed clk in
+        let end : Drawn → OrFault Configuration = ending ((before ++ after) ++ b.edges) p in
+        ap (λ (r : OrFault Drawn). r >>= end) (in_turn-append mk (set_parameters b.parameters rights) b.changes d ∙ ap (λ (r : OrFault Drawn). r >>= in_turn mk b.changes) (set_parameters-receives g seed clk b.parameters rights none d)) ∙
+        (ap (λ (r : OrFault Drawn). r >>= end) (bind-assoc (each (value_of g d.state clk) rights) _ (in_turn mk b.changes) ∙ bind_same (each (value_of g d.state clk) rights) _ _ (λ values e. bind-assoc (receive g b.parameters values d.state) _ (in_turn mk b.changes))) ∙
+        (bind-assoc (each (value_of g d.state clk) rights) _ end ∙ bind_same (each (value_of g d.state clk) rights) _ _ (λ values e. bind-assoc (receive g b.parameters values d.state) _ end)))
+
+    pub occurring-splits : (carried : List ℤ) (p : List Entry) (s : State) (taken : List ℕ) → AllByRecursion (DueBefore (urgent_entry g s clk second [])) p → Known carried s taken → Split g seed second rights clk (occurring v carried p s taken) (occurring (joined_vertex v (before ++ after) rights b) carried p s taken)
+    occurring-splits carried p s taken due known =
+        bind-split g seed second rights clk (receive g v.parameters carried s) _ _ (λ t received.
+        let D : Drawn = record { state = t; taken = taken } in
+        let mk : StateChange → Drawn → OrFault Drawn = make_change g seed clk in
+        let end : Drawn → OrFault Configuration = ending ((before ++ after) ++ b.edges) p in
+        let more : List StateChange = set_parameters b.parameters rights ++ b.changes in
+        let apart : (in_turn mk (v.changes ++ more) D >>= end) ≡ (in_turn mk v.changes D >>= λ d. in_turn mk more d >>= end) = ap (λ (r : OrFault Drawn). r >>= end) (in_turn-append mk v.changes more D) ∙ bind-assoc (in_turn mk v.changes D) (in_turn mk more) end in
+        subst (λ (r : OrFault Configuration). Split g seed second rights clk (in_turn mk v.changes D >>= ending v.edges p) r) (sym apart)
+        (bind-split g seed second rights clk (in_turn mk v.changes D) _ _ (λ d changed.
+        let (calm_before, calm_after, unread) = known t d received changed in
+        subst (λ (es : List EventEdge). Split g seed second rights clk (ending es p d) (in_turn mk more d >>= end)) (sym whole)
+        (subst (λ (r : OrFault Configuration). Split g seed second rights clk (ending (before ++ urgent_edge second rights ∷ after) p d) r) (sym (carried-first d p))
+        (tail-split d p calm_before calm_after unread due (each (value_of g d.state clk) rights) refl)))))
+
+-- the merged event at an entry that was taken off
+pub merged-splits : (g : EventGraph) (seed second : ℕ) (v : EventVertex) (before after : List EventEdge) (rights : List Expression) (n : TakenOff) (s : State) (taken : List ℕ) → AllByRecursion (λ (e : EventEdge). Aside second e.target e.kind) before → AllByRecursion (λ (e : EventEdge). Aside second e.target e.kind) after → v.edges ≡ before ++ urgent_edge second rights ∷ after → ((vertex_at g second).parameters ≡ [] → rights ≡ []) → AllByRecursion (DueBefore (urgent_entry g s n.entry.time second [])) n.others → Known g seed second v before after rights n.entry.time n.entry.values s taken → Split g seed second rights n.entry.time (list_occur g seed v n s taken) (list_occur g seed (joined_vertex v (before ++ after) rights (vertex_at g second)) n s taken)
+merged-splits g seed second v before after rights n s taken aside_before aside_after whole none due known =
+    occurring-splits g seed second v before after rights n.entry.time aside_before aside_after whole none n.entry.values n.others s taken due known

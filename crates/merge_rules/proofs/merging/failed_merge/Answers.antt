@@ -1,0 +1,13 @@
+-- Seven conditions hold, and the last one fails.
+use Rattle.std.proofs.Common.{◌∙◌, sym, take}
+use Rattle.model_core.specs.Rules.Merge.{merge_conditions, merged, is_within_limits}
+use Rattle.model_core.specs.Code.Views.{graph_of}
+use Rattle.merge_rules.proofs.PairsFound.{last_fails}
+use Rattle.merge_rules.proofs.merging.failed_merge.Goals as goal
+
+pub returns-else-is_within_limits : goal.returns-else-is_within_limits
+returns-else-is_within_limits c =
+    let g = graph_of c.args.model.now in
+    last_fails (take 7 (merge_conditions g c.args.first c.args.second)) (is_within_limits (merged g c.args.first c.args.second) c.args.first)
+    (sym c.failed_before_limits.ensures ∙ c.in_default.is)
+    (sym c.is_within_limits.ensures ∙ c.if-is_within_limits.false)

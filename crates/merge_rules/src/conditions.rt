@@ -1,0 +1,320 @@
+//! The conditions of merge that can be told from the two vertices.
+#![tactic(auto)]
+
+ghost use Rattle.std.specs.Prelude.{◌≡◌, ◌≤◌, ◌&&◌, ◌||◌, not, false, map, take, drop, length};
+ghost use lib.Pointwise.{pointwise};
+ghost use Rattle.std.specs.List.{list_any, list_all, flat_map, remove};
+ghost use Rattle.std.specs.Option.{option_map_or};
+ghost use Rattle.model_core.specs.EventGraph.{Location};
+ghost use Rattle.model_core.specs.Run.History.{watches};
+ghost use Rattle.model_core.specs.Rules.BoundsOfParts.{quiet_set, quiet_change, quiet_edge};
+ghost use Rattle.model_core.specs.Rules.Conditions.{first_failed};
+ghost use Rattle.model_core.specs.Rules.MarkedPlaces.{is_among};
+ghost use Rattle.model_core.specs.Rules.Uses.{change_writes, vertex_writes, edge_reads};
+ghost use Rattle.model_core.specs.Rules.UrgentEdges.{plain_urgent_edge, single_urgent};
+ghost use Rattle.model_core.specs.Rules.Merge.{scalar_location, set_parameters, leads_to, is_cancelling, cancels, is_watched_vertex, reads_none_of, is_unwatched, happens_unseen, values_at_once, other_edges, merge_conditions};
+ghost use Rattle.model_core.specs.Code.Views.{graph_of, expression_of, location_of, change_of, edge_kind_of, edge_of, vertex_of, watched_of};
+
+use model_core::{Change, Edge, EdgeForm, Expr, Model, Target, Vertex, Watch};
+use range_bounds::{bounds, plain_urgent, quiet_change, quiet_edge, quiet_store};
+use use_analysis::{reads_of_edge, writes_of_vertex};
+
+/// Whether the vertex has a plain urgent edge, and it leads to this vertex.
+pub fn leads_at_once(vertex: &Vertex, target: usize) -> bool
+    ensures { result ≡ option_map_or (leads_to target) (plain_urgent_edge (vertex_of vertex.now)) false }
+{
+    match plain_urgent(vertex) {
+        None => false,
+        Some(place) => match vertex.edges.as_slice().get(place) {
+            Some(edge) => edge.target == target,
+            None => false,
+        },
+    }
+}
+
+fn watches(vertex: usize, item: &Watch) -> bool
+    ensures { result ≡ watches vertex (watched_of item.now) }
+{
+    match item {
+        Watch::Variable { var: _ } => false,
+        Watch::Event { vertex: watched } => *watched == vertex,
+    }
+}
+
+/// Whether the vertex is watched.
+pub fn is_watched(model: &Model, vertex: usize) -> bool
+    ensures { result ≡ is_watched_vertex (graph_of model.now) vertex }
+{
+    for item in model.watch.as_slice() {
+        if watches(vertex, item) {
+            return true;
+        }
+    }
+    false
+}
+
+fn is_cancelling(form: &EdgeForm) -> bool
+    ensures { result ≡ is_cancelling (edge_kind_of form.now) }
+{
+    match form {
+        EdgeForm::CancelNext | EdgeForm::CancelEqual | EdgeForm::CancelAll => true,
+        EdgeForm::Urgent => false,
+        EdgeForm::Schedule {
+            delay: _,
+            priority: _,
+        } => false,
+    }
+}
+
+fn cancels(target: usize, edge: &Edge) -> bool
+    ensures { result ≡ cancels target (edge_of edge.now) }
+{
+    is_cancelling(&edge.form) && edge.target == target
+}
+
+/// Whether one of the edges cancels events of the vertex.
+pub fn one_cancels(target: usize, edges: &[Edge]) -> bool
+    ensures { result ≡ list_any (cancels target) (map edge_of edges.now) }
+{
+    for edge in edges {
+        if cancels(target, edge) {
+            return true;
+        }
+    }
+    false
+}
+
+fn reads_one(edge: &Edge, vars: &[usize]) -> bool
+    ensures { result ≡ list_any (is_among (edge_reads (edge_of edge.now))) vars.now }
+{
+    for var in vars {
+        if reads_of_edge(edge, *var) {
+            return true;
+        }
+    }
+    false
+}
+
+fn reads_one_target(edge: &Edge, targets: &[Target]) -> bool
+    ensures { result ≡ list_any (is_among (edge_reads (edge_of edge.now))) (map (λ (l : Location). l.variable) (map location_of targets.now)) }
+{
+    for target in targets {
+        if reads_of_edge(edge, target.var) {
+            return true;
+        }
+    }
+    false
+}
+
+fn reads_changed(edge: &Edge, change: &Change) -> bool
+    ensures { result ≡ list_any (is_among (edge_reads (edge_of edge.now))) (change_writes (change_of change.now)) }
+{
+    match change {
+        Change::Set { targets, values: _ } => reads_one_target(edge, targets.as_slice()),
+        Change::Draw {
+            target,
+            stream: _,
+            choice: _,
+        } => reads_of_edge(edge, target.var),
+    }
+}
+
+#[tactic(auto, using(crate::proofs::AnyOfParts::any_of_parts))]
+fn reads_one_changed(edge: &Edge, changes: &[Change]) -> bool
+    ensures { result ≡ list_any (is_among (edge_reads (edge_of edge.now))) (flat_map change_writes (map change_of changes.now)) }
+{
+    for change in changes {
+        if reads_changed(edge, change) {
+            return true;
+        }
+    }
+    false
+}
+
+#[tactic(auto, using(crate::proofs::AnyOfParts::any_of_parts))]
+fn reads_written(edge: &Edge, vertex: &Vertex) -> bool
+    ensures { result ≡ list_any (is_among (edge_reads (edge_of edge.now))) (vertex_writes (vertex_of vertex.now)) }
+{
+    reads_one(edge, vertex.params.as_slice()) || reads_one_changed(edge, vertex.changes.as_slice())
+}
+
+fn stands_aside(model: &Model, second: &Vertex, edge: &Edge) -> bool
+    ensures { result ≡ (quiet_edge (graph_of model.now) (edge_of edge.now) && reads_none_of (vertex_writes (vertex_of second.now)) (edge_of edge.now)) }
+{
+    quiet_edge(model, edge) && !reads_written(edge, second)
+}
+
+fn all_stand_aside(model: &Model, second: &Vertex, edges: &[Edge]) -> bool
+    ensures { result ≡ list_all (λ e. quiet_edge (graph_of model.now) e && reads_none_of (vertex_writes (vertex_of second.now)) e) (map edge_of edges.now) }
+{
+    for edge in edges {
+        if !stands_aside(model, second, edge) {
+            return false;
+        }
+    }
+    true
+}
+
+fn is_unwatched(second: &Vertex, item: &Watch) -> bool
+    ensures { result ≡ is_unwatched (vertex_writes (vertex_of second.now)) (watched_of item.now) }
+{
+    match item {
+        Watch::Variable { var } => !writes_of_vertex(second, *var),
+        Watch::Event { vertex: _ } => true,
+    }
+}
+
+fn all_unwatched(second: &Vertex, watch: &[Watch]) -> bool
+    ensures { result ≡ list_all (is_unwatched (vertex_writes (vertex_of second.now))) (map watched_of watch.now) }
+{
+    for item in watch {
+        if !is_unwatched(second, item) {
+            return false;
+        }
+    }
+    true
+}
+
+fn quiet_changes(model: &Model, changes: &[Change]) -> bool
+    ensures { result ≡ list_all (quiet_change (graph_of model.now)) (map change_of changes.now) }
+{
+    for change in changes {
+        if !quiet_change(model, change) {
+            return false;
+        }
+    }
+    true
+}
+
+fn quiet_edges(model: &Model, edges: &[Edge]) -> bool
+    ensures { result ≡ list_all (quiet_edge (graph_of model.now)) (map edge_of edges.now) }
+{
+    for edge in edges {
+        if !quiet_edge(model, edge) {
+            return false;
+        }
+    }
+    true
+}
+
+fn quiet_parameter(model: &Model, var: usize, value: &Expr) -> bool
+    ensures { result ≡ quiet_set (graph_of model.now) (scalar_location var) (expression_of value.now) }
+{
+    let of = bounds(model, value);
+    of.quiet && quiet_store(model, var, &of)
+}
+
+fn quiet_pairs(model: &Model, params: &[usize], values: &[Expr]) -> bool
+    ensures { result ≡ pointwise (quiet_set (graph_of model.now)) (map scalar_location params.now) (map expression_of values.now) }
+{
+    if params.len() != values.len() {
+        return false;
+    }
+    for place in 0..params.len() {
+        if !quiet_parameter(model, params[place], &values[place]) {
+            return false;
+        }
+    }
+    true
+}
+
+fn quiet_parameters(model: &Model, params: &[usize], values: &[Expr]) -> bool
+    ensures { result ≡ list_all (quiet_change (graph_of model.now)) (set_parameters params.now (map expression_of values.now)) }
+{
+    params.is_empty() || quiet_pairs(model, params, values)
+}
+
+fn happens_unseen(model: &Model, second: &Vertex, values: &[Expr]) -> bool
+    ensures { result ≡ happens_unseen (graph_of model.now) (vertex_of second.now) (map expression_of values.now) }
+{
+    all_unwatched(second, model.watch.as_slice())
+        && quiet_parameters(model, second.params.as_slice(), values)
+        && quiet_changes(model, second.changes.as_slice())
+        && quiet_edges(model, second.edges.as_slice())
+}
+
+/// Whether the second event, to which the first one's plain urgent edge gives its values, happens unseen.
+fn second_happens_unseen(model: &Model, first: &Vertex, second: &Vertex) -> bool
+    ensures { result ≡ happens_unseen (graph_of model.now) (vertex_of second.now) (values_at_once (vertex_of first.now)) }
+{
+    let Some(place) = plain_urgent(first) else {
+        return happens_unseen(model, second, &[]);
+    };
+    match first.edges.as_slice().get(place) {
+        Some(edge) => happens_unseen(model, second, edge.values.as_slice()),
+        None => happens_unseen(model, second, &[]),
+    }
+}
+
+fn all_stand_aside_from(model: &Model, second: &Vertex, edges: &[Edge], from: usize) -> bool
+    requires { from ≤ length edges.now }
+    ensures { result ≡ list_all (λ e. quiet_edge (graph_of model.now) e && reads_none_of (vertex_writes (vertex_of second.now)) e) (map edge_of (drop from edges.now)) }
+{
+    all_stand_aside(model, second, &edges[from..])
+}
+
+/// Whether all edges but the one at this place stand aside.
+fn all_stand_aside_but(model: &Model, second: &Vertex, edges: &[Edge], place: usize) -> bool
+    ensures { result ≡ list_all (λ e. quiet_edge (graph_of model.now) e && reads_none_of (vertex_writes (vertex_of second.now)) e) (remove (map edge_of edges.now) place) }
+{
+    if place < edges.len() {
+        all_stand_aside(model, second, &edges[..place])
+            && all_stand_aside_from(model, second, edges, place + 1)
+    } else {
+        all_stand_aside(model, second, edges)
+    }
+}
+
+/// Whether the edges of the first vertex but its plain urgent one never fault and read nothing that the second writes.
+fn others_stand_aside(model: &Model, first: &Vertex, second: &Vertex) -> bool
+    ensures { result ≡ list_all (λ e. quiet_edge (graph_of model.now) e && reads_none_of (vertex_writes (vertex_of second.now)) e) (other_edges (vertex_of first.now)) }
+{
+    match plain_urgent(first) {
+        Some(place) => all_stand_aside_but(model, second, first.edges.as_slice(), place),
+        None => all_stand_aside(model, second, first.edges.as_slice()),
+    }
+}
+
+/// Whether the first vertex isn't watched, or the second event happens unseen.
+fn notes_stay(model: &Model, first: usize, a: &Vertex, b: &Vertex) -> bool
+    ensures { result ≡ (not (is_watched_vertex (graph_of model.now) first) || happens_unseen (graph_of model.now) (vertex_of b.now) (values_at_once (vertex_of a.now))) }
+{
+    !is_watched(model, first) || second_happens_unseen(model, a, b)
+}
+
+/// The first condition but that on the limits that fails, by its number from 1, in a model of which it is known whether
+/// it is single urgent.
+pub fn failed_before_limits(model: &Model, single: bool, first: usize, second: usize) -> Option<u8>
+    requires { single ≡ single_urgent (graph_of model.now) }
+    ensures { result ≡ first_failed (take 7 (merge_conditions (graph_of model.now) first second)) }
+{
+    let vertices = model.vertices.as_slice();
+    let Some(a) = vertices.get(first) else {
+        return Some(1);
+    };
+    let Some(b) = vertices.get(second) else {
+        return Some(1);
+    };
+    if first == second || !leads_at_once(a, second) {
+        return Some(1);
+    }
+    if plain_urgent(b).is_some() {
+        return Some(2);
+    }
+    if !single {
+        return Some(3);
+    }
+    if is_watched(model, second) {
+        return Some(4);
+    }
+    if one_cancels(second, a.edges.as_slice()) {
+        return Some(5);
+    }
+    if !others_stand_aside(model, a, b) {
+        return Some(6);
+    }
+    if !notes_stay(model, first, a, b) {
+        return Some(7);
+    }
+    None
+}

@@ -1,0 +1,43 @@
+//! The laws of merge. The functions do nothing: what they ensure holds of all models.
+
+ghost use Rattle.std.specs.Prelude.{◌≡◌, ℕ, ◌≤◌, ◌^◌, ℤ, true, List, Some, None, Ok};
+ghost use Rattle.model_core.specs.EventGraph.{EventGraph};
+ghost use Rattle.model_core.specs.Run.Pending.{TakenOff, next_entry};
+ghost use Rattle.model_core.specs.Run.Step.{Configuration, step};
+ghost use Rattle.model_core.specs.Run.History.{start};
+ghost use Rattle.model_core.specs.Run.Same.{Same};
+ghost use Rattle.model_core.specs.Static.Reading.{IsValid};
+ghost use Rattle.model_core.specs.Rules.Conditions.{first_failed};
+ghost use Rattle.model_core.specs.Rules.UrgentEdges.{single_urgent};
+ghost use Rattle.model_core.specs.Rules.Merge.{merge_conditions, merged};
+ghost use Rattle.merge_rules.specs.BetweenSteps.{IsSettled};
+
+use range_bounds::{exclusive_conditions_are_never_both_true, quiet_parts_have_no_fault};
+use round_trip::validity_is_by_parts;
+
+/// Between two steps of a single urgent model no event is due before the clock, at most one has priority 0 and that one
+/// is due at the clock, and the state is in range: so it begins, and each step at a time up to 2^48 that doesn't fault
+/// keeps it, wherever it is made.
+pub fn at_most_one_event_is_urgent()
+    ensures begins { (g : EventGraph) (starts : List ℤ) → IsValid g → IsSettled g (start g starts).now }
+    ensures kept { (g : EventGraph) (seed : ℕ) (c d : Configuration) (n : TakenOff) → IsValid g → single_urgent g ≡ true
+        → IsSettled g c → next_entry c.pending ≡ Some n → n.entry.time ≤ 2 ^ 48 → step g seed c n ≡ Ok d
+        → IsSettled g d }
+{
+    validity_is_by_parts();
+    exclusive_conditions_are_never_both_true();
+}
+
+/// Where no condition of merge fails on a valid model, the result is valid and means the same.
+pub fn merging_keeps_the_meaning()
+    ensures valid { (g : EventGraph) (first second : ℕ) → IsValid g
+        → first_failed (merge_conditions g first second) ≡ None
+        → IsValid (merged g first second) }
+    ensures same { (g : EventGraph) (first second : ℕ) → IsValid g
+        → first_failed (merge_conditions g first second) ≡ None
+        → Same g (merged g first second) }
+{
+    validity_is_by_parts();
+    exclusive_conditions_are_never_both_true();
+    quiet_parts_have_no_fault();
+}

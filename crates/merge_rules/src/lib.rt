@@ -1,0 +1,13 @@
+//! The rule merge: an event takes over what a second one does, which it always schedules at once.
+#![tactic(auto)]
+
+mod conditions;
+mod first_pair;
+mod law;
+mod merging;
+mod taking_over;
+mod within_limits;
+
+pub use first_pair::{first_merge, first_merge_measured};
+pub use law::{at_most_one_event_is_urgent, merging_keeps_the_meaning};
+pub use merging::{merge, merge_measured};

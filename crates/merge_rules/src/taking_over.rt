@@ -1,0 +1,156 @@
+//! A vertex takes over what another one does: the changes and edges of the other stand in place of its plain urgent edge.
+//! All memory is taken before anything changes.
+
+ghost use Rattle.std.specs.Prelude.{◌≡◌, ◌+◌, ◌++◌, ◌<◌, ◌≤◌, Some, [], map, length, slice_get, OnOk, OnErr, IfOk};
+ghost use Rattle.std.specs.Vec.{vec_len, vec_capacity};
+ghost use Rattle.std.specs.List.{remove};
+ghost use Rattle.std.specs.Option.{option_map_or};
+ghost use Rattle.model_core.specs.EventGraph.{EventEdge};
+ghost use Rattle.model_core.specs.Rules.UrgentEdges.{plain_urgent};
+ghost use Rattle.model_core.specs.Rules.PlacedEdges.{with_place};
+ghost use Rattle.model_core.specs.Rules.Merge.{scalar_location, set_parameters, merged_with, merged};
+ghost use Rattle.model_core.specs.Run.Step.{vertex_at};
+ghost use Rattle.model_core.specs.Code.Views.{graph_of, expression_of, location_of, change_of, edge_of, vertex_of};
+
+use model_core::{Change, Edge, Expr, Model, Target, Vertex, copy_vertex};
+use sig_base::{List, NoMemory};
+use std::alloc::Global;
+
+/// The scalars at these places, as what takes values.
+fn scalar_targets(alloc: Global, vars: &[usize]) -> Result<List<Target>, NoMemory>
+    ensures { IfOk result (λ targets. map location_of targets ≡ map scalar_location vars.now) }
+{
+    let mut targets = Vec::with_capacity(alloc, vars.len())?;
+    for var in vars {
+        targets.push(Target {
+            var: *var,
+            index: None,
+        })?;
+    }
+    Ok(List::from_vec(targets))
+}
+
+/// Makes room behind changes and edges for one change and for those of a vertex.
+fn make_room(
+    changes: &mut Vec<Change>,
+    edges: &mut Vec<Edge>,
+    other: &Vertex,
+) -> Result<(), NoMemory>
+    ensures changes { changes.new.items ≡ changes.old.items }
+    ensures edges { edges.new.items ≡ edges.old.items }
+    ensures room_for_changes { OnOk result (vec_len changes.new + 1 + length other.now.changes ≤ vec_capacity changes.new) }
+    ensures room_for_edges { OnOk result (vec_len edges.new + length other.now.edges ≤ vec_capacity edges.new) }
+{
+    let Some(more) = other.changes.len().checked_add(1) else {
+        return Err(NoMemory);
+    };
+    changes.reserve(more)?;
+    edges.reserve(other.edges.len())?;
+    Ok(())
+}
+
+/// Puts the `set` of these variables behind changes that have room for it, or nothing where there are no variables.
+fn add_set(changes: &mut Vec<Change>, vars: &[usize], targets: List<Target>, values: List<Expr>)
+    requires targets { map location_of targets ≡ map scalar_location vars.now }
+    requires room { vec_len changes.old < vec_capacity changes.old }
+    ensures items { map change_of changes.new.items ≡ map change_of changes.old.items ++ set_parameters vars.now (map expression_of values) }
+    ensures len { vec_len changes.new ≤ vec_len changes.old + 1 }
+    ensures capacity { vec_capacity changes.old ≤ vec_capacity changes.new }
+{
+    if !vars.is_empty() {
+        let pushed = changes.push(Change::Set { targets, values });
+        let _ = pushed;
+    }
+}
+
+/// Puts items behind others that have room for them.
+fn add_all<T: Drop>(items: &mut Vec<T>, more: List<T>)
+    requires room { vec_len items.old + length more ≤ vec_capacity items.old }
+    ensures { items.new.items ≡ items.old.items ++ more }
+{
+    let mut more = more.into_vec();
+    let appended = items.append(&mut more);
+    let _ = appended;
+}
+
+/// Puts what a vertex does behind changes and edges that have room for it, in place of the edge that gives it its values.
+fn put_in_place(
+    changes: &mut Vec<Change>,
+    edges: &mut Vec<Edge>,
+    place: usize,
+    targets: List<Target>,
+    other: Vertex,
+)
+    requires place { place < vec_len edges.old }
+    requires targets { map location_of targets ≡ map scalar_location other.params }
+    requires room_for_changes { vec_len changes.old + 1 + length other.changes ≤ vec_capacity changes.old }
+    requires room_for_edges { vec_len edges.old + length other.edges ≤ vec_capacity edges.old }
+    ensures changes { map change_of changes.new.items ≡ map change_of changes.old.items ++ set_parameters other.params (option_map_or (λ (e : EventEdge). e.values) (slice_get (map edge_of edges.old.items) place) []) ++ map change_of other.changes }
+    ensures edges { map edge_of edges.new.items ≡ remove (map edge_of edges.old.items) place ++ map edge_of other.edges }
+{
+    let edge = edges.remove(place);
+    add_set(changes, other.params.as_slice(), targets, edge.values);
+    add_all(changes, other.changes);
+    add_all(edges, other.edges);
+}
+
+/// Makes the vertex, whose plain urgent edge stands at this place, do what the other one does in place of that edge.
+fn take_over(
+    vertex: &mut Vertex,
+    place: usize,
+    targets: List<Target>,
+    other: Vertex,
+) -> Result<(), NoMemory>
+    requires at { plain_urgent (vertex_of vertex.old) ≡ Some place }
+    requires targets { map location_of targets ≡ map scalar_location other.params }
+    ensures done { OnOk result (vertex_of vertex.new ≡ merged_with (vertex_of other) (vertex_of vertex.old)) }
+    ensures unchanged { OnErr result (vertex_of vertex.new ≡ vertex_of vertex.old) }
+{
+    let changes = vertex.changes.as_mut_vec();
+    let edges = vertex.edges.as_mut_vec();
+    make_room(changes, edges, &other)?;
+    put_in_place(changes, edges, place, targets, other);
+    Ok(())
+}
+
+/// Makes the vertex at the first place, whose plain urgent edge stands at the second, do what the other one does.
+fn take_over_at(
+    model: &mut Model,
+    first: usize,
+    place: usize,
+    targets: List<Target>,
+    other: Vertex,
+) -> Result<(), NoMemory>
+    requires first { first < length model.old.vertices }
+    requires at { plain_urgent (vertex_at (graph_of model.old) first) ≡ Some place }
+    requires targets { map location_of targets ≡ map scalar_location other.params }
+    ensures done { OnOk result (graph_of model.new ≡ record (graph_of model.old) { vertices = with_place (merged_with (vertex_of other)) first (map vertex_of model.old.vertices) }) }
+    ensures unchanged { OnErr result (graph_of model.new ≡ graph_of model.old) }
+{
+    take_over(
+        &mut model.vertices.as_mut_vec()[first],
+        place,
+        targets,
+        other,
+    )
+}
+
+/// Makes the vertex at the first place, whose plain urgent edge stands at the second, do what the one at the third does.
+/// Where memory is refused the model stays as it was.
+pub fn put_together(
+    alloc: Global,
+    model: &mut Model,
+    first: usize,
+    place: usize,
+    second: usize,
+) -> Result<(), NoMemory>
+    requires first { first < length model.old.vertices }
+    requires second { second < length model.old.vertices }
+    requires at { plain_urgent (vertex_at (graph_of model.old) first) ≡ Some place }
+    ensures done { OnOk result (graph_of model.new ≡ merged (graph_of model.old) first second) }
+    ensures unchanged { OnErr result (graph_of model.new ≡ graph_of model.old) }
+{
+    let other = copy_vertex(alloc, &model.vertices.as_slice()[second])?;
+    let targets = scalar_targets(alloc, other.params.as_slice())?;
+    take_over_at(model, first, place, targets, other)
+}

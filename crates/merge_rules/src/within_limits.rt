@@ -1,0 +1,117 @@
+//! The last condition of merge: the result is within the limits on changes, on edges and on the canonical text. All is
+//! measured before anything is changed, and without memory.
+
+ghost use Rattle.std.specs.Prelude.{◌≡◌, ℕ, ◌+◌, ◌-◌, ◌^◌, ◌<◌, Some, None, IsSome, take, length, min, List};
+ghost use Rattle.model_core.specs.EventGraph.{Expression};
+ghost use Rattle.model_core.specs.Text.Canonical.{canonical, edge_line};
+ghost use Rattle.model_core.specs.Rules.Conditions.{first_failed};
+ghost use Rattle.model_core.specs.Rules.Prune.{pruned};
+ghost use Rattle.model_core.specs.Rules.UrgentEdges.{plain_urgent};
+ghost use Rattle.model_core.specs.Rules.Merge.{set_parameters, merged_with, merged, has_few_parts, is_within_limits, merge_conditions};
+ghost use Rattle.model_core.specs.Code.Views.{graph_of, edge_of, vertex_of};
+ghost use Rattle.merge_rules.specs.Measured.{IsMeasured};
+
+use model_core::{Edge, Model, Vertex};
+use model_print::{edge_length, length_without_edge, printed_length, taken_over_length};
+use range_bounds::plain_urgent;
+use sig_base::{CHANGES_MAX, EDGES_MAX, TEXT_MAX};
+
+/// How many bytes the canonical text of the model has, measured where nobody has told it, or None where they are 2^64 - 1
+/// or more.
+pub fn measured(model: &Model, bytes: Option<u64>) -> Option<u64>
+    requires { IsMeasured (graph_of model.now) bytes }
+    ensures { IsMeasured (graph_of model.now) result }
+{
+    if bytes.is_some() {
+        return bytes;
+    }
+    let bytes = printed_length(model);
+    if bytes < u64::MAX { Some(bytes) } else { None }
+}
+
+/// How many changes give parameters their values.
+fn set_count(params: &[usize]) -> usize
+    ensures { (values : List Expression) → result ≡ length (set_parameters params.now values) }
+{
+    if params.is_empty() { 0 } else { 1 }
+}
+
+/// How many changes the first vertex has with those of the second, or the last number where they are more.
+fn changes_together(first: &Vertex, second: &Vertex) -> usize
+    ensures { (place : ℕ) → plain_urgent (vertex_of first.now) ≡ Some place → result ≡ min (length (merged_with (vertex_of second.now) (vertex_of first.now)).changes) (2 ^ 64 - 1) }
+{
+    first
+        .changes
+        .len()
+        .saturating_add(set_count(second.params.as_slice()))
+        .saturating_add(second.changes.len())
+}
+
+/// How many edges the first vertex has but its plain urgent one and with those of the second, or the last number where
+/// they are more.
+fn edges_together(first: &Vertex, second: &Vertex) -> usize
+    ensures { (place : ℕ) → plain_urgent (vertex_of first.now) ≡ Some place → result ≡ min (length (merged_with (vertex_of second.now) (vertex_of first.now)).edges) (2 ^ 64 - 1) }
+{
+    first
+        .edges
+        .len()
+        .saturating_sub(1)
+        .saturating_add(second.edges.len())
+}
+
+/// Whether the first vertex, which has a plain urgent edge, has not too many changes and edges with what the second does.
+fn has_few_parts(first: &Vertex, second: &Vertex) -> bool
+    ensures { (place : ℕ) → plain_urgent (vertex_of first.now) ≡ Some place → result ≡ has_few_parts (merged_with (vertex_of second.now) (vertex_of first.now)) }
+{
+    changes_together(first, second) <= CHANGES_MAX && edges_together(first, second) <= EDGES_MAX
+}
+
+/// The place of the plain urgent edge.
+pub fn urgent_place(first: &Vertex) -> usize
+    requires { IsSome (plain_urgent (vertex_of first.now)) }
+    ensures at { plain_urgent (vertex_of first.now) ≡ Some result }
+    ensures within { result < length first.now.edges }
+{
+    plain_urgent(first).unwrap()
+}
+
+/// How many bytes the canonical text has without this edge, which stands at this place of the first vertex, or 2^64 - 1
+/// where it has more.
+fn length_without(model: &Model, bytes: Option<u64>, first: usize, place: usize, edge: &Edge) -> u64
+    requires measured { IsMeasured (graph_of model.now) bytes }
+    requires part { length (canonical (pruned (graph_of model.now) first place)) + length (edge_line (graph_of model.now) (edge_of edge.now)) ≡ length (canonical (graph_of model.now)) }
+    ensures { result ≡ min (length (canonical (pruned (graph_of model.now) first place))) (2 ^ 64 - 1) }
+{
+    match bytes {
+        Some(bytes) => bytes - edge_length(edge, model),
+        None => length_without_edge(model, first, place),
+    }
+}
+
+/// How many bytes the canonical text of the result has, or 2^64 - 1 where it has more.
+pub fn merged_length(model: &Model, bytes: Option<u64>, first: usize, second: usize) -> u64
+    requires measured { IsMeasured (graph_of model.now) bytes }
+    requires holds { first_failed (take 7 (merge_conditions (graph_of model.now) first second)) ≡ None }
+    ensures { result ≡ min (length (canonical (merged (graph_of model.now) first second))) (2 ^ 64 - 1) }
+{
+    let vertices = model.vertices.as_slice();
+    let a = &vertices[first];
+    let place = urgent_place(a);
+    let edge = &a.edges.as_slice()[place];
+    length_without(model, bytes, first, place, edge).saturating_add(taken_over_length(
+        &vertices[second],
+        edge.values.as_slice(),
+        model,
+    ))
+}
+
+/// Whether the result is within the limits.
+pub fn is_within_limits(model: &Model, bytes: Option<u64>, first: usize, second: usize) -> bool
+    requires measured { IsMeasured (graph_of model.now) bytes }
+    requires holds { first_failed (take 7 (merge_conditions (graph_of model.now) first second)) ≡ None }
+    ensures { result ≡ is_within_limits (merged (graph_of model.now) first second) first }
+{
+    let vertices = model.vertices.as_slice();
+    has_few_parts(&vertices[first], &vertices[second])
+        && merged_length(model, bytes, first, second) <= TEXT_MAX as u64
+}

@@ -1,0 +1,78 @@
+-- One application after the other, each the first rule's: what the code's loop keeps, and the strategy's end.
+use Rattle.std.proofs.Common.{◌≡◌, ℕ, ◌<◌, Bool, true, false, List, [], ◌∷◌, ◌++◌, map, Option, Some, None, Result, Ok, Err, OnOk, IfOk, IfErr, refl, sym, ap, ◌∙◌, subst, append_assoc}
+use Rattle.sig_base.specs.declared.no_memory.NoMemory.{NoMemory}
+use Rattle.model_core.specs.declared.application.Application.{Application}
+use Rattle.model_core.specs.declared.rule_error.RuleError.{RuleError}
+use Rattle.model_core.specs.declared.rule_error.RuleError.TheVariants as errors
+use Rattle.model_core.specs.Code.Views.{application_of}
+use Rattle.model_core.specs.EventGraph.{EventGraph}
+use Rattle.model_core.specs.Static.Reading.{IsValid}
+use Rattle.model_core.specs.Rules.Conditions.{TellsCondition}
+use Rattle.model_core.specs.Rules.Reduction.{RuleApplication, applied, first_rule, Strategy}
+use Rattle.reducer.specs.Inner.LaterRules.{NoEdgeRule, Made, Finished}
+use Rattle.reducer.proofs.FirstRules.{AreFirst, are_first-append, are_first-strategy}
+use Rattle.reducer.proofs.NoEdgeRuleAnew.{LeavesEdges, none-applied}
+use Rattle.reducer.proofs.StrategyEnds.{measure, applied_leaves_less}
+
+-- first rules led from one graph to another and were noted, and the rules of edges don't apply to this one
+pub record Led (g h : EventGraph) (before after : List RuleApplication) : Type 0 where
+  pub later : List RuleApplication
+  pub noted : after ≡ before ++ later
+  pub first : AreFirst g later h
+  pub valid : IsValid h
+  pub none : NoEdgeRule h
+
+append_nothing : (xs : List RuleApplication) → xs ≡ xs ++ []
+append_nothing [] = refl
+append_nothing (x ∷ xs) = ap (λ xs. x ∷ xs) (append_nothing xs)
+
+pub led_nowhere : (g : EventGraph) (before : List RuleApplication) → IsValid g → NoEdgeRule g → Led g g before before
+led_nowhere g before valid none = record { later = []; noted = append_nothing before; first = refl; valid = valid; none = none }
+
+pub led_on : LeavesEdges → ((g h : EventGraph) (a : RuleApplication) → IsValid g → applied g a ≡ Some h → IsValid h) → (g h k : EventGraph) (before between after : List RuleApplication) (made : Bool) → made ≡ true → Led g h before between → Made (first_rule h) made h k between after → Led g k before after
+led_on leaves one_valid g h k before between after true e led (a, is, made, noted) = record {
+  later = led.later ++ a ∷ [];
+  noted = noted ∙ ap (λ (xs : List RuleApplication). xs ++ a ∷ []) led.noted ∙ append_assoc before led.later (a ∷ []);
+  first = are_first-append led.later (a ∷ []) g h k led.first (is, k, made, refl);
+  valid = one_valid h k a led.valid made;
+  none = none-applied leaves h k a led.valid led.none is made;
+}
+led_on leaves one_valid g h k before between after false e led made = cc
+
+pub led_to_the_end : (g h k : EventGraph) (before between after : List RuleApplication) (made : Bool) → made ≡ false → Led g h before between → Made (first_rule h) made h k between after → Finished g k before after
+led_to_the_end g h k before between after true e led made = cc
+led_to_the_end g h k before between after false e led (no_rule, same, unnoted) = (
+  led.later,
+  unnoted ∙ led.noted,
+  subst (λ (xs : List RuleApplication). Strategy g xs k) (sym (append_nothing led.later)) (are_first-strategy led.later [] g h k led.first (no_rule, sym same)),
+)
+
+pub leaves_less : (g h : EventGraph) (before after : List RuleApplication) (made : Bool) → made ≡ true → NoEdgeRule g → Made (first_rule g) made g h before after → measure h < measure g
+leaves_less g h before after true e none (a, is, made, noted) = applied_leaves_less g h a none is made
+leaves_less g h before after false e none made = cc
+
+-- ---- one application in code
+
+pub answer_of : {P Q : Bool → Type 0} (answer : Result Bool NoMemory) → ((made : Bool) → P made → Q made) → IfOk answer P → IfOk answer Q
+answer_of (Ok made) to holds = to made holds
+answer_of (Err e) to holds = tt
+
+pub noted_more : (old new : List Application) (x : Application) → new ≡ old ++ x ∷ [] → map application_of new ≡ map application_of old ++ application_of x ∷ []
+noted_more old new x is = ap (map application_of) is ∙ more old where
+  more : (old : List Application) → map application_of (old ++ x ∷ []) ≡ map application_of old ++ application_of x ∷ []
+  more [] = refl
+  more (y ∷ old) = ap (λ ys. application_of y ∷ ys) (more old)
+
+-- a rule whose conditions hold isn't refused
+pub not_refused : {A : Type 0} (given : Result A RuleError) (condition : ℕ) (failed : Option ℕ) → given ≡ Err (errors.Refused condition) → IfErr given (λ e. TellsCondition e failed) → failed ≡ None → ⊥
+not_refused given condition failed is tells holds =
+    let told : failed ≡ Some condition = subst (λ (r : Result _ RuleError). IfErr r (λ e. TellsCondition e failed)) is tells in cc
+
+pub answer_made : (one : Option RuleApplication) (g h : EventGraph) (before after : List RuleApplication) {P : Type 0} {failed : Option ℕ} (answer : Result Bool NoMemory) (given : Result (Unit {0}) RuleError)
+    → (answer ≡ Ok true → given ≡ Ok tt) → (answer ≡ Ok false → (condition : ℕ) × (given ≡ Err (errors.Refused condition)))
+    → OnOk given P → IfErr given (λ e. TellsCondition e failed) → failed ≡ None → (P → Made one true g h before after)
+    → IfOk answer (λ made. Made one made g h before after)
+answer_made one g h before after {P} (Ok true) given made refused done tells holds makes = makes (subst (λ (r : Result (Unit {0}) RuleError). OnOk r P) (made refl) done)
+answer_made one g h before after {failed} (Ok false) given made refused done tells holds makes =
+    let (condition, is) = refused refl in absurd (not_refused given condition failed is tells holds)
+answer_made one g h before after (Err e) given made refused done tells holds makes = tt

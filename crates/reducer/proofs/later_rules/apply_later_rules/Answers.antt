@@ -1,0 +1,16 @@
+-- Each turn leaves less, and leads on by the first rule.
+use Rattle.model_core.specs.Code.Views.{graph_of}
+use Rattle.reducer.proofs.RuleByRule.{led_on, leaves_less, led_to_the_end}
+use Rattle.reducer.proofs.later_rules.apply_later_rules.Goals as goal
+
+pub loop-smaller : goal.loop-smaller
+loop-smaller c = leaves_less _ _ _ _ _ c.if-branch.true c.loop.invariant.led.none c.in_ok-apply_one.ensures.made
+
+pub loop-preserved : goal.loop-preserved
+loop-preserved c = record {
+  led = led_on (record { prune = c.slicing_leaves_the_rules_of_edges.ensures.prune; settle = c.slicing_leaves_the_rules_of_edges.ensures.settle }) c.chains_keep_the_meaning.ensures.one_valid _ _ _ _ _ _ _ c.if-branch.true c.loop.invariant.led c.in_ok-apply_one.ensures.made;
+  measured = c.in_ok-apply_one.ensures.measured;
+}
+
+pub returns : goal.returns
+returns c = led_to_the_end _ _ _ _ _ _ _ c.if-branch.false c.loop.invariant.led c.in_ok-apply_one.ensures.made

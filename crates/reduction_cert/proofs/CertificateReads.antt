@@ -1,0 +1,66 @@
+-- What a call that reads a certificate told is so: what it read is one, and where it stopped is where none goes on.
+use Rattle.std.proofs.Common.{◌≡◌, ℕ, Bool, true, false, List, [], ◌∷◌, ◌++◌, map, refl, subst}
+use Rattle.std.specs.Prelude.{Result, Ok, Err, IfOk}
+use Rattle.std.proofs.lemmas.List.{map-id}
+use Rattle.model_core.specs.declared.application.Application.{Application}
+use Rattle.model_core.specs.Text.Lexing.{Lexeme}
+use Rattle.model_core.specs.Text.Format.{AName, Many}
+use Rattle.model_core.specs.Text.CertificateText.{plain_name_format, prune_format, settle_format, drop_format, merge_format, slice_format, application_format, certificate_format, IsCertificate, IsNoCertificateAt}
+use Rattle.model_core.specs.Code.Views.{application_of}
+use Rattle.model_core.specs.Inner.FirstTokens.{nullable, first_sorts, begins_as, begins_among}
+use Rattle.model_core.specs.Inner.FormatReader.{Parse, took, and_next, whole_read}
+use Rattle.model_core.specs.Inner.LanguageReader.{level_lookahead, language_reader}
+use Rattle.model_core.proofs.Formats.OneTokenDecides.{certificate-fine}
+use Rattle.model_core.proofs.Formats.TextLaws.{all-is_spelled, all-is_wrong}
+use Rattle.model_lex.specs.declared.parse_error.ParseError.{ParseError}
+use Rattle.model_lex.specs.declared.parse_error.ParseError.TheVariants as errors
+use Rattle.model_read.specs.declared.stop.Stop.{Stop}
+use Rattle.model_read.specs.ReadCalls.{Stops, Tells, with_front}
+use Rattle.model_read.proofs.ReadLoop.{begins-one, goes_on, ends, is_done}
+
+-- ---- names and applications have a token at least
+
+pub name-some : nullable plain_name_format ≡ false
+unfolding plain_name_format
+name-some = refl
+
+pub application-some : nullable application_format ≡ false
+unfolding plain_name_format prune_format settle_format drop_format merge_format slice_format application_format
+application-some = refl
+
+-- ---- names, which are read as they are
+
+pub name-begins : (tokens : List Lexeme) (b : Bool) → begins_as AName tokens ≡ b → begins_among (first_sorts level_lookahead plain_name_format) tokens ≡ b
+unfolding plain_name_format
+name-begins tokens b e = begins-one AName tokens b e
+
+pub name-goes_on : (names : List (List ℕ)) (name : List ℕ) (tokens left : List Lexeme) (total : Parse (List (List ℕ))) → begins_as AName tokens ≡ true
+    → language_reader plain_name_format tokens ≡ took name left → with_front names (language_reader (Many plain_name_format) tokens) ≡ total → with_front (names ++ name ∷ []) (language_reader (Many plain_name_format) left) ≡ total
+name-goes_on names name tokens left total begun e so_far =
+    subst (λ (l : List (List ℕ)). with_front l (language_reader (Many plain_name_format) left) ≡ total) (map-id (names ++ name ∷ []))
+    (goes_on (λ (n : List ℕ). n) plain_name_format name-some names name tokens left total (name-begins tokens true begun) e
+    (rw (map-id names) so_far))
+
+pub name-ends : (names : List (List ℕ)) (tokens rest : List Lexeme) (total : Parse (List (List ℕ))) (error : Stop) → begins_as AName tokens ≡ true
+    → Stops error rest (language_reader plain_name_format tokens) → with_front names (language_reader (Many plain_name_format) tokens) ≡ total → Stops error rest total
+name-ends names tokens rest total error begun e so_far =
+    ends (λ (n : List ℕ). n) plain_name_format name-some names tokens rest total error (name-begins tokens true begun) e (rw (map-id names) so_far)
+
+pub name-done : (names : List (List ℕ)) (tokens : List Lexeme) (total : Parse (List (List ℕ))) → begins_as AName tokens ≡ false
+    → with_front names (language_reader (Many plain_name_format) tokens) ≡ total → total ≡ took names tokens
+name-done names tokens total stop so_far =
+    subst (λ (l : List (List ℕ)). total ≡ took l tokens) (map-id names) (is_done (λ (n : List ℕ). n) plain_name_format name-some names tokens total (name-begins tokens false stop) (rw (map-id names) so_far))
+
+-- ---- the whole
+
+pub certificate-ok : (text : List ℕ) (tokens left : List Lexeme) (r : Result (List Application) ParseError) → Tells (map application_of) text r left (and_next whole_read (language_reader certificate_format tokens)) → IfOk r (λ applications. IsCertificate tokens (map application_of applications))
+certificate-ok text tokens left (Ok applications) g = all-is_spelled certificate_format tokens (map application_of applications) left g
+certificate-ok text tokens left (Err e) g = tt
+
+pub certificate-unexpected : (text : List ℕ) (tokens left : List Lexeme) (r : Result (List Application) ParseError) (at : ℕ) → Tells (map application_of) text r left (and_next whole_read (language_reader certificate_format tokens)) → r ≡ Err (errors.Unexpected at) → IsNoCertificateAt text tokens at
+certificate-unexpected text tokens left r at g e =
+    let h : Tells (map application_of) text (Err (errors.Unexpected at)) left (and_next whole_read (language_reader certificate_format tokens)) = subst (λ (q : Result (List Application) ParseError). Tells (map application_of) text q left (and_next whole_read (language_reader certificate_format tokens))) e g in
+    subst (λ (n : ℕ). IsNoCertificateAt text tokens n) h.1 (all-is_wrong certificate_format certificate-fine text tokens left h.0)
+
+pub certificate-never_deep : (text : List ℕ) (tokens left : List Lexeme) (r : Result (List Application) ParseError) (at : ℕ) → Tells (map application_of) text r left (and_next whole_read (language_reader certificate_format tokens)) → r ≡ Err (errors.TooDeep at) → ⊥
+certificate-never_deep text tokens left r at g e = subst (λ (q : Result (List Application) ParseError). Tells (map application_of) text q left (and_next whole_read (language_reader certificate_format tokens))) e g

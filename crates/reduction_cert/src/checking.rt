@@ -1,0 +1,192 @@
+//! The checker: whether a list of applications leads from one model to another.
+
+ghost use Rattle.std.specs.Prelude.{◌≡◌, map, cond, Ok, Some, None, OnOk, IfOk};
+ghost use Rattle.model_core.specs.EventGraph.{EventGraph};
+ghost use Rattle.model_core.specs.Code.Views.{graph_of, application_of};
+ghost use Rattle.model_core.specs.Rules.Reduction.{Prune, Settle, Drop, Merge, Slice, applied, first_bad};
+ghost use Rattle.model_core.specs.Rules.Verdict.{graph_reached, verdict};
+ghost use Rattle.reduction_cert.specs.VerdictView.{verdict_of};
+ghost use Rattle.reduction_cert.specs.Inner.PlacesListed.{HasPlaces, names_of_vertices, is_drop};
+
+use crate::by_name::{all_named, edge_named, two_vertices_named};
+use crate::places::Places;
+use edge_pruning::{drop_vertices, prune, settle};
+use merge_rules::merge;
+use model_core::{Application, Model, copy_model, same_model, was_made};
+use sig_base::{List, Name, NoMemory};
+use std::alloc::Global;
+use var_slicing::slice;
+
+/// What the checker says of a list of applications.
+#[derive(Clone, Copy, Debug, PartialEq, Eq)]
+pub enum Verdict {
+    /// Each application names what the model then has and meets the conditions of its rule, and they lead to the reduced
+    /// model.
+    Sound,
+    /// This application, counted from 1, is the first that doesn't.
+    Rejected { line: usize },
+    /// All do, but they lead to another model.
+    Differs,
+}
+
+/// Whether the applications, in order, lead from the original model to the reduced one. Each is made on a copy of the
+/// original, in place.
+pub fn check_chain(
+    alloc: Global,
+    original: &Model,
+    applications: &List<Application>,
+    reduced: &Model,
+) -> Result<Verdict, NoMemory>
+    ensures { IfOk result (λ v. verdict_of v ≡ verdict (graph_of original.now) (map application_of applications.now) (graph_of reduced.now)) }
+{
+    let mut model = copy_model(alloc, original)?;
+    if let Some(line) = apply_all(alloc, &mut model, applications.as_slice())? {
+        return Ok(Verdict::Rejected { line });
+    }
+    if same_model(&model, reduced) {
+        Ok(Verdict::Sound)
+    } else {
+        Ok(Verdict::Differs)
+    }
+}
+
+/// Makes the applications, in order, up to the first bad one, and tells its number from 1.
+fn apply_all(
+    alloc: Global,
+    model: &mut Model,
+    applications: &[Application],
+) -> Result<Option<usize>, NoMemory>
+    ensures bad { IfOk result (λ bad. bad ≡ first_bad (graph_of model.old) (map application_of applications.now)) }
+    ensures reached { result ≡ Ok None → graph_reached (graph_of model.old) (map application_of applications.now) ≡ Some (graph_of model.new) }
+{
+    let mut vertices = Places::of_vertices(alloc, model.vertices.as_slice())?;
+    for (place, application) in applications.iter().enumerate() {
+        if !apply(alloc, model, &vertices, application)? {
+            return Ok(Some(place + 1));
+        }
+        list_anew(alloc, application, model, &mut vertices)?;
+    }
+    Ok(None)
+}
+
+/// Whether an application takes vertices away.
+fn is_drop(application: &Application) -> bool
+    ensures { result ≡ is_drop (application_of application.now) }
+{
+    match application {
+        Application::Drop { vertices: _ } => true,
+        Application::Prune { vertex: _, edge: _ } => false,
+        Application::Settle { vertex: _, edge: _ } => false,
+        Application::Merge {
+            vertex: _,
+            target: _,
+        } => false,
+        Application::Slice { vars: _ } => false,
+    }
+}
+
+/// Finds the places of the vertices anew, where an application took vertices away.
+fn list_anew(
+    alloc: Global,
+    application: &Application,
+    model: &Model,
+    vertices: &mut Places,
+) -> Result<(), NoMemory>
+    ensures { OnOk result ((g : EventGraph) → applied g (application_of application.now) ≡ Some (graph_of model.now)
+        → HasPlaces (names_of_vertices g.vertices) vertices.old
+        → HasPlaces (names_of_vertices (graph_of model.now).vertices) vertices.new) }
+{
+    if is_drop(application) {
+        *vertices = Places::of_vertices(alloc, model.vertices.as_slice())?;
+    }
+    Ok(())
+}
+
+/// Makes one application, and says whether it names what the model has and meets the conditions of its rule.
+fn apply(
+    alloc: Global,
+    model: &mut Model,
+    vertices: &Places,
+    application: &Application,
+) -> Result<bool, NoMemory>
+    requires { HasPlaces (names_of_vertices (graph_of model.old).vertices) vertices.now }
+    ensures { IfOk result (λ made. applied (graph_of model.old) (application_of application.now) ≡ cond made (Some (graph_of model.new)) None) }
+{
+    match application {
+        Application::Prune { vertex, edge } => Ok(apply_prune(model, vertices, vertex, *edge)),
+        Application::Settle { vertex, edge } => Ok(apply_settle(model, vertices, vertex, *edge)),
+        Application::Drop { vertices: names } => {
+            apply_drop(alloc, model, vertices, names.as_slice())
+        }
+        Application::Merge { vertex, target } => {
+            apply_merge(alloc, model, vertices, vertex, target)
+        }
+        Application::Slice { vars } => apply_slice(alloc, model, vars.as_slice()),
+    }
+}
+
+/// Prunes an edge, and says whether it could be.
+fn apply_prune(model: &mut Model, vertices: &Places, vertex: &Name, edge: u64) -> bool
+    requires { HasPlaces (names_of_vertices (graph_of model.old).vertices) vertices.now }
+    ensures { applied (graph_of model.old) (Prune vertex.now edge) ≡ cond result (Some (graph_of model.new)) None }
+{
+    let Some((vertex, edge)) = edge_named(vertices, vertex, edge) else {
+        return false;
+    };
+    prune(model, vertex, edge).is_ok()
+}
+
+/// Settles an edge, and says whether it could be.
+fn apply_settle(model: &mut Model, vertices: &Places, vertex: &Name, edge: u64) -> bool
+    requires { HasPlaces (names_of_vertices (graph_of model.old).vertices) vertices.now }
+    ensures { applied (graph_of model.old) (Settle vertex.now edge) ≡ cond result (Some (graph_of model.new)) None }
+{
+    let Some((vertex, edge)) = edge_named(vertices, vertex, edge) else {
+        return false;
+    };
+    settle(model, vertex, edge).is_ok()
+}
+
+/// Drops vertices, and says whether they could be.
+fn apply_drop(
+    alloc: Global,
+    model: &mut Model,
+    vertices: &Places,
+    names: &[Name],
+) -> Result<bool, NoMemory>
+    requires { HasPlaces (names_of_vertices (graph_of model.old).vertices) vertices.now }
+    ensures { IfOk result (λ made. applied (graph_of model.old) (Drop names.now) ≡ cond made (Some (graph_of model.new)) None) }
+{
+    let Some(dropped) = all_named(alloc, vertices, names)? else {
+        return Ok(false);
+    };
+    was_made(drop_vertices(alloc, model, &dropped))
+}
+
+/// Merges two vertices, and says whether they could be.
+fn apply_merge(
+    alloc: Global,
+    model: &mut Model,
+    vertices: &Places,
+    vertex: &Name,
+    target: &Name,
+) -> Result<bool, NoMemory>
+    requires { HasPlaces (names_of_vertices (graph_of model.old).vertices) vertices.now }
+    ensures { IfOk result (λ made. applied (graph_of model.old) (Merge vertex.now target.now) ≡ cond made (Some (graph_of model.new)) None) }
+{
+    let Some((vertex, target)) = two_vertices_named(vertices, vertex, target) else {
+        return Ok(false);
+    };
+    was_made(merge(alloc, model, vertex, target))
+}
+
+/// Slices variables away, and says whether they could be.
+fn apply_slice(alloc: Global, model: &mut Model, names: &[Name]) -> Result<bool, NoMemory>
+    ensures { IfOk result (λ made. applied (graph_of model.old) (Slice names.now) ≡ cond made (Some (graph_of model.new)) None) }
+{
+    let vars = Places::of_variables(alloc, model.vars.as_slice())?;
+    let Some(sliced) = all_named(alloc, &vars, names)? else {
+        return Ok(false);
+    };
+    was_made(slice(alloc, model, &sliced))
+}

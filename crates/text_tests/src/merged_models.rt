@@ -1,0 +1,173 @@
+//! Which vertices of a model may be merged, why others may not, and the text of a merged model.
+
+use merge_rules::{first_merge, merge, merge_measured};
+use model_core::{Model, RuleError};
+use model_lex::tokens;
+use model_print::{print, printed_length};
+use model_read::parse;
+use sig_base::NoMemory;
+use sig_types::check;
+use std::alloc::Global;
+use std::test::*;
+
+/// The model that a text reads as.
+fn model_of_text(alloc: Global, text: &[u8]) -> Result<Model, NoMemory> {
+    let tokens = tokens(alloc, text).map_err(|_| NoMemory)?;
+    let raw = parse(alloc, &tokens).map_err(|_| NoMemory)?;
+    check(alloc, raw).map_err(|_| NoMemory)
+}
+
+/// What comes of merging the vertices at these places of the model that a text reads as.
+fn merged(alloc: Global, text: &[u8], vertex: usize, target: usize) -> Result<(), RuleError> {
+    let mut model = model_of_text(alloc, text)?;
+    merge(alloc, &mut model, vertex, target)
+}
+
+/// The first two vertices that may be merged in the model that a text reads as.
+fn first_pair(alloc: Global, text: &[u8]) -> Result<Option<(usize, usize)>, NoMemory> {
+    let model = model_of_text(alloc, text)?;
+    Ok(first_merge(&model))
+}
+
+const CHAIN: &[u8] =
+    b"model CHAIN; var N : 0..9 = 0; watch N; vertex RUN { urgent A; } vertex A { set N := 1; urgent B; } vertex B { set N := 2; } end";
+
+const LOOP: &[u8] =
+    b"model LOOP; vertex RUN { urgent A; } vertex A { urgent B; } vertex B { urgent A; } end";
+
+const NEGATED: &[u8] =
+    b"model M; var X : 0..9 = 3; watch X; vertex RUN { urgent P; } vertex P { urgent A when X > 0; urgent B when not X > 0; } vertex A { } vertex B { } end";
+
+const APART: &[u8] =
+    b"model M; var X : 0..9 = 3; watch X; vertex RUN { urgent P; } vertex P { urgent A when X > 0; urgent B when X = 0; } vertex A { } vertex B { } end";
+
+const TOGETHER: &[u8] =
+    b"model M; var X : 0..9 = 3; watch X; vertex RUN { urgent P; } vertex P { urgent A when X > 0; urgent B when X < 5; } vertex A { } vertex B { } end";
+
+const READING: &[u8] =
+    b"model M; var X : 0..9 = 0; watch X; vertex RUN { urgent B(1); schedule C after X; } vertex B(X) { } vertex C { } end";
+
+const WATCHED: &[u8] =
+    b"model M; var S : 0..2 = 2; watch RUN; vertex RUN { urgent B; } vertex B { set S := S - 1; } end";
+
+const UNWATCHED: &[u8] =
+    b"model M; var S : 0..2 = 2; vertex RUN { urgent B; } vertex B { set S := S - 1; } end";
+
+#[test]
+fn each_condition_is_told(rt: HostRuntime) {
+    for (text, vertex, target, condition) in [
+        (CHAIN, 0, 2, 1),
+        (CHAIN, 0, 9, 1),
+        (CHAIN, 2, 0, 1),
+        (CHAIN, 0, 1, 2),
+        (LOOP, 1, 2, 2),
+        (TOGETHER, 0, 1, 3),
+        (
+            b"model M; watch B; vertex RUN { urgent B; } vertex B { } end".as_slice(),
+            0,
+            1,
+            4,
+        ),
+        (
+            b"model M; vertex RUN { cancel B; urgent B; } vertex B { } end".as_slice(),
+            0,
+            1,
+            5,
+        ),
+        (READING, 0, 1, 6),
+        (WATCHED, 0, 1, 7),
+    ] {
+        assert_eq!(rt;
+            merged(rt.alloc(), text, vertex, target),
+            Err(RuleError::Refused { condition })
+        );
+    }
+}
+
+#[test]
+fn the_first_pair_is_found(rt: HostRuntime) -> Result<(), Fail> {
+    for (text, pair) in [
+        (CHAIN, Some((1, 2))),
+        (LOOP, None),
+        (NEGATED, Some((0, 1))),
+        (APART, Some((0, 1))),
+        (TOGETHER, None),
+        (READING, None),
+        (WATCHED, None),
+        (UNWATCHED, Some((0, 1))),
+    ] {
+        assert_eq!(rt; first_pair(rt.alloc(), text)?, pair);
+    }
+    Ok(())
+}
+
+/// A model whose first vertex makes so many changes, and the second one more.
+fn with_changes(alloc: Global, count: usize) -> Result<Vec<u8>, NoMemory> {
+    let mut text = Vec::from_slice(alloc, b"model M; var N : 0..9 = 0; vertex RUN { ")?;
+    for _ in 0..count {
+        text.extend_from_slice(b"set N := 0; ")?;
+    }
+    text.extend_from_slice(b"urgent B; } vertex B { set N := 1; } end")?;
+    Ok(text)
+}
+
+#[test]
+fn a_thousand_changes_are_not_too_many(rt: HostRuntime) -> Result<(), Fail> {
+    for (count, outcome) in [
+        (999, Ok(())),
+        (1000, Err(RuleError::Refused { condition: 8 })),
+    ] {
+        let text = with_changes(rt.alloc(), count)?;
+        assert_eq!(rt; merged(rt.alloc(), text.as_slice(), 0, 1), outcome);
+    }
+    Ok(())
+}
+
+const BEFORE: &[u8] = b"model M;
+var X : 0..9 = 0;
+var Y : 0..9 = 3;
+watch Y;
+vertex RUN {
+  set Y := 4;
+  schedule C after 2;
+  urgent B(Y + 1);
+  cancel C;
+}
+vertex B(X) {
+  set Y := X;
+  schedule B(1) after 3;
+}
+vertex C {
+}
+end
+";
+
+const AFTER: &[u8] = b"model M;
+var X : 0..9 = 0;
+var Y : 0..9 = 3;
+watch Y;
+vertex RUN {
+  set Y := 4;
+  set X := Y + 1;
+  set Y := X;
+  schedule C after 2;
+  cancel C;
+  schedule B(1) after 3;
+}
+vertex B(X) {
+  set Y := X;
+  schedule B(1) after 3;
+}
+vertex C {
+}
+end
+";
+
+#[test]
+fn a_merged_model_is_written(rt: HostRuntime) -> Result<(), Fail> {
+    let mut model = model_of_text(rt.alloc(), BEFORE)?;
+    let outcome = merge_measured(rt.alloc(), &mut model, None, 0, 1);
+    assert_eq!(rt; outcome, Ok(printed_length(&model)));
+    assert_eq!(rt; print(rt.alloc(), &model)?.as_slice(), AFTER);
+    Ok(())
+}

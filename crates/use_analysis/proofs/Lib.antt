@@ -1,0 +1,3 @@
+pub mod AmongUses
+pub mod NotedRows
+pub mod UseLines

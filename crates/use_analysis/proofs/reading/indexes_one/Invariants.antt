@@ -1,0 +1,9 @@
+use Rattle.std.proofs.Common.{◌≡◌, map, drop}
+use Rattle.std.specs.List.{flat_map}
+use Rattle.model_core.specs.Rules.MarkedPlaces.{is_among}
+use Rattle.model_core.specs.Rules.Uses.{location_reads}
+use Rattle.model_core.specs.Code.Views.{location_of}
+use Rattle.use_analysis.proofs.reading.indexes_one.Given as goal
+
+abbrev pub invariant-loop-target : goal.invariant-loop-target
+invariant-loop-target l = is_among (flat_map location_reads (map location_of (drop l.target-index l.targets))) l.var ≡ is_among (flat_map location_reads (map location_of l.targets)) l.var

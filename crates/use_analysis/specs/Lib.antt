@@ -1,0 +1,3 @@
+pub mod UseRows
+pub mod UsesText
+pub mod Inner

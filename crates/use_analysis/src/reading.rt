@@ -1,0 +1,141 @@
+//! Whether an edge or a change reads a variable, and whether a vertex writes it. Nothing here takes memory.
+#![tactic(auto, using(crate::proofs::AmongUses::among_parts))]
+
+ghost use Rattle.std.specs.Prelude.{◌≡◌, map, Some};
+ghost use Rattle.std.specs.List.{flat_map};
+ghost use Rattle.model_core.specs.EventGraph.{Location};
+ghost use Rattle.model_core.specs.Rules.MarkedPlaces.{is_among};
+ghost use Rattle.model_core.specs.Rules.Uses.{variables_in, location_reads, change_reads, change_writes, delay_reads, edge_reads, vertex_writes};
+ghost use Rattle.model_core.specs.Code.Views.{expression_of, location_of, change_of, edge_kind_of, edge_of, vertex_of};
+
+use model_core::{Change, Edge, EdgeForm, Expr, Target, Vertex};
+
+/// Whether a variable stands in an expression.
+fn stands_in(expr: &Expr, var: usize) -> bool
+    ensures { result ≡ is_among (variables_in (expression_of expr.now)) var }
+{
+    match expr {
+        Expr::Int(_) | Expr::Truth(_) | Expr::Clk => false,
+        Expr::Scalar(v) => *v == var,
+        Expr::Cell(v, index) => *v == var || stands_in(index, var),
+        Expr::Neg(a) | Expr::Not(a) => stands_in(a, var),
+        Expr::Binary(_, a, b) => stands_in(a, var) || stands_in(b, var),
+        Expr::If(c, a, b) => stands_in(c, var) || stands_in(a, var) || stands_in(b, var),
+    }
+}
+
+/// Whether a variable stands in one of these expressions.
+fn stands_in_one(exprs: &[Expr], var: usize) -> bool
+    ensures { result ≡ is_among (flat_map variables_in (map expression_of exprs.now)) var }
+{
+    for expr in exprs {
+        if stands_in(expr, var) {
+            return true;
+        }
+    }
+    false
+}
+
+/// Whether a variable stands in the index of a target.
+fn indexes(target: &Target, var: usize) -> bool
+    ensures { result ≡ is_among (location_reads (location_of target.now)) var }
+{
+    match &target.index {
+        None => false,
+        Some(index) => stands_in(index, var),
+    }
+}
+
+/// Whether a variable stands in the index of one of these targets.
+fn indexes_one(targets: &[Target], var: usize) -> bool
+    ensures { result ≡ is_among (flat_map location_reads (map location_of targets.now)) var }
+{
+    for target in targets {
+        if indexes(target, var) {
+            return true;
+        }
+    }
+    false
+}
+
+/// Whether a change reads a variable: in one of its right sides, or in the index of one of its targets.
+pub fn reads_of_change(change: &Change, var: usize) -> bool
+    ensures { result ≡ is_among (change_reads (change_of change.now)) var }
+{
+    match change {
+        Change::Set { targets, values } => {
+            indexes_one(targets.as_slice(), var) || stands_in_one(values.as_slice(), var)
+        }
+        Change::Draw {
+            target,
+            stream: _,
+            choice: _,
+        } => indexes(target, var),
+    }
+}
+
+/// Whether a variable stands in the delay of an edge of this form.
+fn delays(form: &EdgeForm, var: usize) -> bool
+    ensures { result ≡ is_among (delay_reads (edge_kind_of form.now)) var }
+{
+    match form {
+        EdgeForm::Schedule { delay, priority: _ } => stands_in(delay, var),
+        EdgeForm::Urgent | EdgeForm::CancelNext | EdgeForm::CancelEqual | EdgeForm::CancelAll => {
+            false
+        }
+    }
+}
+
+/// Whether an edge reads a variable: in its condition, its delay or one of its values.
+pub fn reads_of_edge(edge: &Edge, var: usize) -> bool
+    ensures { result ≡ is_among (edge_reads (edge_of edge.now)) var }
+{
+    stands_in(&edge.condition, var)
+        || delays(&edge.form, var)
+        || stands_in_one(edge.values.as_slice(), var)
+}
+
+/// Whether one of these targets is the variable, or a cell of it.
+fn targets_one(targets: &[Target], var: usize) -> bool
+    ensures { result ≡ is_among (map (λ (l : Location). l.variable) (map location_of targets.now)) var }
+{
+    for target in targets {
+        if target.var == var {
+            return true;
+        }
+    }
+    false
+}
+
+/// Whether a change writes a variable, or a cell of it.
+fn writes_of_change(change: &Change, var: usize) -> bool
+    ensures { result ≡ is_among (change_writes (change_of change.now)) var }
+{
+    match change {
+        Change::Set { targets, values: _ } => targets_one(targets.as_slice(), var),
+        Change::Draw {
+            target,
+            stream: _,
+            choice: _,
+        } => target.var == var,
+    }
+}
+
+/// Whether one of these changes writes a variable.
+fn writes_of_changes(changes: &[Change], var: usize) -> bool
+    ensures { result ≡ is_among (flat_map change_writes (map change_of changes.now)) var }
+{
+    for change in changes {
+        if writes_of_change(change, var) {
+            return true;
+        }
+    }
+    false
+}
+
+/// Whether a vertex writes a variable: as one of its parameters, or by one of its changes.
+pub fn writes_of_vertex(vertex: &Vertex, var: usize) -> bool
+    ensures { result ≡ is_among (vertex_writes (vertex_of vertex.now)) var }
+{
+    vertex.params.as_slice().contains(&var) || writes_of_changes(vertex.changes.as_slice(), var)
+}

@@ -1,0 +1,5 @@
+-- The code of this crate, restated for its proofs. Nobody has to believe these.
+pub mod Beside
+pub mod Leading
+pub mod Linking
+pub mod Needing

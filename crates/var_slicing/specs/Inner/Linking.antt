@@ -1,0 +1,14 @@
+-- Pairs put into lists, one for each place.
+use Rattle.std.specs.Prelude.{ℕ, List, [], ◌∷◌, ◌++◌, map}
+use Rattle.std.specs.List.{range_with_len}
+use Rattle.model_core.specs.Rules.PlacedEdges.{with_place}
+
+abbrev pub no_lists : ℕ → List (List ℕ)
+no_lists count = map (λ k. []) (range_with_len 0 count)
+
+abbrev pub with_behind : ℕ → List ℕ → List ℕ
+with_behind k ks = ks ++ k ∷ []
+
+abbrev pub linked : List (ℕ × ℕ) → List (List ℕ) → List (List ℕ)
+linked [] next = next
+linked ((j, k) ∷ pairs) next = linked pairs (with_place (with_behind k) j next)

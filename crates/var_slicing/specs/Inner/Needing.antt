@@ -1,0 +1,58 @@
+-- What is collected from a model, part by part.
+use Rattle.std.specs.Prelude.{ℕ, List, [], ◌∷◌, ◌++◌, slice_get}
+use Rattle.std.specs.Option.{option_map_or}
+use Rattle.model_core.specs.EventGraph.{EventGraph, EventVertex, EventEdge, StateChange}
+use Rattle.model_core.specs.Run.Step.{vertex_at}
+use Rattle.model_core.specs.Rules.Needed.{watched_variables, faulting_writes, needed_by_edge, needed_by_targets, needed_by_parameters, streams_drawn}
+use Rattle.var_slicing.specs.declared.needs.Needs.{Needs}
+
+pub record Collected : Type 0 where
+  pub first : List ℕ
+  pub pairs : List (ℕ × ℕ)
+  pub draws : List (ℕ × ℕ)
+
+abbrev pub collected_of : Needs → Collected
+collected_of n = record { first = n.first.items; pairs = n.pairs.items; draws = n.draws.items }
+
+abbrev pub nothing : Collected
+nothing = record { first = []; pairs = []; draws = [] }
+
+-- ---- one value beside each target or parameter
+
+-- what f gives for the element at a place, if there is one
+abbrev pub beside_at : {B C : Type 0} → (B → List C) → List B → ℕ → List C
+beside_at f bs k = option_map_or f (slice_get bs k) []
+
+-- what f gives for each two that stand side by side, added one by one
+abbrev pub along : {A B C : Type 0} → (A → B → List C) → List A → List B → List C → List C
+along f [] bs out = out
+along f (a ∷ as_) [] out = out
+along f (a ∷ as_) (b ∷ bs) out = along f as_ bs (out ++ f a b)
+
+-- ---- changes and edges
+
+abbrev pub with_change : EventGraph → StateChange → Collected → Collected
+with_change g c n = record { first = n.first ++ faulting_writes g c; pairs = n.pairs ++ needed_by_targets c; draws = n.draws ++ streams_drawn c }
+
+abbrev pub with_changes : EventGraph → List StateChange → Collected → Collected
+with_changes g [] n = n
+with_changes g (c ∷ cs) n = with_changes g cs (with_change g c n)
+
+abbrev pub with_all_changes : EventGraph → List EventVertex → Collected → Collected
+with_all_changes g [] n = n
+with_all_changes g (v ∷ vs) n = with_all_changes g vs (with_changes g v.changes n)
+
+abbrev pub with_edge : EventGraph → EventEdge → Collected → Collected
+with_edge g e n = record n { first = n.first ++ needed_by_edge g e; pairs = n.pairs ++ needed_by_parameters g e }
+
+abbrev pub with_edges : EventGraph → List EventEdge → Collected → Collected
+with_edges g [] n = n
+with_edges g (e ∷ es) n = with_edges g es (with_edge g e n)
+
+abbrev pub with_all_edges : EventGraph → List EventVertex → Collected → Collected
+with_all_edges g [] n = n
+with_all_edges g (v ∷ vs) n = with_all_edges g vs (with_edges g v.edges n)
+
+-- all that is collected from a graph
+abbrev pub collected : EventGraph → Collected
+collected g = with_all_edges g g.vertices (with_all_changes g g.vertices (record nothing { first = watched_variables g.watch ++ (vertex_at g 0).parameters }))

@@ -1,0 +1,16 @@
+//! Slice: which variables are needed, and the model without the others.
+#![tactic(auto)]
+
+mod law;
+mod leaving;
+mod linking;
+mod marking;
+mod needs;
+mod slicing;
+mod streams;
+
+pub use law::{
+    marks_are_of_needed_variables, slicing_keeps_the_meaning, slicing_leaves_the_rules_of_edges,
+};
+pub use marking::unneeded;
+pub use slicing::slice;

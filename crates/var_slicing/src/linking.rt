@@ -1,0 +1,74 @@
+//! From pairs of places to the places behind each place.
+#![tactic(auto)]
+
+ghost use Rattle.std.specs.Prelude.{◌≡◌, ◌++◌, ◌∷◌, [], OnOk, IfOk};
+ghost use Rattle.model_core.specs.Rules.PlacedEdges.{with_place};
+ghost use Rattle.var_slicing.specs.Inner.Linking.{no_lists, with_behind, linked};
+
+use marked_walks::PlacesBehind;
+use sig_base::{List, NoMemory};
+use std::alloc::Global;
+
+/// For each place the list of those behind it.
+#[derive(Drop)]
+pub(crate) struct Links {
+    lists: Vec<List<usize>>,
+}
+
+impl PlacesBehind for Links {
+    ghost lists = { λ l. l.lists.items };
+
+    fn place_count(&self) -> usize {
+        self.lists.len()
+    }
+
+    fn count_behind(&self, place: usize) -> usize {
+        match self.lists.get(place) {
+            Some(places) => places.len(),
+            None => 0,
+        }
+    }
+
+    fn nth_behind(&self, place: usize, nth: usize) -> Option<usize> {
+        let places = self.lists.get(place)?;
+        let behind = places.as_slice().get(nth)?;
+        Some(*behind)
+    }
+}
+
+/// So many places with none behind them.
+fn no_lists(alloc: Global, count: usize) -> Result<Vec<List<usize>>, NoMemory>
+    ensures { IfOk result (λ next. next.items ≡ no_lists count) }
+{
+    let mut next = Vec::new(alloc);
+    for _place in 0..count {
+        next.push(List::new(alloc))?;
+    }
+    Ok(next)
+}
+
+/// Puts one place more behind a place, if there is such a place.
+fn link(next: &mut Vec<List<usize>>, place: usize, behind: usize) -> Result<(), NoMemory>
+    ensures { OnOk result (next.new.items ≡ with_place (with_behind behind) place next.old.items) }
+{
+    match next.get_mut(place) {
+        Some(places) => places.push(behind),
+        None => Ok(()),
+    }
+}
+
+/// For each of so many places those that stand beside it in pairs as the second.
+pub(crate) fn lists_behind(
+    alloc: Global,
+    count: usize,
+    pairs: &[(usize, usize)],
+) -> Result<Links, NoMemory>
+    ensures { IfOk result (λ next. next.lists.items ≡ linked pairs.now (no_lists count)) }
+{
+    let mut lists = no_lists(alloc, count)?;
+    for pair in pairs {
+        let (place, behind) = *pair;
+        link(&mut lists, place, behind)?;
+    }
+    Ok(Links { lists })
+}

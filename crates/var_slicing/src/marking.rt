@@ -1,0 +1,34 @@
+//! Which variables are needed, and which aren't.
+#![tactic(auto)]
+
+ghost use Rattle.std.specs.Prelude.{◌≡◌, IfOk};
+ghost use Rattle.model_core.specs.Rules.Needed.{needed_marks, unneeded};
+ghost use Rattle.model_core.specs.Code.Views.{graph_of};
+
+use crate::linking::lists_behind;
+use crate::needs::Needs;
+use crate::streams::add_stream_pairs;
+use marked_walks::{entailed, unmarked};
+use model_core::Model;
+use sig_base::{List, NoMemory};
+use std::alloc::Global;
+
+/// For each variable whether it is needed.
+pub(crate) fn needed(alloc: Global, model: &Model) -> Result<Vec<bool>, NoMemory>
+    ensures { IfOk result (λ marks. marks.items ≡ needed_marks (graph_of model.now)) }
+{
+    let mut needs = Needs::of(alloc, model)?;
+    let count = model.vars.len();
+    add_stream_pairs(alloc, &mut needs.pairs, needs.draws.as_slice(), count)?;
+    let next = lists_behind(alloc, count, needs.pairs.as_slice())?;
+    let marks = entailed(alloc, needs.first.as_slice(), &next)?;
+    Ok(marks)
+}
+
+/// The variables that aren't needed: their places from 0, in the order of declaration.
+pub fn unneeded(alloc: Global, model: &Model) -> Result<List<usize>, NoMemory>
+    ensures { IfOk result (λ vars. vars ≡ unneeded (graph_of model.now)) }
+{
+    let marks = needed(alloc, model)?;
+    unmarked(alloc, marks.as_slice())
+}

@@ -1,0 +1,459 @@
+//! What is needed at once, and pairs of variables of which the second is needed where the first is, collected from a model.
+#![tactic(auto)]
+
+ghost use Rattle.std.specs.Prelude.{◌≡◌, ℕ, ◌++◌, [], ◌∷◌, map, zip, OnOk, IfOk};
+ghost use Rattle.std.specs.List.{flat_map};
+ghost use Rattle.model_core.specs.EventGraph.{Location, Expression};
+ghost use Rattle.model_core.specs.Run.Step.{vertex_at};
+ghost use Rattle.model_core.specs.Rules.Uses.{variables_in, location_reads};
+ghost use Rattle.model_core.specs.Rules.Needed.{watched_variables, compared_parameters, as_target, faulting_target, faulting_parameters, each_beside, needed_by_parameters, is_scheduling, compares_values};
+ghost use Rattle.model_core.specs.Code.Views.{graph_of, vertex_of, change_of, edge_of, edge_kind_of, location_of, expression_of, watched_of};
+ghost use Rattle.var_slicing.specs.Inner.Needing.{collected_of, nothing, with_change, with_changes, with_all_changes, with_edge, with_edges, with_all_edges, beside_at, collected};
+
+use crate::streams::StreamDraw;
+use model_core::{Change, Edge, EdgeForm, Expr, Model, Target, Vertex, Watch};
+use range_bounds::{bounds, quiet_change, quiet_set, quiet_store};
+use sig_base::NoMemory;
+use std::alloc::Global;
+use use_analysis::{add_deciding_reads, add_index_reads, add_places, add_variables};
+
+/// What is needed at once, pairs of which the second is needed where the first is, and the streams of draws.
+#[derive(Drop)]
+pub(crate) struct Needs {
+    pub(crate) first: Vec<usize>,
+    pub(crate) pairs: Vec<(usize, usize)>,
+    pub(crate) draws: Vec<StreamDraw>,
+}
+
+/// Adds the variables of a watch list.
+fn add_watched(out: &mut Vec<usize>, watch: &[Watch]) -> Result<(), NoMemory>
+    ensures { OnOk result (out.new.items ≡ out.old.items ++ watched_variables (map watched_of watch.now)) }
+{
+    for watched in watch {
+        if let Watch::Variable { var } = *watched {
+            out.push(var)?;
+        }
+    }
+    Ok(())
+}
+
+/// The parameters of the vertex at this place.
+pub(crate) fn parameters_at(model: &Model, vertex: usize) -> &[usize]
+    ensures { result.now ≡ (vertex_at (graph_of model.now) vertex).parameters }
+{
+    match model.vertices.as_slice().get(vertex) {
+        Some(vertex) => vertex.params.as_slice(),
+        None => &[],
+    }
+}
+
+/// Adds a place beside each of these.
+fn add_beside(pairs: &mut Vec<(usize, usize)>, var: usize, reads: &[usize]) -> Result<(), NoMemory>
+    ensures { OnOk result (pairs.new.items ≡ pairs.old.items ++ each_beside var reads.now) }
+{
+    for read in reads {
+        pairs.push((var, *read))?;
+    }
+    Ok(())
+}
+
+// ---- changes
+
+/// Adds the variable of a target whose index, right side or store may fault.
+fn add_faulting_target(
+    out: &mut Vec<usize>,
+    model: &Model,
+    target: &Target,
+    value: &Expr,
+) -> Result<(), NoMemory>
+    ensures { OnOk result (out.new.items ≡ out.old.items ++ faulting_target (graph_of model.now) (location_of target.now) (expression_of value.now)) }
+{
+    if !quiet_set(model, target, value) {
+        out.push(target.var)?;
+    }
+    Ok(())
+}
+
+/// The same for the right side at a place, if there is one.
+fn add_faulting_target_at(
+    out: &mut Vec<usize>,
+    model: &Model,
+    target: &Target,
+    values: &[Expr],
+    place: usize,
+) -> Result<(), NoMemory>
+    ensures { OnOk result (out.new.items ≡ out.old.items ++ beside_at (faulting_target (graph_of model.now) (location_of target.now)) (map expression_of values.now) place) }
+{
+    match values.get(place) {
+        Some(value) => add_faulting_target(out, model, target, value),
+        None => Ok(()),
+    }
+}
+
+/// Adds the variables of targets whose index, right side or store may fault.
+fn add_faulting_targets(
+    out: &mut Vec<usize>,
+    model: &Model,
+    targets: &[Target],
+    values: &[Expr],
+) -> Result<(), NoMemory>
+    ensures { OnOk result (out.new.items ≡ out.old.items ++ flat_map (λ ((l, e) : Location × Expression). faulting_target (graph_of model.now) l e) (zip (map location_of targets.now) (map expression_of values.now))) }
+{
+    for (place, target) in targets.iter().enumerate() {
+        add_faulting_target_at(out, model, target, values, place)?;
+    }
+    Ok(())
+}
+
+/// Adds what a target needs: what its index and its right side read.
+fn add_target_needs(
+    alloc: Global,
+    pairs: &mut Vec<(usize, usize)>,
+    target: &Target,
+    value: &Expr,
+) -> Result<(), NoMemory>
+    ensures { OnOk result (pairs.new.items ≡ pairs.old.items ++ each_beside target.now.var (location_reads (location_of target.now) ++ variables_in (expression_of value.now))) }
+{
+    let mut reads = Vec::new(alloc);
+    add_index_reads(&mut reads, target)?;
+    add_variables(&mut reads, value)?;
+    add_beside(pairs, target.var, reads.as_slice())
+}
+
+/// The same for the right side at a place, if there is one.
+fn add_target_needs_at(
+    alloc: Global,
+    pairs: &mut Vec<(usize, usize)>,
+    target: &Target,
+    values: &[Expr],
+    place: usize,
+) -> Result<(), NoMemory>
+    ensures { OnOk result (pairs.new.items ≡ pairs.old.items ++ beside_at (λ (e : Expression). each_beside target.now.var (location_reads (location_of target.now) ++ variables_in e)) (map expression_of values.now) place) }
+{
+    match values.get(place) {
+        Some(value) => add_target_needs(alloc, pairs, target, value),
+        None => Ok(()),
+    }
+}
+
+/// Adds what targets need.
+fn add_all_target_needs(
+    alloc: Global,
+    pairs: &mut Vec<(usize, usize)>,
+    targets: &[Target],
+    values: &[Expr],
+) -> Result<(), NoMemory>
+    ensures { OnOk result (pairs.new.items ≡ pairs.old.items ++ flat_map (λ ((l, e) : Location × Expression). each_beside l.variable (location_reads l ++ variables_in e)) (zip (map location_of targets.now) (map expression_of values.now))) }
+{
+    for (place, target) in targets.iter().enumerate() {
+        add_target_needs_at(alloc, pairs, target, values, place)?;
+    }
+    Ok(())
+}
+
+/// Adds what a draw's target needs: what its index reads.
+fn add_draw_needs(
+    alloc: Global,
+    pairs: &mut Vec<(usize, usize)>,
+    target: &Target,
+) -> Result<(), NoMemory>
+    ensures { OnOk result (pairs.new.items ≡ pairs.old.items ++ each_beside target.now.var (location_reads (location_of target.now))) }
+{
+    let mut reads = Vec::new(alloc);
+    add_index_reads(&mut reads, target)?;
+    add_beside(pairs, target.var, reads.as_slice())
+}
+
+// ---- edges
+
+/// Whether an edge of this form schedules an event.
+fn is_scheduling(form: &EdgeForm) -> bool
+    ensures { result ≡ is_scheduling (edge_kind_of form.now) }
+{
+    match form {
+        EdgeForm::Schedule {
+            delay: _,
+            priority: _,
+        }
+        | EdgeForm::Urgent => true,
+        EdgeForm::CancelNext | EdgeForm::CancelEqual | EdgeForm::CancelAll => false,
+    }
+}
+
+/// Whether an edge of this form compares its values with those of a pending event.
+fn compares_values(form: &EdgeForm) -> bool
+    ensures { result ≡ compares_values (edge_kind_of form.now) }
+{
+    match form {
+        EdgeForm::CancelEqual => true,
+        EdgeForm::Schedule {
+            delay: _,
+            priority: _,
+        }
+        | EdgeForm::Urgent
+        | EdgeForm::CancelNext
+        | EdgeForm::CancelAll => false,
+    }
+}
+
+/// Adds the parameters with which an edge compares its values.
+fn add_compared(out: &mut Vec<usize>, model: &Model, edge: &Edge) -> Result<(), NoMemory>
+    ensures { OnOk result (out.new.items ≡ out.old.items ++ compared_parameters (graph_of model.now) (edge_of edge.now)) }
+{
+    if compares_values(&edge.form) {
+        add_places(out, parameters_at(model, edge.target))
+    } else {
+        Ok(())
+    }
+}
+
+/// Adds a parameter for which a value that may fault is carried, or whose store may.
+fn add_faulting_value(
+    out: &mut Vec<usize>,
+    model: &Model,
+    param: usize,
+    value: &Expr,
+) -> Result<(), NoMemory>
+    ensures { OnOk result (out.new.items ≡ out.old.items ++ faulting_target (graph_of model.now) (as_target param) (expression_of value.now)) }
+{
+    let of = bounds(model, value);
+    if !(of.quiet && quiet_store(model, param, &of)) {
+        out.push(param)?;
+    }
+    Ok(())
+}
+
+/// The same for the value at a place, if there is one.
+fn add_faulting_value_at(
+    out: &mut Vec<usize>,
+    model: &Model,
+    param: usize,
+    values: &[Expr],
+    place: usize,
+) -> Result<(), NoMemory>
+    ensures { OnOk result (out.new.items ≡ out.old.items ++ beside_at (faulting_target (graph_of model.now) (as_target param)) (map expression_of values.now) place) }
+{
+    match values.get(place) {
+        Some(value) => add_faulting_value(out, model, param, value),
+        None => Ok(()),
+    }
+}
+
+/// Adds the parameters for which values that may fault are carried, or whose stores may.
+fn add_faulting_values(
+    out: &mut Vec<usize>,
+    model: &Model,
+    params: &[usize],
+    values: &[Expr],
+) -> Result<(), NoMemory>
+    ensures { OnOk result (out.new.items ≡ out.old.items ++ flat_map (λ ((v, x) : ℕ × Expression). faulting_target (graph_of model.now) (as_target v) x) (zip params.now (map expression_of values.now))) }
+{
+    for (place, param) in params.iter().enumerate() {
+        add_faulting_value_at(out, model, *param, values, place)?;
+    }
+    Ok(())
+}
+
+/// Adds the parameters for which a scheduling edge carries values that may fault, or whose stores may.
+fn add_faulting_parameters(out: &mut Vec<usize>, model: &Model, edge: &Edge) -> Result<(), NoMemory>
+    ensures { OnOk result (out.new.items ≡ out.old.items ++ faulting_parameters (graph_of model.now) (edge_of edge.now)) }
+{
+    if is_scheduling(&edge.form) {
+        add_faulting_values(
+            out,
+            model,
+            parameters_at(model, edge.target),
+            edge.values.as_slice(),
+        )
+    } else {
+        Ok(())
+    }
+}
+
+/// Adds what a parameter needs: what the value that is carried for it reads.
+fn add_value_needs(
+    alloc: Global,
+    pairs: &mut Vec<(usize, usize)>,
+    param: usize,
+    value: &Expr,
+) -> Result<(), NoMemory>
+    ensures { OnOk result (pairs.new.items ≡ pairs.old.items ++ each_beside param (variables_in (expression_of value.now))) }
+{
+    let mut reads = Vec::new(alloc);
+    add_variables(&mut reads, value)?;
+    add_beside(pairs, param, reads.as_slice())
+}
+
+/// The same for the value at a place, if there is one.
+fn add_value_needs_at(
+    alloc: Global,
+    pairs: &mut Vec<(usize, usize)>,
+    param: usize,
+    values: &[Expr],
+    place: usize,
+) -> Result<(), NoMemory>
+    ensures { OnOk result (pairs.new.items ≡ pairs.old.items ++ beside_at (λ (e : Expression). each_beside param (variables_in e)) (map expression_of values.now) place) }
+{
+    match values.get(place) {
+        Some(value) => add_value_needs(alloc, pairs, param, value),
+        None => Ok(()),
+    }
+}
+
+/// Adds what parameters need.
+fn add_all_value_needs(
+    alloc: Global,
+    pairs: &mut Vec<(usize, usize)>,
+    params: &[usize],
+    values: &[Expr],
+) -> Result<(), NoMemory>
+    ensures { OnOk result (pairs.new.items ≡ pairs.old.items ++ flat_map (λ ((v, x) : ℕ × Expression). each_beside v (variables_in x)) (zip params.now (map expression_of values.now))) }
+{
+    for (place, param) in params.iter().enumerate() {
+        add_value_needs_at(alloc, pairs, *param, values, place)?;
+    }
+    Ok(())
+}
+
+/// Adds what the parameters of an edge's target need for the values that it carries.
+fn add_parameter_needs(
+    alloc: Global,
+    pairs: &mut Vec<(usize, usize)>,
+    model: &Model,
+    edge: &Edge,
+) -> Result<(), NoMemory>
+    ensures { OnOk result (pairs.new.items ≡ pairs.old.items ++ needed_by_parameters (graph_of model.now) (edge_of edge.now)) }
+{
+    add_all_value_needs(
+        alloc,
+        pairs,
+        parameters_at(model, edge.target),
+        edge.values.as_slice(),
+    )
+}
+
+// ---- a model
+
+impl Needs {
+    /// No needs.
+    fn begin(alloc: Global) -> Needs
+        ensures { collected_of result ≡ nothing }
+    {
+        Needs {
+            first: Vec::new(alloc),
+            pairs: Vec::new(alloc),
+            draws: Vec::new(alloc),
+        }
+    }
+
+    /// Adds what a change needs.
+    fn add_change(&mut self, alloc: Global, model: &Model, change: &Change) -> Result<(), NoMemory>
+        ensures { OnOk result (collected_of self.new ≡ with_change (graph_of model.now) (change_of change.now) (collected_of self.old)) }
+    {
+        match change {
+            Change::Set { targets, values } => {
+                add_faulting_targets(
+                    &mut self.first,
+                    model,
+                    targets.as_slice(),
+                    values.as_slice(),
+                )?;
+                add_all_target_needs(
+                    alloc,
+                    &mut self.pairs,
+                    targets.as_slice(),
+                    values.as_slice(),
+                )
+            }
+            Change::Draw {
+                target,
+                stream,
+                choice: _,
+            } => {
+                if !quiet_change(model, change) {
+                    self.first.push(target.var)?;
+                }
+                add_draw_needs(alloc, &mut self.pairs, target)?;
+                self.draws.push((usize::from(*stream), target.var))?;
+                Ok(())
+            }
+        }
+    }
+
+    /// Adds what changes need.
+    fn add_changes(
+        &mut self,
+        alloc: Global,
+        model: &Model,
+        changes: &[Change],
+    ) -> Result<(), NoMemory>
+        ensures { OnOk result (collected_of self.new ≡ with_changes (graph_of model.now) (map change_of changes.now) (collected_of self.old)) }
+    {
+        for change in changes {
+            self.add_change(alloc, model, change)?;
+        }
+        Ok(())
+    }
+
+    /// Adds what the changes of vertices need.
+    fn add_all_changes(
+        &mut self,
+        alloc: Global,
+        model: &Model,
+        vertices: &[Vertex],
+    ) -> Result<(), NoMemory>
+        ensures { OnOk result (collected_of self.new ≡ with_all_changes (graph_of model.now) (map vertex_of vertices.now) (collected_of self.old)) }
+    {
+        for vertex in vertices {
+            self.add_changes(alloc, model, vertex.changes.as_slice())?;
+        }
+        Ok(())
+    }
+
+    /// Adds what an edge needs.
+    fn add_edge(&mut self, alloc: Global, model: &Model, edge: &Edge) -> Result<(), NoMemory>
+        ensures { OnOk result (collected_of self.new ≡ with_edge (graph_of model.now) (edge_of edge.now) (collected_of self.old)) }
+    {
+        add_compared(&mut self.first, model, edge)?;
+        add_deciding_reads(&mut self.first, edge)?;
+        add_faulting_parameters(&mut self.first, model, edge)?;
+        add_parameter_needs(alloc, &mut self.pairs, model, edge)
+    }
+
+    /// Adds what edges need.
+    fn add_edges(&mut self, alloc: Global, model: &Model, edges: &[Edge]) -> Result<(), NoMemory>
+        ensures { OnOk result (collected_of self.new ≡ with_edges (graph_of model.now) (map edge_of edges.now) (collected_of self.old)) }
+    {
+        for edge in edges {
+            self.add_edge(alloc, model, edge)?;
+        }
+        Ok(())
+    }
+
+    /// Adds what the edges of vertices need.
+    fn add_all_edges(
+        &mut self,
+        alloc: Global,
+        model: &Model,
+        vertices: &[Vertex],
+    ) -> Result<(), NoMemory>
+        ensures { OnOk result (collected_of self.new ≡ with_all_edges (graph_of model.now) (map vertex_of vertices.now) (collected_of self.old)) }
+    {
+        for vertex in vertices {
+            self.add_edges(alloc, model, vertex.edges.as_slice())?;
+        }
+        Ok(())
+    }
+
+    /// What is needed in a model.
+    pub(crate) fn of(alloc: Global, model: &Model) -> Result<Needs, NoMemory>
+        ensures { IfOk result (λ n. collected_of n ≡ collected (graph_of model.now)) }
+    {
+        let mut needs = Needs::begin(alloc);
+        add_watched(&mut needs.first, model.watch.as_slice())?;
+        add_places(&mut needs.first, parameters_at(model, 0))?;
+        needs.add_all_changes(alloc, model, model.vertices.as_slice())?;
+        needs.add_all_edges(alloc, model, model.vertices.as_slice())?;
+        Ok(needs)
+    }
+}
