@@ -1,3 +1,4 @@
 pub mod InText
+pub mod Beginnings
 pub mod ReadCalls
 pub mod Inner

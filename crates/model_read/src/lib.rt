@@ -15,5 +15,8 @@ mod text;
 mod vertices;
 
 pub use cursor::Cursor;
+pub use openings::first_too_deep;
+pub use phrase::{Phrase, Repeated, packed};
 pub use stop::{Stop, placed};
-pub use text::{parse, parse_front};
+pub use text::{begun_model, parse, parse_front};
+pub use vertices::begun_vertex;

@@ -44,7 +44,7 @@ fn is_opening(kind: TokenKind) -> bool
 }
 
 /// The place of the first opening that is one too many, where a part may have so many.
-pub(crate) fn first_too_deep(tokens: &[Token], limit: usize) -> Option<usize>
+pub fn first_too_deep(tokens: &[Token], limit: usize) -> Option<usize>
     ensures { (text : List ℕ) → result ≡ deep_from limit limit (map (lexeme_of text) tokens.now) }
 {
     let mut room = limit;

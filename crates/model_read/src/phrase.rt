@@ -15,7 +15,7 @@ use sig_base::List;
 use std::alloc::Global;
 
 /// A part of a text that a list may have many of.
-pub(crate) trait Phrase: Drop {
+pub trait Phrase: Drop {
     // What is written.
     ghost Plain: { Type 0 };
 
@@ -33,14 +33,14 @@ pub(crate) trait Phrase: Drop {
 }
 
 /// A phrase whose first token tells that it comes.
-pub(crate) trait Repeated: Phrase {
+pub trait Repeated: Phrase {
     /// Whether a phrase comes.
     fn begins(cursor: &Cursor<'_>) -> bool
         ensures { result ≡ begins_among (first_sorts level_lookahead Self.format) cursor.now };
 }
 
 /// The list of the items, with no room for more.
-fn packed<T>(items: List<T>) -> List<T>
+pub fn packed<T>(items: List<T>) -> List<T>
     ensures { result ≡ items }
 {
     let mut items = items.into_vec();

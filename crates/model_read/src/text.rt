@@ -6,8 +6,9 @@ ghost use Rattle.model_core.specs.Code.WrittenViews.{written_model};
 ghost use Rattle.model_core.specs.Text.Language.{IsText, BeginsWithText};
 ghost use Rattle.model_core.specs.Text.FirstWrong.{IsUnexpectedAt};
 ghost use Rattle.model_core.specs.Text.Openings.{front_to_end, too_deep_at, HasFewOpenings};
-ghost use Rattle.model_core.specs.Inner.LanguageReader.{text_and_rest, text_read};
+ghost use Rattle.model_core.specs.Inner.LanguageReader.{language_reader, text_and_rest, text_read};
 ghost use Rattle.model_lex.specs.Lexemes.{lexemes};
+ghost use Rattle.model_read.specs.Beginnings.{with_vertices, model_beginning};
 ghost use Rattle.model_read.specs.ReadCalls.{Returned};
 
 use crate::cursor::Cursor;
@@ -17,13 +18,13 @@ use crate::phrase::{at_least_one, many};
 use crate::stop::{Stop, placed};
 use model_core::{RawModel, Symbol, Word};
 use model_lex::{ParseError, Tokens, tokens_stand_in_order};
-use sig_base::OPENINGS_MAX;
+use sig_base::{List, OPENINGS_MAX};
 use std::alloc::Global;
 
-/// Reads a model text.
-#[tactic(auto, unfolding(model_core::specs::Text::Language::text_format))]
-fn model(alloc: Global, cursor: &mut Cursor<'_>) -> Result<RawModel, Stop>
-    ensures { Returned written_model result cursor.new (text_and_rest cursor.old) }
+/// Reads what stands before the vertices of a model. The model that it gives has no vertices, and ends at byte 0.
+#[tactic(auto, unfolding(crate::specs::Beginnings::model_beginning))]
+pub fn begun_model(alloc: Global, cursor: &mut Cursor<'_>) -> Result<RawModel, Stop>
+    ensures { Returned (λ m. with_vertices (written_model m)) result cursor.new (language_reader model_beginning cursor.old) }
 {
     let at = cursor.word(Word::Model)?;
     let name = cursor.name(alloc)?;
@@ -31,14 +32,31 @@ fn model(alloc: Global, cursor: &mut Cursor<'_>) -> Result<RawModel, Stop>
     let vars = many(alloc, cursor)?;
     let tables = many(alloc, cursor)?;
     let watch = watch(alloc, cursor)?;
-    let vertices = at_least_one(alloc, cursor)?;
-    let end_at = cursor.word(Word::End)?;
     Ok(RawModel {
         at,
         name,
         vars,
         tables,
         watch,
+        vertices: List::new(alloc),
+        end_at: 0,
+    })
+}
+
+/// Reads a model text.
+#[tactic(auto, unfolding(model_core::specs::Text::Language::text_format, crate::specs::Beginnings::model_beginning))]
+fn model(alloc: Global, cursor: &mut Cursor<'_>) -> Result<RawModel, Stop>
+    ensures { Returned written_model result cursor.new (text_and_rest cursor.old) }
+{
+    let begun = begun_model(alloc, cursor)?;
+    let vertices = at_least_one(alloc, cursor)?;
+    let end_at = cursor.word(Word::End)?;
+    Ok(RawModel {
+        at: begun.at,
+        name: begun.name,
+        vars: begun.vars,
+        tables: begun.tables,
+        watch: begun.watch,
         vertices,
         end_at,
     })

@@ -8,6 +8,7 @@ ghost use Rattle.model_core.specs.Text.Written.{WrittenVertex};
 ghost use Rattle.model_core.specs.Text.Format.{mark, any_name, ◌*>◌, ◌<*◌, maybe, separated};
 ghost use Rattle.model_core.specs.Text.Language.{vertex_format};
 ghost use Rattle.model_core.specs.Inner.LanguageReader.{language_reader};
+ghost use Rattle.model_read.specs.Beginnings.{with_body, vertex_beginning};
 ghost use Rattle.model_read.specs.ReadCalls.{Returned};
 ghost use Rattle.model_read.specs.Inner.SomeTokens.{vertex-some};
 
@@ -31,22 +32,37 @@ fn parameters(alloc: Global, cursor: &mut Cursor<'_>) -> Result<Option<List<RawN
     Ok(Some(names))
 }
 
-/// Reads a vertex.
-#[tactic(auto, unfolding(model_core::specs::Text::Language::vertex_format))]
-fn vertex(alloc: Global, cursor: &mut Cursor<'_>) -> Result<RawVertex, Stop>
-    ensures { Returned written_vertex result cursor.new (language_reader vertex_format cursor.old) }
+/// Reads what stands before the changes of a vertex. The vertex that it gives has neither changes nor edges.
+#[tactic(auto, unfolding(crate::specs::Beginnings::vertex_beginning))]
+pub fn begun_vertex(alloc: Global, cursor: &mut Cursor<'_>) -> Result<RawVertex, Stop>
+    ensures { Returned (λ v. with_body (written_vertex v)) result cursor.new (language_reader vertex_beginning cursor.old) }
 {
     let at = cursor.word(Word::Vertex)?;
     let name = cursor.name(alloc)?;
     let params = parameters(alloc, cursor)?;
     cursor.symbol(Symbol::OpenBrace)?;
-    let changes = many(alloc, cursor)?;
-    let edges = many(alloc, cursor)?;
-    cursor.symbol(Symbol::CloseBrace)?;
     Ok(RawVertex {
         at,
         name,
         params,
+        changes: List::new(alloc),
+        edges: List::new(alloc),
+    })
+}
+
+/// Reads a vertex.
+#[tactic(auto, unfolding(model_core::specs::Text::Language::vertex_format, crate::specs::Beginnings::vertex_beginning))]
+fn vertex(alloc: Global, cursor: &mut Cursor<'_>) -> Result<RawVertex, Stop>
+    ensures { Returned written_vertex result cursor.new (language_reader vertex_format cursor.old) }
+{
+    let begun = begun_vertex(alloc, cursor)?;
+    let changes = many(alloc, cursor)?;
+    let edges = many(alloc, cursor)?;
+    cursor.symbol(Symbol::CloseBrace)?;
+    Ok(RawVertex {
+        at: begun.at,
+        name: begun.name,
+        params: begun.params,
         changes,
         edges,
     })

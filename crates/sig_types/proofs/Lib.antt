@@ -1,15 +1,15 @@
-mod Checks
-mod LeftOut
+pub mod Checks
+pub mod LeftOut
 mod Lookups
 mod Operands
-mod TooMany
-mod ListChecks
+pub mod TooMany
+pub mod ListChecks
 mod EarlierNames
 mod CarriedValues
 mod ChangeParts
 mod EdgeParts
-mod VertexParts
+pub mod VertexParts
 mod VariableParts
 mod RowSums
 mod MeaningsSoFar
-mod WholeModel
+pub mod WholeModel

@@ -1,4 +1,4 @@
--- The code of this crate, restated for its proofs. No public clause cites these, and nobody has to believe them.
+-- The code of this crate, restated for its proofs. Nobody has to believe these: of the public clauses only those of parts that `one_pass` puts together cite them.
 pub mod Checked
 pub mod Ranges
 pub mod Redeclared

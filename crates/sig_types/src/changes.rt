@@ -232,7 +232,7 @@ fn draw(
 }
 
 /// A change.
-fn change(
+pub fn change(
     alloc: Global,
     names: &Names,
     raw: &RawChange,

@@ -21,9 +21,9 @@ use crate::edges::items;
 use crate::error::StaticError;
 use crate::names::Names;
 use crate::placed::tell_too_many;
-use crate::tables::tables;
+use crate::tables::check_tables;
 use crate::told::Told;
-use crate::variables::variables;
+use crate::variables::check_variables;
 use crate::vertices::{taken, vertices};
 use crate::watch::watch_list;
 use model_core::{Kind, Model, RawModel, StaticKind};
@@ -54,7 +54,7 @@ fn tell_counts(raw: &RawModel, told: &mut Told)
 }
 
 /// The names that a model declares. Its own name, those that are declared again and those that are too many are told.
-fn declared(alloc: Global, raw: &RawModel, told: &mut Told) -> Result<Names, NoMemory>
+pub fn declared(alloc: Global, raw: &RawModel, told: &mut Told) -> Result<Names, NoMemory>
     ensures means { IfOk result (λ names. meaning_of names ≡ model_meaning (written_model raw.now)) }
     ensures told { OnOk result (told.new ≡ earliest_fault told.old (faults_of_declared (written_model raw.now))) }
 {
@@ -78,8 +78,8 @@ fn numbered_among(
         → (start : Option StaticFault) → told.old ≡ earliest_fault start (faults_of_declared (written_model raw))
         → Checked start told.new (faults_of_parts (written_model raw)) (numbering.numbered (written_model raw) ≡ Some (graph_of model))) }
 {
-    let vars = variables(alloc, raw.vars, told)?;
-    let tables = tables(alloc, raw.tables, told)?;
+    let vars = check_variables(alloc, raw.vars, told)?;
+    let tables = check_tables(alloc, raw.tables, told)?;
     let watch = watch_list(alloc, names, items(&raw.watch), told)?;
     let vertices = vertices(alloc, names, taken, raw.vertices, told)?;
     Ok(Model {
@@ -109,7 +109,7 @@ fn is_too_long(model: &Model) -> bool
 }
 
 /// Where nothing else is told, tells that the canonical text of a model has too many bytes.
-fn tell_too_long(model: &Model, end_at: usize, told: &mut Told)
+pub fn tell_too_long(model: &Model, end_at: usize, told: &mut Told)
     ensures none { told.old ≡ None → told.new ≡ earliest_fault None (model_too_long TEXT_MAX (canonical (graph_of model.now)) end_at) }
     ensures some { (f : StaticFault) → told.old ≡ Some f → told.new ≡ told.old }
 {

@@ -133,7 +133,7 @@ fn carried(
 }
 
 /// An edge, where the vertices take parameters of these kinds.
-fn edge(
+pub fn edge(
     alloc: Global,
     names: &Names,
     taken: &[List<Option<Kind>>],

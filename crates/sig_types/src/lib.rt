@@ -20,5 +20,13 @@ mod variables;
 mod vertices;
 mod watch;
 
-pub use checking::check;
+pub use changes::change;
+pub use checking::{check, declared, tell_too_long};
+pub use edges::{edge, items};
 pub use error::StaticError;
+pub use names::Names;
+pub use tables::check_tables;
+pub use told::Told;
+pub use variables::check_variables;
+pub use vertices::{parameters, taken};
+pub use watch::watch_list;

@@ -101,7 +101,11 @@ fn table(alloc: Global, raw: RawTable, told: &mut Told) -> Result<Table, NoMemor
 }
 
 /// The tables of a model.
-pub fn tables(alloc: Global, raws: List<RawTable>, told: &mut Told) -> Result<List<Table>, NoMemory>
+pub fn check_tables(
+    alloc: Global,
+    raws: List<RawTable>,
+    told: &mut Told,
+) -> Result<List<Table>, NoMemory>
     ensures { IfOk result (λ tables. CheckedPlain told.old told.new (flat_map table_faults (map written_table raws)) (each_numbered numbering.table (map written_table raws)) (map table_of tables)) }
 {
     let mut tables = Vec::with_capacity(alloc, raws.len())?;

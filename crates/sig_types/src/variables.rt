@@ -122,7 +122,11 @@ fn variable(raw: RawVar, told: &mut Told) -> Var
 }
 
 /// The variables of a model.
-pub fn variables(alloc: Global, raws: List<RawVar>, told: &mut Told) -> Result<List<Var>, NoMemory>
+pub fn check_variables(
+    alloc: Global,
+    raws: List<RawVar>,
+    told: &mut Told,
+) -> Result<List<Var>, NoMemory>
     ensures { IfOk result (λ vars. CheckedPlain told.old told.new (flat_map variable_faults (map written_variable raws)) (each_numbered numbering.variable (map written_variable raws)) (map variable_of vars)) }
 {
     let mut vars = Vec::with_capacity(alloc, raws.len())?;

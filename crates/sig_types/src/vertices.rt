@@ -65,7 +65,7 @@ fn numbers_of(
 }
 
 /// The parameters of a vertex.
-fn parameters(
+pub fn parameters(
     alloc: Global,
     names: &Names,
     raws: &[RawName],

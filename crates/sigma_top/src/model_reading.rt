@@ -1,38 +1,46 @@
 //! From the bytes of a text to the model that it reads as.
 
-ghost use Rattle.std.specs.Prelude.{◌≡◌, ◌≤◌, ℕ, length, IfOk};
+ghost use Rattle.std.specs.Prelude.{◌≡◌, ◌≤◌, ℕ, length, IfOk, Ok};
+ghost use Rattle.model_core.specs.Text.Lexing.{tokens_of};
 ghost use Rattle.model_core.specs.Text.ModelText.{SpellsText};
 ghost use Rattle.model_core.specs.Static.Reading.{Reads};
 ghost use Rattle.model_core.specs.Code.Views.{graph_of};
 ghost use Rattle.model_core.specs.Code.WrittenViews.{written_model};
+ghost use Rattle.model_lex.specs.Lexemes.{lexemes};
 ghost use Rattle.sigma_top.specs.declared.complaint.Complaint.{Complaint as Complained};
 ghost use Rattle.sigma_top.specs.Complaints.{IsComplaint};
 
 use crate::complaint::Complaint;
 use crate::reading_error::ReadingError;
 use model_core::{Model, RawModel};
-use model_lex::{LexError, ParseError, tokens};
+use model_lex::{LexError, ParseError, Tokens, tokens};
 use model_read::parse;
+use one_pass::read_model;
 use sig_base::TEXT_MAX;
 use sig_types::{StaticError, check};
 use std::alloc::Global;
 
-/// The model that the text spells, as it is written.
-fn spelled(alloc: Global, text: &[u8]) -> Result<RawModel, ReadingError>
-    ensures ok { IfOk result (λ raw. SpellsText text.now (written_model raw)) }
+/// The tokens of the text.
+fn cut(alloc: Global, text: &[u8]) -> Result<Tokens<'_>, ReadingError>
+    ensures ok { IfOk result (λ t. (t.text.now ≡ text.now) × (tokens_of text.now ≡ Ok (lexemes t))) }
     ensures complaint { (what : Complained) (at : ℕ) → result ≡ Err (ReadingError.At what at) → IsComplaint text.now what at }
 {
-    let tokens = match tokens(alloc, text) {
-        Ok(tokens) => tokens,
-        Err(LexError::BadByte { at }) => {
-            return Err(ReadingError::At {
-                what: Complaint::BadByte,
-                at,
-            });
-        }
-        Err(LexError::NoMemory) => return Err(ReadingError::NoMemory),
-    };
-    match parse(alloc, &tokens) {
+    match tokens(alloc, text) {
+        Ok(tokens) => Ok(tokens),
+        Err(LexError::BadByte { at }) => Err(ReadingError::At {
+            what: Complaint::BadByte,
+            at,
+        }),
+        Err(LexError::NoMemory) => Err(ReadingError::NoMemory),
+    }
+}
+
+/// The model that the tokens spell, as it is written.
+fn spelled(alloc: Global, tokens: &Tokens<'_>) -> Result<RawModel, ReadingError>
+    ensures ok { IfOk result (λ raw. SpellsText tokens.now.text.now (written_model raw)) }
+    ensures complaint { (what : Complained) (at : ℕ) → result ≡ Err (ReadingError.At what at) → IsComplaint tokens.now.text.now what at }
+{
+    match parse(alloc, tokens) {
         Ok(raw) => Ok(raw),
         Err(ParseError::Unexpected { at }) => Err(ReadingError::At {
             what: Complaint::Unexpected,
@@ -46,13 +54,13 @@ fn spelled(alloc: Global, text: &[u8]) -> Result<RawModel, ReadingError>
     }
 }
 
-/// The model that the text reads as.
-pub fn model_of(alloc: Global, text: &[u8]) -> Result<Model, ReadingError>
-    requires { length text.now ≤ TEXT_MAX }
-    ensures ok { IfOk result (λ model. Reads text.now (graph_of model)) }
-    ensures complaint { (what : Complained) (at : ℕ) → result ≡ Err (ReadingError.At what at) → IsComplaint text.now what at }
+/// The model that the tokens read as, by way of the model as it is written, of which each fault is told.
+fn checked(alloc: Global, tokens: &Tokens<'_>) -> Result<Model, ReadingError>
+    requires { length tokens.now.text.now ≤ TEXT_MAX }
+    ensures ok { IfOk result (λ model. Reads tokens.now.text.now (graph_of model)) }
+    ensures complaint { (what : Complained) (at : ℕ) → result ≡ Err (ReadingError.At what at) → IsComplaint tokens.now.text.now what at }
 {
-    let raw = spelled(alloc, text)?;
+    let raw = spelled(alloc, tokens)?;
     match check(alloc, raw) {
         Ok(model) => Ok(model),
         Err(StaticError::Fault { kind, at }) => Err(ReadingError::At {
@@ -61,4 +69,18 @@ pub fn model_of(alloc: Global, text: &[u8]) -> Result<Model, ReadingError>
         }),
         Err(StaticError::NoMemory) => Err(ReadingError::NoMemory),
     }
+}
+
+/// The model that the text reads as. It is read in one pass. A text that isn't read so is looked at again, for what is
+/// wrong with it.
+pub fn model_of(alloc: Global, text: &[u8]) -> Result<Model, ReadingError>
+    requires { length text.now ≤ TEXT_MAX }
+    ensures ok { IfOk result (λ model. Reads text.now (graph_of model)) }
+    ensures complaint { (what : Complained) (at : ℕ) → result ≡ Err (ReadingError.At what at) → IsComplaint text.now what at }
+{
+    let tokens = cut(alloc, text)?;
+    if let Some(model) = read_model(alloc, &tokens) {
+        return Ok(model);
+    }
+    checked(alloc, &tokens)
 }

@@ -1,8 +1,9 @@
 //! Which static fault is told of a text, and where.
 
-use model_core::{Model, RawModel, StaticKind};
+use model_core::{Model, RawModel, StaticKind, same_model};
 use model_lex::{ParseError, tokens};
 use model_read::parse;
+use one_pass::read_model;
 use sig_base::{NoMemory, TEXT_MAX, put_bytes, put_number};
 use sig_types::{StaticError, check};
 use std::alloc::Global;
@@ -19,6 +20,12 @@ pub fn checked(alloc: Global, text: &[u8]) -> Result<Model, StaticError> {
         Ok(raw) => check(alloc, raw),
         Err(_) => Err(StaticError::NoMemory),
     }
+}
+
+/// The model that is read of a text in one pass.
+fn read_at_once(alloc: Global, text: &[u8]) -> Option<Model> {
+    let tokens = tokens(alloc, text).ok()?;
+    read_model(alloc, &tokens)
 }
 
 /// The fault that is told of a text.
@@ -165,6 +172,7 @@ fn each_rule_is_told_at_its_byte(rt: HostRuntime) {
         ),
     ] {
         assert_eq!(rt; told(rt.alloc(), text), Some((kind, at)));
+        assert!(rt; read_at_once(rt.alloc(), text).is_none());
     }
 }
 
@@ -203,4 +211,9 @@ fn a_model_that_breaks_no_rule_is_accepted(rt: HostRuntime) {
         end";
     let vertices = checked(rt.alloc(), text).map(|model| model.vertices.len());
     assert_eq!(rt; vertices, Ok(2));
+    let same = match (checked(rt.alloc(), text), read_at_once(rt.alloc(), text)) {
+        (Ok(model), Some(at_once)) => same_model(&model, &at_once),
+        _ => false,
+    };
+    assert!(rt; same);
 }

@@ -8,4 +8,4 @@ returns c =
     λ means takes start head.
     let watch = rw (c.items.ensures, map-items written_name c.args.raw.watch, means) at c.in_ok-watch.ensures in
     let vertices = rw (means, takes) at c.in_ok-vertices.ensures in
-    model_checked (written_model c.args.raw) start c.args.told.now c.variables.new.told c.tables.new.told c.watch_list.new.told c.vertices.new.told _ _ _ _ head c.in_ok-vars.ensures c.in_ok-tables.ensures watch vertices
+    model_checked (written_model c.args.raw) start c.args.told.now c.check_variables.new.told c.check_tables.new.told c.watch_list.new.told c.vertices.new.told _ _ _ _ head c.in_ok-vars.ensures c.in_ok-tables.ensures watch vertices

@@ -1,6 +1,5 @@
 -- Tokens that spell no model stop to begin one at the place that is told.
 use Rattle.std.proofs.Common.{◌≡◌, ◌∙◌, ℕ, List, Err, ap, subst}
-use Rattle.model_core.specs.Text.FirstWrong.{IsUnexpectedAt}
 use Rattle.model_lex.specs.Lexemes.{lexemes}
 use Rattle.sigma_top.specs.declared.complaint.Complaint.{Complaint}
 use Rattle.sigma_top.specs.declared.complaint.Complaint.TheVariants as complaints
@@ -16,7 +15,7 @@ same_complaint text c d i j e h =
 
 pub returns-in-Err-Unexpected-clause-complaint : goal.returns-in-Err-Unexpected-clause-complaint
 returns-in-Err-Unexpected-clause-complaint c = λ what at e.
+    let tokens = c.args.tokens.now in
     let p = c.parse.ensures.unexpected c.in-Err-Unexpected.at (c.in-Err-Unexpected.is ∙ ap (λ x. Err x) c.in-Err-Unexpected.field-0-is) in
     let same : At complaints.Unexpected c.in-Err-Unexpected.at ≡ At what at = cc in
-    same_complaint c.args.text.now complaints.Unexpected what c.in-Err-Unexpected.at at same
-    (lexemes c.in-Ok.tokens, c.in-Ok.ensures.ok.1, p.0, subst (λ t. IsUnexpectedAt t (lexemes c.in-Ok.tokens) c.in-Err-Unexpected.at) c.in-Ok.ensures.ok.0 p.1)
+    same_complaint tokens.text.now complaints.Unexpected what c.in-Err-Unexpected.at at same (lexemes tokens, tokens.are_its, p.0, p.1)

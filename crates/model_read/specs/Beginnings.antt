@@ -1,0 +1,27 @@
+-- What stands before the vertices of a model, and before the changes of a vertex. Behind it comes the rest.
+use Rattle.std.specs.Prelude.{ℕ, List}
+use Rattle.model_core.specs.declared.token.Word.TheVariants as words
+use Rattle.model_core.specs.declared.token.Symbol.TheVariants as symbols
+use Rattle.model_core.specs.Text.Written.{WrittenChange, WrittenEdge, WrittenVertex, WrittenModel}
+use Rattle.model_core.specs.Text.Format.{Yields, Many, reserved, mark, any_name, ◌<*>◌, ◌<*◌, ◌*>◌, maybe, separated}
+use Rattle.model_core.specs.Text.Expressions.{LanguageFormat}
+use Rattle.model_core.specs.Text.Language.{variable_format, table_format, watch_format}
+
+-- a vertex that begins as another one does
+abbrev pub with_body : WrittenVertex → List WrittenChange → List WrittenEdge → WrittenVertex
+with_body v changes edges = record { at = v.at; name = v.name; parameters = v.parameters; changes = changes; edges = edges }
+
+-- a model that begins as another one does
+abbrev pub with_vertices : WrittenModel → List WrittenVertex → ℕ → WrittenModel
+with_vertices m vertices end_at = record { at = m.at; name = m.name; variables = m.variables; tables = m.tables; watch = m.watch; vertices = vertices; end_at = end_at }
+
+unfoldable pub vertex_beginning : LanguageFormat (List WrittenChange → List WrittenEdge → WrittenVertex)
+vertex_beginning =
+    Yields (λ at called parameters changes edges. record { at = at; name = called; parameters = parameters; changes = changes; edges = edges })
+    <*> reserved words.Vertex <*> any_name <*> maybe (mark symbols.OpenParenthesis *> separated any_name <* mark symbols.CloseParenthesis)
+    <* mark symbols.OpenBrace
+
+unfoldable pub model_beginning : LanguageFormat (List WrittenVertex → ℕ → WrittenModel)
+model_beginning =
+    Yields (λ at called variables tables watch vertices end_at. record { at = at; name = called; variables = variables; tables = tables; watch = watch; vertices = vertices; end_at = end_at })
+    <*> reserved words.Model <*> any_name <* mark symbols.Semicolon <*> Many variable_format <*> Many table_format <*> maybe watch_format

@@ -1,0 +1,5 @@
+mod PartsInTurn
+mod WholeReads
+mod Alike
+mod VerticesRead
+mod TextRead

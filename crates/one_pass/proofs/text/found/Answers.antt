@@ -1,0 +1,22 @@
+-- Nothing was told of the model, so it is accepted.
+use Rattle.std.proofs.Common.{◌≡◌, [], map, ap, ◌∙◌}
+use Rattle.std.specs.Option.{option_map}
+use Rattle.sig_base.specs.declared.limits.TheConstants.{OPENINGS_MAX}
+use Rattle.model_core.specs.Code.TokenViews.{lexeme_of}
+use Rattle.model_core.proofs.Formats.TextLaws.{whole-is_spelled}
+use Rattle.model_lex.specs.Lexemes.{lexemes}
+use Rattle.model_read.proofs.WholeText.{is_few}
+use Rattle.one_pass.proofs.text.found.Goals as goal
+
+pub returns-in-None : goal.returns-in-None
+returns-in-None c =
+    let text = c.args.tokens.now.text.now in
+    let ls = lexemes c.args.tokens.now in
+    let are : c.new-cursor.result ≡ ls = c.new-cursor.ensures ∙ ap (map (lexeme_of text)) c.as_slice-list.ensures in
+    let read = rw are at c.in_ok-model.ensures in
+    record {
+      written = read.written;
+      spelled = whole-is_spelled ls read.written [] read.read;
+      few = is_few OPENINGS_MAX ls c.first_too_deep.result (rw c.as_slice-list.ensures at (c.first_too_deep.ensures text)) c.in_default.is;
+      accepted = read.accepted (c.fault.ensures ∙ ap (option_map _) c.in-None.is);
+    }

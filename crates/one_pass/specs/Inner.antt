@@ -1,0 +1,2 @@
+-- What the parts of this crate's reader return. No public clause cites these, and nobody has to believe them.
+pub mod ReadParts

@@ -1,0 +1,69 @@
+-- A part that was read and checked at once: what is written there, and what the check of it says.
+use Rattle.std.specs.Prelude.{◌≡◌, ℕ, List, [], ◌∷◌, length, Option, Some, None}
+use Rattle.std.specs.List.{flat_map}
+use Rattle.model_core.specs.declared.model.Kind.{Kind}
+use Rattle.model_core.specs.EventGraph as graph
+use Rattle.model_core.specs.EventGraph.{EventGraph}
+use Rattle.model_core.specs.Text.Lexing.{Lexeme}
+use Rattle.model_core.specs.Text.Format.{Many, at_least_one}
+use Rattle.model_core.specs.Text.Written.{WrittenVertex, WrittenModel}
+use Rattle.model_core.specs.Text.Expressions.{LanguageFormat}
+use Rattle.model_core.specs.Text.Language.{vertex_format}
+use Rattle.model_core.specs.Text.Numbering as numbering
+use Rattle.model_core.specs.Text.Numbering.{Declared, each_numbered, numbered}
+use Rattle.model_core.specs.Static.FaultOrder.{StaticFault}
+use Rattle.model_core.specs.Static.Meanings.{Meaning}
+use Rattle.model_core.specs.Static.PartFaults.{written_items, vertex_faults}
+use Rattle.model_core.specs.Static.ModelFaults.{faults_of_parts, Accepted}
+use Rattle.model_core.specs.Inner.FormatReader.{took}
+use Rattle.model_core.specs.Inner.LanguageReader.{language_reader, text_read}
+use Rattle.model_read.specs.Beginnings.{with_vertices}
+use Rattle.sig_types.specs.Inner.Checked.{Checked, CheckedPart}
+
+-- between these tokens, where names mean this, stands a part with these faults, which has this number
+pub record ReadPart {W B : Type 0} (f : LanguageFormat W) (means : List ℕ → Option Meaning) (faults : W → List StaticFault) (number : Declared → W → Option B) (before after : List Lexeme) (t0 t1 : Option StaticFault) (part : B) : Type 0 where
+  pub written : W
+  pub read : language_reader f before ≡ took written after
+  pub checked : CheckedPart means t0 t1 (faults written) (λ d. number d written) part
+
+-- the same of any number of parts
+pub record ReadParts {W B : Type 0} (f : LanguageFormat W) (means : List ℕ → Option Meaning) (faults : W → List StaticFault) (number : Declared → W → Option B) (before after : List Lexeme) (t0 t1 : Option StaticFault) (parts : List B) : Type 0 where
+  pub written : List W
+  pub read : language_reader (Many f) before ≡ took written after
+  pub checked : CheckedPart means t0 t1 (flat_map faults written) (λ d. each_numbered (number d) written) parts
+  pub counted : length written ≡ length parts
+
+-- two vertices with the same name and parameters, at the same places
+pub record BeginAlike (v w : WrittenVertex) : Type 0 where
+  pub at : v.at ≡ w.at
+  pub name : v.name ≡ w.name
+  pub parameters : written_items v.parameters ≡ written_items w.parameters
+
+-- vertices, one beside the other
+abbrev pub AllBeginAlike : List WrittenVertex → List WrittenVertex → Type 0
+AllBeginAlike [] [] = Unit {0}
+AllBeginAlike (v ∷ vs) (w ∷ ws) = BeginAlike v w × AllBeginAlike vs ws
+AllBeginAlike vs ws = ⊥
+
+module _ (means : List ℕ → Option Meaning) (taken : List (List (Option Kind))) where
+  -- a vertex that begins as expected
+  pub record ReadVertex (expected : WrittenVertex) (before after : List Lexeme) (t0 t1 : Option StaticFault) (v : graph.EventVertex) : Type 0 where
+    pub part : ReadPart vertex_format means (vertex_faults means taken) numbering.vertex before after t0 t1 v
+    pub alike : BeginAlike part.written expected
+
+  -- vertices that begin as expected
+  pub record ReadVertices (expected : List WrittenVertex) (before after : List Lexeme) (t0 t1 : Option StaticFault) (vs : List graph.EventVertex) : Type 0 where
+    pub parts : ReadPart (at_least_one vertex_format) means (flat_map (vertex_faults means taken)) (λ d. each_numbered (numbering.vertex d)) before after t0 t1 vs
+    pub alike : AllBeginAlike parts.written expected
+
+-- the vertices of a model of which what stands before them is known
+pub record ReadBehind (m : WrittenModel) (before after : List Lexeme) (t0 t1 : Option StaticFault) (g : EventGraph) : Type 0 where
+  pub vertices : List WrittenVertex
+  pub read : language_reader (at_least_one vertex_format) before ≡ took vertices after
+  pub checked : (end_at : ℕ) → Checked t0 t1 (faults_of_parts (with_vertices m vertices end_at)) (numbered (with_vertices m vertices end_at) ≡ Some g)
+
+-- a whole text, of which no token is left. What is told of it is what is told of the model
+pub record ReadText (tokens : List Lexeme) (told : Option StaticFault) (g : EventGraph) : Type 0 where
+  pub written : WrittenModel
+  pub read : text_read tokens ≡ took written []
+  pub accepted : told ≡ None → Accepted written g

@@ -1,0 +1,2 @@
+pub mod ReadModel
+pub mod Inner

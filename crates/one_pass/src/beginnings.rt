@@ -1,0 +1,60 @@
+//! The vertices of a text, as far as others need them before they are read.
+
+ghost use Rattle.std.specs.Prelude.{◌≡◌, map};
+ghost use Rattle.std.specs.Bool.{IsTrue};
+ghost use Rattle.model_core.specs.Code.WrittenViews.{written_name, written_vertex};
+ghost use Rattle.model_read.specs.InText.{AreInText};
+ghost use Rattle.one_pass.specs.Inner.ReadParts.{BeginAlike};
+
+use model_core::{RawName, RawVertex, Token, TokenKind, Word};
+use model_read::{Cursor, Stop, begun_vertex};
+use sig_base::List;
+use sig_types::items;
+use std::alloc::Global;
+
+/// What follows each word `vertex`, up to the vertex's changes. The reader sees whether that is what the text spells.
+pub(crate) fn beginnings(
+    alloc: Global,
+    text: &[u8],
+    tokens: &[Token],
+) -> Result<List<RawVertex>, Stop>
+    requires { AreInText text.now tokens.now }
+{
+    let mut begun = List::new(alloc);
+    for (place, token) in tokens.iter().enumerate() {
+        if token.kind == TokenKind::Word(Word::Vertex) {
+            let mut cursor = Cursor::new(text, &tokens[place..]);
+            begun.push(begun_vertex(alloc, &mut cursor)?)?;
+        }
+    }
+    Ok(begun)
+}
+
+/// Whether two names have the same bytes, at the same place.
+fn same_name(a: &RawName, b: &RawName) -> bool
+    ensures { IsTrue result → written_name a.now ≡ written_name b.now }
+{
+    a.at == b.at && a.name.as_slice() == b.name.as_slice()
+}
+
+/// Whether two lists have the same names, at the same places.
+fn same_names(a: &[RawName], b: &[RawName]) -> bool
+    ensures { IsTrue result → map written_name a.now ≡ map written_name b.now }
+{
+    if a.len() != b.len() {
+        return false;
+    }
+    for place in 0..a.len() {
+        if !same_name(&a[place], &b[place]) {
+            return false;
+        }
+    }
+    true
+}
+
+/// Whether two vertices have the same name and parameters, at the same places.
+pub(crate) fn begin_alike(v: &RawVertex, w: &RawVertex) -> bool
+    ensures { IsTrue result → BeginAlike (written_vertex v.now) (written_vertex w.now) }
+{
+    v.at == w.at && same_name(&v.name, &w.name) && same_names(items(&v.params), items(&w.params))
+}

@@ -1,0 +1,141 @@
+//! The parts of a vertex, which are checked as they are read: its changes and its edges.
+
+ghost use Rattle.std.specs.Prelude.{◌≡◌, ℕ, false, List, Option, map, IfOk};
+ghost use Rattle.model_core.specs.declared.model.Kind.{Kind as KnownKind};
+ghost use Rattle.model_core.specs.Code.Views.{change_of, edge_of};
+ghost use Rattle.model_core.specs.EventGraph.{StateChange, EventEdge};
+ghost use Rattle.model_core.specs.Text.Written.{WrittenChange, WrittenEdge};
+ghost use Rattle.model_core.specs.Text.Expressions.{LanguageFormat};
+ghost use Rattle.model_core.specs.Text.Language.{change_format, edge_format};
+ghost use Rattle.model_core.specs.Text.Numbering.{Declared};
+ghost use Rattle.model_core.specs.Text.Numbering as numbering;
+ghost use Rattle.model_core.specs.Static.FaultOrder.{StaticFault};
+ghost use Rattle.model_core.specs.Static.Meanings.{Meaning, meaning_of};
+ghost use Rattle.model_core.specs.Static.PartFaults.{change_faults, edge_faults};
+ghost use Rattle.model_core.specs.Inner.FirstTokens.{nullable, first_sorts, begins_among};
+ghost use Rattle.model_core.specs.Inner.LanguageReader.{level_lookahead};
+ghost use Rattle.model_read.specs.Inner.SomeTokens.{change-some, edge-some};
+ghost use Rattle.one_pass.specs.Inner.ReadParts.{ReadPart, ReadParts};
+
+use model_core::{Change, Edge, Kind, RawChange, RawEdge};
+use model_read::{Cursor, Phrase, Repeated, Stop, packed};
+use sig_base::List;
+use sig_types::{Names, Told, change, edge};
+use std::alloc::Global;
+
+/// A part that a vertex may have many of.
+pub(crate) trait Part: Drop {
+    // What is written.
+    ghost Written: { Type 0 };
+
+    // What a part stands for.
+    ghost Plain: { Type 0 };
+
+    ghost plain: { Self → Plain };
+
+    // Which tokens spell it.
+    ghost format: { LanguageFormat Written };
+
+    // The static rules that it breaks, where names mean this and the vertices take parameters of these kinds.
+    ghost faults: { (List ℕ → Option Meaning) → List (List (Option KnownKind)) → Written → List StaticFault };
+
+    // What is written, with numbers in place of names.
+    ghost number: { Declared → Written → Option Plain };
+
+    /// Whether a part comes.
+    fn begins(cursor: &Cursor<'_>) -> bool
+        ensures { result ≡ begins_among (first_sorts level_lookahead format) cursor.now };
+
+    /// Reads a part.
+    fn take(
+        alloc: Global,
+        cursor: &mut Cursor<'_>,
+        names: &Names,
+        taken: &[List<Option<Kind>>],
+        told: &mut Told,
+    ) -> Result<Self, Stop>
+        ensures { IfOk result (λ part. ReadPart format (meaning_of names.now) (faults (meaning_of names.now) taken.now) number cursor.old cursor.new told.old told.new (plain part)) };
+
+    ghost some_tokens: { nullable format ≡ false };
+}
+
+/// Reads parts as long as one comes.
+pub(crate) fn take_all<T: Part>(
+    alloc: Global,
+    cursor: &mut Cursor<'_>,
+    names: &Names,
+    taken: &[List<Option<Kind>>],
+    told: &mut Told,
+) -> Result<List<T>, Stop>
+    ensures { IfOk result (λ parts. ReadParts T.format (meaning_of names.now) (T.faults (meaning_of names.now) taken.now) T.number cursor.old cursor.new told.old told.new (map T.plain parts)) }
+{
+    let mut parts = List::new(alloc);
+    while T::begins(cursor) {
+        parts.push(T::take(alloc, cursor, names, taken, told)?)?;
+    }
+    Ok(packed(parts))
+}
+
+impl Part for Change {
+    ghost Written = { WrittenChange };
+
+    ghost Plain = { StateChange };
+
+    ghost plain = { change_of };
+
+    ghost format = { change_format };
+
+    ghost faults = { λ means taken. change_faults means };
+
+    ghost number = { numbering.change };
+
+    fn begins(cursor: &Cursor<'_>) -> bool {
+        RawChange::begins(cursor)
+    }
+
+    fn take(
+        alloc: Global,
+        cursor: &mut Cursor<'_>,
+        names: &Names,
+        _taken: &[List<Option<Kind>>],
+        told: &mut Told,
+    ) -> Result<Change, Stop> {
+        let raw = RawChange::read(alloc, cursor)?;
+        let change = change(alloc, names, &raw, told)?;
+        Ok(change)
+    }
+
+    ghost some_tokens = { change-some };
+}
+
+impl Part for Edge {
+    ghost Written = { WrittenEdge };
+
+    ghost Plain = { EventEdge };
+
+    ghost plain = { edge_of };
+
+    ghost format = { edge_format };
+
+    ghost faults = { edge_faults };
+
+    ghost number = { numbering.edge };
+
+    fn begins(cursor: &Cursor<'_>) -> bool {
+        RawEdge::begins(cursor)
+    }
+
+    fn take(
+        alloc: Global,
+        cursor: &mut Cursor<'_>,
+        names: &Names,
+        taken: &[List<Option<Kind>>],
+        told: &mut Told,
+    ) -> Result<Edge, Stop> {
+        let raw = RawEdge::read(alloc, cursor)?;
+        let edge = edge(alloc, names, taken, &raw, told)?;
+        Ok(edge)
+    }
+
+    ghost some_tokens = { edge-some };
+}

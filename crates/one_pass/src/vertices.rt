@@ -1,0 +1,72 @@
+//! The vertices of a model.
+
+ghost use Rattle.std.specs.Prelude.{map, IfOk};
+ghost use Rattle.model_core.specs.Code.Views.{vertex_of};
+ghost use Rattle.model_core.specs.Code.WrittenViews.{written_vertex};
+ghost use Rattle.model_core.specs.Static.Meanings.{meaning_of};
+ghost use Rattle.one_pass.specs.Inner.ReadParts.{ReadVertex, ReadVertices};
+
+use crate::beginnings::begin_alike;
+use crate::parts::take_all;
+use model_core::{Kind, RawVertex, StaticKind, Symbol, Vertex};
+use model_read::{Cursor, Repeated, Stop, begun_vertex};
+use sig_base::{CHANGES_MAX, EDGES_MAX, List, NAME_MAX};
+use sig_types::{Names, Told, items, parameters};
+use std::alloc::Global;
+
+/// Reads a vertex, which must begin as expected.
+fn vertex(
+    alloc: Global,
+    cursor: &mut Cursor<'_>,
+    names: &Names,
+    taken: &[List<Option<Kind>>],
+    expected: &RawVertex,
+    told: &mut Told,
+) -> Result<Vertex, Stop>
+    ensures { IfOk result (λ v. ReadVertex (meaning_of names.now) taken.now (written_vertex expected.now) cursor.old cursor.new told.old told.new (vertex_of v)) }
+{
+    let begun = begun_vertex(alloc, cursor)?;
+    if !begin_alike(&begun, expected) {
+        return Err(Stop::Unexpected);
+    }
+    let long = begun.name.name.as_slice().len() > NAME_MAX;
+    told.note(long, StaticKind::NameTooLong, begun.name.at);
+    let params = parameters(alloc, names, items(&begun.params), told)?;
+    let changes = take_all(alloc, cursor, names, taken, told)?;
+    let edges = take_all(alloc, cursor, names, taken, told)?;
+    cursor.symbol(Symbol::CloseBrace)?;
+    if changes.len() > CHANGES_MAX || edges.len() > EDGES_MAX {
+        return Err(Stop::Unexpected);
+    }
+    Ok(Vertex {
+        name: begun.name.name,
+        params,
+        changes,
+        edges,
+    })
+}
+
+/// Reads vertices, one or more, which must begin as expected.
+pub(crate) fn vertices(
+    alloc: Global,
+    cursor: &mut Cursor<'_>,
+    names: &Names,
+    taken: &[List<Option<Kind>>],
+    expected: &[RawVertex],
+    told: &mut Told,
+) -> Result<List<Vertex>, Stop>
+    ensures { IfOk result (λ vs. ReadVertices (meaning_of names.now) taken.now (map written_vertex expected.now) cursor.old cursor.new told.old told.new (map vertex_of vs)) }
+{
+    let mut vertices = Vec::with_capacity(alloc, expected.len())?;
+    for begun in expected {
+        if !RawVertex::begins(cursor) {
+            return Err(Stop::Unexpected);
+        }
+        vertices.push(vertex(alloc, cursor, names, taken, begun, told)?)?;
+    }
+    let vertices = List::from_vec(vertices);
+    if RawVertex::begins(cursor) || vertices.len() == 0 {
+        return Err(Stop::Unexpected);
+    }
+    Ok(vertices)
+}
