@@ -46,16 +46,17 @@ pub fn copy_expr(alloc: Global, expr: &Expr) -> Result<Expr, NoMemory>
         Expr::Cell(var, index) => Ok(Expr::Cell(*var, boxed_copy(alloc, index)?)),
         Expr::Neg(number) => Ok(Expr::Neg(boxed_copy(alloc, number)?)),
         Expr::Not(truth) => Ok(Expr::Not(boxed_copy(alloc, truth)?)),
-        Expr::Binary(op, left, right) => Ok(Expr::Binary(
-            *op,
-            boxed_copy(alloc, left)?,
-            boxed_copy(alloc, right)?,
-        )),
-        Expr::If(test, yes, no) => Ok(Expr::If(
-            boxed_copy(alloc, test)?,
-            boxed_copy(alloc, yes)?,
-            boxed_copy(alloc, no)?,
-        )),
+        Expr::Binary(op, operands) => {
+            let left = copy_expr(alloc, &operands.left)?;
+            let right = copy_expr(alloc, &operands.right)?;
+            Expr::binary(alloc, *op, left, right)
+        }
+        Expr::If(parts) => {
+            let test = copy_expr(alloc, &parts.test)?;
+            let yes = copy_expr(alloc, &parts.yes)?;
+            let no = copy_expr(alloc, &parts.no)?;
+            Expr::conditional(alloc, test, yes, no)
+        }
     }
 }
 

@@ -28,7 +28,7 @@ pub use application::Application;
 pub use bounds::Bounds;
 pub use copying::{copy_change, copy_edge, copy_expr, copy_model, copy_name, copy_vertex};
 pub use equality::{same_expr, same_model};
-pub use expr::Expr;
+pub use expr::{Branching, Expr, Operands};
 pub use going_on::runs_go_on;
 pub use left::changes_leave_their_result;
 pub use model::{Kind, Model, Var, Watch};

@@ -83,29 +83,29 @@ pub fn put_expression<P: Pen>(out: &mut P, model: &Model, expr: &Expr)
         }
         Expr::Neg(number) => put_behind(out, model, b"-", NEGATIVE_LEVEL, number),
         Expr::Not(truth) => put_behind(out, model, b"not ", NOT_LEVEL, truth),
-        Expr::Binary(op, left, right) => {
+        Expr::Binary(op, operands) => {
             if operator_level(*op) == CALL_LEVEL {
                 put_operator(out, *op);
                 out.put_bytes(b"(");
-                put_expression(out, model, left);
+                put_expression(out, model, &operands.left);
                 put_comma(out);
-                put_expression(out, model, right);
+                put_expression(out, model, &operands.right);
                 out.put_bytes(b")");
             } else {
-                put_operand(out, model, left_level(*op), left);
+                put_operand(out, model, left_level(*op), &operands.left);
                 out.put_bytes(b" ");
                 put_operator(out, *op);
                 out.put_bytes(b" ");
-                put_operand(out, model, right_level(*op), right);
+                put_operand(out, model, right_level(*op), &operands.right);
             }
         }
-        Expr::If(test, yes, no) => {
+        Expr::If(parts) => {
             out.put_bytes(b"if ");
-            put_expression(out, model, test);
+            put_expression(out, model, &parts.test);
             out.put_bytes(b" then ");
-            put_expression(out, model, yes);
+            put_expression(out, model, &parts.yes);
             out.put_bytes(b" else ");
-            put_expression(out, model, no);
+            put_expression(out, model, &parts.no);
         }
     }
 }

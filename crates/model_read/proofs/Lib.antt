@@ -1,9 +1,9 @@
 mod FirstToken
 pub mod ReadLoop
 mod FirstOperator
-mod OperandLevels
+pub mod OperandLevels
 mod LevelOperators
-mod OperatorsInTurn
+pub mod OperatorsInTurn
 mod OpeningSteps
 pub mod WholeText
 pub mod PlacedReads

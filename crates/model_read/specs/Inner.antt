@@ -1,6 +1,7 @@
--- The code of this crate, restated for its proofs. No public clause cites these, and nobody has to believe them.
+-- The code of this crate, restated for its proofs. Of the public clauses only those of the cursor cite these, and nobody has to believe them.
 pub mod Ladder
 pub mod Infixes
 pub mod SomeTokens
 pub mod LineFormats
 pub mod Cancels
+pub mod Spelled

@@ -11,6 +11,7 @@ ghost use Rattle.model_core.specs.Inner.LanguageReader.{language_reader};
 ghost use Rattle.model_read.specs.ReadCalls.{Returned};
 ghost use Rattle.model_read.specs.Inner.Ladder.{infix_at, at_levels, behind};
 ghost use Rattle.model_read.specs.Inner.Infixes.{infix_of};
+ghost use Rattle.model_read.specs.Inner.Spelled.{spelled_name};
 
 use crate::operators::{Infix, infix_of};
 use crate::stop::Stop;
@@ -18,6 +19,13 @@ use model_core::{RawName, RawNumber, Symbol, Token, TokenKind, Word};
 use sig_base::Name;
 use std::alloc::Global;
 use std::marker::Model;
+
+/// A name as it stands in a text, and the byte at which it begins.
+#[derive(Clone, Copy)]
+pub struct Spelling<'t> {
+    pub bytes: &'t [u8],
+    pub at: usize,
+}
 
 /// The tokens of a text that are left to read, which contracts see as the plain list of what they stand for.
 #[derive(Drop)]
@@ -184,7 +192,7 @@ impl<'t> Cursor<'t> {
     }
 
     /// Takes the operator between two operands that comes next, if its level is `least` or higher, and below `under`.
-    pub(crate) fn infix(&mut self, least: usize, under: usize) -> Option<Infix>
+    pub fn infix(&mut self, least: usize, under: usize) -> Option<Infix>
         ensures takes { option_map infix_of result ≡ at_levels least under (infix_at self.old) }
         ensures leaves { self.new ≡ behind (at_levels least under (infix_at self.old)) self.old }
         ensures below { IfSome result (λ i. i.level + 1 ≤ under) }
@@ -215,21 +223,34 @@ impl<'t> Cursor<'t> {
         Err(Stop::Unexpected)
     }
 
-    /// Takes a name.
-    pub fn name(&mut self, alloc: Global) -> Result<RawName, Stop>
-        ensures reads { Returned written_name result self.new (language_reader any_name self.old) }
+    /// Takes a name, whose bytes are left where they stand.
+    pub fn spelling(&mut self) -> Result<Spelling<'t>, Stop>
+        ensures reads { Returned spelled_name result self.new (language_reader any_name self.old) }
         ensures shorter { IfOk result (λ n. length self.new + 1 ≤ length self.old) }
     {
         if let [first, rest @ ..] = self.tokens
             && let TokenKind::Name = first.kind
         {
-            let bytes = Vec::from_slice(alloc, &self.text[first.from..first.to])?;
+            let bytes = &self.text[first.from..first.to];
             self.tokens = rest;
-            return Ok(RawName {
-                name: Name::from_vec(bytes),
+            return Ok(Spelling {
+                bytes,
                 at: first.from,
             });
         }
         Err(Stop::Unexpected)
+    }
+
+    /// Takes a name.
+    pub fn name(&mut self, alloc: Global) -> Result<RawName, Stop>
+        ensures reads { Returned written_name result self.new (language_reader any_name self.old) }
+        ensures shorter { IfOk result (λ n. length self.new + 1 ≤ length self.old) }
+    {
+        let spelling = self.spelling()?;
+        let bytes = Vec::from_slice(alloc, spelling.bytes)?;
+        Ok(RawName {
+            name: Name::from_vec(bytes),
+            at: spelling.at,
+        })
     }
 }

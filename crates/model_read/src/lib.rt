@@ -14,8 +14,9 @@ mod stop;
 mod text;
 mod vertices;
 
-pub use cursor::Cursor;
+pub use cursor::{Cursor, Spelling};
 pub use openings::first_too_deep;
+pub use operators::{CONJUNCTIONS, Infix, LEVELS, next_level};
 pub use phrase::{Phrase, Repeated, packed};
 pub use stop::{Stop, placed};
 pub use text::{begun_model, parse, parse_front};

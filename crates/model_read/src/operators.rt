@@ -12,22 +12,22 @@ use model_core::{Op, Symbol, TokenKind, Word};
 /// An operator between two operands. A level that is higher binds more loosely: 0 for products, 1 for sums, 2 for
 /// comparisons, 3 for `and`, 4 for `or`.
 #[derive(Clone, Copy)]
-pub(crate) struct Infix {
+pub struct Infix {
     pub op: Op,
     pub level: usize,
 }
 
 /// The levels are those below this number.
-pub(crate) const LEVELS: usize = 5;
+pub const LEVELS: usize = 5;
 
 /// The level of comparisons, which don't chain.
 const COMPARISONS: usize = 2;
 
 /// The level of `and`, the first whose operands may begin with `not`.
-pub(crate) const CONJUNCTIONS: usize = 3;
+pub const CONJUNCTIONS: usize = 3;
 
 /// The least level of an operator that may stand behind one of the level and its operands.
-pub(crate) fn next_level(level: usize) -> usize
+pub fn next_level(level: usize) -> usize
     ensures { result ≡ next_level level }
 {
     if level == COMPARISONS {
@@ -38,7 +38,7 @@ pub(crate) fn next_level(level: usize) -> usize
 }
 
 /// The operator that a token of the kind is, if any.
-pub(crate) fn infix_of(kind: TokenKind) -> Option<Infix>
+pub fn infix_of(kind: TokenKind) -> Option<Infix>
     ensures { (bytes : List ℕ) → option_map infix_of result ≡ infix_of_kind (lexeme_kind_of bytes kind) }
 {
     match kind {

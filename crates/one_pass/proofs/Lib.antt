@@ -1,5 +1,15 @@
+mod Sure
 mod PartsInTurn
 mod WholeReads
 mod Alike
 mod VerticesRead
 mod TextRead
+mod SureOperands
+mod OperandsInTurn
+mod TargetsRead
+mod RowsInTurn
+mod ValuesRead
+mod SetsRead
+mod FormatReads
+mod CarriedRead
+mod EdgesRead

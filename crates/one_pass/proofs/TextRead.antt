@@ -13,34 +13,36 @@ use Rattle.model_core.specs.Text.Numbering.{each_numbered, numbered}
 use Rattle.model_core.specs.Static.FaultOrder.{StaticFault, earliest_fault}
 use Rattle.model_core.specs.Static.Meanings.{Meaning, AsWatched}
 use Rattle.model_core.specs.Static.RuleTable.{model_too_long}
-use Rattle.model_core.specs.Static.PartFaults.{written_items, kinds_taken, use_faults, repeated_names, variable_faults, table_faults}
+use Rattle.model_core.specs.Static.PartFaults.{vertex_faults, written_items, kinds_taken, use_faults, repeated_names, variable_faults, table_faults}
 use Rattle.model_core.specs.Static.ModelFaults.{model_meaning, model_takes, faults_of_parts, Accepted}
 use Rattle.model_read.specs.Beginnings.{with_vertices}
 use Rattle.sig_types.specs.Inner.Checked.{Checked, CheckedPart, CheckedPlain}
 use Rattle.sig_types.specs.Inner.Redeclared.{faults_of_declared}
 use Rattle.sig_types.proofs.WholeModel.{model_checked, all_told, is_accepted}
 use Rattle.one_pass.specs.Inner.ReadParts.{ReadVertices, ReadBehind}
+use Rattle.one_pass.proofs.Sure.{checked_surely}
 use Rattle.one_pass.proofs.Alike.{same-meaning, same-takes, same-faults}
 
 -- the model m has vertices of which what each begins with is known
-pub model_taken : (m : WrittenModel) (means : List ℕ → Option Meaning) (taken : List (List (Option Kind))) (before after : List Lexeme) (t0 t1 t2 t3 t4 t5 : Option StaticFault)
+pub model_taken : (m : WrittenModel) (means : List ℕ → Option Meaning) (taken : List (List (Option Kind))) (before after : List Lexeme) (t0 t1 t2 t3 t4 : Option StaticFault)
     (xs : List graph.Variable) (ts : List graph.WeightTable) (ws : List graph.Watched) (vs : List graph.EventVertex)
     → means ≡ model_meaning m → taken ≡ map (kinds_taken means) m.vertices
     → t1 ≡ earliest_fault t0 (faults_of_declared m)
     → CheckedPlain t1 t2 (flat_map variable_faults m.variables) (each_numbered numbering.variable m.variables) xs
     → CheckedPlain t2 t3 (flat_map table_faults m.tables) (each_numbered numbering.table m.tables) ts
     → CheckedPart means t3 t4 (flat_map (use_faults means AsWatched) (written_items m.watch) ++ repeated_names [] (written_items m.watch)) (λ d. each_numbered (numbering.watched d) (written_items m.watch)) ws
-    → ReadVertices means taken m.vertices before after t4 t5 vs
-    → ReadBehind m before after t0 t5 (record { name = m.name.name; variables = xs; tables = ts; watch = ws; vertices = vs })
-model_taken m means taken before after t0 t1 t2 t3 t4 t5 xs ts ws vs is takes head variables tables watch vertices = record {
+    → ReadVertices means taken m.vertices before after vs
+    → ReadBehind m before after t0 t4 (record { name = m.name.name; variables = xs; tables = ts; watch = ws; vertices = vs })
+model_taken m means taken before after t0 t1 t2 t3 t4 xs ts ws vs is takes head variables tables watch vertices = record {
   vertices = vertices.parts.written;
   read = vertices.parts.read;
   checked = λ end_at.
       let w = with_vertices m vertices.parts.written end_at in
       let same : means ≡ model_meaning w = is ∙ sym (same-meaning m vertices.parts.written end_at vertices.alike) in
       let kept : taken ≡ model_takes w = takes ∙ ap (λ k. map (kinds_taken k) m.vertices) is ∙ sym (same-takes m vertices.parts.written end_at vertices.alike) in
-      model_checked w t0 t1 t2 t3 t4 t5 xs ts ws vs (head ∙ ap (earliest_fault t0) (sym (same-faults m vertices.parts.written end_at vertices.alike))) variables tables
-      (rw same at watch) (rw (same, kept) at vertices.parts.checked);
+      model_checked w t0 t1 t2 t3 t4 t4 xs ts ws vs (head ∙ ap (earliest_fault t0) (sym (same-faults m vertices.parts.written end_at vertices.alike))) variables tables
+      (rw same at watch)
+      (rw (same, kept) at (checked_surely means t4 (flat_map (vertex_faults means taken) vertices.parts.written) (λ d. each_numbered (numbering.vertex d) vertices.parts.written) vs vertices.parts.unbroken vertices.parts.numbers));
 }
 
 -- a model in which nothing is told is accepted

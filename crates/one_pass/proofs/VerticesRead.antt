@@ -1,5 +1,6 @@
 -- A vertex that was read, from the parts of it that were read, and the vertices of a model.
-use Rattle.std.proofs.Common.{◌≡◌, ℕ, ◌<◌, ◌≤◌, List, [], ◌∷◌, length, map, Option, refl, subst, sym, arith}
+use Rattle.std.proofs.Common.{◌≡◌, ℕ, ◌<◌, ◌≤◌, List, [], ◌∷◌, ◌++◌, length, map, Option, None, refl, ◌∙◌, subst, sym, arith}
+use Rattle.std.specs.List.{flat_map}
 use Rattle.std.proofs.lemmas.List.{length-map}
 use Rattle.std.proofs.lemmas.Option.{slice_get_past}
 use Rattle.sig_base.specs.declared.limits.TheConstants.{CHANGES_MAX, EDGES_MAX}
@@ -20,9 +21,13 @@ use Rattle.model_core.specs.Inner.FormatReader.{took}
 use Rattle.model_core.specs.Inner.LanguageReader.{language_reader}
 use Rattle.model_read.specs.Beginnings.{with_body, vertex_beginning}
 use Rattle.model_read.specs.Inner.SomeTokens.{vertex-some}
-use Rattle.sig_types.specs.Inner.Checked.{CheckedPart}
+use Rattle.sig_types.specs.Inner.Checked.{NumberedAs, CheckedPart}
+use Rattle.model_core.proofs.EmptyLists.{left_empty, right_empty}
+use Rattle.model_core.proofs.ToldFaults.{none_told}
+use Rattle.sig_types.proofs.Checks.{told_both}
 use Rattle.sig_types.proofs.VertexParts.{vertex_checked}
 use Rattle.one_pass.specs.Inner.ReadParts.{ReadParts, ReadVertex, ReadVertices, BeginAlike, AllBeginAlike}
+use Rattle.one_pass.proofs.Sure.{checked_surely}
 use Rattle.one_pass.proofs.WholeReads.{vertex-read, some-read}
 
 -- a list within its limit has no fault
@@ -31,35 +36,55 @@ few-told limit at ws told few =
     let size = length-map ws at in
     rw (too_many, slice_get_past (map at ws) limit (omega arith)) refl
 
+-- a list of parts that were checked, in which nothing is told, has no fault
+told_nothing : (faults gs : List StaticFault) (t1 t2 : Option StaticFault) → t1 ≡ earliest_fault None faults → t2 ≡ earliest_fault t1 gs → t2 ≡ None → (faults ≡ []) × (gs ≡ [])
+told_nothing faults gs t1 t2 e f g =
+    let all : faults ++ gs ≡ [] = none_told (faults ++ gs) (sym (told_both None t1 t2 faults gs e f) ∙ g) in
+    (left_empty faults gs all, right_empty faults gs all)
+
+module _ (means : List ℕ → Option Meaning) where
+  -- the name and the parameters of a vertex, of which nothing is told
+  pub begun_surely : (v : WrittenVertex) (t1 t2 : Option StaticFault) (ps : List ℕ) → t1 ≡ earliest_fault None (name_too_long v.name)
+      → CheckedPart means t1 t2 (parameters_faults means [] (written_items v.parameters)) (λ d. each_numbered (numbering.numbered_parameter d) (written_items v.parameters)) ps → t2 ≡ None
+      → (name_too_long v.name ≡ []) × (parameters_faults means [] (written_items v.parameters) ≡ []) × NumberedAs means (λ d. each_numbered (numbering.numbered_parameter d) (written_items v.parameters)) ps
+  begun_surely v t1 t2 ps named params told =
+      let p = told_nothing (name_too_long v.name) (parameters_faults means [] (written_items v.parameters)) t1 t2 named params.told told in
+      (p.0, p.1, params.unbroken p.1)
+
 module _ (means : List ℕ → Option Meaning) (taken : List (List (Option Kind))) where
-  pub vertex_taken : (v expected : WrittenVertex) (at : ℕ) (before c1 c2 c3 after : List Lexeme) (t0 t1 t2 t3 t4 : Option StaticFault) (ps : List ℕ) (xs : List graph.StateChange) (ys : List graph.EventEdge)
+  pub vertex_taken : (v expected : WrittenVertex) (at : ℕ) (before c1 c2 c3 after : List Lexeme) (ps : List ℕ) (xs : List graph.StateChange) (ys : List graph.EventEdge)
       → language_reader vertex_beginning before ≡ took (with_body v) c1
       → BeginAlike v expected
-      → t1 ≡ earliest_fault t0 (name_too_long v.name)
-      → CheckedPart means t1 t2 (parameters_faults means [] (written_items v.parameters)) (λ d. each_numbered (numbering.numbered_parameter d) (written_items v.parameters)) ps
-      → ReadParts change_format means (change_faults means) numbering.change c1 c2 t2 t3 xs → length xs ≤ CHANGES_MAX
-      → ReadParts edge_format means (edge_faults means taken) numbering.edge c2 c3 t3 t4 ys → length ys ≤ EDGES_MAX
+      → name_too_long v.name ≡ []
+      → parameters_faults means [] (written_items v.parameters) ≡ []
+      → NumberedAs means (λ d. each_numbered (numbering.numbered_parameter d) (written_items v.parameters)) ps
+      → ReadParts change_format means (change_faults means) numbering.change c1 c2 xs → length xs ≤ CHANGES_MAX
+      → ReadParts edge_format means (edge_faults means taken) numbering.edge c2 c3 ys → length ys ≤ EDGES_MAX
       → language_reader (mark symbols.CloseBrace) c3 ≡ took at after
-      → ReadVertex means taken expected before after t0 t4 (record { name = v.name.name; parameters = ps; changes = xs; edges = ys })
-  vertex_taken v expected at before c1 c2 c3 after t0 t1 t2 t3 t4 ps xs ys begun alike named params changes some edges few closed = record {
-    part = record {
-      written = with_body v changes.written edges.written;
-      read = vertex-read v changes.written edges.written at before c1 c2 c3 after begun changes.read edges.read closed;
-      checked = vertex_checked means taken t0 t1 t2 t2 t3 t3 t4 (with_body v changes.written edges.written) ps xs ys named params
-          (few-told CHANGES_MAX change_place changes.written t2 (subst (λ n. n ≤ CHANGES_MAX) (sym changes.counted) some)) changes.checked
-          (few-told EDGES_MAX edge_place edges.written t3 (subst (λ n. n ≤ EDGES_MAX) (sym edges.counted) few)) edges.checked;
-    };
-    alike = record { at = alike.at; name = alike.name; parameters = alike.parameters };
-  }
+      → ReadVertex means taken expected before after (record { name = v.name.name; parameters = ps; changes = xs; edges = ys })
+  vertex_taken v expected at before c1 c2 c3 after ps xs ys begun alike named unbroken numbers changes some edges few closed =
+      let whole = with_body v changes.written edges.written in
+      let checked : CheckedPart means None None (vertex_faults means taken whole) (λ d. numbering.vertex d whole) (record { name = v.name.name; parameters = ps; changes = xs; edges = ys })
+      = vertex_checked means taken None None None None None None None whole ps xs ys (rw named refl)
+      (checked_surely means None (parameters_faults means [] (written_items v.parameters)) (λ d. each_numbered (numbering.numbered_parameter d) (written_items v.parameters)) ps unbroken numbers)
+      (few-told CHANGES_MAX change_place changes.written None (subst (λ n. n ≤ CHANGES_MAX) (sym changes.counted) some))
+      (checked_surely means None (flat_map (change_faults means) changes.written) (λ d. each_numbered (numbering.change d) changes.written) xs changes.unbroken changes.numbers)
+      (few-told EDGES_MAX edge_place edges.written None (subst (λ n. n ≤ EDGES_MAX) (sym edges.counted) few))
+      (checked_surely means None (flat_map (edge_faults means taken) edges.written) (λ d. each_numbered (numbering.edge d) edges.written) ys edges.unbroken edges.numbers) in
+      let none : vertex_faults means taken whole ≡ [] = none_told (vertex_faults means taken whole) (sym checked.told) in
+      record {
+        part = record { written = whole; read = vertex-read v changes.written edges.written at before c1 c2 c3 after begun changes.read edges.read closed; unbroken = none; numbers = checked.unbroken none };
+        alike = record { at = alike.at; name = alike.name; parameters = alike.parameters };
+      }
 
   -- vertices, one or more
   vertices_taken-read : (before after : List Lexeme) (ws : List WrittenVertex) → 0 < length ws → language_reader (Many vertex_format) before ≡ took ws after → language_reader (at_least_one vertex_format) before ≡ took ws after
   vertices_taken-read before after [] some e = absurd (omega arith)
   vertices_taken-read before after (w ∷ ws) some e = some-read vertex_format vertex-some before after w ws e
 
-  pub vertices_taken : (expected : List WrittenVertex) (before after : List Lexeme) (t0 t1 : Option StaticFault) (vs : List graph.EventVertex) → 0 < length vs
-      → (r : ReadParts vertex_format means (vertex_faults means taken) numbering.vertex before after t0 t1 vs) → AllBeginAlike r.written expected → ReadVertices means taken expected before after t0 t1 vs
-  vertices_taken expected before after t0 t1 vs some r alike = record {
-    parts = record { written = r.written; read = vertices_taken-read before after r.written (subst (λ n. 0 < n) (sym r.counted) some) r.read; checked = r.checked };
+  pub vertices_taken : (expected : List WrittenVertex) (before after : List Lexeme) (vs : List graph.EventVertex) → 0 < length vs
+      → (r : ReadParts vertex_format means (vertex_faults means taken) numbering.vertex before after vs) → AllBeginAlike r.written expected → ReadVertices means taken expected before after vs
+  vertices_taken expected before after vs some r alike = record {
+    parts = record { written = r.written; read = vertices_taken-read before after r.written (subst (λ n. 0 < n) (sym r.counted) some) r.read; unbroken = r.unbroken; numbers = r.numbers };
     alike = alike;
   }

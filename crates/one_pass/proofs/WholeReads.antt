@@ -15,11 +15,11 @@ use Rattle.model_core.proofs.Formats.ManyLaws.{repeated-is, one_more, one_more-o
 use Rattle.model_read.specs.Beginnings.{with_body, with_vertices, vertex_beginning, model_beginning}
 use Rattle.model_read.proofs.ReadLoop.{shorter}
 
-applied : {A B : Type 0} (p : LanguageFormat (A → B)) (q : LanguageFormat A) (before between after : List Lexeme) (f : A → B) (x : A)
+pub applied : {A B : Type 0} (p : LanguageFormat (A → B)) (q : LanguageFormat A) (before between after : List Lexeme) (f : A → B) (x : A)
     → language_reader p before ≡ took f between → language_reader q between ≡ took x after → language_reader (p <*> q) before ≡ took (f x) after
 applied p q before between after f x e g = rw (e, g) refl
 
-left_out : {A B : Type 0} (p : LanguageFormat A) (q : LanguageFormat B) (before between after : List Lexeme) (x : A) (y : B)
+pub left_out : {A B : Type 0} (p : LanguageFormat A) (q : LanguageFormat B) (before between after : List Lexeme) (x : A) (y : B)
     → language_reader p before ≡ took x between → language_reader q between ≡ took y after → language_reader (p <* q) before ≡ took x after
 left_out p q before between after x y e g = rw (e, g) refl
 

@@ -1,2 +1,7 @@
 -- What the parts of this crate's reader return. No public clause cites these, and nobody has to believe them.
 pub mod ReadParts
+pub mod ReadOperands
+pub mod ReadTargets
+pub mod ReadValues
+pub mod ReadRows
+pub mod ReadCarried

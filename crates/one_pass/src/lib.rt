@@ -1,10 +1,15 @@
-//! Reads a model from its tokens in one pass: each change and each edge is checked as soon as it is read, and let go as
-//! it was written before the next is read.
+//! Reads a model from its tokens in one pass: changes and edges are checked while they are read, and have numbers in place
+//! of names at once.
 #![tactic(auto)]
 
 mod beginnings;
+mod carried;
+mod changes;
+mod edges;
+mod expressions;
 mod parts;
 mod text;
+mod values;
 mod vertices;
 
 pub use text::read_model;

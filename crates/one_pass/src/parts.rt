@@ -15,12 +15,14 @@ ghost use Rattle.model_core.specs.Static.PartFaults.{change_faults, edge_faults}
 ghost use Rattle.model_core.specs.Inner.FirstTokens.{nullable, first_sorts, begins_among};
 ghost use Rattle.model_core.specs.Inner.LanguageReader.{level_lookahead};
 ghost use Rattle.model_read.specs.Inner.SomeTokens.{change-some, edge-some};
-ghost use Rattle.one_pass.specs.Inner.ReadParts.{ReadPart, ReadParts};
+ghost use Rattle.one_pass.specs.Inner.ReadParts.{ReadSure, ReadParts};
 
+use crate::changes::change;
+use crate::edges::edge;
 use model_core::{Change, Edge, Kind, RawChange, RawEdge};
-use model_read::{Cursor, Phrase, Repeated, Stop, packed};
+use model_read::{Cursor, Repeated, Stop, packed};
 use sig_base::List;
-use sig_types::{Names, Told, change, edge};
+use sig_types::Names;
 use std::alloc::Global;
 
 /// A part that a vertex may have many of.
@@ -46,15 +48,14 @@ pub(crate) trait Part: Drop {
     fn begins(cursor: &Cursor<'_>) -> bool
         ensures { result ≡ begins_among (first_sorts level_lookahead format) cursor.now };
 
-    /// Reads a part.
+    /// Reads a part that breaks no static rule.
     fn take(
         alloc: Global,
         cursor: &mut Cursor<'_>,
         names: &Names,
         taken: &[List<Option<Kind>>],
-        told: &mut Told,
     ) -> Result<Self, Stop>
-        ensures { IfOk result (λ part. ReadPart format (meaning_of names.now) (faults (meaning_of names.now) taken.now) number cursor.old cursor.new told.old told.new (plain part)) };
+        ensures { IfOk result (λ part. ReadSure format (meaning_of names.now) (faults (meaning_of names.now) taken.now) number cursor.old cursor.new (plain part)) };
 
     ghost some_tokens: { nullable format ≡ false };
 }
@@ -65,13 +66,12 @@ pub(crate) fn take_all<T: Part>(
     cursor: &mut Cursor<'_>,
     names: &Names,
     taken: &[List<Option<Kind>>],
-    told: &mut Told,
 ) -> Result<List<T>, Stop>
-    ensures { IfOk result (λ parts. ReadParts T.format (meaning_of names.now) (T.faults (meaning_of names.now) taken.now) T.number cursor.old cursor.new told.old told.new (map T.plain parts)) }
+    ensures { IfOk result (λ parts. ReadParts T.format (meaning_of names.now) (T.faults (meaning_of names.now) taken.now) T.number cursor.old cursor.new (map T.plain parts)) }
 {
     let mut parts = List::new(alloc);
     while T::begins(cursor) {
-        parts.push(T::take(alloc, cursor, names, taken, told)?)?;
+        parts.push(T::take(alloc, cursor, names, taken)?)?;
     }
     Ok(packed(parts))
 }
@@ -98,11 +98,8 @@ impl Part for Change {
         cursor: &mut Cursor<'_>,
         names: &Names,
         _taken: &[List<Option<Kind>>],
-        told: &mut Told,
     ) -> Result<Change, Stop> {
-        let raw = RawChange::read(alloc, cursor)?;
-        let change = change(alloc, names, &raw, told)?;
-        Ok(change)
+        change(alloc, cursor, names)
     }
 
     ghost some_tokens = { change-some };
@@ -130,11 +127,8 @@ impl Part for Edge {
         cursor: &mut Cursor<'_>,
         names: &Names,
         taken: &[List<Option<Kind>>],
-        told: &mut Told,
     ) -> Result<Edge, Stop> {
-        let raw = RawEdge::read(alloc, cursor)?;
-        let edge = edge(alloc, names, taken, &raw, told)?;
-        Ok(edge)
+        edge(alloc, cursor, names, taken)
     }
 
     ghost some_tokens = { edge-some };

@@ -39,7 +39,6 @@ fn behind(
         &names,
         taken.as_slice(),
         begun.vertices.as_slice(),
-        told,
     )?;
     Ok(Model {
         name: begun.name.name,

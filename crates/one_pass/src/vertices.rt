@@ -1,9 +1,13 @@
 //! The vertices of a model.
 
-ghost use Rattle.std.specs.Prelude.{map, IfOk};
+ghost use Rattle.std.specs.Prelude.{◌≡◌, [], map, IfOk, OnOk};
 ghost use Rattle.model_core.specs.Code.Views.{vertex_of};
 ghost use Rattle.model_core.specs.Code.WrittenViews.{written_vertex};
+ghost use Rattle.model_core.specs.Text.Numbering.{each_numbered, numbered_parameter};
 ghost use Rattle.model_core.specs.Static.Meanings.{meaning_of};
+ghost use Rattle.model_core.specs.Static.RuleTable.{name_too_long};
+ghost use Rattle.model_core.specs.Static.PartFaults.{written_items, parameters_faults};
+ghost use Rattle.sig_types.specs.Inner.Checked.{NumberedAs};
 ghost use Rattle.one_pass.specs.Inner.ReadParts.{ReadVertex, ReadVertices};
 
 use crate::beginnings::begin_alike;
@@ -14,6 +18,22 @@ use sig_base::{CHANGES_MAX, EDGES_MAX, List, NAME_MAX};
 use sig_types::{Names, Told, items, parameters};
 use std::alloc::Global;
 
+/// The parameters of a vertex that breaks no static rule up to its changes.
+fn known_parameters(alloc: Global, names: &Names, begun: &RawVertex) -> Result<List<usize>, Stop>
+    ensures named { OnOk result (name_too_long (written_vertex begun.now).name ≡ []) }
+    ensures unbroken { OnOk result (parameters_faults (meaning_of names.now) [] (written_items (written_vertex begun.now).parameters) ≡ []) }
+    ensures numbers { IfOk result (λ ps. NumberedAs (meaning_of names.now) (λ d. each_numbered (numbered_parameter d) (written_items (written_vertex begun.now).parameters)) ps) }
+{
+    let mut told = Told::new();
+    let long = begun.name.name.as_slice().len() > NAME_MAX;
+    told.note(long, StaticKind::NameTooLong, begun.name.at);
+    let params = parameters(alloc, names, items(&begun.params), &mut told)?;
+    match told.fault() {
+        None => Ok(params),
+        Some(_) => Err(Stop::Unexpected),
+    }
+}
+
 /// Reads a vertex, which must begin as expected.
 fn vertex(
     alloc: Global,
@@ -21,19 +41,16 @@ fn vertex(
     names: &Names,
     taken: &[List<Option<Kind>>],
     expected: &RawVertex,
-    told: &mut Told,
 ) -> Result<Vertex, Stop>
-    ensures { IfOk result (λ v. ReadVertex (meaning_of names.now) taken.now (written_vertex expected.now) cursor.old cursor.new told.old told.new (vertex_of v)) }
+    ensures { IfOk result (λ v. ReadVertex (meaning_of names.now) taken.now (written_vertex expected.now) cursor.old cursor.new (vertex_of v)) }
 {
     let begun = begun_vertex(alloc, cursor)?;
     if !begin_alike(&begun, expected) {
         return Err(Stop::Unexpected);
     }
-    let long = begun.name.name.as_slice().len() > NAME_MAX;
-    told.note(long, StaticKind::NameTooLong, begun.name.at);
-    let params = parameters(alloc, names, items(&begun.params), told)?;
-    let changes = take_all(alloc, cursor, names, taken, told)?;
-    let edges = take_all(alloc, cursor, names, taken, told)?;
+    let params = known_parameters(alloc, names, &begun)?;
+    let changes = take_all(alloc, cursor, names, taken)?;
+    let edges = take_all(alloc, cursor, names, taken)?;
     cursor.symbol(Symbol::CloseBrace)?;
     if changes.len() > CHANGES_MAX || edges.len() > EDGES_MAX {
         return Err(Stop::Unexpected);
@@ -53,16 +70,15 @@ pub(crate) fn vertices(
     names: &Names,
     taken: &[List<Option<Kind>>],
     expected: &[RawVertex],
-    told: &mut Told,
 ) -> Result<List<Vertex>, Stop>
-    ensures { IfOk result (λ vs. ReadVertices (meaning_of names.now) taken.now (map written_vertex expected.now) cursor.old cursor.new told.old told.new (map vertex_of vs)) }
+    ensures { IfOk result (λ vs. ReadVertices (meaning_of names.now) taken.now (map written_vertex expected.now) cursor.old cursor.new (map vertex_of vs)) }
 {
     let mut vertices = Vec::with_capacity(alloc, expected.len())?;
     for begun in expected {
         if !RawVertex::begins(cursor) {
             return Err(Stop::Unexpected);
         }
-        vertices.push(vertex(alloc, cursor, names, taken, begun, told)?)?;
+        vertices.push(vertex(alloc, cursor, names, taken, begun)?)?;
     }
     let vertices = List::from_vec(vertices);
     if RawVertex::begins(cursor) || vertices.len() == 0 {

@@ -14,14 +14,9 @@ fn name(alloc: Global, bytes: &[u8]) -> Result<Name, NoMemory> {
 
 /// The expression `if N < 3 then N else -limit`.
 pub fn limited(alloc: Global, limit: i64) -> Result<Expr, NoMemory> {
-    let three = Box::new(alloc, Expr::Int(3))?;
-    let test = Expr::Binary(Op::Lt, Box::new(alloc, Expr::Scalar(0))?, three);
+    let test = Expr::binary(alloc, Op::Lt, Expr::Scalar(0), Expr::Int(3))?;
     let other = Expr::Neg(Box::new(alloc, Expr::Int(limit))?);
-    Ok(Expr::If(
-        Box::new(alloc, test)?,
-        Box::new(alloc, Expr::Scalar(0))?,
-        Box::new(alloc, other)?,
-    ))
+    Expr::conditional(alloc, test, Expr::Scalar(0), other)
 }
 
 /// A vertex `RUN` with a parameter, a draw and an edge that cancels.

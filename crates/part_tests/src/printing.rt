@@ -43,13 +43,9 @@ fn lines_have_their_lengths(rt: HostRuntime) -> Result<(), Fail> {
     Ok(())
 }
 
-fn scalar(alloc: Global) -> Result<Box<Expr>, NoMemory> {
-    Ok(Box::new(alloc, Expr::Scalar(0))?)
-}
-
 /// `N` and another operand with an operator between them.
 fn before(alloc: Global, op: Op, right: Expr) -> Result<Expr, NoMemory> {
-    Ok(Expr::Binary(op, scalar(alloc)?, Box::new(alloc, right)?))
+    Expr::binary(alloc, op, Expr::Scalar(0), right)
 }
 
 /// Whether the expression is printed so, in a model whose variable is `N`, and has that length.
@@ -65,7 +61,7 @@ fn an_expression_is_printed(rt: HostRuntime) -> Result<(), Fail> {
     let least = before(alloc, Op::Min, Expr::Int(10))?;
     let later = before(alloc, Op::Sub, before(alloc, Op::Sub, Expr::Int(2))?)?;
     let same = Expr::Not(Box::new(alloc, before(alloc, Op::Eq, Expr::Clk)?)?);
-    let negative = Expr::Neg(Box::new(alloc, Expr::Neg(scalar(alloc)?))?);
+    let negative = Expr::Neg(Box::new(alloc, Expr::Neg(Box::new(alloc, Expr::Scalar(0))?))?);
     let cell = Expr::Cell(0, Box::new(alloc, before(alloc, Op::Add, Expr::Int(1))?)?);
     assert!(rt; is_printed(alloc, &limited(alloc, 5)?, b"if N < 3 then N else -5")?);
     assert!(rt; is_printed(alloc, &least, b"min(N, 10)")?);

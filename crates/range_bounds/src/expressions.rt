@@ -25,8 +25,16 @@ pub fn bounds(model: &Model, expr: &Expr) -> Bounds
         Expr::Cell(v, i) => cell_bounds(model, *v, &bounds(model, i)),
         Expr::Neg(a) => negative_bounds(&bounds(model, a)),
         Expr::Not(a) => opposite(&bounds(model, a)),
-        Expr::Binary(op, a, b) => operator_bounds(*op, &bounds(model, a), &bounds(model, b)),
-        Expr::If(c, a, b) => chosen_bounds(&bounds(model, c), &bounds(model, a), &bounds(model, b)),
+        Expr::Binary(op, operands) => operator_bounds(
+            *op,
+            &bounds(model, &operands.left),
+            &bounds(model, &operands.right),
+        ),
+        Expr::If(parts) => chosen_bounds(
+            &bounds(model, &parts.test),
+            &bounds(model, &parts.yes),
+            &bounds(model, &parts.no),
+        ),
     }
 }
 

@@ -25,15 +25,14 @@ fn no_name(alloc: Global) -> Name
 fn raising(alloc: Global) -> Result<Change, NoMemory>
     ensures { IfOk result (λ change. change_of change ≡ Set (record { variable = 0; index = None } ∷ []) (Binary Add (Scalar 0) (Number (pos 1)) ∷ [])) }
 {
-    let left = Box::new(alloc, Expr::Scalar(0))?;
-    let right = Box::new(alloc, Expr::Int(1))?;
+    let raised = Expr::binary(alloc, Op::Add, Expr::Scalar(0), Expr::Int(1))?;
     let target = Target {
         var: 0,
         index: None,
     };
     Ok(Change::Set {
         targets: List::of_one(alloc, target)?,
-        values: List::of_one(alloc, Expr::Binary(Op::Add, left, right))?,
+        values: List::of_one(alloc, raised)?,
     })
 }
 

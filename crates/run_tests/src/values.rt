@@ -65,15 +65,13 @@ fn number(alloc: Global, n: i64) -> Result<Expr, NoMemory>
     binary(alloc, Op::Sub, but_one, Expr::Int(1))
 }
 
-/// The expression of an operator and its operands.
+/// The expression of an operator and its operands, where these are possible.
 fn binary(alloc: Global, op: Op, left: Expr, right: Expr) -> Result<Expr, NoMemory>
     requires left { PossibleExpression sample (expression_of left) }
     requires right { PossibleExpression sample (expression_of right) }
     ensures { IfOk result (λ expr. PossibleExpression sample (expression_of expr)) }
 {
-    let left = Box::new(alloc, left)?;
-    let right = Box::new(alloc, right)?;
-    Ok(Expr::Binary(op, left, right))
+    Expr::binary(alloc, op, left, right)
 }
 
 /// What a value comes to.
@@ -141,10 +139,8 @@ fn an_index_is_below_the_size(rt: HostRuntime) -> Result<(), Fail> {
 fn chosen(alloc: Global, test: bool) -> Result<Outcome, NoMemory> {
     let model = sample(alloc)?;
     let state = begun(alloc, &model)?;
-    let test = Box::new(alloc, Expr::Truth(test))?;
-    let one = Box::new(alloc, Expr::Int(1))?;
     let faulty = binary(alloc, Op::Div, Expr::Int(1), Expr::Int(0))?;
-    let expr = Expr::If(test, one, Box::new(alloc, faulty)?);
+    let expr = Expr::conditional(alloc, Expr::Truth(test), Expr::Int(1), faulty)?;
     Ok(value(&model, &expr, &state, 0))
 }
 

@@ -1,15 +1,15 @@
 pub mod Checks
 pub mod LeftOut
-mod Lookups
-mod Operands
+pub mod Lookups
+pub mod Operands
 pub mod TooMany
 pub mod ListChecks
-mod EarlierNames
-mod CarriedValues
-mod ChangeParts
-mod EdgeParts
+pub mod EarlierNames
+pub mod CarriedValues
+pub mod ChangeParts
+pub mod EdgeParts
 pub mod VertexParts
-mod VariableParts
-mod RowSums
-mod MeaningsSoFar
+pub mod VariableParts
+pub mod RowSums
+pub mod MeaningsSoFar
 pub mod WholeModel

@@ -115,38 +115,22 @@ fn typed_expression(
         }
         RawForm::Binary(op, left, right) => {
             let wanted = operand_kind(*op);
-            let left = boxed_operand(alloc, names, wanted, left, told)?;
-            let right = boxed_operand(alloc, names, right_kind(*op, left.kind), right, told)?;
+            let left = operand(alloc, names, wanted, left, told)?;
+            let right = operand(alloc, names, right_kind(*op, left.kind), right, told)?;
             Ok(Typed {
-                part: Expr::Binary(*op, left.part, right.part),
+                part: Expr::binary(alloc, *op, left.part, right.part)?,
                 kind: Some(result_kind(*op)),
             })
         }
         RawForm::If(test, yes, no) => {
-            let test = boxed_operand(alloc, names, Some(Kind::Truth), test, told)?;
-            let yes = boxed_expression(alloc, names, yes, told)?;
-            let no = boxed_operand(alloc, names, yes.kind, no, told)?;
+            let test = operand(alloc, names, Some(Kind::Truth), test, told)?;
+            let yes = typed_expression(alloc, names, yes, told)?;
+            let no = operand(alloc, names, yes.kind, no, told)?;
+            let kind = known_or(yes.kind, no.kind);
             Ok(Typed {
-                part: Expr::If(test.part, yes.part, no.part),
-                kind: known_or(yes.kind, no.kind),
+                part: Expr::conditional(alloc, test.part, yes.part, no.part)?,
+                kind,
             })
         }
     }
-}
-
-/// An expression in a box.
-#[cycle(expressions)]
-fn boxed_expression(
-    alloc: Global,
-    names: &Names,
-    raw: &RawExpr,
-    told: &mut Told,
-) -> Result<Typed<Box<Expr>>, NoMemory>
-    ensures checked { IfOk result (λ e. CheckedPart (meaning_of names.now) told.old told.new (expression_faults (meaning_of names.now) (written_expression raw.now)) (λ d. expression d (written_expression raw.now)) (expression_of e.part.value)) }
-    ensures kind { IfOk result (λ e. e.kind ≡ expression_kind (meaning_of names.now) (written_expression raw.now)) }
-{
-    let typed = typed_expression(alloc, names, raw, told)?;
-    let kind = typed.kind;
-    let part = Box::new(alloc, typed.part)?;
-    Ok(Typed { part, kind })
 }

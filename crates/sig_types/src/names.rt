@@ -50,11 +50,11 @@ impl Names {
         Ok(Names { table })
     }
 
-    /// What a name means.
-    pub fn find(&self, name: &Name) -> Option<Meaning>
+    /// What the name that these bytes spell means.
+    pub fn find(&self, name: &[u8]) -> Option<Meaning>
         ensures { option_map meaning_seen result ≡ meaning_of self.now name.now }
     {
-        self.table.get(name.as_slice()).copied()
+        self.table.get(name).copied()
     }
 
     /// Adds a declaration, which is left out where the name is declared already. Says whether it was new.

@@ -44,20 +44,19 @@ fn is_fit(role: Role, meaning: Meaning) -> bool
     }
 }
 
-/// What a name means that is used so.
-fn used(names: &Names, role: Role, raw: &RawName, told: &mut Told) -> Option<Meaning>
-    ensures told { told.new ≡ earliest_fault told.old (use_faults (meaning_of names.now) (role_seen role) (written_name raw.now)) }
-    ensures means { option_map meaning_seen result ≡ meaning_of names.now raw.now.name }
+/// What the name that these bytes spell means, which stands at this place and is used so.
+fn used(names: &Names, role: Role, name: &[u8], at: usize, told: &mut Told) -> Option<Meaning>
+    ensures told { told.new ≡ earliest_fault told.old (use_faults (meaning_of names.now) (role_seen role) (record { name = name.now; at = at })) }
+    ensures means { option_map meaning_seen result ≡ meaning_of names.now name.now }
 {
-    let long = raw.name.as_slice().len() > NAME_MAX;
-    told.note(long, StaticKind::NameTooLong, raw.at);
-    let meaning = names.find(&raw.name);
-    told.note(meaning.is_none(), StaticKind::UnknownName, raw.at);
+    told.note(name.len() > NAME_MAX, StaticKind::NameTooLong, at);
+    let meaning = names.find(name);
+    told.note(meaning.is_none(), StaticKind::UnknownName, at);
     let misused = match meaning {
         None => false,
         Some(meaning) => !is_fit(role, meaning),
     };
-    told.note(misused, StaticKind::WrongUse, raw.at);
+    told.note(misused, StaticKind::WrongUse, at);
     meaning
 }
 
@@ -84,21 +83,40 @@ fn variable_meant(meaning: Option<Meaning>, is_array: bool) -> Typed<usize>
     }
 }
 
+/// A name that is used as a variable, where it stands in the text.
+pub fn spelled_variable(
+    names: &Names,
+    is_array: bool,
+    name: &[u8],
+    at: usize,
+    told: &mut Told,
+) -> Typed<usize>
+    ensures checked { CheckedPart (meaning_of names.now) told.old told.new (use_faults (meaning_of names.now) (variable_role is_array) (record { name = name.now; at = at })) (λ d. declared_place name.now d.variables) result.part }
+    ensures kind { result.kind ≡ kind_in_role (variable_role is_array) (meaning_of names.now name.now) }
+{
+    let role = if is_array { Role::Array } else { Role::Scalar };
+    let meaning = used(names, role, name, at, told);
+    variable_meant(meaning, is_array)
+}
+
 /// A name that is used as a variable.
-pub fn variable(names: &Names, is_array: bool, raw: &RawName, told: &mut Told) -> Typed<usize>
+pub(crate) fn variable(
+    names: &Names,
+    is_array: bool,
+    raw: &RawName,
+    told: &mut Told,
+) -> Typed<usize>
     ensures checked { CheckedPart (meaning_of names.now) told.old told.new (use_faults (meaning_of names.now) (variable_role is_array) (written_name raw.now)) (λ d. declared_place raw.now.name d.variables) result.part }
     ensures kind { result.kind ≡ kind_in_role (variable_role is_array) (meaning_of names.now raw.now.name) }
 {
-    let role = if is_array { Role::Array } else { Role::Scalar };
-    let meaning = used(names, role, raw, told);
-    variable_meant(meaning, is_array)
+    spelled_variable(names, is_array, raw.name.as_slice(), raw.at, told)
 }
 
 /// The kind of a scalar of this name.
 pub fn kind_of_scalar(names: &Names, raw: &RawName) -> Option<Kind>
     ensures { result ≡ kind_in_role AsScalar (meaning_of names.now raw.now.name) }
 {
-    let meaning = names.find(&raw.name);
+    let meaning = names.find(raw.name.as_slice());
     variable_meant(meaning, false).kind
 }
 
@@ -116,7 +134,7 @@ fn table_meant(meaning: Option<Meaning>) -> usize
 pub fn table(names: &Names, raw: &RawName, told: &mut Told) -> usize
     ensures { CheckedPart (meaning_of names.now) told.old told.new (use_faults (meaning_of names.now) AsTable (written_name raw.now)) (λ d. declared_place raw.now.name d.tables) result }
 {
-    let meaning = used(names, Role::Table, raw, told);
+    let meaning = used(names, Role::Table, raw.name.as_slice(), raw.at, told);
     table_meant(meaning)
 }
 
@@ -130,13 +148,21 @@ fn place_of_vertex(meaning: Option<Meaning>) -> Option<usize>
     }
 }
 
+/// A name that is used as a vertex, where it stands in the text. Where it isn't one, none.
+pub fn spelled_vertex(names: &Names, name: &[u8], at: usize, told: &mut Told) -> Option<usize>
+    ensures checked { CheckedPart (meaning_of names.now) told.old told.new (use_faults (meaning_of names.now) AsVertex (record { name = name.now; at = at })) (λ d. option_map (λ k. Some k) (declared_place name.now d.vertices)) result }
+    ensures means { result ≡ vertex_meant (meaning_of names.now name.now) }
+{
+    let meaning = used(names, Role::Vertex, name, at, told);
+    place_of_vertex(meaning)
+}
+
 /// A name that is used as a vertex. Where it isn't one, none.
-pub fn vertex(names: &Names, raw: &RawName, told: &mut Told) -> Option<usize>
+pub(crate) fn vertex(names: &Names, raw: &RawName, told: &mut Told) -> Option<usize>
     ensures checked { CheckedPart (meaning_of names.now) told.old told.new (use_faults (meaning_of names.now) AsVertex (written_name raw.now)) (λ d. option_map (λ k. Some k) (declared_place raw.now.name d.vertices)) result }
     ensures means { result ≡ vertex_meant (meaning_of names.now raw.now.name) }
 {
-    let meaning = used(names, Role::Vertex, raw, told);
-    place_of_vertex(meaning)
+    spelled_vertex(names, raw.name.as_slice(), raw.at, told)
 }
 
 /// What is watched. Of what can't be watched the first variable.
@@ -155,6 +181,6 @@ fn watch_meant(meaning: Option<Meaning>) -> Watch
 pub fn watched(names: &Names, raw: &RawName, told: &mut Told) -> Watch
     ensures { CheckedPart (meaning_of names.now) told.old told.new (use_faults (meaning_of names.now) AsWatched (written_name raw.now)) (λ d. numbering.watched d (written_name raw.now)) (watched_of result) }
 {
-    let meaning = used(names, Role::Watched, raw, told);
+    let meaning = used(names, Role::Watched, raw.name.as_slice(), raw.at, told);
     watch_meant(meaning)
 }

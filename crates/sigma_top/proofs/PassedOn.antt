@@ -1,6 +1,6 @@
 -- An error that is passed on is the one that came.
 use Rattle.std.proofs.Common.{◌≡◌, ◌∙◌, sym, ap}
-use Rattle.std.specs.Prelude.{Result, Ok, Err}
+use Rattle.std.specs.Prelude.{Result, Err}
 use Rattle.sigma_top.specs.declared.reading_error.ReadingError.{ReadingError}
 
 one_error : {A : Type 0} (x y : ReadingError) → ◌≡◌ {A = Result A ReadingError} (Err x) (Err y) → x ≡ y

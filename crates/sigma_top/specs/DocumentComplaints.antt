@@ -1,7 +1,7 @@
 -- Why a document doesn't read as two models and a certificate: what there is to complain of, at which byte. Its parts are
 -- tried one after the other, the grammar of all of them before the static rules of the first model, and these before those
 -- of the second.
-use Rattle.std.specs.Prelude.{◌≡◌, ◌⊎◌, ℕ, List, Some, None, Ok, Err}
+use Rattle.std.specs.Prelude.{◌≡◌, ℕ, List, Some, None, Ok, Err}
 use Rattle.sig_base.specs.declared.limits.TheConstants.{OPENINGS_MAX}
 use Rattle.model_core.specs.declared.static_kind.StaticKind.{StaticKind}
 use Rattle.model_core.specs.EventGraph.{EventGraph}

@@ -17,6 +17,7 @@ use reducer::{Reduced, reduce};
 use reduction_cert::put_certificate;
 use sig_base::{NoMemory, Text, put_bytes};
 use std::alloc::Global;
+use std::mem::forget;
 use use_analysis::put_uses;
 
 /// What a job answers to a text.
@@ -80,13 +81,16 @@ fn written(alloc: Global, reduced: &Reduced) -> Result<Text, NoMemory>
     Ok(out)
 }
 
-/// The canonical text of what the model is reduced to, and then the certificate.
+/// The canonical text of what the model is reduced to, and then the certificate. The program ends behind it, so the reduced
+/// model isn't taken apart.
 fn reduction(alloc: Global, model: Model) -> Result<Text, NoMemory>
     requires { IsValid (graph_of model) }
     ensures { IfOk result (Reduces (graph_of model)) }
 {
     let reduced = reduce(alloc, model)?;
-    written(alloc, &reduced)
+    let out = written(alloc, &reduced)?;
+    forget(reduced);
+    Ok(out)
 }
 
 /// `reduce`: the reduced model and the certificate.

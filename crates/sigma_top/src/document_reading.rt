@@ -3,24 +3,21 @@
 ghost use Rattle.std.specs.Prelude.{◌≡◌, ◌≤◌, ℕ, drop, length, map, IfOk, Err};
 ghost use Rattle.model_core.specs.Text.CertificateText.{IsCertificate};
 ghost use Rattle.model_core.specs.Text.DocumentText.{BeginsWithModel, SpellsDocument};
-ghost use Rattle.model_core.specs.Static.ModelFaults.{Accepted, IsTold};
 ghost use Rattle.model_core.specs.Static.Reading.{ReadsDocument};
 ghost use Rattle.model_core.specs.Code.Views.{graph_of, application_of};
 ghost use Rattle.model_core.specs.Code.WrittenViews.{written_model};
-ghost use Rattle.model_core.specs.declared.static_kind.StaticKind.{StaticKind as Rule};
 ghost use Rattle.model_lex.specs.Lexemes.{lexemes};
 ghost use Rattle.sigma_top.specs.declared.complaint.Complaint.{Complaint as Complained};
-ghost use Rattle.sigma_top.specs.declared.complaint.Complaint.TheVariants.{Static as OfRule};
 ghost use Rattle.sigma_top.specs.DocumentComplaints.{IsFrontComplaint, IsCertificateComplaint, IsDocumentComplaint};
 
 use crate::complaint::Complaint;
 use crate::reading_error::ReadingError;
+use crate::reading_steps::{checked, cut};
 use model_core::{Application, Model, RawModel};
-use model_lex::{LexError, ParseError, Tokens, tokens};
+use model_lex::{ParseError, Tokens};
 use model_read::parse_front;
 use reduction_cert::read_certificate;
 use sig_base::{DOCUMENT_MAX, List};
-use sig_types::{StaticError, check};
 use std::alloc::Global;
 
 /// Two models, and the applications that are to lead from the one to the other.
@@ -100,29 +97,8 @@ fn spelled(alloc: Global, text: &[u8]) -> Result<RawDocument, ReadingError>
     ensures ok { IfOk result (λ d. SpellsDocument text.now (written_model d.first) (map application_of d.applications) (written_model d.second)) }
     ensures complaint { (what : Complained) (at : ℕ) → result ≡ Err (ReadingError.At what at) → IsDocumentComplaint text.now what at }
 {
-    match tokens(alloc, text) {
-        Ok(tokens) => parts(alloc, &tokens),
-        Err(LexError::BadByte { at }) => Err(ReadingError::At {
-            what: Complaint::BadByte,
-            at,
-        }),
-        Err(LexError::NoMemory) => Err(ReadingError::NoMemory),
-    }
-}
-
-/// The model that is written, where it keeps every static rule.
-fn checked(alloc: Global, raw: RawModel) -> Result<Model, ReadingError>
-    ensures ok { IfOk result (λ model. Accepted (written_model raw) (graph_of model)) }
-    ensures complaint { (what : Complained) (at : ℕ) → result ≡ Err (ReadingError.At what at) → (kind : Rule) × (what ≡ OfRule kind) × IsTold (written_model raw) kind at }
-{
-    match check(alloc, raw) {
-        Ok(model) => Ok(model),
-        Err(StaticError::Fault { kind, at }) => Err(ReadingError::At {
-            what: Complaint::Static(kind),
-            at,
-        }),
-        Err(StaticError::NoMemory) => Err(ReadingError::NoMemory),
-    }
+    let tokens = cut(alloc, text)?;
+    parts(alloc, &tokens)
 }
 
 /// The two models that the document reads as, and the applications of its certificate.

@@ -34,8 +34,9 @@ use crate::words_error::WordsError;
 use model_core::Model;
 use sig_base::{Sink, Source, put};
 use std::alloc::Global;
+use std::mem::forget;
 
-/// Answers the model, and writes the answer.
+/// Answers the model, and writes the answer. The program ends behind it, so the model isn't taken apart.
 fn respond_to_model<K: Sink>(
     alloc: Global,
     job: Job,
@@ -48,10 +49,10 @@ fn respond_to_model<K: Sink>(
     ensures { Answering (AnswersModel job (graph_of model)) (MayFallShort job (graph_of model)) result
         (outlet K.written K.faults K.settled output.old) (outlet K.written K.faults K.settled output.new) }
 {
-    match job {
+    let said = match job {
         Job::Check => deliver(output, acceptance(alloc, &model)),
         Job::Print => deliver(output, printed(alloc, &model)),
-        Job::Reduce => deliver(output, reduced(alloc, model)),
+        Job::Reduce => return deliver(output, reduced(alloc, model)),
         Job::Uses => deliver(output, uses(alloc, &model)),
         Job::Certify => unreachable!(),
         Job::Run {
@@ -61,7 +62,9 @@ fn respond_to_model<K: Sink>(
             starts,
             room,
         } => run_model(alloc, &model, until, seed, events, &starts, room, output),
-    }
+    };
+    forget(model);
+    said
 }
 
 /// Answers the text of a model, and writes the answer.

@@ -16,6 +16,7 @@ mod job;
 mod model_reading;
 mod reading;
 mod reading_error;
+mod reading_steps;
 mod reduction_law;
 mod run_job;
 mod status;

@@ -1,39 +1,22 @@
 //! From the bytes of a text to the model that it reads as.
 
-ghost use Rattle.std.specs.Prelude.{◌≡◌, ◌≤◌, ℕ, length, IfOk, Ok};
-ghost use Rattle.model_core.specs.Text.Lexing.{tokens_of};
+ghost use Rattle.std.specs.Prelude.{◌≡◌, ◌≤◌, ℕ, length, IfOk};
 ghost use Rattle.model_core.specs.Text.ModelText.{SpellsText};
 ghost use Rattle.model_core.specs.Static.Reading.{Reads};
 ghost use Rattle.model_core.specs.Code.Views.{graph_of};
 ghost use Rattle.model_core.specs.Code.WrittenViews.{written_model};
-ghost use Rattle.model_lex.specs.Lexemes.{lexemes};
 ghost use Rattle.sigma_top.specs.declared.complaint.Complaint.{Complaint as Complained};
 ghost use Rattle.sigma_top.specs.Complaints.{IsComplaint};
 
 use crate::complaint::Complaint;
 use crate::reading_error::ReadingError;
+use crate::reading_steps::{checked, cut};
 use model_core::{Model, RawModel};
-use model_lex::{LexError, ParseError, Tokens, tokens};
+use model_lex::{ParseError, Tokens};
 use model_read::parse;
 use one_pass::read_model;
 use sig_base::TEXT_MAX;
-use sig_types::{StaticError, check};
 use std::alloc::Global;
-
-/// The tokens of the text.
-fn cut(alloc: Global, text: &[u8]) -> Result<Tokens<'_>, ReadingError>
-    ensures ok { IfOk result (λ t. (t.text.now ≡ text.now) × (tokens_of text.now ≡ Ok (lexemes t))) }
-    ensures complaint { (what : Complained) (at : ℕ) → result ≡ Err (ReadingError.At what at) → IsComplaint text.now what at }
-{
-    match tokens(alloc, text) {
-        Ok(tokens) => Ok(tokens),
-        Err(LexError::BadByte { at }) => Err(ReadingError::At {
-            what: Complaint::BadByte,
-            at,
-        }),
-        Err(LexError::NoMemory) => Err(ReadingError::NoMemory),
-    }
-}
 
 /// The model that the tokens spell, as it is written.
 fn spelled(alloc: Global, tokens: &Tokens<'_>) -> Result<RawModel, ReadingError>
@@ -55,20 +38,13 @@ fn spelled(alloc: Global, tokens: &Tokens<'_>) -> Result<RawModel, ReadingError>
 }
 
 /// The model that the tokens read as, by way of the model as it is written, of which each fault is told.
-fn checked(alloc: Global, tokens: &Tokens<'_>) -> Result<Model, ReadingError>
+fn read_twice(alloc: Global, tokens: &Tokens<'_>) -> Result<Model, ReadingError>
     requires { length tokens.now.text.now ≤ TEXT_MAX }
     ensures ok { IfOk result (λ model. Reads tokens.now.text.now (graph_of model)) }
     ensures complaint { (what : Complained) (at : ℕ) → result ≡ Err (ReadingError.At what at) → IsComplaint tokens.now.text.now what at }
 {
     let raw = spelled(alloc, tokens)?;
-    match check(alloc, raw) {
-        Ok(model) => Ok(model),
-        Err(StaticError::Fault { kind, at }) => Err(ReadingError::At {
-            what: Complaint::Static(kind),
-            at,
-        }),
-        Err(StaticError::NoMemory) => Err(ReadingError::NoMemory),
-    }
+    checked(alloc, raw)
 }
 
 /// The model that the text reads as. It is read in one pass. A text that isn't read so is looked at again, for what is
@@ -82,5 +58,5 @@ pub fn model_of(alloc: Global, text: &[u8]) -> Result<Model, ReadingError>
     if let Some(model) = read_model(alloc, &tokens) {
         return Ok(model);
     }
-    checked(alloc, &tokens)
+    read_twice(alloc, &tokens)
 }

@@ -23,14 +23,14 @@ pub fn add_variables(out: &mut Vec<usize>, expr: &Expr) -> Result<(), NoMemory>
             add_variables(out, index)?;
         }
         Expr::Neg(a) | Expr::Not(a) => add_variables(out, a)?,
-        Expr::Binary(_, a, b) => {
-            add_variables(out, a)?;
-            add_variables(out, b)?;
+        Expr::Binary(_, operands) => {
+            add_variables(out, &operands.left)?;
+            add_variables(out, &operands.right)?;
         }
-        Expr::If(c, a, b) => {
-            add_variables(out, c)?;
-            add_variables(out, a)?;
-            add_variables(out, b)?;
+        Expr::If(parts) => {
+            add_variables(out, &parts.test)?;
+            add_variables(out, &parts.yes)?;
+            add_variables(out, &parts.no)?;
         }
     }
     Ok(())

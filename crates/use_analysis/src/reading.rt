@@ -19,8 +19,12 @@ fn stands_in(expr: &Expr, var: usize) -> bool
         Expr::Scalar(v) => *v == var,
         Expr::Cell(v, index) => *v == var || stands_in(index, var),
         Expr::Neg(a) | Expr::Not(a) => stands_in(a, var),
-        Expr::Binary(_, a, b) => stands_in(a, var) || stands_in(b, var),
-        Expr::If(c, a, b) => stands_in(c, var) || stands_in(a, var) || stands_in(b, var),
+        Expr::Binary(_, operands) => {
+            stands_in(&operands.left, var) || stands_in(&operands.right, var)
+        }
+        Expr::If(parts) => {
+            stands_in(&parts.test, var) || stands_in(&parts.yes, var) || stands_in(&parts.no, var)
+        }
     }
 }
 

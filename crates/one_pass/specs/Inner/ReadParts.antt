@@ -1,4 +1,4 @@
--- A part that was read and checked at once: what is written there, and what the check of it says.
+-- What was read and checked at once: what is written there, that it breaks no static rule, and what it is with numbers in place of names.
 use Rattle.std.specs.Prelude.{◌≡◌, ℕ, List, [], ◌∷◌, length, Option, Some, None}
 use Rattle.std.specs.List.{flat_map}
 use Rattle.model_core.specs.declared.model.Kind.{Kind}
@@ -18,19 +18,21 @@ use Rattle.model_core.specs.Static.ModelFaults.{faults_of_parts, Accepted}
 use Rattle.model_core.specs.Inner.FormatReader.{took}
 use Rattle.model_core.specs.Inner.LanguageReader.{language_reader, text_read}
 use Rattle.model_read.specs.Beginnings.{with_vertices}
-use Rattle.sig_types.specs.Inner.Checked.{Checked, CheckedPart}
+use Rattle.sig_types.specs.Inner.Checked.{Checked, NumberedAs}
 
--- between these tokens, where names mean this, stands a part with these faults, which has this number
-pub record ReadPart {W B : Type 0} (f : LanguageFormat W) (means : List ℕ → Option Meaning) (faults : W → List StaticFault) (number : Declared → W → Option B) (before after : List Lexeme) (t0 t1 : Option StaticFault) (part : B) : Type 0 where
+-- between these tokens, where names mean this, stands a part without faults, which has this number
+pub record ReadSure {W B : Type 0} (f : LanguageFormat W) (means : List ℕ → Option Meaning) (faults : W → List StaticFault) (number : Declared → W → Option B) (before after : List Lexeme) (part : B) : Type 0 where
   pub written : W
   pub read : language_reader f before ≡ took written after
-  pub checked : CheckedPart means t0 t1 (faults written) (λ d. number d written) part
+  pub unbroken : faults written ≡ []
+  pub numbers : NumberedAs means (λ d. number d written) part
 
 -- the same of any number of parts
-pub record ReadParts {W B : Type 0} (f : LanguageFormat W) (means : List ℕ → Option Meaning) (faults : W → List StaticFault) (number : Declared → W → Option B) (before after : List Lexeme) (t0 t1 : Option StaticFault) (parts : List B) : Type 0 where
+pub record ReadParts {W B : Type 0} (f : LanguageFormat W) (means : List ℕ → Option Meaning) (faults : W → List StaticFault) (number : Declared → W → Option B) (before after : List Lexeme) (parts : List B) : Type 0 where
   pub written : List W
   pub read : language_reader (Many f) before ≡ took written after
-  pub checked : CheckedPart means t0 t1 (flat_map faults written) (λ d. each_numbered (number d) written) parts
+  pub unbroken : flat_map faults written ≡ []
+  pub numbers : NumberedAs means (λ d. each_numbered (number d) written) parts
   pub counted : length written ≡ length parts
 
 -- two vertices with the same name and parameters, at the same places
@@ -47,13 +49,13 @@ AllBeginAlike vs ws = ⊥
 
 module _ (means : List ℕ → Option Meaning) (taken : List (List (Option Kind))) where
   -- a vertex that begins as expected
-  pub record ReadVertex (expected : WrittenVertex) (before after : List Lexeme) (t0 t1 : Option StaticFault) (v : graph.EventVertex) : Type 0 where
-    pub part : ReadPart vertex_format means (vertex_faults means taken) numbering.vertex before after t0 t1 v
+  pub record ReadVertex (expected : WrittenVertex) (before after : List Lexeme) (v : graph.EventVertex) : Type 0 where
+    pub part : ReadSure vertex_format means (vertex_faults means taken) numbering.vertex before after v
     pub alike : BeginAlike part.written expected
 
   -- vertices that begin as expected
-  pub record ReadVertices (expected : List WrittenVertex) (before after : List Lexeme) (t0 t1 : Option StaticFault) (vs : List graph.EventVertex) : Type 0 where
-    pub parts : ReadPart (at_least_one vertex_format) means (flat_map (vertex_faults means taken)) (λ d. each_numbered (numbering.vertex d)) before after t0 t1 vs
+  pub record ReadVertices (expected : List WrittenVertex) (before after : List Lexeme) (vs : List graph.EventVertex) : Type 0 where
+    pub parts : ReadSure (at_least_one vertex_format) means (flat_map (vertex_faults means taken)) (λ d. each_numbered (numbering.vertex d)) before after vs
     pub alike : AllBeginAlike parts.written expected
 
 -- the vertices of a model of which what stands before them is known

@@ -12,6 +12,6 @@ use Rattle.one_pass.proofs.vertices.vertices.Given as goal
 -- the vertices that were read are those before what is left, and begin as expected
 abbrev pub invariant-loop-begun : goal.invariant-loop-begun
 invariant-loop-begun l = record {
-  so_far : TakenSoFar vertex_format (meaning_of l.names) (vertex_faults (meaning_of l.names) l.taken) numbering.vertex vertex_of l.fn.cursor l.cursor l.fn.told l.told l.vertices.items;
+  so_far : TakenSoFar vertex_format (meaning_of l.names) (vertex_faults (meaning_of l.names) l.taken) numbering.vertex vertex_of l.fn.cursor l.cursor l.vertices.items;
   alike : AllBeginAlike so_far.seen (map written_vertex (take l.begun-index l.expected));
 }

@@ -1,8 +1,6 @@
 -- What is spelled wrong is told first, then what is wrong with the first model, and then what is wrong with the second.
-use Rattle.std.proofs.Common.{map}
 use Rattle.std.proofs.lemmas.Result.{err_from_is_err_and}
-use Rattle.model_core.specs.Code.Views.{graph_of, application_of}
-use Rattle.model_core.specs.Code.WrittenViews.{written_model}
+use Rattle.model_core.specs.Code.Views.{graph_of}
 use Rattle.sigma_top.specs.declared.reading_error.ReadingError.TheVariants.{At}
 use Rattle.sigma_top.specs.DocumentComplaints.{of_first, of_second}
 use Rattle.sigma_top.proofs.PassedOn.{passed_on}

@@ -7,5 +7,5 @@ use Rattle.sig_types.proofs.names.Names.find.Goals as goal
 
 pub returns : goal.returns
 returns c =
-    ap (option_map meaning_seen) (c.copied.ensures ∙ c.get.ensures.value) ∙ lookup-meaning c.as_slice.result.now c.self.inside.table.entries
-    ∙ ap (λ ds. meaning_of ds c.as_slice.result.now) c.self.view_is ∙ ap (meaning_of c.args.self.now) c.as_slice.ensures
+    ap (option_map meaning_seen) (c.copied.ensures ∙ c.get.ensures.value) ∙ lookup-meaning c.args.name.now c.self.inside.table.entries
+    ∙ ap (λ ds. meaning_of ds c.args.name.now) c.self.view_is

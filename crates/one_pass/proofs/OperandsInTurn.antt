@@ -1,0 +1,41 @@
+-- Operators with their right operands, one after another, and the levels at which they stand.
+use Rattle.std.proofs.Common.{◌≡◌, ℕ, List, Option, ap, ◌∙◌}
+use Rattle.std.specs.Prelude.{Result, Ok, Err, IfOk}
+use Rattle.model_core.specs.declared.model.Kind.{Kind}
+use Rattle.model_core.specs.Code.Views.{expression_of}
+use Rattle.model_read.specs.declared.stop.Stop.{Stop}
+use Rattle.one_pass.specs.declared.expressions.Operand.{Operand}
+use Rattle.model_core.specs.EventGraph as graph
+use Rattle.model_core.specs.Text.Lexing.{Lexeme}
+use Rattle.model_core.specs.Text.Written.{WrittenExpression}
+use Rattle.model_core.specs.Text.Format.{ByRule}
+use Rattle.model_core.specs.Text.Expressions.{Level, level_format}
+use Rattle.model_core.specs.Static.Meanings.{Meaning}
+use Rattle.model_core.specs.Inner.FormatReader.{Parse, Parser, and_next}
+use Rattle.model_core.specs.Inner.LanguageReader.{level_lookahead, language_reader}
+use Rattle.model_core.proofs.Formats.RuleLaws.{rule-is}
+use Rattle.model_core.proofs.Formats.OneTokenDecides.{levels-fine}
+use Rattle.model_read.specs.Inner.Ladder.{climb}
+use Rattle.one_pass.specs.Inner.ReadOperands.{IsOperand, ReadOperand}
+
+-- whatever stands before the first operator that is left: the operators from there on are what is left of those from the first on
+abbrev pub ClimbedTo : (List ℕ → Option Meaning) → ℕ → ℕ → ℕ → List Lexeme → List Lexeme → graph.Expression → Option Kind → ℕ → graph.Expression → Option Kind → ℕ → Type 0
+ClimbedTo means under least now before left x kind at y kind' at' =
+    (e : WrittenExpression) → IsOperand means e x kind at → (f : WrittenExpression) × IsOperand means f y kind' at' × (climb under now f left ≡ climb under least e before)
+
+module _ (means : List ℕ → Option Meaning) where
+  -- a level reads as its format does
+  pub by_level : (l : Level) (tokens after : List Lexeme) (r : Result Operand Stop) → IfOk r (λ e. ReadOperand means (language_reader (level_format l) tokens) after (expression_of e.expr) e.kind e.at)
+      → IfOk r (λ e. ReadOperand means (language_reader (ByRule l) tokens) after (expression_of e.expr) e.kind e.at)
+  by_level l tokens after (Ok e) r = record { written = r.written; is_read = rule-is level_lookahead level_format levels-fine l tokens ∙ r.is_read; operand = r.operand }
+  by_level l tokens after (Err e) r = tt
+
+  -- the first operand, and then what stands behind it
+  pub behind_first : (others : WrittenExpression → Parser WrittenExpression) (whole first : Parse WrittenExpression) (between after : List Lexeme) (r : Result Operand Stop) (x : graph.Expression) (kind : Option Kind) (at : ℕ)
+      → whole ≡ and_next others first → ReadOperand means first between x kind at
+      → IfOk r (λ e. (w : WrittenExpression) → IsOperand means w x kind at → ReadOperand means (others w between) after (expression_of e.expr) e.kind e.at)
+      → IfOk r (λ e. ReadOperand means whole after (expression_of e.expr) e.kind e.at)
+  behind_first others whole first between after (Ok e) x kind at same read go =
+      let next = go read.written read.operand in
+      record { written = next.written; is_read = same ∙ ap (and_next others) read.is_read ∙ next.is_read; operand = next.operand }
+  behind_first others whole first between after (Err e) x kind at same read go = tt

@@ -1,0 +1,32 @@
+-- An expression that was read and checked at once.
+use Rattle.std.specs.Prelude.{◌≡◌, ℕ, List, [], Option}
+use Rattle.model_core.specs.declared.model.Kind.{Kind}
+use Rattle.model_core.specs.EventGraph as graph
+use Rattle.model_core.specs.Text.Lexing.{Lexeme}
+use Rattle.model_core.specs.Text.Written.{WrittenExpression}
+use Rattle.model_core.specs.Text.Expressions.{place}
+use Rattle.model_core.specs.Text.Numbering.{expression}
+use Rattle.model_core.specs.Static.Meanings.{Meaning}
+use Rattle.model_core.specs.Static.Kinds.{expression_kind}
+use Rattle.model_core.specs.Static.PartFaults.{expression_faults}
+use Rattle.model_core.specs.Inner.FormatReader.{Parse, took}
+use Rattle.model_read.specs.Inner.Ladder.{climb}
+use Rattle.sig_types.specs.Inner.Checked.{NumberedAs}
+
+-- where names mean this, an expression without faults, of this number, this kind and at this place
+pub record IsOperand (means : List ℕ → Option Meaning) (e : WrittenExpression) (x : graph.Expression) (kind : Option Kind) (at : ℕ) : Type 0 where
+  pub unbroken : expression_faults means e ≡ []
+  pub numbers : NumberedAs means (λ d. expression d e) x
+  pub has_kind : kind ≡ expression_kind means e
+  pub begins : at ≡ place e
+
+-- what is read is such an expression
+pub record ReadOperand (means : List ℕ → Option Meaning) (read : Parse WrittenExpression) (after : List Lexeme) (x : graph.Expression) (kind : Option Kind) (at : ℕ) : Type 0 where
+  pub written : WrittenExpression
+  pub is_read : read ≡ took written after
+  pub operand : IsOperand means written x kind at
+
+-- behind an expression stand operators and their right operands, which together are such an expression
+abbrev pub ClimbsFrom : (List ℕ → Option Meaning) → ℕ → ℕ → List Lexeme → List Lexeme → graph.Expression → Option Kind → ℕ → graph.Expression → Option Kind → ℕ → Type 0
+ClimbsFrom means under least before after x kind at y kind' at' =
+    (e : WrittenExpression) → IsOperand means e x kind at → ReadOperand means (climb under least e before) after y kind' at'

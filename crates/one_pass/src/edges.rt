@@ -1,0 +1,168 @@
+//! Edges, which are checked as they are read. Where an edge breaks a static rule these functions give up.
+
+ghost use Rattle.std.specs.Prelude.{◌≡◌, ℕ, pos, true, List, [], Option, Some, IfOk, OnOk};
+ghost use Rattle.model_core.specs.declared.model.Kind.TheVariants as kinds;
+ghost use Rattle.model_core.specs.declared.token.Word.TheVariants.{After, Priority};
+ghost use Rattle.model_core.specs.EventGraph.{Number, Truth};
+ghost use Rattle.model_core.specs.Code.Views.{expression_of, edge_of};
+ghost use Rattle.model_core.specs.Code.WrittenViews.{written_number, written_edge};
+ghost use Rattle.model_core.specs.Text.Format.{reserved, any_number, ◌*>◌, maybe};
+ghost use Rattle.model_core.specs.Text.Expressions.{expression_format};
+ghost use Rattle.model_core.specs.Text.Language.{when_format, schedule_format, urgent_format, edge_format};
+ghost use Rattle.model_core.specs.Text.Numbering as numbering;
+ghost use Rattle.model_core.specs.Text.Numbering.{written_or, natural};
+ghost use Rattle.model_core.specs.Static.Meanings.{Meaning, meaning_of};
+ghost use Rattle.model_core.specs.Static.PartFaults.{if_written, operand_faults, priority_faults, edge_faults};
+ghost use Rattle.sig_types.specs.Inner.Checked.{NumberedAs};
+ghost use Rattle.one_pass.specs.Inner.ReadParts.{ReadSure};
+
+use crate::carried::carried;
+use crate::values::value;
+use model_core::{Edge, EdgeForm, Expr, Kind, RawEdge, RawNumber, StaticKind, Symbol, Word};
+use model_read::{Cursor, Phrase, Stop};
+use sig_base::List;
+use sig_types::{Names, Told, bounded};
+use std::alloc::Global;
+
+/// Reads the delay of an edge: 0 where none is written.
+fn delay(alloc: Global, cursor: &mut Cursor<'_>, names: &Names) -> Result<Expr, Stop>
+    ensures { IfOk result (λ e. ReadSure (maybe (reserved After *> expression_format)) (meaning_of names.now) (if_written (operand_faults (meaning_of names.now) (Some kinds.Range))) (λ d. written_or (numbering.expression d) (Number (pos 0))) cursor.old cursor.new (expression_of e)) }
+{
+    if !cursor.begins_word(Word::After) {
+        return Ok(Expr::Int(0));
+    }
+    cursor.word(Word::After)?;
+    let delay = value(alloc, cursor, names, Some(Kind::Range))?;
+    Ok(delay)
+}
+
+/// A priority within its limits.
+fn within(raw: &RawNumber) -> Result<u8, Stop>
+    ensures unbroken { OnOk result (priority_faults (written_number raw.now) ≡ []) }
+    ensures numbers { IfOk result (λ p. natural (written_number raw.now) ≡ Some p) }
+{
+    let mut told = Told::new();
+    let priority = bounded(raw, 1, 255, StaticKind::PriorityOutside, &mut told);
+    match told.fault() {
+        None => Ok(priority as u8),
+        Some(_) => Err(Stop::Unexpected),
+    }
+}
+
+/// Reads the priority of an edge: 5 where none is written.
+fn priority(cursor: &mut Cursor<'_>) -> Result<u8, Stop>
+    ensures { (means : List ℕ → Option Meaning) → IfOk result (λ p. ReadSure (maybe (reserved Priority *> any_number)) means (if_written priority_faults) (λ d. written_or natural 5) cursor.old cursor.new p) }
+{
+    if !cursor.begins_word(Word::Priority) {
+        return Ok(5);
+    }
+    cursor.word(Word::Priority)?;
+    let raw = cursor.number()?;
+    let priority = within(&raw)?;
+    Ok(priority)
+}
+
+/// Reads the condition of an edge: true where none is written.
+fn condition(alloc: Global, cursor: &mut Cursor<'_>, names: &Names) -> Result<Expr, Stop>
+    ensures { IfOk result (λ e. ReadSure (maybe when_format) (meaning_of names.now) (if_written (operand_faults (meaning_of names.now) (Some kinds.Truth))) (λ d. written_or (numbering.expression d) (Truth true)) cursor.old cursor.new (expression_of e)) }
+{
+    if !cursor.begins_word(Word::When) {
+        return Ok(Expr::Truth(true));
+    }
+    cursor.word(Word::When)?;
+    let condition = value(alloc, cursor, names, Some(Kind::Truth))?;
+    Ok(condition)
+}
+
+/// Reads an edge that schedules.
+fn schedule(
+    alloc: Global,
+    cursor: &mut Cursor<'_>,
+    names: &Names,
+    taken: &[List<Option<Kind>>],
+) -> Result<Edge, Stop>
+    ensures { IfOk result (λ e. ReadSure schedule_format (meaning_of names.now) (edge_faults (meaning_of names.now) taken.now) numbering.edge cursor.old cursor.new (edge_of e)) }
+{
+    cursor.word(Word::Schedule)?;
+    let carried = carried(alloc, cursor, names, taken)?;
+    let delay = delay(alloc, cursor, names)?;
+    let priority = priority(cursor)?;
+    let condition = condition(alloc, cursor, names)?;
+    cursor.symbol(Symbol::Semicolon)?;
+    Ok(Edge {
+        target: carried.target,
+        values: carried.values,
+        condition,
+        form: EdgeForm::Schedule { delay, priority },
+    })
+}
+
+/// Reads an urgent edge.
+fn urgent(
+    alloc: Global,
+    cursor: &mut Cursor<'_>,
+    names: &Names,
+    taken: &[List<Option<Kind>>],
+) -> Result<Edge, Stop>
+    ensures { IfOk result (λ e. ReadSure urgent_format (meaning_of names.now) (edge_faults (meaning_of names.now) taken.now) numbering.edge cursor.old cursor.new (edge_of e)) }
+{
+    cursor.word(Word::Urgent)?;
+    let carried = carried(alloc, cursor, names, taken)?;
+    let condition = condition(alloc, cursor, names)?;
+    cursor.symbol(Symbol::Semicolon)?;
+    Ok(Edge {
+        target: carried.target,
+        values: carried.values,
+        condition,
+        form: EdgeForm::Urgent,
+    })
+}
+
+/// The edge that is written, where it breaks no static rule.
+fn checked(
+    alloc: Global,
+    names: &Names,
+    taken: &[List<Option<Kind>>],
+    raw: &RawEdge,
+) -> Result<Edge, Stop>
+    ensures unbroken { OnOk result (edge_faults (meaning_of names.now) taken.now (written_edge raw.now) ≡ []) }
+    ensures numbers { IfOk result (λ e. NumberedAs (meaning_of names.now) (λ d. numbering.edge d (written_edge raw.now)) (edge_of e)) }
+{
+    let mut told = Told::new();
+    let edge = sig_types::edge(alloc, names, taken, raw, &mut told)?;
+    match told.fault() {
+        None => Ok(edge),
+        Some(_) => Err(Stop::Unexpected),
+    }
+}
+
+/// Reads an edge as it is written, and checks it then.
+fn written_first(
+    alloc: Global,
+    cursor: &mut Cursor<'_>,
+    names: &Names,
+    taken: &[List<Option<Kind>>],
+) -> Result<Edge, Stop>
+    ensures { IfOk result (λ e. ReadSure edge_format (meaning_of names.now) (edge_faults (meaning_of names.now) taken.now) numbering.edge cursor.old cursor.new (edge_of e)) }
+{
+    let raw = RawEdge::read(alloc, cursor)?;
+    checked(alloc, names, taken, &raw)
+}
+
+/// Reads an edge. One that cancels is rare.
+pub(crate) fn edge(
+    alloc: Global,
+    cursor: &mut Cursor<'_>,
+    names: &Names,
+    taken: &[List<Option<Kind>>],
+) -> Result<Edge, Stop>
+    ensures { IfOk result (λ e. ReadSure edge_format (meaning_of names.now) (edge_faults (meaning_of names.now) taken.now) numbering.edge cursor.old cursor.new (edge_of e)) }
+{
+    if cursor.begins_word(Word::Schedule) {
+        schedule(alloc, cursor, names, taken)
+    } else if cursor.begins_word(Word::Urgent) {
+        urgent(alloc, cursor, names, taken)
+    } else {
+        written_first(alloc, cursor, names, taken)
+    }
+}

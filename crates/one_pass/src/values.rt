@@ -1,0 +1,81 @@
+//! Values, which are checked as they are read: expressions of kinds that are known before. Where one breaks a static rule
+//! these functions give up.
+
+ghost use Rattle.std.specs.Prelude.{◌≡◌, map, IfOk};
+ghost use Rattle.model_core.specs.declared.token.Symbol.TheVariants.{Comma};
+ghost use Rattle.model_core.specs.Code.Views.{expression_of};
+ghost use Rattle.model_core.specs.Text.Format.{mark, ◌*>◌, separated};
+ghost use Rattle.model_core.specs.Text.Expressions.{expression_format};
+ghost use Rattle.model_core.specs.Text.Numbering as numbering;
+ghost use Rattle.model_core.specs.Text.Numbering.{each_numbered};
+ghost use Rattle.model_core.specs.Static.Meanings.{meaning_of};
+ghost use Rattle.model_core.specs.Static.PartFaults.{operand_faults};
+ghost use Rattle.sig_types.specs.Inner.Wanted.{wanted};
+ghost use Rattle.one_pass.specs.Inner.ReadParts.{ReadSure};
+ghost use Rattle.one_pass.specs.Inner.ReadValues.{fitting_faults};
+
+use crate::expressions::{expect, expression};
+use model_core::{Expr, Kind, Symbol};
+use model_read::{Cursor, Stop, packed};
+use sig_base::List;
+use sig_types::Names;
+use std::alloc::Global;
+
+/// Reads an expression of this kind, where both are known.
+pub(crate) fn value(
+    alloc: Global,
+    cursor: &mut Cursor<'_>,
+    names: &Names,
+    wanted: Option<Kind>,
+) -> Result<Expr, Stop>
+    ensures { IfOk result (λ e. ReadSure expression_format (meaning_of names.now) (operand_faults (meaning_of names.now) wanted) numbering.expression cursor.old cursor.new (expression_of e)) }
+{
+    let operand = expression(alloc, cursor, names)?;
+    expect(wanted, &operand)?;
+    Ok(operand.expr)
+}
+
+/// Reads a comma and the value behind it.
+fn next(
+    alloc: Global,
+    cursor: &mut Cursor<'_>,
+    names: &Names,
+    wanted: Option<Kind>,
+) -> Result<Expr, Stop>
+    ensures { IfOk result (λ e. ReadSure (mark Comma *> expression_format) (meaning_of names.now) (operand_faults (meaning_of names.now) wanted) numbering.expression cursor.old cursor.new (expression_of e)) }
+{
+    cursor.symbol(Symbol::Comma)?;
+    let value = value(alloc, cursor, names, wanted)?;
+    Ok(value)
+}
+
+/// The kind that the value at a place must have.
+fn wanted_at(kinds: &[Option<Kind>], i: usize) -> Option<Kind>
+    ensures { result ≡ wanted kinds.now i }
+{
+    match kinds.get(i) {
+        Some(kind) => *kind,
+        None => None,
+    }
+}
+
+/// Reads values, separated by commas: one of each of these kinds.
+pub(crate) fn values(
+    alloc: Global,
+    cursor: &mut Cursor<'_>,
+    names: &Names,
+    kinds: &[Option<Kind>],
+) -> Result<List<Expr>, Stop>
+    ensures { IfOk result (λ es. ReadSure (separated expression_format) (meaning_of names.now) (fitting_faults (meaning_of names.now) kinds.now) (λ d. each_numbered (numbering.expression d)) cursor.old cursor.new (map expression_of es)) }
+{
+    let mut all = List::from_vec(Vec::with_capacity(alloc, kinds.len())?);
+    all.push(value(alloc, cursor, names, wanted_at(kinds, 0))?)?;
+    while cursor.begins_symbol(Symbol::Comma) {
+        let wanted = wanted_at(kinds, all.len());
+        all.push(next(alloc, cursor, names, wanted)?)?;
+    }
+    if all.len() != kinds.len() {
+        return Err(Stop::Unexpected);
+    }
+    Ok(packed(all))
+}
