@@ -1,5 +1,5 @@
 -- Operators with their right operands, one after another, and the levels at which they stand.
-use Rattle.std.proofs.Common.{◌≡◌, ℕ, List, Option, ap, ◌∙◌}
+use Rattle.std.proofs.Common.{◌≡◌, ℕ, ◌≤◌, Bool, true, false, if◌then◌else◌, List, Option, refl, ap, ◌∙◌}
 use Rattle.std.specs.Prelude.{Result, Ok, Err, IfOk}
 use Rattle.model_core.specs.declared.model.Kind.{Kind}
 use Rattle.model_core.specs.Code.Views.{expression_of}
@@ -8,20 +8,29 @@ use Rattle.one_pass.specs.declared.expressions.Operand.{Operand}
 use Rattle.model_core.specs.EventGraph as graph
 use Rattle.model_core.specs.Text.Lexing.{Lexeme}
 use Rattle.model_core.specs.Text.Written.{WrittenExpression}
-use Rattle.model_core.specs.Text.Format.{ByRule}
+use Rattle.model_core.specs.declared.token.Word.TheVariants as words
+use Rattle.model_core.specs.Text.Format.{AWord, ByRule}
 use Rattle.model_core.specs.Text.Expressions.{Level, level_format}
 use Rattle.model_core.specs.Static.Meanings.{Meaning}
 use Rattle.model_core.specs.Inner.FormatReader.{Parse, Parser, and_next}
 use Rattle.model_core.specs.Inner.LanguageReader.{level_lookahead, language_reader}
 use Rattle.model_core.proofs.Formats.RuleLaws.{rule-is}
 use Rattle.model_core.proofs.Formats.OneTokenDecides.{levels-fine}
-use Rattle.model_read.specs.Inner.Ladder.{climb}
-use Rattle.one_pass.specs.Inner.ReadOperands.{IsOperand, ReadOperand}
+use Rattle.model_core.specs.Inner.FirstTokens.{begins_as}
+use Rattle.model_read.specs.Inner.Ladder.{operand_level, climb}
+use Rattle.model_read.proofs.OperandLevels.{from-not, from-unary}
+use Rattle.one_pass.specs.Inner.ReadOperands.{first_operand, IsOperand, ReadOperand}
 
 -- whatever stands before the first operator that is left: the operators from there on are what is left of those from the first on
 abbrev pub ClimbedTo : (List ℕ → Option Meaning) → ℕ → ℕ → ℕ → List Lexeme → List Lexeme → graph.Expression → Option Kind → ℕ → graph.Expression → Option Kind → ℕ → Type 0
 ClimbedTo means under least now before left x kind at y kind' at' =
     (e : WrittenExpression) → IsOperand means e x kind at → (f : WrittenExpression) × IsOperand means f y kind' at' × (climb under now f left ≡ climb under least e before)
+
+-- a level begins with its first operand, which may be a negated one, and goes on with the operators that may stand behind that
+pub first_comes : (under : ℕ) (tokens : List Lexeme) (negated : Bool) (least : ℕ) → under ≤ 5 → (negated ≡ true → (3 ≤ under) × (begins_as (AWord words.Not) tokens ≡ true)) → (negated ≡ false → 3 ≤ under → begins_as (AWord words.Not) tokens ≡ false)
+    → least ≡ (if negated then 3 else 0) → language_reader (ByRule (operand_level under)) tokens ≡ and_next (climb under least) (first_operand negated tokens)
+first_comes under tokens true least few comes absent is = rw is (from-not under tokens few (comes refl))
+first_comes under tokens false least few comes absent is = rw is (from-unary under tokens few (absent refl))
 
 module _ (means : List ℕ → Option Meaning) where
   -- a level reads as its format does

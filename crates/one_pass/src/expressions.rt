@@ -1,7 +1,7 @@
 //! Expressions, which are checked as they are read. They alone stand inside one another, so these functions alone call one
 //! another again. Where an expression breaks a static rule they give up.
 
-ghost use Rattle.std.specs.Prelude.{◌≡◌, ◌+◌, ◌≤◌, true, false, [], Some, length, IfOk, OnOk};
+ghost use Rattle.std.specs.Prelude.{◌≡◌, ◌+◌, ◌≤◌, true, false, if◌then◌else◌, [], Some, length, IfOk, OnOk};
 ghost use Rattle.model_core.specs.declared.model.Kind.TheVariants.{Range};
 ghost use Rattle.model_core.specs.declared.token.Word.TheVariants.{Not};
 ghost use Rattle.model_core.specs.EventGraph.{Binary};
@@ -22,7 +22,7 @@ ghost use Rattle.model_read.specs.Inner.Ladder.{operand_level, climb, if_format,
 ghost use Rattle.model_read.specs.Inner.Spelled.{spelled_name};
 ghost use Rattle.sig_types.specs.Inner.Checked.{NumberedAs};
 ghost use Rattle.sig_types.specs.Inner.Seen.{variable_role};
-ghost use Rattle.one_pass.specs.Inner.ReadOperands.{ReadOperand, ClimbsFrom};
+ghost use Rattle.one_pass.specs.Inner.ReadOperands.{first_operand, ReadOperand, ClimbsFrom};
 
 use model_core::{Expr, Kind, Op, Symbol, Word};
 use model_read::{CONJUNCTIONS, Cursor, LEVELS, Spelling, Stop, next_level};
@@ -125,12 +125,28 @@ fn operand_under(
     ensures reads { IfOk result (λ e. ReadOperand (meaning_of names.now) (language_reader (ByRule (operand_level under)) cursor.old) cursor.new (expression_of e.expr) e.kind e.at) }
     ensures shorter { IfOk result (λ e. length cursor.new + 1 ≤ length cursor.old) }
 {
-    if begins_negation(cursor, under) {
-        let first = negated(alloc, cursor, names)?;
-        return others(alloc, cursor, names, first, CONJUNCTIONS, under);
+    let is_negated = begins_negation(cursor, under);
+    let first = first_operand(alloc, cursor, names, is_negated)?;
+    let least = least_behind(is_negated);
+    others(alloc, cursor, names, first, least, under)
+}
+
+/// Reads `not` with its operand, or else an operand of `*`.
+#[cycle(expressions)]
+fn first_operand(
+    alloc: Global,
+    cursor: &mut Cursor<'_>,
+    names: &Names,
+    is_negated: bool,
+) -> Result<Operand, Stop>
+    ensures reads { IfOk result (λ e. ReadOperand (meaning_of names.now) (first_operand is_negated cursor.old) cursor.new (expression_of e.expr) e.kind e.at) }
+    ensures shorter { IfOk result (λ e. length cursor.new + 1 ≤ length cursor.old) }
+{
+    if is_negated {
+        negated(alloc, cursor, names)
+    } else {
+        unary(alloc, cursor, names)
     }
-    let first = unary(alloc, cursor, names)?;
-    others(alloc, cursor, names, first, 0, under)
 }
 
 /// Reads what stands behind the first operand: operators with their right operands, of the levels from `least` up to the
@@ -166,6 +182,13 @@ fn begins_negation(cursor: &Cursor<'_>, under: usize) -> bool
     ensures no { result ≡ false → 3 ≤ under → begins_as (AWord Not) cursor.now ≡ false }
 {
     under >= CONJUNCTIONS && cursor.begins_word(Word::Not)
+}
+
+/// The least level of an operator that may stand behind the first operand.
+fn least_behind(is_negated: bool) -> usize
+    ensures { result ≡ (if is_negated then 3 else 0) }
+{
+    if is_negated { CONJUNCTIONS } else { 0 }
 }
 
 /// Two operands with an operator between them.

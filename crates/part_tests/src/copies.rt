@@ -19,33 +19,41 @@ pub fn limited(alloc: Global, limit: i64) -> Result<Expr, NoMemory> {
     Expr::conditional(alloc, test, Expr::Scalar(0), other)
 }
 
-/// A vertex `RUN` with a parameter, a draw and an edge that cancels.
-pub fn drawing_vertex(alloc: Global, limit: i64) -> Result<Vertex, NoMemory> {
-    let draw = Change::Draw {
+/// The change that draws from the table.
+fn draw() -> Change {
+    Change::Draw {
         target: Target {
             var: 0,
             index: None,
         },
         stream: 7,
         choice: Choice::ByTable { table: 0 },
-    };
-    let edge = Edge {
+    }
+}
+
+/// The edge that cancels, with the expression of this limit.
+fn cancelling(alloc: Global, limit: i64) -> Result<Edge, NoMemory> {
+    Ok(Edge {
         target: 0,
         values: List::of_one(alloc, limited(alloc, limit)?)?,
         condition: Expr::Truth(true),
         form: EdgeForm::CancelEqual,
-    };
-    Ok(Vertex {
-        name: name(alloc, b"RUN")?,
-        params: List::of_one(alloc, 0)?,
-        changes: List::of_one(alloc, draw)?,
-        edges: List::of_one(alloc, edge)?,
     })
 }
 
-/// A model of one variable, one table and one vertex.
-pub fn drawing_model(alloc: Global, limit: i64) -> Result<Model, NoMemory> {
-    let var = Var {
+/// A vertex `RUN` with a parameter, a draw and an edge that cancels.
+pub fn drawing_vertex(alloc: Global, limit: i64) -> Result<Vertex, NoMemory> {
+    Ok(Vertex {
+        name: name(alloc, b"RUN")?,
+        params: List::of_one(alloc, 0)?,
+        changes: List::of_one(alloc, draw())?,
+        edges: List::of_one(alloc, cancelling(alloc, limit)?)?,
+    })
+}
+
+/// The variable `N`.
+fn variable(alloc: Global) -> Result<Var, NoMemory> {
+    Ok(Var {
         name: name(alloc, b"N")?,
         size: 0,
         kind: Kind::Range,
@@ -53,21 +61,27 @@ pub fn drawing_model(alloc: Global, limit: i64) -> Result<Model, NoMemory> {
         hi: 9,
         clip: true,
         initial: 1,
+    })
+}
+
+/// The table `T` of one row.
+fn table(alloc: Global) -> Result<Table, NoMemory> {
+    let row = Row {
+        value: 4,
+        weight: 2,
     };
-    let table = Table {
+    Ok(Table {
         name: name(alloc, b"T")?,
-        rows: List::of_one(
-            alloc,
-            Row {
-                value: 4,
-                weight: 2,
-            },
-        )?,
-    };
+        rows: List::of_one(alloc, row)?,
+    })
+}
+
+/// A model of one variable, one table and one vertex.
+pub fn drawing_model(alloc: Global, limit: i64) -> Result<Model, NoMemory> {
     Ok(Model {
         name: name(alloc, b"DRAWING")?,
-        vars: List::of_one(alloc, var)?,
-        tables: List::of_one(alloc, table)?,
+        vars: List::of_one(alloc, variable(alloc)?)?,
+        tables: List::of_one(alloc, table(alloc)?)?,
         watch: List::of_one(alloc, Watch::Event { vertex: 0 })?,
         vertices: List::of_one(alloc, drawing_vertex(alloc, limit)?)?,
     })
@@ -82,11 +96,20 @@ fn an_expression_is_copied(rt: HostRuntime) -> Result<(), Fail> {
     Ok(())
 }
 
+/// Whether a model is the one of this limit.
+fn has_limit(alloc: Global, model: &Model, limit: i64) -> Result<bool, NoMemory> {
+    Ok(same_model(model, &drawing_model(alloc, limit)?))
+}
+
+/// A copy of the model of this limit.
+fn copied_model(alloc: Global, limit: i64) -> Result<Model, NoMemory> {
+    copy_model(alloc, &drawing_model(alloc, limit)?)
+}
+
 #[test]
 fn a_model_is_copied(rt: HostRuntime) -> Result<(), Fail> {
-    let model = drawing_model(rt.alloc(), 5)?;
-    let copy = copy_model(rt.alloc(), &model)?;
-    assert_eq!(rt; same_model(&copy, &model), true);
-    assert_eq!(rt; same_model(&copy, &drawing_model(rt.alloc(), 6)?), false);
+    let copy = copied_model(rt.alloc(), 5)?;
+    assert!(rt; has_limit(rt.alloc(), &copy, 5)?);
+    assert!(rt; !has_limit(rt.alloc(), &copy, 6)?);
     Ok(())
 }

@@ -56,18 +56,47 @@ fn is_printed(alloc: Global, expr: &Expr, text: &[u8]) -> Result<bool, NoMemory>
 }
 
 #[test]
-fn an_expression_is_printed(rt: HostRuntime) -> Result<(), Fail> {
-    let alloc = rt.alloc();
-    let least = before(alloc, Op::Min, Expr::Int(10))?;
-    let later = before(alloc, Op::Sub, before(alloc, Op::Sub, Expr::Int(2))?)?;
-    let same = Expr::Not(Box::new(alloc, before(alloc, Op::Eq, Expr::Clk)?)?);
-    let negative = Expr::Neg(Box::new(alloc, Expr::Neg(Box::new(alloc, Expr::Scalar(0))?))?);
-    let cell = Expr::Cell(0, Box::new(alloc, before(alloc, Op::Add, Expr::Int(1))?)?);
-    assert!(rt; is_printed(alloc, &limited(alloc, 5)?, b"if N < 3 then N else -5")?);
-    assert!(rt; is_printed(alloc, &least, b"min(N, 10)")?);
-    assert!(rt; is_printed(alloc, &later, b"N - (N - 2)")?);
-    assert!(rt; is_printed(alloc, &same, b"not N = clk")?);
-    assert!(rt; is_printed(alloc, &negative, b"--N")?);
-    assert!(rt; is_printed(alloc, &cell, b"N[N + 1]")?);
+fn a_condition_is_printed(rt: HostRuntime) -> Result<(), Fail> {
+    let chosen = limited(rt.alloc(), 5)?;
+    assert!(rt; is_printed(rt.alloc(), &chosen, b"if N < 3 then N else -5")?);
+    Ok(())
+}
+
+#[test]
+fn a_call_is_printed(rt: HostRuntime) -> Result<(), Fail> {
+    let least = before(rt.alloc(), Op::Min, Expr::Int(10))?;
+    assert!(rt; is_printed(rt.alloc(), &least, b"min(N, 10)")?);
+    Ok(())
+}
+
+#[test]
+fn an_operand_is_printed_in_parentheses(rt: HostRuntime) -> Result<(), Fail> {
+    let inner = before(rt.alloc(), Op::Sub, Expr::Int(2))?;
+    let outer = before(rt.alloc(), Op::Sub, inner)?;
+    assert!(rt; is_printed(rt.alloc(), &outer, b"N - (N - 2)")?);
+    Ok(())
+}
+
+#[test]
+fn a_comparison_is_printed_behind_not(rt: HostRuntime) -> Result<(), Fail> {
+    let same = before(rt.alloc(), Op::Eq, Expr::Clk)?;
+    let other = Expr::Not(Box::new(rt.alloc(), same)?);
+    assert!(rt; is_printed(rt.alloc(), &other, b"not N = clk")?);
+    Ok(())
+}
+
+#[test]
+fn two_signs_are_printed(rt: HostRuntime) -> Result<(), Fail> {
+    let negative = Expr::Neg(Box::new(rt.alloc(), Expr::Scalar(0))?);
+    let positive = Expr::Neg(Box::new(rt.alloc(), negative)?);
+    assert!(rt; is_printed(rt.alloc(), &positive, b"--N")?);
+    Ok(())
+}
+
+#[test]
+fn an_index_is_printed(rt: HostRuntime) -> Result<(), Fail> {
+    let index = before(rt.alloc(), Op::Add, Expr::Int(1))?;
+    let cell = Expr::Cell(0, Box::new(rt.alloc(), index)?);
+    assert!(rt; is_printed(rt.alloc(), &cell, b"N[N + 1]")?);
     Ok(())
 }

@@ -1,17 +1,24 @@
 -- An expression that was read and checked at once.
-use Rattle.std.specs.Prelude.{◌≡◌, ℕ, List, [], Option}
+use Rattle.std.specs.Prelude.{◌≡◌, ℕ, Bool, true, false, List, [], Option}
 use Rattle.model_core.specs.declared.model.Kind.{Kind}
 use Rattle.model_core.specs.EventGraph as graph
 use Rattle.model_core.specs.Text.Lexing.{Lexeme}
 use Rattle.model_core.specs.Text.Written.{WrittenExpression}
-use Rattle.model_core.specs.Text.Expressions.{place}
+use Rattle.model_core.specs.Text.Format.{ByRule}
+use Rattle.model_core.specs.Text.Expressions.{Unary, place}
 use Rattle.model_core.specs.Text.Numbering.{expression}
 use Rattle.model_core.specs.Static.Meanings.{Meaning}
 use Rattle.model_core.specs.Static.Kinds.{expression_kind}
 use Rattle.model_core.specs.Static.PartFaults.{expression_faults}
 use Rattle.model_core.specs.Inner.FormatReader.{Parse, took}
-use Rattle.model_read.specs.Inner.Ladder.{climb}
+use Rattle.model_core.specs.Inner.LanguageReader.{language_reader}
+use Rattle.model_read.specs.Inner.Ladder.{climb, not_format}
 use Rattle.sig_types.specs.Inner.Checked.{NumberedAs}
+
+-- the first operand at a level, which may be a negated one
+abbrev pub first_operand : Bool → List Lexeme → Parse WrittenExpression
+first_operand true tokens = language_reader not_format tokens
+first_operand false tokens = language_reader (ByRule Unary) tokens
 
 -- where names mean this, an expression without faults, of this number, this kind and at this place
 pub record IsOperand (means : List ℕ → Option Meaning) (e : WrittenExpression) (x : graph.Expression) (kind : Option Kind) (at : ℕ) : Type 0 where

@@ -5,10 +5,9 @@ use Rattle.model_core.specs.Text.Expressions.{Whole, Unary, Primary, joining, le
 use Rattle.model_core.specs.Static.Meanings.{meaning_of}
 use Rattle.model_read.specs.Inner.Ladder.{climb}
 use Rattle.model_read.specs.Inner.Infixes.{infix_of}
-use Rattle.model_read.proofs.OperandLevels.{from-not, from-unary}
 use Rattle.model_read.proofs.OperatorsInTurn.{not-taken-is, one-more}
 use Rattle.one_pass.proofs.SureOperands.{joined_operand}
-use Rattle.one_pass.proofs.OperandsInTurn.{by_level, behind_first}
+use Rattle.one_pass.proofs.OperandsInTurn.{by_level, first_comes, behind_first}
 use Rattle.one_pass.proofs.expressions.+expressions.Goals as goal
 
 pub expression-returns-clause-reads : goal.expression-returns-clause-reads
@@ -23,13 +22,17 @@ pub primary-returns-clause-reads : goal.primary-returns-clause-reads
 unfolding level_format
 primary-returns-clause-reads t c = by_level (meaning_of c.args.names.now) Primary c.args.cursor.now c.undivided.new.cursor c.undivided.result c.undivided.ensures.reads
 
-pub operand_under-returns-then-begins_negation-clause-reads : goal.operand_under-returns-then-begins_negation-clause-reads
-operand_under-returns-then-begins_negation-clause-reads t c =
-    behind_first (meaning_of c.args.names.now) (climb c.args.under 3) _ _ c.negated.new.cursor c.others.new.cursor c.others.result _ _ _ (from-not c.args.under c.args.cursor.now c.requires (c.begins_negation.ensures.yes c.if-begins_negation.true)) c.in_ok-first.ensures.reads c.others.ensures.reads
+pub first_operand-returns-then-is_negated-clause-reads : goal.first_operand-returns-then-is_negated-clause-reads
+first_operand-returns-then-is_negated-clause-reads t c = rw c.if-is_negated.true c.negated.ensures.reads
+
+pub first_operand-returns-else-is_negated-clause-reads : goal.first_operand-returns-else-is_negated-clause-reads
+first_operand-returns-else-is_negated-clause-reads t c = rw c.if-is_negated.false c.unary.ensures.reads
 
 pub operand_under-returns-clause-reads : goal.operand_under-returns-clause-reads
 operand_under-returns-clause-reads t c =
-    behind_first (meaning_of c.args.names.now) (climb c.args.under 0) _ _ c.unary.new.cursor c.others-2.new.cursor c.others-2.result _ _ _ (from-unary c.args.under c.args.cursor.now c.requires (c.begins_negation.ensures.no c.if-begins_negation.false)) c.in_ok-first-2.ensures.reads c.others-2.ensures.reads
+    let begins = c.begins_negation-is_negated in
+    behind_first (meaning_of c.args.names.now) (climb c.args.under c.least_behind-least.result) _ _ c.first_operand.new.cursor c.others.new.cursor c.others.result _ _ _
+    (first_comes c.args.under c.args.cursor.now begins.result c.least_behind-least.result c.requires begins.ensures.yes begins.ensures.no c.least_behind-least.ensures) c.in_ok-first.ensures.reads c.others.ensures.reads
 
 pub others-loop-infix-preserved : goal.others-loop-infix-preserved
 others-loop-infix-preserved t c = record {

@@ -19,6 +19,9 @@ decreases-undivided l = length l.cursor.now * 32 + 6
 abbrev pub decreases-operand_under : goal.decreases-operand_under
 decreases-operand_under l = length l.cursor.now * 32 + 16
 
+abbrev pub decreases-first_operand : goal.decreases-first_operand
+decreases-first_operand l = length l.cursor.now * 32 + 15
+
 abbrev pub decreases-branches : goal.decreases-branches
 decreases-branches l = length l.cursor.now * 32 + 17
 
