@@ -7,23 +7,20 @@ ghost use Rattle.model_core.specs.Inner.OpeningCount.{deep_from};
 
 use model_core::{Symbol, Token, TokenKind, Word};
 
-/// Whether a token of the kind ends a part of a text.
-fn ends_part(kind: TokenKind) -> bool
-    ensures { (bytes : List ℕ) → result ≡ ends_part (lexeme_kind_of bytes kind) }
+/// Whether a token of the kind ends a part of a text, and whether it counts as an opening.
+fn effect(kind: TokenKind) -> (bool, bool)
+    ensures ends { (bytes : List ℕ) → result.0 ≡ ends_part (lexeme_kind_of bytes kind) }
+    ensures opens { (bytes : List ℕ) → result.1 ≡ is_opening (lexeme_kind_of bytes kind) }
 {
     match kind {
-        TokenKind::Symbol(Symbol::Semicolon | Symbol::OpenBrace | Symbol::CloseBrace) => true,
-        _ => false,
-    }
-}
-
-/// Whether a token of the kind counts as an opening.
-fn is_opening(kind: TokenKind) -> bool
-    ensures { (bytes : List ℕ) → result ≡ is_opening (lexeme_kind_of bytes kind) }
-{
-    match kind {
-        TokenKind::Word(Word::Or | Word::And | Word::Not | Word::If | Word::Min | Word::Max) =>
-            true,
+        TokenKind::Name | TokenKind::Number(_) => (false, false),
+        TokenKind::Word(Word::Or | Word::And | Word::Not | Word::If | Word::Min | Word::Max) => {
+            (false, true)
+        }
+        TokenKind::Word(_) => (false, false),
+        TokenKind::Symbol(Symbol::Semicolon | Symbol::OpenBrace | Symbol::CloseBrace) => (
+            true, false,
+        ),
         TokenKind::Symbol(
             Symbol::Equal
             | Symbol::NotEqual
@@ -38,8 +35,8 @@ fn is_opening(kind: TokenKind) -> bool
             | Symbol::Percent
             | Symbol::OpenParenthesis
             | Symbol::OpenBracket,
-        ) => true,
-        _ => false,
+        ) => (false, true),
+        TokenKind::Symbol(_) => (false, false),
     }
 }
 
@@ -49,9 +46,10 @@ pub fn first_too_deep(tokens: &[Token], limit: usize) -> Option<usize>
 {
     let mut room = limit;
     for token in tokens {
-        if ends_part(token.kind) {
+        let (ends, opens) = effect(token.kind);
+        if ends {
             room = limit;
-        } else if is_opening(token.kind) {
+        } else if opens {
             if room == 0 {
                 return Some(token.from);
             }

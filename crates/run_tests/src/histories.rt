@@ -173,10 +173,30 @@ vertex B(X) { }
 end
 ";
 
+/// What following a run of up to 1,000 events comes to, with the sink behind it.
+fn history(
+    alloc: Global,
+    text: &[u8],
+    until: u16,
+    sink: MemorySink,
+) -> Result<(Outcome, MemorySink), Refused> {
+    let mut sink = sink;
+    let model = model_of(alloc, text)?;
+    let outcome = followed::<MemorySink, Brand>(
+        alloc,
+        &model,
+        u64::from(until),
+        1000,
+        &mut sink,
+        Blank::new(1),
+    )?;
+    Ok((outcome, sink))
+}
+
 /// A model's text and the stop time of a run of up to 1,000 events, what following it comes to, and what is written of it.
 struct Told {
     text: &'static [u8],
-    until: u64,
+    until: u16,
     outcome: Outcome,
     written: &'static [u8],
 }
@@ -210,19 +230,9 @@ const TOLD: [Told; 3] = [
 fn histories_are_written_whole(rt: HostRuntime) -> Result<(), Fail> {
     let alloc = rt.alloc();
     for told in &TOLD {
-        let mut sink = MemorySink::begin(alloc, 1000, 1000, List::new(alloc))?;
-        let model = model_of(alloc, told.text)?;
-        if told.until <= 1000 {
-            let outcome = followed::<MemorySink, Brand>(
-                alloc,
-                &model,
-                told.until,
-                1000,
-                &mut sink,
-                Blank::new(1),
-            )?;
-            assert_eq!(rt; outcome, told.outcome);
-        }
+        let sink = MemorySink::begin(alloc, 1000, 1000, List::new(alloc))?;
+        let (outcome, sink) = history(alloc, told.text, told.until, sink)?;
+        assert_eq!(rt; outcome, told.outcome);
         assert_eq!(rt; sink.written(), told.written);
     }
     Ok(())
@@ -230,19 +240,19 @@ fn histories_are_written_whole(rt: HostRuntime) -> Result<(), Fail> {
 
 #[test]
 fn each_line_is_one_call(rt: HostRuntime) -> Result<(), Fail> {
-    let alloc = rt.alloc();
-    let model = model_of(alloc, CLOCK)?;
-    let mut sink = MemorySink::begin(alloc, 1000, 1000, List::new(alloc))?;
-    followed::<MemorySink, Brand>(alloc, &model, 12, 1000, &mut sink, Blank::new(1))?;
+    let sink = MemorySink::begin(rt.alloc(), 1000, 1000, List::new(rt.alloc()))?;
+    let (_, sink) = history(rt.alloc(), CLOCK, 12, sink)?;
     assert_eq!(rt; sink.calls(), 4);
     Ok(())
 }
 
-#[test]
-fn a_run_is_followed_on_from_its_budget(rt: HostRuntime) -> Result<(), Fail> {
-    let alloc = rt.alloc();
+/// What following a run of the clock up to 12 comes to, for two events and then on, with the sink behind it.
+fn history_in_two(
+    alloc: Global,
+    sink: MemorySink,
+) -> Result<((Outcome, Outcome), MemorySink), Refused> {
+    let mut sink = sink;
     let model = model_of(alloc, CLOCK)?;
-    let mut sink = MemorySink::begin(alloc, 1000, 1000, List::new(alloc))?;
     let outcomes = followed_twice::<MemorySink, Brand>(
         alloc,
         &model,
@@ -250,6 +260,13 @@ fn a_run_is_followed_on_from_its_budget(rt: HostRuntime) -> Result<(), Fail> {
         &mut sink,
         Blank::new(1),
     )?;
+    Ok((outcomes, sink))
+}
+
+#[test]
+fn a_run_is_followed_on_from_its_budget(rt: HostRuntime) -> Result<(), Fail> {
+    let sink = MemorySink::begin(rt.alloc(), 1000, 1000, List::new(rt.alloc()))?;
+    let (outcomes, sink) = history_in_two(rt.alloc(), sink)?;
     assert_eq!(rt; outcomes, (Outcome::Budget, Outcome::Stopped));
     assert_eq!(rt;
         sink.written(),
@@ -263,18 +280,10 @@ fn a_run_is_followed_on_from_its_budget(rt: HostRuntime) -> Result<(), Fail> {
 #[test]
 fn no_call_is_made_after_one_that_failed(rt: HostRuntime) -> Result<(), Fail> {
     let alloc = rt.alloc();
-    let model = model_of(alloc, CLOCK)?;
     let whole: &[u8] = b"at 0 N=1\nat 5 N=2\nat 10 N=3\nstopped 12\n";
     for failing in 1..40 {
-        let mut sink = MemorySink::begin(alloc, 1000, 1, List::of_one(alloc, failing)?)?;
-        let outcome = followed::<MemorySink, Brand>(
-            alloc,
-            &model,
-            12,
-            1000,
-            &mut sink,
-            Blank::new(1),
-        )?;
+        let sink = MemorySink::begin(alloc, 1000, 1, List::of_one(alloc, failing)?)?;
+        let (outcome, sink) = history(alloc, CLOCK, 12, sink)?;
         assert_eq!(rt; outcome, Outcome::WriteFault);
         assert_eq!(rt; sink.calls(), failing);
         assert_eq!(rt; sink.written(), &whole[..failing as usize - 1]);

@@ -112,13 +112,18 @@ fn begun<'m>(
     Run::begin(alloc, model, pending, 42, starts, 2)
 }
 
-#[test]
-fn a_clock_runs_until_it_is_stopped(rt: HostRuntime) -> Result<(), Fail> {
-    let alloc = rt.alloc();
+/// What each of four steps of the clock up to 12 comes to, and behind them the clock's time and the number of turns.
+fn stepped(alloc: Global) -> Result<([Turn; 4], u64, u64), Fail> {
     let model = clock(alloc)?;
     let none = List::new(alloc);
     let mut run = begun(alloc, &model, &none)?;
     let turns = turns::<PlainPending, Brand>(&mut run, 12, Blank::new(1))?;
+    Ok((turns, run.clock(), run.turns()))
+}
+
+#[test]
+fn a_clock_runs_until_it_is_stopped(rt: HostRuntime) -> Result<(), Fail> {
+    let (turns, time, count) = stepped(rt.alloc())?;
     assert_eq!(rt; turns[0], Turn::Ran { vertex: 0, time: 0 });
     assert_eq!(rt; turns[1], Turn::Ran { vertex: 0, time: 5 });
     assert_eq!(rt;
@@ -129,7 +134,7 @@ fn a_clock_runs_until_it_is_stopped(rt: HostRuntime) -> Result<(), Fail> {
         }
     );
     assert_eq!(rt; turns[3], Turn::Stopped);
-    assert_eq!(rt; (run.clock(), run.turns()), (10, 3));
+    assert_eq!(rt; (time, count), (10, 3));
     Ok(())
 }
 

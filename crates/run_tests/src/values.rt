@@ -77,13 +77,20 @@ fn binary(alloc: Global, op: Op, left: Expr, right: Expr) -> Result<Expr, NoMemo
 /// What a value comes to.
 type Outcome = Result<i64, FaultKind>;
 
-/// What an operator makes of two numbers.
-fn operated(alloc: Global, op: Op, a: i64, b: i64) -> Result<Outcome, NoMemory> {
-    let model = sample(alloc)?;
-    let state = begun(alloc, &model)?;
+/// The expression of an operator and two numbers.
+fn operation(alloc: Global, op: Op, a: i64, b: i64) -> Result<Expr, NoMemory>
+    ensures { IfOk result (λ expr. PossibleExpression sample (expression_of expr)) }
+{
     let left = number(alloc, a)?;
     let right = number(alloc, b)?;
-    let expr = binary(alloc, op, left, right)?;
+    binary(alloc, op, left, right)
+}
+
+/// What an operator makes of two numbers.
+fn operated(alloc: Global, op: Op, a: i64, b: i64) -> Result<Outcome, NoMemory> {
+    let expr = operation(alloc, op, a, b)?;
+    let model = sample(alloc)?;
+    let state = begun(alloc, &model)?;
     Ok(value(&model, &expr, &state, 0))
 }
 
