@@ -1,5 +1,5 @@
 -- Vertices may be renumbered, and those may go that no live vertex leads to: the runs stay the same.
-use Rattle.std.proofs.Common.{◌≡◌, ◌≤◌, ◌^◌, ℕ, ℤ, Bool, true, false, not, cond, ◌&&◌, ◌+◌, ◌==◌, nat_lt, List, [], ◌∷◌, ◌++◌, map, slice_index_or, Option, Some, None, option_map, Ok, refl, sym, ◌∙◌, ap, ap₂, subst, unwrap_or}
+use Rattle.std.proofs.Common.{◌≡◌, ◌≤◌, ◌^◌, ℕ, ℤ, Bool, true, false, not, cond, ◌&&◌, ◌+◌, ◌==◌, nat_lt, List, [], ◌∷◌, map, slice_index_or, Option, Some, None, option_map, Ok, refl, sym, ◌∙◌, ap, ap₂, subst, unwrap_or}
 use Rattle.std.proofs.lemmas.List.{map-append, length-map}
 use Rattle.std.specs.Prelude.{position, replicate}
 use Rattle.std.specs.List.{AllByRecursion, prefix_len}
@@ -14,6 +14,7 @@ use Rattle.model_core.specs.Run.History.{Moment, watched_values, watches, look}
 use Rattle.model_core.specs.Run.Same.{Same, SameLooks, thing, VertexNamed, parameter}
 use Rattle.model_core.specs.Rules.Drop.{edge_renumbered, vertex_renumbered, watched_renumbered}
 use Rattle.model_core.proofs.Alongside.{Alongside, both_go, bind-alongside, bind-alongside-same, in_turn-alongside}
+use Rattle.model_core.proofs.EachOne.{every-append}
 use Rattle.model_core.proofs.MappedPending.{KeepsDue, taken_off_mapped, without_next-mapped, without_all-mapped, next_among-every}
 use Rattle.model_core.proofs.LockStep.{entry_mapped, configuration_mapped, Follows, follows-looks}
 
@@ -33,10 +34,6 @@ pub record Renumbering (g : EventGraph) (f : ℕ → ℕ) (vertices : List Event
   pub first : f 0 ≡ 0
   pub first_live : Live 0
   pub watched : AllByRecursion (WatchedLive Live) g.watch
-
-every-append : {A : Type 0} (P : A → Type 0) (xs : List A) (x : A) → AllByRecursion P xs → P x → AllByRecursion P (xs ++ x ∷ [])
-every-append P [] x all p = (p, tt)
-every-append P (y ∷ xs) x all p = (all.0, every-append P xs x all.1 p)
 
 watched_values-renumbered : (f : ℕ → ℕ) (watch : List Watched) (s : State) → watched_values (map (watched_renumbered f) watch) s ≡ watched_values watch s
 watched_values-renumbered f [] s = refl

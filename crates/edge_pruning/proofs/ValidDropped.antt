@@ -6,6 +6,7 @@ use Rattle.std.specs.List.{AllByRecursion, flat_map, IsDistinct}
 use Rattle.std.specs.Option.{option_map_or}
 use Rattle.std.proofs.lemmas.Bool.Decides.{nat_tests}
 use Rattle.std.proofs.lemmas.List.{length-map}
+use Rattle.std.proofs.lemmas.Simd.{map-map}
 use Rattle.sig_base.specs.declared.limits.TheConstants.{EDGES_MAX}
 use Rattle.model_core.specs.EventGraph.{EventGraph, EventVertex, EventEdge, EdgeKind, Schedule, Urgent, CancelNext, CancelEqual, CancelAll, StateChange, Set, Draw, Uniform, ByTable, Expression, Variable, WeightTable, Watched, WatchedVariable, WatchedVertex}
 use Rattle.model_core.specs.Run.Step.{no_vertex, vertex_at}
@@ -59,10 +60,6 @@ all-contained xs = each-among (Contains xs) xs (λ x there. contained-among xs x
 map-alike : {A B : Type 0} (f h : A → B) (xs : List A) → ((x : A) → Among x xs → f x ≡ h x) → map f xs ≡ map h xs
 map-alike f h [] same = refl
 map-alike f h (x ∷ xs) same = ap₂ (λ y ys. y ∷ ys) (same x (inl refl)) (map-alike f h xs (λ y there. same y (inr there)))
-
-map-map : {A B C : Type 0} (f : A → B) (h : B → C) (xs : List A) → map h (map f xs) ≡ map (λ x. h (f x)) xs
-map-map f h [] = refl
-map-map f h (x ∷ xs) = ap (λ ys. h (f x) ∷ ys) (map-map f h xs)
 
 flat_map-map : {A B C : Type 0} (f : A → B) (h : B → List C) (xs : List A) → flat_map h (map f xs) ≡ flat_map (λ x. h (f x)) xs
 flat_map-map f h [] = refl
@@ -230,7 +227,7 @@ module _ (g : EventGraph) (marks : List Bool) (hold : HoldReached g marks) (name
   watched_same (WatchedVertex v) there = name_same v (hold.begins v (watched-begins g v there) (names.watch v there))
 
   watch_same : watch_line h ≡ watch_line g
-  watch_same = ap watch_names_line (map-map (watched_renumbered f) (watched_name h) g.watch ∙ map-alike (λ w. watched_name h (watched_renumbered f w)) (watched_name g) g.watch watched_same)
+  watch_same = ap watch_names_line (map-map (watched_name h) (watched_renumbered f) g.watch ∙ map-alike (λ w. watched_name h (watched_renumbered f w)) (watched_name g) g.watch watched_same)
 
   vertices_shorter : NoLonger (flat_map (vertex_lines h) h.vertices) (flat_map (vertex_lines g) g.vertices)
   vertices_shorter =
@@ -246,7 +243,7 @@ module _ (g : EventGraph) (marks : List Bool) (hold : HoldReached g marks) (name
   -- ---- it keeps the rules
 
   parameters_same : parameters_of h ≡ marked_of marks (parameters_of g)
-  parameters_same = map-map (vertex_renumbered f) (λ (v : EventVertex). v.parameters) kept ∙ sym (marked_of-map (λ (v : EventVertex). v.parameters) marks g.vertices)
+  parameters_same = map-map (λ (v : EventVertex). v.parameters) (vertex_renumbered f) kept ∙ sym (marked_of-map (λ (v : EventVertex). v.parameters) marks g.vertices)
 
   takes_same : (k : ℕ) → Marked marks k → slice_get (parameters_of h) (f k) ≡ slice_get (parameters_of g) k
   takes_same k marked = ap (λ (ps : List (List ℕ)). slice_get ps (f k)) parameters_same ∙ get-marked marks (parameters_of g) k marked
@@ -281,7 +278,7 @@ module _ (g : EventGraph) (marks : List Bool) (hold : HoldReached g marks) (name
     one (WatchedVertex v) there = hold.begins v (watched-begins g v there) (names.watch v there)
 
   names_kept : map (λ (v : EventVertex). v.name) h.vertices ≡ marked_of marks (map (λ (v : EventVertex). v.name) g.vertices)
-  names_kept = map-map (vertex_renumbered f) (λ (v : EventVertex). v.name) kept ∙ sym (marked_of-map (λ (v : EventVertex). v.name) marks g.vertices)
+  names_kept = map-map (λ (v : EventVertex). v.name) (vertex_renumbered f) kept ∙ sym (marked_of-map (λ (v : EventVertex). v.name) marks g.vertices)
 
   names_distinct : KeepsParts g → IsDistinct same_bytes (map (λ (v : Variable). v.name) g.variables ++ map (λ (t : WeightTable). t.name) g.tables ++ map (λ (v : EventVertex). v.name) h.vertices)
   names_distinct k =

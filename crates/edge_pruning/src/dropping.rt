@@ -4,7 +4,7 @@ ghost use Rattle.std.specs.Prelude.{◌≡◌, ◌≤◌, ◌<◌, ◌+◌, ◌+
 ghost use Rattle.std.specs.Vec.{vec_len, vec_capacity};
 ghost use Rattle.model_core.specs.Rules.Conditions.{first_failed, TellsCondition};
 ghost use Rattle.model_core.specs.Rules.MarkedPlaces.{rank, marked_of};
-ghost use Rattle.model_core.specs.Rules.Reached.{reached_marks, unreached};
+ghost use Rattle.model_core.specs.Rules.Reached.{unreached};
 ghost use Rattle.model_core.specs.Rules.Drop.{drop_conditions, edge_renumbered, vertex_renumbered, watched_renumbered, only_marked, dropped};
 ghost use Rattle.model_core.specs.Code.Views.{graph_of, vertex_of, edge_of, watched_of};
 
@@ -71,8 +71,7 @@ fn keep_if(kept: &mut Vec<Vertex>, stays: bool, vertex: Vertex)
     ensures capacity { vec_capacity kept.old ≤ vec_capacity kept.new }
 {
     if stays {
-        let pushed = kept.push(vertex);
-        let _ = pushed;
+        let _ = kept.push(vertex);
     }
 }
 

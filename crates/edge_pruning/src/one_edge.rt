@@ -1,9 +1,7 @@
 //! Prune and settle, each of one edge.
 
-ghost use Rattle.std.specs.Prelude.{◌≡◌, map, Some, None, OnOk, IfErr};
-ghost use Rattle.std.specs.Option.{option_map};
+ghost use Rattle.std.specs.Prelude.{◌≡◌, Some, None, OnOk, OnErr, IfErr};
 ghost use Rattle.model_core.specs.Rules.Conditions.{first_failed};
-ghost use Rattle.model_core.specs.Rules.PlacedEdges.{with_place};
 ghost use Rattle.model_core.specs.Rules.Prune.{prune_conditions, without_edge, pruned};
 ghost use Rattle.model_core.specs.Rules.Settle.{settle_conditions, with_settled, settled};
 ghost use Rattle.model_core.specs.Code.Views.{graph_of, vertex_of};
@@ -91,8 +89,8 @@ fn make_unconditional_at(model: &mut Model, vertex: usize, edge: usize)
 pub fn prune(model: &mut Model, vertex: usize, edge: usize) -> Result<(), RuleRefused>
     ensures done { OnOk result ((first_failed (prune_conditions (graph_of model.old) vertex edge) ≡ None)
         × (graph_of model.new ≡ pruned (graph_of model.old) vertex edge)) }
-    ensures refused { IfErr result (λ e. (first_failed (prune_conditions (graph_of model.old) vertex edge) ≡ Some e.condition)
-        × (graph_of model.new ≡ graph_of model.old)) }
+    ensures refused { IfErr result (λ e. first_failed (prune_conditions (graph_of model.old) vertex edge) ≡ Some e.condition) }
+    ensures unchanged { OnErr result (graph_of model.new ≡ graph_of model.old) }
 {
     if let Some(condition) = failed_prune(model, vertex, edge) {
         return Err(RuleRefused { condition });
@@ -106,8 +104,8 @@ pub fn prune(model: &mut Model, vertex: usize, edge: usize) -> Result<(), RuleRe
 pub fn settle(model: &mut Model, vertex: usize, edge: usize) -> Result<(), RuleRefused>
     ensures done { OnOk result ((first_failed (settle_conditions (graph_of model.old) vertex edge) ≡ None)
         × (graph_of model.new ≡ settled (graph_of model.old) vertex edge)) }
-    ensures refused { IfErr result (λ e. (first_failed (settle_conditions (graph_of model.old) vertex edge) ≡ Some e.condition)
-        × (graph_of model.new ≡ graph_of model.old)) }
+    ensures refused { IfErr result (λ e. first_failed (settle_conditions (graph_of model.old) vertex edge) ≡ Some e.condition) }
+    ensures unchanged { OnErr result (graph_of model.new ≡ graph_of model.old) }
 {
     if let Some(condition) = failed_settle(model, vertex, edge) {
         return Err(RuleRefused { condition });

@@ -57,9 +57,9 @@ old-marked (true ∷ bs) zero old below = refl
 old-marked (false ∷ bs) zero old below = cc
 old-marked (b ∷ bs) (suc k) old below = old-marked bs k old (omega arith)
 
--- ---- what marking some vertices adds
+-- ---- what marking some places adds
 
--- what is left to do: vertices to mark, and those that wait
+-- what is left to do: places to mark, and those that wait
 abbrev pub left_over : Found → ℕ
 left_over w = unmarked_count w.marks + length w.waiting
 

@@ -1,5 +1,4 @@
 //! The places that follow from some, and from those behind them: a walk that marks each place once.
-#![tactic(auto)]
 
 ghost use Rattle.std.specs.Prelude.{◌≡◌, [], length, replicate, false, OnOk, IfOk};
 ghost use Rattle.model_core.specs.Rules.Entailed.{entailed_marks};

@@ -1,5 +1,4 @@
 //! Which places are marked, and which aren't.
-#![tactic(auto)]
 
 ghost use Rattle.std.specs.Prelude.{◌≡◌, IfOk};
 ghost use Rattle.model_core.specs.Rules.MarkedPlaces.{is_marked, unmarked_places};

@@ -1,5 +1,4 @@
 //! What a walk follows: the places behind each place, wherever they are kept.
-#![tactic(auto)]
 
 ghost use Rattle.std.specs.Prelude.{◌≡◌, ℕ, List, length, slice_get};
 ghost use Rattle.marked_walks.specs.PlacePairs.{places_behind};

@@ -1,5 +1,4 @@
 //! Which places stay where others go, and the number that each then has.
-#![tactic(auto)]
 
 ghost use Rattle.std.specs.Prelude.{◌≡◌, IfOk, length, slice_index_or};
 ghost use Rattle.model_core.specs.Rules.MarkedPlaces.{rank, is_marked};

@@ -8,7 +8,7 @@ use Rattle.std.proofs.lemmas.List.Edits.{length-remove}
 use Rattle.model_core.specs.declared.model.Model.{Model}
 use Rattle.model_core.specs.declared.vertex.Vertex.{Vertex}
 use Rattle.model_core.specs.declared.vertex.Edge.{Edge}
-use Rattle.model_core.specs.EventGraph.{EventGraph, EventVertex, EventEdge, Expression}
+use Rattle.model_core.specs.EventGraph.{EventGraph, EventVertex, EventEdge}
 use Rattle.model_core.specs.Run.Step.{vertex_at, no_vertex}
 use Rattle.model_core.specs.Text.Canonical.{canonical, change_line, edge_line}
 use Rattle.model_core.specs.Rules.Conditions.{first_failed}
@@ -56,9 +56,6 @@ seen_there : {A B : Type 0} (view : A → B) (xs seen : List A) (k : ℕ) (x : A
 seen_there view xs seen k x exists is same = seen_at view xs k x (place_below view xs k exists) (is ∙ ap (λ ys. get_or ys k x) same)
 
 -- ---- how many changes and edges
-
-pub changes_many : (b : EventVertex) (values : List Expression) (a : EventVertex) (place : ℕ) → length (merged_vertex b values a place).changes ≡ length a.changes + length (set_parameters b.parameters values) + length b.changes
-changes_many b values a place = length-append (a.changes ++ set_parameters b.parameters values) b.changes ∙ ap (λ n. n + length b.changes) (length-append a.changes (set_parameters b.parameters values))
 
 pub with_merged : (b a : EventVertex) (place : ℕ) → plain_urgent a ≡ Some place → merged_with b a ≡ merged_vertex b (values_at_once a) a place
 with_merged b a place is = ap (λ o. option_map_or (merged_vertex b (values_at_once a) a) o a) is

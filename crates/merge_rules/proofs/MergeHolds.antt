@@ -6,7 +6,7 @@ use Rattle.std.specs.Option.{option_map}
 use Rattle.std.proofs.lemmas.List.{length-map}
 use Rattle.sig_base.specs.declared.limits.TheConstants.{PARAMETERS_MAX}
 use Rattle.model_core.specs.declared.model.Kind.{Kind}
-use Rattle.model_core.specs.EventGraph.{EventGraph, Variable, EventVertex, EventEdge, EdgeKind, Schedule, Urgent, CancelNext, CancelEqual, CancelAll, Expression}
+use Rattle.model_core.specs.EventGraph.{EventGraph, Variable, EventVertex, EventEdge, EdgeKind, Schedule, Urgent, CancelNext, CancelEqual, CancelAll, Expression, scalar_location}
 use Rattle.model_core.specs.Run.Step.{vertex_at, no_vertex}
 use Rattle.model_core.specs.Static.HasKind.{IsVariable, HasKind}
 use Rattle.model_core.specs.Static.OwnRules.{TakesKind, TakeCarried, KeepsEdge, KeepsChange, KeepsVertex, KeepsParts, parameters_of}
@@ -14,9 +14,10 @@ use Rattle.model_core.specs.Rules.BoundsOfParts.{quiet_edge}
 use Rattle.model_core.specs.Rules.Conditions.{first_failed}
 use Rattle.model_core.specs.Rules.Uses.{vertex_writes}
 use Rattle.model_core.specs.Rules.UrgentEdges.{is_urgent_kind, single_urgent}
-use Rattle.model_core.specs.Rules.Merge.{merge_conditions, cancels, is_cancelling, is_watched_vertex, reads_none_of, happens_unseen, set_parameters, scalar_location, values_at_once, other_edges, is_within_limits, merged}
+use Rattle.model_core.specs.Rules.Merge.{merge_conditions, cancels, is_cancelling, is_watched_vertex, reads_none_of, happens_unseen, set_parameters, values_at_once, other_edges, is_within_limits, merged}
 use Rattle.model_core.proofs.InRange.{and_first, and_second}
 use Rattle.model_core.proofs.StaticTwins.DeclaredNames.{every_item}
+use Rattle.model_core.proofs.Soundness.NumberRows.{not_true}
 use Rattle.model_core.proofs.EachOne.{every-map, every-front, every-behind, every-joined, either_false}
 use Rattle.merge_rules.proofs.EdgesAside.{Aside, urgent_edge}
 use Rattle.merge_rules.proofs.UrgentEvents.{PriorityOk}
@@ -33,10 +34,6 @@ pub every-holds : (bs : List Bool) → first_failed bs ≡ None → AllByRecursi
 every-holds [] e = tt
 every-holds (true ∷ bs) e = (refl, every-holds bs (none_before (first_failed bs) e))
 every-holds (false ∷ bs) e = cc
-
-pub not_true : (b : Bool) → not b ≡ true → b ≡ false
-not_true true e = cc
-not_true false e = refl
 
 -- what the eight conditions say
 pub record Mergeable (g : EventGraph) (first second : ℕ) : Type 0 where

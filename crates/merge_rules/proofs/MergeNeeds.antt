@@ -22,6 +22,7 @@ use Rattle.model_core.specs.Rules.Merge.{cancels, is_watched_vertex, reads_none_
 use Rattle.model_core.proofs.InRange.{and_first, and_second, in_range-kept}
 use Rattle.model_core.proofs.Results.{bind_ok}
 use Rattle.model_core.proofs.Keeping.{received}
+use Rattle.model_core.proofs.Soundness.NumberRows.{not_true}
 use Rattle.model_core.proofs.EachOne.{every-map, every-front, every-behind, every-both, every-passes, every-fails, either_false}
 use Rattle.merge_rules.proofs.EdgesOnLists.{list_treat, with_words, treat_lists}
 use Rattle.merge_rules.proofs.EdgesAside.{Aside, Calm, urgent_edge}
@@ -29,7 +30,7 @@ use Rattle.merge_rules.proofs.UrgentEvents.{PriorityOk}
 use Rattle.merge_rules.proofs.TwoInOne.{set_parameters-receives}
 use Rattle.merge_rules.proofs.Unwritten.{UnwrittenBy}
 use Rattle.merge_rules.proofs.SingleUrgent.{NeverBoth, edges_keep, priorities_above_zero, exclusive_vertices}
-use Rattle.merge_rules.proofs.MergeHolds.{Mergeable, not_true, there_is, none_found, without_one, aside_of, rest_keep, changes_keep, set_keeps_rules, values_none}
+use Rattle.merge_rules.proofs.MergeHolds.{Mergeable, there_is, none_found, without_one, aside_of, rest_keep, changes_keep, set_keeps_rules, values_none}
 use Rattle.merge_rules.proofs.MergedModels.{MergeFacts, Discreet, VariableUnwritten}
 
 other_way : (v w : ℕ) → (v == w) ≡ false → (w == v) ≡ false

@@ -1,6 +1,5 @@
 -- Merging an event with the one that it schedules at once keeps the meaning.
 use Rattle.std.proofs.Common.{◌≡◌, ◌⊎◌, inl, inr, ℕ, zero, suc, ◌^◌, ◌≤◌, ℤ, ◌==◌, Bool, true, false, List, [], ◌∷◌, ◌++◌, map, slice_get, slice_index_or, Some, None, option_map, Ok, Err, refl, sym, ◌∙◌, ap, ap₂, subst, arith}
-use Rattle.std.proofs.lemmas.Bool.Decides.{nat_tests}
 use Rattle.std.specs.Prelude.{option_to_list, position}
 use Rattle.std.specs.List.{AllByRecursion}
 use Rattle.sig_base.specs.declared.fault.FaultKind.{FaultKind}
@@ -19,6 +18,7 @@ use Rattle.model_core.proofs.Results.{bind_ok}
 use Rattle.model_core.proofs.Keeping.{Kept, received, changed}
 use Rattle.model_core.proofs.EdgesAlike.{with_vertices}
 use Rattle.model_core.proofs.EachOne.{every-map}
+use Rattle.model_core.proofs.EntailedMarks.{same-place}
 use Rattle.merge_rules.proofs.EdgesOnLists.{list_treat, list_occur, occur_lists}
 use Rattle.merge_rules.proofs.InsertedEntry.{DueBefore}
 use Rattle.merge_rules.proofs.EdgesAside.{Aside, Calm, Waits, waits-due, urgent_entry, urgent_edge}
@@ -55,9 +55,6 @@ pub record MergeFacts (g : EventGraph) (Q : State → Type 0) (first second : �
   pub exclusive : (k : ℕ) (s : State) → Q s → (clk : ℕ) → clk ≤ 2 ^ 48 → Exclusive g s clk (vertex_at g k).edges
   pub unwatched : position (watches second) g.watch ≡ None
   pub discreet : Discreet g Q first second rights
-
-number-is : (a b : ℕ) → (a == b) ≡ true → a ≡ b
-number-is a b e = grind (arith, nat_tests)
 
 place-elsewhere : {A : Type 0} (f : A → A) (i k : ℕ) (xs : List A) (d : A) → (k == i) ≡ false → slice_index_or (with_place f i xs) k d ≡ slice_index_or xs k d
 place-elsewhere f i k [] d apart = refl
@@ -113,7 +110,7 @@ module _ (g : EventGraph) (Q : State → Type 0) (first second : ℕ) (before af
   splits : (seed : ℕ) (c : Configuration) (n : TakenOff) → Inv c → next_entry c.pending ≡ Some n → n.entry.time ≤ 2 ^ 48 → (n.entry.vertex == first) ≡ true → Split g seed second rights n.entry.time (occur g seed (vertex_at g n.entry.vertex) n c.state c.taken) (occur g seed (slice_index_or vertices n.entry.vertex no_vertex) n c.state c.taken)
   splits seed c n (settled, q) next due is_first =
       let (waits, late) = settled-next c.clock c.pending n settled next in
-      let first_is : first ≡ n.entry.vertex = sym (number-is n.entry.vertex first is_first) in
+      let first_is : first ≡ n.entry.vertex = sym (same-place n.entry.vertex first is_first) in
       let (v, there) = ok.there in
       let joined = joined_vertex (vertex_at g first) (before ++ after) rights (vertex_at g second) in
       let on_lists : Split g seed second rights n.entry.time (list_occur g seed (vertex_at g first) n c.state c.taken) (list_occur g seed joined n c.state c.taken) =
@@ -137,7 +134,7 @@ module _ (g : EventGraph) (Q : State → Type 0) (first second : ℕ) (before af
 
   shows : (seed vertex : ℕ) (c : Configuration) (n : TakenOff) (d : Configuration) → (vertex == first) ≡ true → n.entry.time ≡ c.clock → occur g seed b n c.state c.taken ≡ Ok d → Discreet g Q first second rights → completed g vertex c ≡ completed g vertex d
   shows seed vertex c n d is_first at_clock done (inl none) =
-      let none_here : position (watches vertex) g.watch ≡ None = subst (λ k. position (watches k) g.watch ≡ None) (sym (number-is vertex first is_first)) none in
+      let none_here : position (watches vertex) g.watch ≡ None = subst (λ k. position (watches k) g.watch ≡ None) (sym (same-place vertex first is_first)) none in
       silent_none vertex c none_here ∙ sym (silent_none vertex d none_here)
   shows seed vertex c n d is_first at_clock done (inr (unwritten, quiet)) =
       let m = made g seed b n c.state c.taken d done in
@@ -145,7 +142,7 @@ module _ (g : EventGraph) (Q : State → Type 0) (first second : ℕ) (before af
       ap₂ (λ (clk : ℕ) (values : List (List ℤ)). option_to_list (option_map (λ place. On clk place values) (position (watches vertex) g.watch))) (sym at_clock ∙ m.clock_is) (sym (values-same b c.state d.state holds g.watch unwritten))
 
   is_silent : (seed vertex : ℕ) (c : Configuration) (n : TakenOff) (k : FaultKind) → (vertex == first) ≡ true → Q c.state → each (value_of g c.state c.clock) rights ≡ Ok n.entry.values → n.entry.time ≡ c.clock → n.entry.time ≤ 2 ^ 48 → occur g seed b n c.state c.taken ≡ Err k → Discreet g Q first second rights → completed g vertex c ≡ []
-  is_silent seed vertex c n k is_first q carried at_clock due done (inl none) = silent_none vertex c (subst (λ k. position (watches k) g.watch ≡ None) (sym (number-is vertex first is_first)) none)
+  is_silent seed vertex c n k is_first q carried at_clock due done (inl none) = silent_none vertex c (subst (λ k. position (watches k) g.watch ≡ None) (sym (same-place vertex first is_first)) none)
   is_silent seed vertex c n k is_first q carried at_clock due done (inr (unwritten, quiet)) =
       absurd (quiet seed n c.state c.taken k q due (subst (λ t. each (value_of g c.state t) rights ≡ Ok n.entry.values) (sym at_clock) carried) done)
 
@@ -166,7 +163,7 @@ module _ (g : EventGraph) (Q : State → Type 0) (first second : ℕ) (before af
   names-same k true is =
       let (v, there) = ok.there in
       let e = place-here (λ v. joined_vertex v (before ++ after) rights (vertex_at g second)) first g.vertices no_vertex v there in
-      subst (λ k. ((vertex_at g k).name ≡ (slice_index_or vertices k no_vertex).name) × ((vertex_at g k).parameters ≡ (slice_index_or vertices k no_vertex).parameters)) (sym (number-is k first is))
+      subst (λ k. ((vertex_at g k).name ≡ (slice_index_or vertices k no_vertex).name) × ((vertex_at g k).parameters ≡ (slice_index_or vertices k no_vertex).parameters)) (sym (same-place k first is))
       (ap (λ (v : EventVertex). v.name) (sym e), ap (λ (v : EventVertex). v.parameters) (sym e))
 
   things-same : (watch : List Watched) → map (thing g) watch ≡ map (thing (with_vertices g vertices)) watch

@@ -1,7 +1,6 @@
 -- The plain urgent edge of a vertex stands alone among edges that aren't urgent.
 use Rattle.std.proofs.Common.{◌≡◌, ℕ, zero, suc, ◌+◌, ◌≤◌, ◌<◌, ◌==◌, Bool, true, false, cond, List, [], ◌∷◌, ◌++◌, length, slice_get, Option, Some, None, refl, sym, ◌∙◌, ap, subst, arith}
 use Rattle.std.specs.Prelude.{count_by}
-use Rattle.std.proofs.lemmas.Bool.Decides.{nat_tests}
 use Rattle.std.proofs.lemmas.List.Sums.{sum_by-cons, sum_by-append}
 use Rattle.std.specs.List.{AllByRecursion, remove, position_from}
 use Rattle.std.specs.Option.{option_map_or, option_and_then}
@@ -11,6 +10,7 @@ use Rattle.model_core.specs.Rules.UrgentEdges.{is_urgent, is_urgent_kind, is_pla
 use Rattle.model_core.specs.Rules.Merge.{leads_to, values_at_once, other_edges}
 use Rattle.model_core.proofs.InRange.{and_first, and_second}
 use Rattle.model_core.proofs.EachOne.{every-joined}
+use Rattle.model_core.proofs.EntailedMarks.{same-place}
 use Rattle.merge_rules.proofs.EdgesAside.{urgent_edge}
 
 -- ---- the place of the first that passes a test
@@ -79,12 +79,9 @@ condition_told : (c : Expression) → is_literal_true c ≡ true → c ≡ Truth
 condition_told (Truth true) e = refl
 condition_told c e = cc
 
-number_told : (a b : ℕ) → (a == b) ≡ true → a ≡ b
-number_told a b e = grind (arith, nat_tests)
-
 edge_told : (e : EventEdge) (second : ℕ) → is_plain e ≡ true → leads_to second e ≡ true → e ≡ urgent_edge second e.values
 edge_told e second plain leads = λ i. record {
-  target = number_told e.target second leads i;
+  target = same-place e.target second leads i;
   values = e.values;
   condition = condition_told e.condition (and_second (is_urgent e) _ plain) i;
   kind = kind_told e.kind (and_first (is_urgent e) _ plain) i;
@@ -129,7 +126,7 @@ plain_at a second place e is there leads =
       rest = r.rest;
       carries = ap (λ o. option_map_or (λ (e : EventEdge). e.values) (option_and_then (slice_get a.edges) o) []) is ∙ ap (λ o. option_map_or (λ (e : EventEdge). e.values) o []) there;
       others = ap (λ o. option_map_or (remove a.edges) o a.edges) is ∙ r.rest;
-      calm = one_counted is_urgent r.before e r.after (ap (count_by is_urgent) (sym r.whole) ∙ number_told (count_by is_urgent a.edges) 1 once) (and_first (is_urgent e) _ plain);
+      calm = one_counted is_urgent r.before e r.after (ap (count_by is_urgent) (sym r.whole) ∙ same-place (count_by is_urgent a.edges) 1 once) (and_first (is_urgent e) _ plain);
     }
 
 pub plain_edge_of : (a : EventVertex) (second : ℕ) → option_map_or (leads_to second) (plain_urgent_edge a) false ≡ true → PlainEdge a second

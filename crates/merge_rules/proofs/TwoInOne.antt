@@ -1,14 +1,14 @@
 -- One event in place of two: the merged event does what the first does and then the second.
 use Rattle.std.proofs.Common.{◌≡◌, ℕ, ℤ, List, [], ◌∷◌, ◌++◌, map, zip, Some, Ok, Err, refl, sym, ◌∙◌, ap, subst}
 use Rattle.sig_base.specs.declared.fault.FaultKind.{FaultKind}
-use Rattle.model_core.specs.EventGraph.{EventGraph, EventVertex, EventEdge, Expression, StateChange}
+use Rattle.model_core.specs.EventGraph.{EventGraph, EventVertex, EventEdge, Expression, StateChange, scalar_location}
 use Rattle.model_core.specs.Run.State.{State, Place, scalar}
 use Rattle.model_core.specs.Run.Value.{OrFault, ◌>>=◌, each, in_turn, value_of, place_of}
 use Rattle.model_core.specs.Run.Changes.{Drawn, store, make_change}
 use Rattle.model_core.specs.Run.Pending.{Entry, TakenOff, next_entry}
 use Rattle.merge_rules.proofs.EdgesOnLists.{bind-assoc, list_treat, list_occur}
 use Rattle.model_core.specs.Run.Step.{Configuration, vertex_at, receive}
-use Rattle.model_core.specs.Rules.Merge.{scalar_location, set_parameters}
+use Rattle.model_core.specs.Rules.Merge.{set_parameters}
 use Rattle.model_core.proofs.Results.{bind_same, in_turn-append}
 use Rattle.std.specs.List.{AllByRecursion}
 use Rattle.model_core.proofs.Alongside.{Alongside, both_go, both_fail}

@@ -5,7 +5,7 @@ use Rattle.std.specs.List.{AllByRecursion, AllZip, IsDistinct}
 use Rattle.std.specs.Option.{option_map_or}
 use Rattle.sig_base.specs.declared.limits.TheConstants.{TEXT_MAX, CHANGES_MAX, EDGES_MAX, VERTICES_MAX, OPENINGS_MAX}
 use Rattle.model_core.specs.declared.model.Kind.{Kind}
-use Rattle.model_core.specs.EventGraph.{EventGraph, EventVertex, EventEdge, Expression, Variable, WeightTable}
+use Rattle.model_core.specs.EventGraph.{EventGraph, EventVertex, EventEdge, Expression, Variable, WeightTable, scalar_location}
 use Rattle.model_core.specs.Run.Step.{vertex_at, no_vertex}
 use Rattle.model_core.specs.Text.Lexing.{same_bytes}
 use Rattle.model_core.specs.Text.Canonical.{canonical}
@@ -13,7 +13,7 @@ use Rattle.model_core.specs.Text.Spellable.{HasOne, extent, location_openings, e
 use Rattle.model_core.specs.Static.HasKind.{IsVariable, HasKind}
 use Rattle.model_core.specs.Static.OwnRules.{TakeCarried, KeepsEdge, KeepsVertex, IsWatchable, parameters_of, KeepsParts, KeepsStaticRules}
 use Rattle.model_core.specs.Rules.UrgentEdges.{plain_urgent}
-use Rattle.model_core.specs.Rules.Merge.{scalar_location, set_parameters, merged_vertex, merged_with, values_at_once, merged, has_few_parts}
+use Rattle.model_core.specs.Rules.Merge.{set_parameters, merged_vertex, merged_with, values_at_once, merged, has_few_parts}
 use Rattle.model_core.proofs.InRange.{and_first, and_second}
 use Rattle.model_core.proofs.StaticTwins.DeclaredNames.{every_item}
 use Rattle.model_core.proofs.EachOne.{every-joined}

@@ -17,7 +17,7 @@ pub record AtMostOneUrgent (clock : ℕ) (pending : List Entry) : Type 0 where
   pub one : urgent_count pending ≤ 1
   pub now : AllByRecursion (λ (e : Entry). e.priority ≡ 0 → e.time ≡ clock) pending
 
--- and the state is in range
+-- the same of a configuration, whose state is in range besides
 pub record IsSettled (g : EventGraph) (c : Configuration) : Type 0 where
   pub pending : AtMostOneUrgent c.clock c.pending
   pub inside : IsTrue (in_range g c.state)

@@ -1,18 +1,17 @@
 //! The conditions of merge that can be told from the two vertices.
-#![tactic(auto)]
 
 ghost use Rattle.std.specs.Prelude.{◌≡◌, ◌≤◌, ◌&&◌, ◌||◌, not, false, map, take, drop, length};
 ghost use lib.Pointwise.{pointwise};
 ghost use Rattle.std.specs.List.{list_any, list_all, flat_map, remove};
 ghost use Rattle.std.specs.Option.{option_map_or};
-ghost use Rattle.model_core.specs.EventGraph.{Location};
+ghost use Rattle.model_core.specs.EventGraph.{Location, scalar_location};
 ghost use Rattle.model_core.specs.Run.History.{watches};
 ghost use Rattle.model_core.specs.Rules.BoundsOfParts.{quiet_set, quiet_change, quiet_edge};
 ghost use Rattle.model_core.specs.Rules.Conditions.{first_failed};
 ghost use Rattle.model_core.specs.Rules.MarkedPlaces.{is_among};
 ghost use Rattle.model_core.specs.Rules.Uses.{change_writes, vertex_writes, edge_reads};
 ghost use Rattle.model_core.specs.Rules.UrgentEdges.{plain_urgent_edge, single_urgent};
-ghost use Rattle.model_core.specs.Rules.Merge.{scalar_location, set_parameters, leads_to, is_cancelling, cancels, is_watched_vertex, reads_none_of, is_unwatched, happens_unseen, values_at_once, other_edges, merge_conditions};
+ghost use Rattle.model_core.specs.Rules.Merge.{set_parameters, leads_to, is_cancelling, cancels, is_watched_vertex, reads_none_of, is_unwatched, happens_unseen, values_at_once, other_edges, merge_conditions};
 ghost use Rattle.model_core.specs.Code.Views.{graph_of, expression_of, location_of, change_of, edge_kind_of, edge_of, vertex_of, watched_of};
 
 use model_core::{Change, Edge, EdgeForm, Expr, Model, Target, Vertex, Watch};
@@ -20,7 +19,7 @@ use range_bounds::{bounds, plain_urgent, quiet_change, quiet_edge, quiet_store};
 use use_analysis::{reads_of_edge, writes_of_vertex};
 
 /// Whether the vertex has a plain urgent edge, and it leads to this vertex.
-pub fn leads_at_once(vertex: &Vertex, target: usize) -> bool
+fn leads_at_once(vertex: &Vertex, target: usize) -> bool
     ensures { result ≡ option_map_or (leads_to target) (plain_urgent_edge (vertex_of vertex.now)) false }
 {
     match plain_urgent(vertex) {
@@ -42,7 +41,7 @@ fn watches(vertex: usize, item: &Watch) -> bool
 }
 
 /// Whether the vertex is watched.
-pub fn is_watched(model: &Model, vertex: usize) -> bool
+fn is_watched(model: &Model, vertex: usize) -> bool
     ensures { result ≡ is_watched_vertex (graph_of model.now) vertex }
 {
     for item in model.watch.as_slice() {
@@ -73,7 +72,7 @@ fn cancels(target: usize, edge: &Edge) -> bool
 }
 
 /// Whether one of the edges cancels events of the vertex.
-pub fn one_cancels(target: usize, edges: &[Edge]) -> bool
+fn one_cancels(target: usize, edges: &[Edge]) -> bool
     ensures { result ≡ list_any (cancels target) (map edge_of edges.now) }
 {
     for edge in edges {
@@ -284,7 +283,12 @@ fn notes_stay(model: &Model, first: usize, a: &Vertex, b: &Vertex) -> bool
 
 /// The first condition but that on the limits that fails, by its number from 1, in a model of which it is known whether
 /// it is single urgent.
-pub fn failed_before_limits(model: &Model, single: bool, first: usize, second: usize) -> Option<u8>
+pub(crate) fn failed_before_limits(
+    model: &Model,
+    single: bool,
+    first: usize,
+    second: usize,
+) -> Option<u8>
     requires { single ≡ single_urgent (graph_of model.now) }
     ensures { result ≡ first_failed (take 7 (merge_conditions (graph_of model.now) first second)) }
 {

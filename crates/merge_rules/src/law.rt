@@ -16,8 +16,8 @@ use range_bounds::{exclusive_conditions_are_never_both_true, quiet_parts_have_no
 use round_trip::validity_is_by_parts;
 
 /// Between two steps of a single urgent model no event is due before the clock, at most one has priority 0 and that one
-/// is due at the clock, and the state is in range: so it begins, and each step at a time up to 2^48 that doesn't fault
-/// keeps it, wherever it is made.
+/// is due at the clock, and the state is in range. A run begins so, and every step at a time up to 2^48 that doesn't fault
+/// keeps it, from any configuration of which it holds.
 pub fn at_most_one_event_is_urgent()
     ensures begins { (g : EventGraph) (starts : List ℤ) → IsValid g → IsSettled g (start g starts).now }
     ensures kept { (g : EventGraph) (seed : ℕ) (c d : Configuration) (n : TakenOff) → IsValid g → single_urgent g ≡ true

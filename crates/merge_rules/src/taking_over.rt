@@ -5,10 +5,10 @@ ghost use Rattle.std.specs.Prelude.{◌≡◌, ◌+◌, ◌++◌, ◌<◌, ◌�
 ghost use Rattle.std.specs.Vec.{vec_len, vec_capacity};
 ghost use Rattle.std.specs.List.{remove};
 ghost use Rattle.std.specs.Option.{option_map_or};
-ghost use Rattle.model_core.specs.EventGraph.{EventEdge};
+ghost use Rattle.model_core.specs.EventGraph.{EventEdge, scalar_location};
 ghost use Rattle.model_core.specs.Rules.UrgentEdges.{plain_urgent};
 ghost use Rattle.model_core.specs.Rules.PlacedEdges.{with_place};
-ghost use Rattle.model_core.specs.Rules.Merge.{scalar_location, set_parameters, merged_with, merged};
+ghost use Rattle.model_core.specs.Rules.Merge.{set_parameters, merged_with, merged};
 ghost use Rattle.model_core.specs.Run.Step.{vertex_at};
 ghost use Rattle.model_core.specs.Code.Views.{graph_of, expression_of, location_of, change_of, edge_of, vertex_of};
 
@@ -58,8 +58,7 @@ fn add_set(changes: &mut Vec<Change>, vars: &[usize], targets: List<Target>, val
     ensures capacity { vec_capacity changes.old ≤ vec_capacity changes.new }
 {
     if !vars.is_empty() {
-        let pushed = changes.push(Change::Set { targets, values });
-        let _ = pushed;
+        let _ = changes.push(Change::Set { targets, values });
     }
 }
 
@@ -137,7 +136,7 @@ fn take_over_at(
 
 /// Makes the vertex at the first place, whose plain urgent edge stands at the second, do what the one at the third does.
 /// Where memory is refused the model stays as it was.
-pub fn put_together(
+pub(crate) fn put_together(
     alloc: Global,
     model: &mut Model,
     first: usize,

@@ -18,7 +18,7 @@ use sig_base::{CHANGES_MAX, EDGES_MAX, TEXT_MAX};
 
 /// How many bytes the canonical text of the model has, measured where nobody has told it, or None where they are 2^64 - 1
 /// or more.
-pub fn measured(model: &Model, bytes: Option<u64>) -> Option<u64>
+pub(crate) fn measured(model: &Model, bytes: Option<u64>) -> Option<u64>
     requires { IsMeasured (graph_of model.now) bytes }
     ensures { IsMeasured (graph_of model.now) result }
 {
@@ -36,7 +36,7 @@ fn set_count(params: &[usize]) -> usize
     if params.is_empty() { 0 } else { 1 }
 }
 
-/// How many changes the first vertex has with those of the second, or the last number where they are more.
+/// How many changes the first vertex has with those of the second, or 2^64 - 1 where they are more.
 fn changes_together(first: &Vertex, second: &Vertex) -> usize
     ensures { (place : ℕ) → plain_urgent (vertex_of first.now) ≡ Some place → result ≡ min (length (merged_with (vertex_of second.now) (vertex_of first.now)).changes) (2 ^ 64 - 1) }
 {
@@ -47,8 +47,8 @@ fn changes_together(first: &Vertex, second: &Vertex) -> usize
         .saturating_add(second.changes.len())
 }
 
-/// How many edges the first vertex has but its plain urgent one and with those of the second, or the last number where
-/// they are more.
+/// How many edges the first vertex has but its plain urgent one and with those of the second, or 2^64 - 1 where they are
+/// more.
 fn edges_together(first: &Vertex, second: &Vertex) -> usize
     ensures { (place : ℕ) → plain_urgent (vertex_of first.now) ≡ Some place → result ≡ min (length (merged_with (vertex_of second.now) (vertex_of first.now)).edges) (2 ^ 64 - 1) }
 {
@@ -59,7 +59,8 @@ fn edges_together(first: &Vertex, second: &Vertex) -> usize
         .saturating_add(second.edges.len())
 }
 
-/// Whether the first vertex, which has a plain urgent edge, has not too many changes and edges with what the second does.
+/// Whether the first vertex, which has a plain urgent edge, keeps the limits on changes and edges with those of the second
+/// beside its own.
 fn has_few_parts(first: &Vertex, second: &Vertex) -> bool
     ensures { (place : ℕ) → plain_urgent (vertex_of first.now) ≡ Some place → result ≡ has_few_parts (merged_with (vertex_of second.now) (vertex_of first.now)) }
 {
@@ -67,7 +68,7 @@ fn has_few_parts(first: &Vertex, second: &Vertex) -> bool
 }
 
 /// The place of the plain urgent edge.
-pub fn urgent_place(first: &Vertex) -> usize
+pub(crate) fn urgent_place(first: &Vertex) -> usize
     requires { IsSome (plain_urgent (vertex_of first.now)) }
     ensures at { plain_urgent (vertex_of first.now) ≡ Some result }
     ensures within { result < length first.now.edges }
@@ -89,7 +90,7 @@ fn length_without(model: &Model, bytes: Option<u64>, first: usize, place: usize,
 }
 
 /// How many bytes the canonical text of the result has, or 2^64 - 1 where it has more.
-pub fn merged_length(model: &Model, bytes: Option<u64>, first: usize, second: usize) -> u64
+pub(crate) fn merged_length(model: &Model, bytes: Option<u64>, first: usize, second: usize) -> u64
     requires measured { IsMeasured (graph_of model.now) bytes }
     requires holds { first_failed (take 7 (merge_conditions (graph_of model.now) first second)) ≡ None }
     ensures { result ≡ min (length (canonical (merged (graph_of model.now) first second))) (2 ^ 64 - 1) }
@@ -106,7 +107,12 @@ pub fn merged_length(model: &Model, bytes: Option<u64>, first: usize, second: us
 }
 
 /// Whether the result is within the limits.
-pub fn is_within_limits(model: &Model, bytes: Option<u64>, first: usize, second: usize) -> bool
+pub(crate) fn is_within_limits(
+    model: &Model,
+    bytes: Option<u64>,
+    first: usize,
+    second: usize,
+) -> bool
     requires measured { IsMeasured (graph_of model.now) bytes }
     requires holds { first_failed (take 7 (merge_conditions (graph_of model.now) first second)) ≡ None }
     ensures { result ≡ is_within_limits (merged (graph_of model.now) first second) first }

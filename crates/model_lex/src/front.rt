@@ -21,7 +21,7 @@ pub(crate) enum Front {
     Neither,
 }
 
-/// What the bytes begin with.
+/// What the bytes begin with. Inlined, since it is asked at each token.
 #[inline(always)]
 pub(crate) fn front_of(bytes: &[u8]) -> Front
     requires { 0 < length bytes.now }

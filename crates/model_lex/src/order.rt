@@ -2,7 +2,6 @@
 
 ghost use Rattle.std.specs.Prelude.{◌≡◌, ◌↔◌, ◌<◌, ◌≤◌, ℕ, List, Result, Ok, All, length};
 ghost use Rattle.model_core.specs.Text.Lexing.{Lexeme, IsCut, tokens_of};
-ghost use Rattle.model_core.specs.declared.token.Token.{Token};
 ghost use Rattle.model_lex.specs.TokenOrder.{StandInOrder};
 ghost use Rattle.model_lex.specs.declared.token_list.Tokens.{Tokens};
 

@@ -16,7 +16,7 @@ const YES: bool = true;
 
 const NO: bool = false;
 
-/// For each byte whether a word goes on with it.
+/// For each byte whether a word goes on with it. A table, since it is asked of each byte of a word.
 fn word_bytes() -> &'static [bool; 256]
     ensures { result.now ≡ map is_word_byte (range_with_len 0 256) }
 {

@@ -1,12 +1,12 @@
 -- Lists without the element at one place, and with it changed, after one element more; and the line by which variables take values.
 use Rattle.std.proofs.Common.{◌≡◌, ℕ, zero, suc, arith, ◌==◌, false, ◌<◌, ◌+◌, cond, List, [], ◌∷◌, ◌++◌, map, take, get_or, length, refl, sym, ◌∙◌, ap, ap₂, append-nil, append_assoc}
 use Rattle.std.proofs.lemmas.Bool.Decides.{nat_tests}
-use Rattle.std.proofs.lemmas.List.{length-map, length-take-le}
+use Rattle.std.proofs.lemmas.List.{length-map, length-take-le, flat_map_more}
 use Rattle.std.specs.Prelude.{codes}
 use Rattle.std.specs.List.{flat_map, remove}
-use Rattle.model_core.specs.EventGraph.{EventGraph, EventVertex, Expression, Set}
+use Rattle.model_core.specs.EventGraph.{EventGraph, EventVertex, Expression, Set, scalar_location}
 use Rattle.model_core.specs.Text.Canonical.{variable_name, expression_texts, joined, location_text, change_line, vertex_lines, variable_line, table_line, watched_name, watch_names_line}
-use Rattle.model_core.specs.Rules.Merge.{scalar_location, set_parameters}
+use Rattle.model_core.specs.Rules.Merge.{set_parameters}
 use Rattle.model_core.specs.Rules.PlacedEdges.{with_place}
 use Rattle.model_core.specs.Rules.Prune.{without_edge, pruned}
 use Rattle.model_core.proofs.SameNames.{SameNames, map_alike, flat_map_alike, vertex_alike, watched_alike}
@@ -23,10 +23,6 @@ above k = grind (arith, nat_tests)
 later_same : (a b : ℕ) → (suc a == suc b) ≡ (a == b)
 later_same a b = grind (arith, nat_tests)
 
-flat_map_push : {A : Type 0} (text : A → List ℕ) (ys : List A) (x : A) → flat_map text (ys ++ x ∷ []) ≡ flat_map text ys ++ text x
-flat_map_push text [] x = append-nil (text x)
-flat_map_push text (y ∷ ys) x = ap (λ t. text y ++ t) (flat_map_push text ys x) ∙ sym (append_assoc (text y) (flat_map text ys) (text x))
-
 remove_none : {A : Type 0} (none : List A) (k : ℕ) → none ≡ [] → remove none k ≡ []
 remove_none [] zero is = refl
 remove_none [] (suc k) is = refl
@@ -35,7 +31,7 @@ remove_none (x ∷ xs) k is = cc
 flat_map_remove_more : {A : Type 0} (text : A → List ℕ) (xs : List A) (x : A) (k : ℕ) → flat_map text (remove xs k) ++ cond (length xs == k) [] (text x) ≡ flat_map text (remove (xs ++ x ∷ []) k)
 flat_map_remove_more text [] x zero = refl
 flat_map_remove_more text [] x (suc k) = ap (λ b. cond b [] (text x)) (apart k) ∙ sym (append-nil (text x)) ∙ ap (λ ys. text x ++ flat_map text ys) (sym (remove_none [] k refl))
-flat_map_remove_more text (y ∷ ys) x zero = ap (λ b. flat_map text ys ++ cond b [] (text x)) (above (length ys)) ∙ sym (flat_map_push text ys x)
+flat_map_remove_more text (y ∷ ys) x zero = ap (λ b. flat_map text ys ++ cond b [] (text x)) (above (length ys)) ∙ flat_map_more text [] ys x
 flat_map_remove_more text (y ∷ ys) x (suc k) =
     append_assoc (text y) (flat_map text (remove ys k)) (cond (suc (length ys) == suc k) [] (text x)) ∙ ap (λ b. text y ++ (flat_map text (remove ys k) ++ cond b [] (text x))) (later_same (length ys) k) ∙ ap (λ t. text y ++ t) (flat_map_remove_more text ys x k)
 
@@ -63,7 +59,7 @@ module _ {S : Type 0} {adds : S → S → List ℕ → Type 0} (both : Both adds
   more_with_one {s} {t} {u} f xs i x k below is so_far put =
       put_as both _
       (ap (λ n. flat_map text (with_place f k (map view (take i xs))) ++ text (cond (n == k) (f (view x)) (view x))) (sym (so_many xs i below))
-      ∙ sym (flat_map_push text (with_place f k (map view (take i xs))) (cond (length (map view (take i xs)) == k) (f (view x)) (view x)))
+      ∙ flat_map_more text [] (with_place f k (map view (take i xs))) (cond (length (map view (take i xs)) == k) (f (view x)) (view x))
       ∙ ap (flat_map text) (sym (with_place_more f (map view (take i xs)) (view x) k))
       ∙ ap (λ ys. flat_map text (with_place f k ys)) (sym (seen_more view xs i x below is)))
       (two both so_far put)

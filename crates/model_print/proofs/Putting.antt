@@ -28,9 +28,6 @@ module _ {S : Type 0} {adds : S → S → List ℕ → Type 0} (both : Both adds
   pub seven : {s0 s1 s2 s3 s4 s5 s6 s7 : S} {a b c d e f g : List ℕ} → adds s0 s1 a → adds s1 s2 b → adds s2 s3 c → adds s3 s4 d → adds s4 s5 e → adds s5 s6 f → adds s6 s7 g → adds s0 s7 (a ++ b ++ c ++ d ++ e ++ f ++ g)
   seven p0 p1 p2 p3 p4 p5 p6 = two (six p0 p1 p2 p3 p4 p5) p6
 
-  pub eight : {s0 s1 s2 s3 s4 s5 s6 s7 s8 : S} {a b c d e f g h : List ℕ} → adds s0 s1 a → adds s1 s2 b → adds s2 s3 c → adds s3 s4 d → adds s4 s5 e → adds s5 s6 f → adds s6 s7 g → adds s7 s8 h → adds s0 s8 (a ++ b ++ c ++ d ++ e ++ f ++ g ++ h)
-  eight p0 p1 p2 p3 p4 p5 p6 p7 = two (seven p0 p1 p2 p3 p4 p5 p6) p7
-
   -- an equal text is put as well
   pub put_as : {s t : S} {a : List ℕ} (b : List ℕ) → a ≡ b → adds s t a → adds s t b
   put_as {s} {t} b e = subst (adds s t) e

@@ -1,6 +1,6 @@
 //! The lines of variables, tables and the watch list.
 
-ghost use Rattle.std.specs.Prelude.{◌≡◌, ◌++◌, map, codes};
+ghost use Rattle.std.specs.Prelude.{◌++◌, map, codes};
 ghost use Rattle.std.specs.Fmt.{signed_decimal};
 ghost use Rattle.std.specs.List.{flat_map};
 ghost use Rattle.model_core.specs.Text.Canonical.{size_text, clip_text, initial_truth, kind_text, variable_line, row_text, table_line, watched_name, watch_names_line, joined};
@@ -80,7 +80,7 @@ fn put_variable<P: Pen>(out: &mut P, var: &Var)
 }
 
 /// Puts the lines of variables.
-pub fn put_variables<P: Pen>(out: &mut P, vars: &[Var])
+pub(crate) fn put_variables<P: Pen>(out: &mut P, vars: &[Var])
     ensures { P.adds out.old out.new (flat_map variable_line (map variable_of vars.now)) }
 {
     for var in vars {
@@ -119,7 +119,7 @@ fn put_table<P: Pen>(out: &mut P, table: &Table)
 }
 
 /// Puts the lines of tables.
-pub fn put_tables<P: Pen>(out: &mut P, tables: &[Table])
+pub(crate) fn put_tables<P: Pen>(out: &mut P, tables: &[Table])
     ensures { P.adds out.old out.new (flat_map table_line (map table_of tables.now)) }
 {
     for table in tables {
@@ -152,7 +152,7 @@ fn put_watched_names<P: Pen>(out: &mut P, model: &Model, watch: &[Watch])
 }
 
 /// Puts the line of the watch list, or nothing where it is empty.
-pub fn put_watch<P: Pen>(out: &mut P, model: &Model, watch: &[Watch])
+pub(crate) fn put_watch<P: Pen>(out: &mut P, model: &Model, watch: &[Watch])
     ensures { P.adds out.old out.new (watch_names_line (map (watched_name (graph_of model.now)) (map watched_of watch.now))) }
 {
     if watch.is_empty() {

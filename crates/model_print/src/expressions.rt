@@ -9,7 +9,7 @@ use crate::operators::{left_level, operator_level, put_operator, right_level};
 use crate::pen::{Pen, put_comma, put_signed};
 use model_core::{Expr, Model};
 
-/// The level of `min` and `max`, which are written before their operands in parentheses.
+/// The level of what stands alone, and of `min` and `max`, which are written before their operands in parentheses.
 const CALL_LEVEL: u8 = 8;
 
 /// How tightly the operand of `-` has to bind.
@@ -19,7 +19,7 @@ const NEGATIVE_LEVEL: u8 = 7;
 const NOT_LEVEL: u8 = 3;
 
 /// Puts `true` or `false`.
-pub fn put_truth<P: Pen>(out: &mut P, truth: bool)
+pub(crate) fn put_truth<P: Pen>(out: &mut P, truth: bool)
     ensures { P.adds out.old out.new (truth_text truth) }
 {
     if truth {
@@ -36,9 +36,9 @@ fn level(expr: &Expr) -> u8
     match expr {
         Expr::If(..) => 0,
         Expr::Binary(op, ..) => operator_level(*op),
-        Expr::Not(_) => 3,
-        Expr::Neg(_) => 7,
-        Expr::Int(_) | Expr::Truth(_) | Expr::Clk | Expr::Scalar(_) | Expr::Cell(..) => 8,
+        Expr::Not(_) => NOT_LEVEL,
+        Expr::Neg(_) => NEGATIVE_LEVEL,
+        Expr::Int(_) | Expr::Truth(_) | Expr::Clk | Expr::Scalar(_) | Expr::Cell(..) => CALL_LEVEL,
     }
 }
 
@@ -67,7 +67,7 @@ fn put_behind<P: Pen>(out: &mut P, model: &Model, sign: &[u8], asked: u8, expr: 
 
 /// Puts an expression.
 #[cycle(printing)]
-pub fn put_expression<P: Pen>(out: &mut P, model: &Model, expr: &Expr)
+pub(crate) fn put_expression<P: Pen>(out: &mut P, model: &Model, expr: &Expr)
     ensures { P.adds out.old out.new (expression_text (graph_of model.now) (expression_of expr.now)) }
 {
     match expr {
@@ -111,7 +111,7 @@ pub fn put_expression<P: Pen>(out: &mut P, model: &Model, expr: &Expr)
 }
 
 /// Puts expressions, with a comma and a space between two.
-pub fn put_expressions<P: Pen>(out: &mut P, model: &Model, exprs: &[Expr])
+pub(crate) fn put_expressions<P: Pen>(out: &mut P, model: &Model, exprs: &[Expr])
     ensures { P.adds out.old out.new (joined (expression_texts (graph_of model.now) (map expression_of exprs.now))) }
 {
     let [first, rest @ ..] = exprs else {
@@ -124,8 +124,8 @@ pub fn put_expressions<P: Pen>(out: &mut P, model: &Model, exprs: &[Expr])
     }
 }
 
-/// Puts the values that an edge passes in parentheses, or nothing where it passes none.
-pub fn put_passed<P: Pen>(out: &mut P, model: &Model, values: &[Expr])
+/// Puts the values that an edge carries in parentheses, or nothing where it carries none.
+pub(crate) fn put_passed<P: Pen>(out: &mut P, model: &Model, values: &[Expr])
     ensures { P.adds out.old out.new (in_parentheses (expression_texts (graph_of model.now) (map expression_of values.now))) }
 {
     if values.is_empty() {

@@ -60,8 +60,8 @@ pub fn length_without_edge(model: &Model, vertex: usize, edge: usize) -> u64
     count.total()
 }
 
-/// How many bytes the lines have by which another vertex of the model does what the event of this one does that is given
-/// these values, or 2^64 - 1 where they have more: a `set` of its parameters, its changes and its edges.
+/// How many bytes the lines take by which another vertex does what an event of this one does that carries these values: a
+/// `set` of its parameters to them, its changes and its edges. 2^64 - 1 where they take more.
 pub fn taken_over_length(vertex: &Vertex, values: &[Expr], model: &Model) -> u64
     ensures { result ≡ min (length (flat_map (change_line (graph_of model.now)) (set_parameters vertex.now.params (map expression_of values.now)) ++ flat_map (change_line (graph_of model.now)) (map change_of vertex.now.changes) ++ flat_map (edge_line (graph_of model.now)) (map edge_of vertex.now.edges))) (2 ^ 64 - 1) }
 {

@@ -1,6 +1,6 @@
 //! The canonical text of a whole model.
 
-ghost use Rattle.std.specs.Prelude.{◌≡◌, ◌++◌, codes, map};
+ghost use Rattle.std.specs.Prelude.{◌++◌, codes, map};
 ghost use Rattle.std.specs.List.{flat_map};
 ghost use Rattle.model_core.specs.Text.Canonical.{variable_line, table_line, watch_line, canonical};
 ghost use Rattle.model_core.specs.Code.Views.{graph_of, variable_of, table_of};
@@ -11,7 +11,7 @@ use crate::vertices::put_vertices;
 use model_core::Model;
 
 /// Puts what stands before the vertices.
-pub fn put_declarations<P: Pen>(out: &mut P, model: &Model)
+pub(crate) fn put_declarations<P: Pen>(out: &mut P, model: &Model)
     ensures { P.adds out.old out.new (codes "model " ++ model.now.name ++ codes ";\n" ++ flat_map variable_line (map variable_of model.now.vars) ++ flat_map table_line (map table_of model.now.tables) ++ watch_line (graph_of model.now)) }
 {
     out.put_bytes(b"model ");
@@ -23,7 +23,7 @@ pub fn put_declarations<P: Pen>(out: &mut P, model: &Model)
 }
 
 /// Puts the canonical text of a model.
-pub fn put_model<P: Pen>(out: &mut P, model: &Model)
+pub(crate) fn put_model<P: Pen>(out: &mut P, model: &Model)
     ensures { P.adds out.old out.new (canonical (graph_of model.now)) }
 {
     put_declarations(out, model);

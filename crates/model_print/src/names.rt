@@ -1,6 +1,5 @@
 //! The names of what a model refers to by its place. A place that nothing has prints as nothing.
 
-ghost use Rattle.std.specs.Prelude.{◌≡◌, ◌++◌};
 ghost use Rattle.model_core.specs.Text.Canonical.{table_name, variable_name, vertex_name};
 ghost use Rattle.model_core.specs.Code.Views.{graph_of};
 
@@ -8,31 +7,22 @@ use crate::pen::Pen;
 use model_core::Model;
 
 /// Puts the name of the variable at a place.
-pub fn put_variable_name<P: Pen>(out: &mut P, model: &Model, var: usize)
+pub(crate) fn put_variable_name<P: Pen>(out: &mut P, model: &Model, var: usize)
     ensures { P.adds out.old out.new (variable_name (graph_of model.now) var) }
 {
-    match model.vars.as_slice().get(var) {
-        Some(variable) => out.put_bytes(variable.name.as_slice()),
-        None => {}
-    }
+    out.put_bytes(model.variable_name(var));
 }
 
 /// Puts the name of the vertex at a place.
-pub fn put_vertex_name<P: Pen>(out: &mut P, model: &Model, vertex: usize)
+pub(crate) fn put_vertex_name<P: Pen>(out: &mut P, model: &Model, vertex: usize)
     ensures { P.adds out.old out.new (vertex_name (graph_of model.now) vertex) }
 {
-    match model.vertices.as_slice().get(vertex) {
-        Some(found) => out.put_bytes(found.name.as_slice()),
-        None => {}
-    }
+    out.put_bytes(model.vertex_name(vertex));
 }
 
 /// Puts the name of the table at a place.
-pub fn put_table_name<P: Pen>(out: &mut P, model: &Model, table: usize)
+pub(crate) fn put_table_name<P: Pen>(out: &mut P, model: &Model, table: usize)
     ensures { P.adds out.old out.new (table_name (graph_of model.now) table) }
 {
-    match model.tables.as_slice().get(table) {
-        Some(found) => out.put_bytes(found.name.as_slice()),
-        None => {}
-    }
+    out.put_bytes(model.table_name(table));
 }

@@ -7,8 +7,9 @@ ghost use Rattle.model_core.specs.Code.Views.{operator_of};
 use crate::pen::Pen;
 use model_core::Op;
 
-/// How tightly an operator binds.
-pub fn operator_level(op: Op) -> u8
+/// How tightly an operator binds, from 1 for `or` to 8 for `min` and `max`. A higher level binds more tightly: the levels of
+/// `model_read` go the other way.
+pub(crate) fn operator_level(op: Op) -> u8
     ensures { result ≡ level_of (operator_of op) }
 {
     match op {
@@ -22,7 +23,7 @@ pub fn operator_level(op: Op) -> u8
 }
 
 /// How tightly the left operand has to bind. Comparisons don't chain.
-pub fn left_level(op: Op) -> u8
+pub(crate) fn left_level(op: Op) -> u8
     ensures { result ≡ left_level_of (operator_of op) }
 {
     match op {
@@ -32,14 +33,14 @@ pub fn left_level(op: Op) -> u8
 }
 
 /// How tightly the right operand has to bind. Chains group to the left.
-pub fn right_level(op: Op) -> u8
+pub(crate) fn right_level(op: Op) -> u8
     ensures { result ≡ right_level_of (operator_of op) }
 {
     operator_level(op) + 1
 }
 
 /// Puts an operator's sign or word.
-pub fn put_operator<P: Pen>(out: &mut P, op: Op)
+pub(crate) fn put_operator<P: Pen>(out: &mut P, op: Op)
     ensures { P.adds out.old out.new (operator_text (operator_of op)) }
 {
     let text: &[u8] = match op {

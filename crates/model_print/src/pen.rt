@@ -87,14 +87,14 @@ impl Pen for Page {
 }
 
 /// Puts a comma and a space.
-pub fn put_comma<P: Pen>(out: &mut P)
+pub(crate) fn put_comma<P: Pen>(out: &mut P)
     ensures { P.adds out.old out.new (codes ", ") }
 {
     out.put_bytes(b", ");
 }
 
 /// Puts a number in decimal, without leading zeros.
-pub fn put_number<P: Pen>(out: &mut P, number: u64)
+pub(crate) fn put_number<P: Pen>(out: &mut P, number: u64)
     ensures { P.adds out.old out.new (decimal number) }
 {
     let mut buffer = Buffer::new();
@@ -102,7 +102,7 @@ pub fn put_number<P: Pen>(out: &mut P, number: u64)
 }
 
 /// Puts a number in decimal, with a `-` where it is below 0.
-pub fn put_signed<P: Pen>(out: &mut P, number: i64)
+pub(crate) fn put_signed<P: Pen>(out: &mut P, number: i64)
     ensures { P.adds out.old out.new (signed_decimal number) }
 {
     let mut buffer = Buffer::new();

@@ -26,7 +26,7 @@ fn page_for(alloc: Global, length: u64) -> Result<Page, NoMemory>
 
 /// The canonical text of a model: one line for each declaration, change and edge, in the model's order.
 ///
-/// A number that names nothing prints as nothing. All memory is taken at once.
+/// A place that no variable, table or vertex has prints as nothing. All memory is taken at once.
 pub fn print(alloc: Global, model: &Model) -> Result<Text, NoMemory>
     ensures { IfOk result (λ t. t ≡ canonical (graph_of model.now)) }
 {
@@ -37,7 +37,7 @@ pub fn print(alloc: Global, model: &Model) -> Result<Text, NoMemory>
 
 /// The canonical text of an expression of the model, with parentheses exactly where they are needed.
 ///
-/// A number that names nothing prints as nothing. All memory is taken at once.
+/// A place that no variable, table or vertex has prints as nothing. All memory is taken at once.
 pub fn print_expr(alloc: Global, expr: &Expr, model: &Model) -> Result<Text, NoMemory>
     ensures { IfOk result (λ t. t ≡ expression_text (graph_of model.now) (expression_of expr.now)) }
 {

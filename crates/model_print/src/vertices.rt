@@ -1,6 +1,6 @@
 //! The lines of a vertex: its changes and its edges.
 
-ghost use Rattle.std.specs.Prelude.{◌≡◌, ◌++◌, map, option_map};
+ghost use Rattle.std.specs.Prelude.{◌++◌, map, option_map};
 ghost use Rattle.std.specs.List.{flat_map};
 ghost use Rattle.model_core.specs.Text.Canonical.{index_text, location_text, choice_text, change_line, delay_text, priority_text, edge_word, timing_text, condition_text, edge_line, vertex_lines, variable_name, joined, in_parentheses};
 ghost use Rattle.model_core.specs.Rules.Merge.{set_parameters};
@@ -67,7 +67,7 @@ fn put_choice<P: Pen>(out: &mut P, model: &Model, choice: Choice)
 }
 
 /// Puts the line of a change.
-pub fn put_change<P: Pen>(out: &mut P, model: &Model, change: &Change)
+pub(crate) fn put_change<P: Pen>(out: &mut P, model: &Model, change: &Change)
     ensures { P.adds out.old out.new (change_line (graph_of model.now) (change_of change.now)) }
 {
     match change {
@@ -152,7 +152,7 @@ fn put_timing<P: Pen>(out: &mut P, model: &Model, form: &EdgeForm)
 }
 
 /// Puts the line of an edge.
-pub fn put_edge<P: Pen>(out: &mut P, model: &Model, edge: &Edge)
+pub(crate) fn put_edge<P: Pen>(out: &mut P, model: &Model, edge: &Edge)
     ensures { P.adds out.old out.new (edge_line (graph_of model.now) (edge_of edge.now)) }
 {
     put_edge_word(out, &edge.form);
@@ -178,7 +178,7 @@ fn put_variable_names<P: Pen>(out: &mut P, model: &Model, vars: &[usize])
 }
 
 /// Puts the parameters of a vertex in parentheses, or nothing where it has none.
-pub fn put_parameters<P: Pen>(out: &mut P, model: &Model, params: &[usize])
+pub(crate) fn put_parameters<P: Pen>(out: &mut P, model: &Model, params: &[usize])
     ensures { P.adds out.old out.new (in_parentheses (map (variable_name (graph_of model.now)) params.now)) }
 {
     if params.is_empty() {
@@ -190,7 +190,7 @@ pub fn put_parameters<P: Pen>(out: &mut P, model: &Model, params: &[usize])
 }
 
 /// Puts the lines of changes.
-pub fn put_changes<P: Pen>(out: &mut P, model: &Model, changes: &[Change])
+pub(crate) fn put_changes<P: Pen>(out: &mut P, model: &Model, changes: &[Change])
     ensures { P.adds out.old out.new (flat_map (change_line (graph_of model.now)) (map change_of changes.now)) }
 {
     for change in changes {
@@ -221,8 +221,8 @@ fn put_set<P: Pen>(out: &mut P, model: &Model, vars: &[usize], values: &[Expr])
     out.put_bytes(b";\n");
 }
 
-/// Puts the lines by which a vertex does what its event does that is given these values, in another vertex.
-pub fn put_taken_over<P: Pen>(out: &mut P, model: &Model, vertex: &Vertex, values: &[Expr])
+/// Puts the lines by which another vertex does what an event of this one does that carries these values.
+pub(crate) fn put_taken_over<P: Pen>(out: &mut P, model: &Model, vertex: &Vertex, values: &[Expr])
     ensures { P.adds out.old out.new (flat_map (change_line (graph_of model.now)) (set_parameters vertex.now.params (map expression_of values.now)) ++ flat_map (change_line (graph_of model.now)) (map change_of vertex.now.changes) ++ flat_map (edge_line (graph_of model.now)) (map edge_of vertex.now.edges)) }
 {
     put_set(out, model, vertex.params.as_slice(), values);
@@ -231,7 +231,7 @@ pub fn put_taken_over<P: Pen>(out: &mut P, model: &Model, vertex: &Vertex, value
 }
 
 /// Puts the lines of a vertex.
-pub fn put_vertex<P: Pen>(out: &mut P, model: &Model, vertex: &Vertex)
+pub(crate) fn put_vertex<P: Pen>(out: &mut P, model: &Model, vertex: &Vertex)
     ensures { P.adds out.old out.new (vertex_lines (graph_of model.now) (vertex_of vertex.now)) }
 {
     out.put_bytes(b"vertex ");
@@ -244,7 +244,7 @@ pub fn put_vertex<P: Pen>(out: &mut P, model: &Model, vertex: &Vertex)
 }
 
 /// Puts the lines of vertices.
-pub fn put_vertices<P: Pen>(out: &mut P, model: &Model, vertices: &[Vertex])
+pub(crate) fn put_vertices<P: Pen>(out: &mut P, model: &Model, vertices: &[Vertex])
     ensures { P.adds out.old out.new (flat_map (vertex_lines (graph_of model.now)) (map vertex_of vertices.now)) }
 {
     for vertex in vertices {

@@ -1,6 +1,6 @@
 //! The canonical text of a model without one of its edges, put from the model as it is.
 
-ghost use Rattle.std.specs.Prelude.{◌≡◌, [], cond, map};
+ghost use Rattle.std.specs.Prelude.{[], cond, map};
 ghost use Rattle.std.specs.List.{flat_map, remove};
 ghost use Rattle.model_core.specs.Text.Canonical.{canonical, edge_line, vertex_lines};
 ghost use Rattle.model_core.specs.Rules.PlacedEdges.{with_place};
@@ -70,7 +70,7 @@ fn put_vertices_without<P: Pen>(
 }
 
 /// Puts the canonical text of a model without the edge at this place of the vertex at this place.
-pub fn put_model_without<P: Pen>(out: &mut P, model: &Model, vertex: usize, edge: usize)
+pub(crate) fn put_model_without<P: Pen>(out: &mut P, model: &Model, vertex: usize, edge: usize)
     ensures { P.adds out.old out.new (canonical (pruned (graph_of model.now) vertex edge)) }
 {
     put_declarations(out, model);

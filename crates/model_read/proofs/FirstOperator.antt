@@ -21,7 +21,7 @@ taken k (Some i) t tokens = if nat_eq k i.0 then took i.1 tokens else stuck (t �
 abbrev pub AtFirst : ℕ → Lexeme → List Lexeme → Option (ℕ × Operator) → Type 0
 AtFirst k t tokens found = (begins_among (first_sorts level_lookahead (operators_of k)) (t ∷ tokens) ≡ is_at k found) × (language_reader (operators_of k) (t ∷ tokens) ≡ taken k found t tokens)
 
-abbrev pub AtEach : Lexeme → List Lexeme → Option (ℕ × Operator) → Type 0
+abbrev AtEach : Lexeme → List Lexeme → Option (ℕ × Operator) → Type 0
 AtEach t tokens found = AtFirst 0 t tokens found × AtFirst 1 t tokens found × AtFirst 2 t tokens found × AtFirst 3 t tokens found × AtFirst 4 t tokens found
 
 pub at_each : (kind : LexemeKind) (t : Lexeme) (tokens : List Lexeme) → t.kind ≡ kind → AtEach t tokens (infix_of_kind kind)

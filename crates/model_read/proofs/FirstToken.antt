@@ -23,7 +23,7 @@ tail_in_text text (t ∷ tokens) inside k d k_in = inside (suc k) d (omega arith
 pub others_in_text : (text : List ℕ) (tokens : List Token) → AreInText text tokens → AreInText text (take (length tokens - 1) (drop 1 tokens))
 others_in_text text tokens inside = subst (AreInText text) (sym (take_rest tokens 1)) (tail_in_text text tokens inside)
 
-pub first_and_others : (text : List ℕ) (tokens : List Token) (d : Token) → 1 ≤ length tokens → map (lexeme_of text) tokens ≡ lexeme_of text (get_or tokens 0 d) ∷ others text tokens
+first_and_others : (text : List ℕ) (tokens : List Token) (d : Token) → 1 ≤ length tokens → map (lexeme_of text) tokens ≡ lexeme_of text (get_or tokens 0 d) ∷ others text tokens
 first_and_others text [] d some = absurd (omega arith)
 first_and_others text (t ∷ tokens) d some = ap (λ rest. lexeme_of text t ∷ map (lexeme_of text) rest) (sym (take_rest (t ∷ tokens) 1))
 

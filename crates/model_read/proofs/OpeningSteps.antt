@@ -28,7 +28,7 @@ further limit room after text tokens i d total h step so_far =
     ∙ so_far
 
 -- what a function tells of a token's kind, whatever bytes it has
-abbrev pub TellsOfKind : (LexemeKind → Bool) → Bool → Token → Type 0
+abbrev TellsOfKind : (LexemeKind → Bool) → Bool → Token → Type 0
 TellsOfKind f b t = (bytes : List ℕ) → b ≡ f (lexeme_kind_of bytes t.kind)
 
 -- one token more: it ends a part

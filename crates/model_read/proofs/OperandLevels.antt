@@ -99,7 +99,7 @@ from-unary (suc level) tokens few plain =
     ∙ more level 0 (of_level Unary tokens) (omega arith)
 
 -- where `not` comes, the levels from `and` on stand behind the negated operand
-pub from-negation : (above : ℕ) (tokens : List Lexeme) → above ≤ 2 → begins_as (AWord words.Not) tokens ≡ true → of_level (operand_level (suc (suc (suc above)))) tokens ≡ and_next (climb (suc (suc (suc above))) 3) (language_reader not_format tokens)
+from-negation : (above : ℕ) (tokens : List Lexeme) → above ≤ 2 → begins_as (AWord words.Not) tokens ≡ true → of_level (operand_level (suc (suc (suc above)))) tokens ≡ and_next (climb (suc (suc (suc above))) 3) (language_reader not_format tokens)
 unfolding climb level_format
 from-negation zero tokens few e = level-is Negation tokens ∙ (rw e (sym (next-took (language_reader not_format tokens)))) ∙ same_next _ _ (language_reader not_format tokens) (λ a left e. sym (climb-none 3 3 a left (omega arith)))
 from-negation (suc above) tokens few e =

@@ -1,5 +1,5 @@
 -- The operators of all levels, taken one after another.
-use Rattle.std.proofs.Common.{◌≡◌, ℕ, zero, suc, ◌+◌, ◌≤◌, ◌<◌, Bool, true, false, cond, List, [], ◌∷◌, length, Some, None, refl, sym, ap, ◌∙◌, subst, ◌⊎◌, inl, inr, arith}
+use Rattle.std.proofs.Common.{◌≡◌, ℕ, zero, suc, ◌≤◌, ◌<◌, Bool, true, false, cond, List, [], ◌∷◌, Some, None, refl, sym, ap, ◌∙◌, subst, ◌⊎◌, inl, inr, arith}
 use Rattle.std.specs.Prelude.{Option, Result, Ok, Err, nat_eq, nat_lt}
 use Rattle.std.proofs.lemmas.Grind.{common_steps}
 use Rattle.model_core.specs.declared.raw.RawExpr.{RawExpr}
@@ -42,7 +42,7 @@ within-none least under i (inr h) = let e : nat_lt i.0 under ≡ false = isnt_be
     go true = refl
     go false = refl
 
-pub within-in : (least under : ℕ) (found : Option (ℕ × Operator)) (i : ℕ × Operator) → at_levels least under found ≡ Some i → (found ≡ Some i) × (least ≤ i.0) × (i.0 < under)
+within-in : (least under : ℕ) (found : Option (ℕ × Operator)) (i : ℕ × Operator) → at_levels least under found ≡ Some i → (found ≡ Some i) × (least ≤ i.0) × (i.0 < under)
 within-in least under None i e = absurd cc
 within-in least under (Some j) i e = go (nat_lt j.0 least) (nat_lt j.0 under) refl refl e
   where
@@ -55,7 +55,7 @@ within-in least under (Some j) i e = go (nat_lt j.0 least) (nat_lt j.0 under) re
         some_same x y p = cc
 
 -- no operator of these levels comes
-pub no_operator : (under least : ℕ) (a : WrittenExpression) (tokens : List Lexeme) → under ≤ 5 → at_levels least under (infix_at tokens) ≡ None → climb under least a tokens ≡ took a tokens
+no_operator : (under least : ℕ) (a : WrittenExpression) (tokens : List Lexeme) → under ≤ 5 → at_levels least under (infix_at tokens) ≡ None → climb under least a tokens ≡ took a tokens
 unfolding climb
 no_operator zero least a tokens few e = refl
 no_operator (suc level) least a tokens few e = go (no_operator level least a tokens (omega arith)) (nat_lt least (suc level)) refl
@@ -91,7 +91,7 @@ next-low (suc (suc zero)) n h = omega arith
 next-low (suc (suc (suc k))) n h = omega arith
 
 -- an operator of these levels comes: its right operand is read, and then what stands behind both
-pub one_operator : (under least k : ℕ) (o : Operator) (a : WrittenExpression) (t : Lexeme) (tokens : List Lexeme) → under ≤ 5 → least ≤ k → k < under → infix_of_kind t.kind ≡ Some (k, o)
+one_operator : (under least k : ℕ) (o : Operator) (a : WrittenExpression) (t : Lexeme) (tokens : List Lexeme) → under ≤ 5 → least ≤ k → k < under → infix_of_kind t.kind ≡ Some (k, o)
     → climb under least a (t ∷ tokens) ≡ and_next (λ b. climb under (next_level k) (joining a (o, b))) (of_level (operand_level k) tokens)
 one_operator zero least k o a t tokens few low high e = absurd (omega arith)
 one_operator (suc level) least k o a t tokens few low high e = go (λ l. one_operator level least k o a t tokens (omega arith) low l e) (nat_eq k level) refl
@@ -120,10 +120,6 @@ one_operator (suc level) least k o a t tokens few low high e = go (λ l. one_ope
     go : (k < level → climb level least a (t ∷ tokens) ≡ and_next (λ b. climb level (next_level k) (joining a (o, b))) (of_level (operand_level k) tokens)) → (b : Bool) → nat_eq k level ≡ b → climb (suc level) least a (t ∷ tokens) ≡ and_next (λ b. climb (suc level) (next_level k) (joining a (o, b))) (of_level (operand_level k) tokens)
     go lower true f = here (same_nat k level f)
     go lower false f = below (not_same k level f high) (lower (not_same k level f high))
-
-pub taken-shorter : (least under : ℕ) (tokens left : List Lexeme) (i : ℕ × Operator) → Some i ≡ at_levels least under (infix_at tokens) → left ≡ behind (at_levels least under (infix_at tokens)) tokens → length left + 1 ≤ length tokens
-taken-shorter least under [] left i e f = absurd cc
-taken-shorter least under (t ∷ tokens) left i e f = let g : left ≡ tokens = rw (sym e) at f in rw g (omega arith)
 
 pub taken-is : (under least : ℕ) (a : WrittenExpression) (tokens left : List Lexeme) (i : ℕ × Operator) → under ≤ 5 → Some i ≡ at_levels least under (infix_at tokens) → left ≡ behind (at_levels least under (infix_at tokens)) tokens
     → climb under least a tokens ≡ and_next (λ b. climb under (next_level i.0) (joining a (i.1, b))) (of_level (operand_level i.0) left)

@@ -1,5 +1,5 @@
 -- What a call that reads a text told is so: what it read is spelled, and where it stopped is where no text goes on.
-use Rattle.std.proofs.Common.{◌≡◌, ℕ, Bool, true, false, ◌+◌, ◌-◌, ◌≤◌, List, [], ◌∷◌, ◌++◌, length, map, take, drop, Some, None, refl, sym, ap, ◌∙◌, subst, arith}
+use Rattle.std.proofs.Common.{◌≡◌, ℕ, Bool, true, false, ◌+◌, ◌-◌, ◌≤◌, List, [], ◌∷◌, ◌++◌, length, map, take, drop, Some, refl, sym, ap, ◌∙◌, subst, arith}
 use Rattle.std.specs.Prelude.{Option, Result, Ok, Err, IfOk}
 use Rattle.std.proofs.lemmas.List.{take_rest, drop-map, length-drop, length-append, drop-drop}
 use Rattle.std.proofs.Math.Seq.{drop-append_seam}
@@ -14,25 +14,17 @@ use Rattle.model_core.specs.Code.WrittenViews.{written_model}
 use Rattle.model_core.specs.Code.TokenViews.{lexeme_of}
 use Rattle.model_core.specs.Inner.FormatReader.{took, stuck}
 use Rattle.model_core.specs.Inner.LanguageReader.{text_and_rest, text_read}
-use Rattle.model_core.specs.Inner.OpeningCount.{deep_from}
 use Rattle.model_core.proofs.Formats.TextLaws.{read-is_spelled, spelled-is_read, stuck-is_wrong, whole-is_spelled, refused-is_unexpected}
 use Rattle.model_core.proofs.Formats.EndWord.{front-is_text, text-is_front, wrong-in_front}
 use Rattle.model_core.proofs.Formats.OneTokenDecides.{text-fine}
-use Rattle.model_core.proofs.OpeningLaws.{deep-is_counted, none-is_few}
 use Rattle.model_lex.specs.declared.parse_error.ParseError.{ParseError}
 use Rattle.model_lex.specs.declared.parse_error.ParseError.TheVariants as errors
 use Rattle.model_read.specs.ReadCalls.{Tells}
 
 -- ---- openings
 
-pub is_deep : (limit : ℕ) (tokens : List Lexeme) (found : Option ℕ) → found ≡ deep_from limit limit tokens → too_deep_at limit tokens ≡ found
-is_deep limit tokens found e = deep-is_counted limit tokens ∙ sym e
-
-pub is_few : (limit : ℕ) (tokens : List Lexeme) (found : Option ℕ) → found ≡ deep_from limit limit tokens → found ≡ None → HasFewOpenings limit tokens
-is_few limit tokens found e f = none-is_few limit tokens (is_deep limit tokens found e ∙ f)
-
-pub deep-place : {A : Type 0} (limit : ℕ) (tokens : List Lexeme) (found : Option ℕ) (place at : ℕ) → found ≡ deep_from limit limit tokens → found ≡ Some place → ◌≡◌ {A = Result A ParseError} (Err (errors.TooDeep place)) (Err (errors.TooDeep at)) → too_deep_at limit tokens ≡ Some at
-deep-place {A} limit tokens found place at e f g = is_deep limit tokens found e ∙ f ∙ ap Some (same g)
+pub deep-place : {A : Type 0} (limit : ℕ) (tokens : List Lexeme) (found : Option ℕ) (place at : ℕ) → found ≡ too_deep_at limit tokens → found ≡ Some place → ◌≡◌ {A = Result A ParseError} (Err (errors.TooDeep place)) (Err (errors.TooDeep at)) → too_deep_at limit tokens ≡ Some at
+deep-place {A} limit tokens found place at e f g = sym e ∙ f ∙ ap Some (same g)
   where
     same : ◌≡◌ {A = Result A ParseError} (Err (errors.TooDeep place)) (Err (errors.TooDeep at)) → place ≡ at
     same h = cc
@@ -107,9 +99,9 @@ pub some-are : (text : List ℕ) (slice list : List Token) (from : ℕ) → slic
 some-are text slice list from e = ap (map (lexeme_of text)) (take_rest slice from ∙ ap (drop from) e) ∙ sym (drop-map (lexeme_of text) from list)
 
 -- what is counted of the front
-pub front-counted : (text : List ℕ) (slice list : List Token) (from n limit : ℕ) (found : Option ℕ) → slice ≡ list → found ≡ deep_from limit limit (map (lexeme_of text) (take n (take (length slice - from) (drop from slice))))
-    → map (lexeme_of text) (take n (take (length slice - from) (drop from slice))) ≡ front_to_end (map (lexeme_of text) (take (length slice - from) (drop from slice))) → found ≡ deep_from limit limit (front_to_end (drop from (map (lexeme_of text) list)))
-front-counted text slice list from n limit found e f g = f ∙ ap (deep_from limit limit) (g ∙ ap front_to_end (some-are text slice list from e))
+pub front-counted : (text : List ℕ) (slice list : List Token) (from n limit : ℕ) (found : Option ℕ) → slice ≡ list → found ≡ too_deep_at limit (map (lexeme_of text) (take n (take (length slice - from) (drop from slice))))
+    → map (lexeme_of text) (take n (take (length slice - from) (drop from slice))) ≡ front_to_end (map (lexeme_of text) (take (length slice - from) (drop from slice))) → found ≡ too_deep_at limit (front_to_end (drop from (map (lexeme_of text) list)))
+front-counted text slice list from n limit found e f g = f ∙ ap (too_deep_at limit) (g ∙ ap front_to_end (some-are text slice list from e))
 
 -- ---- an error that is passed on
 

@@ -15,12 +15,14 @@ with_body v changes edges = record { at = v.at; name = v.name; parameters = v.pa
 abbrev pub with_vertices : WrittenModel → List WrittenVertex → ℕ → WrittenModel
 with_vertices m vertices end_at = record { at = m.at; name = m.name; variables = m.variables; tables = m.tables; watch = m.watch; vertices = vertices; end_at = end_at }
 
+-- `vertex`, the name and the parameters, up to the opening brace
 unfoldable pub vertex_beginning : LanguageFormat (List WrittenChange → List WrittenEdge → WrittenVertex)
 vertex_beginning =
     Yields (λ at called parameters changes edges. record { at = at; name = called; parameters = parameters; changes = changes; edges = edges })
     <*> reserved words.Vertex <*> any_name <*> maybe (mark symbols.OpenParenthesis *> separated any_name <* mark symbols.CloseParenthesis)
     <* mark symbols.OpenBrace
 
+-- `model`, the name, and the declarations up to the first vertex
 unfoldable pub model_beginning : LanguageFormat (List WrittenVertex → ℕ → WrittenModel)
 model_beginning =
     Yields (λ at called variables tables watch vertices end_at. record { at = at; name = called; variables = variables; tables = tables; watch = watch; vertices = vertices; end_at = end_at })

@@ -2,6 +2,7 @@
 
 ghost use Rattle.std.specs.Prelude.{◌≡◌, ◌≢◌, ℕ, ◌+◌, ◌≤◌, true, false, None, List, [], drop, length, map, IfOk};
 ghost use Rattle.std.specs.Option.{option_map, IfSome};
+ghost use Rattle.model_core.specs.declared.token.Word.TheVariants.{Not};
 ghost use Rattle.model_core.specs.Code.WrittenViews.{written_name, written_number};
 ghost use Rattle.model_core.specs.Text.Format.{AName, ANumber, AWord, ASymbol, reserved, mark, any_name, any_number};
 ghost use Rattle.model_core.specs.Text.FirstWrong.{told_place};
@@ -13,14 +14,14 @@ ghost use Rattle.model_read.specs.Inner.Ladder.{infix_at, at_levels, behind};
 ghost use Rattle.model_read.specs.Inner.Infixes.{infix_of};
 ghost use Rattle.model_read.specs.Inner.Spelled.{spelled_name};
 
-use crate::operators::{Infix, infix_of};
+use crate::operators::{CONJUNCTIONS, Infix, infix_of};
 use crate::stop::Stop;
 use model_core::{RawName, RawNumber, Symbol, Token, TokenKind, Word};
 use sig_base::Name;
 use std::alloc::Global;
 use std::marker::Model;
 
-/// A name as it stands in a text, and the byte at which it begins.
+/// A name as it stands in a text, and the byte at which it begins, counted from 0.
 #[derive(Clone, Copy)]
 pub struct Spelling<'t> {
     pub bytes: &'t [u8],
@@ -123,7 +124,7 @@ impl<'t> Cursor<'t> {
         )
     }
 
-    /// Sees that no token is left.
+    /// Refuses any token that is left.
     pub fn end(&self) -> Result<(), Stop>
         ensures { Returned (λ u. u) result self.now (whole_read record {} self.now) }
     {
@@ -180,6 +181,14 @@ impl<'t> Cursor<'t> {
             None => false,
             Some(infix) => infix.level < under,
         }
+    }
+
+    /// Whether `not` comes next, and may stand before an operand of operators of the level `under`.
+    pub fn begins_negation(&self, under: usize) -> bool
+        ensures yes { result ≡ true → (3 ≤ under) × (begins_as (AWord Not) self.now ≡ true) }
+        ensures no { result ≡ false → 3 ≤ under → begins_as (AWord Not) self.now ≡ false }
+    {
+        under >= CONJUNCTIONS && self.begins_word(Word::Not)
     }
 
     /// Leaves out the next token.

@@ -5,9 +5,8 @@ ghost use Rattle.std.specs.Option.{option_map};
 ghost use Rattle.model_core.specs.Code.Views.{operator_of};
 ghost use Rattle.model_core.specs.Code.WrittenViews.{written_name, written_expression};
 ghost use Rattle.model_core.specs.declared.token.Word.TheVariants.{Not};
-ghost use Rattle.model_core.specs.Text.Format.{AWord, ByRule, maybe};
+ghost use Rattle.model_core.specs.Text.Format.{ByRule, maybe};
 ghost use Rattle.model_core.specs.Text.Expressions.{Unary, Primary, joining, whole_format, unary_format, primary_format, index_format, of_name, in_parentheses_format, call_format, expression_format};
-ghost use Rattle.model_core.specs.Inner.FirstTokens.{begins_as};
 ghost use Rattle.model_core.specs.Inner.FormatReader.{took, and_next};
 ghost use Rattle.model_core.specs.Inner.LanguageReader.{language_reader};
 ghost use Rattle.model_read.specs.ReadCalls.{Returned};
@@ -42,6 +41,7 @@ fn conditional(alloc: Global, cursor: &mut Cursor<'_>) -> Result<RawExpr, Stop>
 }
 
 /// Reads `if` with its parts.
+// Not inlined, as others below: so the frame of the recursion that every expression goes through stays small.
 #[inline(never)]
 #[cycle(expressions)]
 fn branches(alloc: Global, cursor: &mut Cursor<'_>) -> Result<RawExpr, Stop>
@@ -62,14 +62,6 @@ fn branches(alloc: Global, cursor: &mut Cursor<'_>) -> Result<RawExpr, Stop>
     Ok(RawExpr { at, form })
 }
 
-/// Whether `not` comes, and may stand before an operand of operators of the level.
-fn begins_negation(cursor: &Cursor<'_>, under: usize) -> bool
-    ensures yes { result ≡ true → (3 ≤ under) × (begins_as (AWord Not) cursor.now ≡ true) }
-    ensures no { result ≡ false → 3 ≤ under → begins_as (AWord Not) cursor.now ≡ false }
-{
-    under >= CONJUNCTIONS && cursor.begins_word(Word::Not)
-}
-
 /// Reads an operand of operators of the level `under`: one of unary operators, and operators of lower levels with their
 /// operands.
 #[cycle(expressions)]
@@ -78,7 +70,7 @@ fn operand(alloc: Global, cursor: &mut Cursor<'_>, under: usize) -> Result<RawEx
     ensures reads { Returned written_expression result cursor.new (language_reader (ByRule (operand_level under)) cursor.old) }
     ensures shorter { IfOk result (λ e. length cursor.new + 1 ≤ length cursor.old) }
 {
-    if begins_negation(cursor, under) {
+    if cursor.begins_negation(under) {
         return negation(alloc, cursor, under);
     }
     let first = unary(alloc, cursor);

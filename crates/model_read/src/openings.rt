@@ -2,8 +2,7 @@
 
 ghost use Rattle.std.specs.Prelude.{◌≡◌, ◌≤◌, ℕ, List, length, map, take};
 ghost use Rattle.model_core.specs.Code.TokenViews.{lexeme_kind_of, lexeme_of};
-ghost use Rattle.model_core.specs.Text.Openings.{ends_part, is_opening, front_to_end};
-ghost use Rattle.model_core.specs.Inner.OpeningCount.{deep_from};
+ghost use Rattle.model_core.specs.Text.Openings.{ends_part, is_opening, too_deep_at, front_to_end};
 
 use model_core::{Symbol, Token, TokenKind, Word};
 
@@ -40,9 +39,9 @@ fn effect(kind: TokenKind) -> (bool, bool)
     }
 }
 
-/// The place of the first opening that is one too many, where a part may have so many.
+/// The byte, from 0, of the first opening that is one more than the limit in its part.
 pub fn first_too_deep(tokens: &[Token], limit: usize) -> Option<usize>
-    ensures { (text : List ℕ) → result ≡ deep_from limit limit (map (lexeme_of text) tokens.now) }
+    ensures { (text : List ℕ) → result ≡ too_deep_at limit (map (lexeme_of text) tokens.now) }
 {
     let mut room = limit;
     for token in tokens {

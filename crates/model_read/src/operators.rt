@@ -38,7 +38,7 @@ pub fn next_level(level: usize) -> usize
 }
 
 /// The operator that a token of the kind is, if any.
-pub fn infix_of(kind: TokenKind) -> Option<Infix>
+pub(crate) fn infix_of(kind: TokenKind) -> Option<Infix>
     ensures { (bytes : List ℕ) → option_map infix_of result ≡ infix_of_kind (lexeme_kind_of bytes kind) }
 {
     match kind {

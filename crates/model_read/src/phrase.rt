@@ -29,6 +29,7 @@ pub trait Phrase: Drop {
     fn read(alloc: Global, cursor: &mut Cursor<'_>) -> Result<Self, Stop>
         ensures { Returned plain result cursor.new (language_reader format cursor.old) };
 
+    // It has a token at least.
     ghost some_tokens: { nullable format ≡ false };
 }
 

@@ -52,13 +52,9 @@ fn model(alloc: Global, cursor: &mut Cursor<'_>) -> Result<RawModel, Stop>
     let vertices = at_least_one(alloc, cursor)?;
     let end_at = cursor.word(Word::End)?;
     Ok(RawModel {
-        at: begun.at,
-        name: begun.name,
-        vars: begun.vars,
-        tables: begun.tables,
-        watch: begun.watch,
         vertices,
         end_at,
+        ..begun
     })
 }
 

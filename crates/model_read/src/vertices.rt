@@ -60,11 +60,9 @@ fn vertex(alloc: Global, cursor: &mut Cursor<'_>) -> Result<RawVertex, Stop>
     let edges = many(alloc, cursor)?;
     cursor.symbol(Symbol::CloseBrace)?;
     Ok(RawVertex {
-        at: begun.at,
-        name: begun.name,
-        params: begun.params,
         changes,
         edges,
+        ..begun
     })
 }
 

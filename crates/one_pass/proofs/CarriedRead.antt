@@ -12,12 +12,12 @@ use Rattle.model_core.specs.Static.RuleTable.{value_count}
 use Rattle.model_core.specs.Static.PartFaults.{values_faults}
 use Rattle.model_core.specs.Inner.FirstTokens.{begins_as}
 use Rattle.model_core.proofs.StaticTwins.RowTwins.{same_count}
+use Rattle.model_core.proofs.StaticTwins.Twins.{both_empty}
 use Rattle.model_read.proofs.ReadLoop.{begins-one}
 use Rattle.one_pass.specs.Inner.ReadParts.{ReadSure}
 use Rattle.one_pass.specs.Inner.ReadValues.{fitting_faults}
 use Rattle.one_pass.specs.Inner.ReadCarried.{ReadGiven}
 use Rattle.one_pass.proofs.FormatReads.{comes, absent}
-use Rattle.one_pass.proofs.Sure.{both_empty}
 
 module _ (means : List ℕ → Option Meaning) (kinds : List (Option Kind)) where
   -- values in parentheses

@@ -23,11 +23,11 @@ use Rattle.model_core.specs.Inner.FirstTokens.{begins_as}
 use Rattle.model_core.specs.Inner.FormatReader.{took}
 use Rattle.model_core.specs.Inner.LanguageReader.{language_reader}
 use Rattle.model_core.proofs.EmptyLists.{left_empty, right_empty}
+use Rattle.model_core.proofs.StaticTwins.Twins.{both_empty}
 use Rattle.sig_types.specs.Inner.Checked.{NumberedAs}
 use Rattle.sig_types.proofs.Checks.{two_numbered, four_numbered}
 use Rattle.one_pass.specs.Inner.ReadParts.{ReadSure}
 use Rattle.one_pass.specs.Inner.ReadCarried.{ReadCarried}
-use Rattle.one_pass.proofs.Sure.{both_empty}
 
 two-read : {A B W : Type 0} (h : A → B → W) (p1 : LanguageFormat A) (p2 : LanguageFormat B) (t0 t1 t2 : List Lexeme) (a : A) (b : B)
     → language_reader p1 t0 ≡ took a t1 → language_reader p2 t1 ≡ took b t2 → language_reader (Yields h <*> p1 <*> p2) t0 ≡ took (h a b) t2

@@ -11,11 +11,11 @@ use Rattle.model_core.specs.Static.Meanings.{Meaning}
 use Rattle.model_core.specs.Inner.FirstTokens.{nullable, first_sorts, begins_among}
 use Rattle.model_core.specs.Inner.FormatReader.{took}
 use Rattle.model_core.specs.Inner.LanguageReader.{level_lookahead, language_reader}
+use Rattle.model_core.proofs.StaticTwins.Twins.{both_empty}
 use Rattle.model_read.specs.ReadCalls.{with_front}
 use Rattle.model_read.proofs.ReadLoop.{goes_on, is_done, front-none}
 use Rattle.sig_types.specs.Inner.Checked.{NumberedAs}
 use Rattle.sig_types.proofs.ListChecks.{one_numbered_more}
-use Rattle.one_pass.proofs.Sure.{both_empty}
 use Rattle.one_pass.specs.Inner.ReadParts.{ReadSure, ReadParts}
 
 module _ {W B X : Type 0} (f : LanguageFormat W) (means : List ℕ → Option Meaning) (faults : W → List StaticFault) (number : Declared → W → Option B) (view : X → B) where

@@ -12,9 +12,9 @@ use Rattle.model_read.specs.ReadCalls.{with_front}
 use Rattle.model_read.proofs.ReadLoop.{begins-one, goes_on, is_done}
 use Rattle.one_pass.specs.Inner.ReadRows.{AllAre, ReadRow}
 
--- a token that is read comes
-pub comes : {A : Type 0} (sort : TokenSort) (f : Lexeme → A) (before after : List Lexeme) (x : A) → language_reader (Single sort f) before ≡ took x after → begins_as sort before ≡ true
-comes sort f before after x e = go before (begins_as sort before) refl e
+-- a token that is read stands first
+pub stands_first : {A : Type 0} (sort : TokenSort) (f : Lexeme → A) (before after : List Lexeme) (x : A) → language_reader (Single sort f) before ≡ took x after → begins_as sort before ≡ true
+stands_first sort f before after x e = go before (begins_as sort before) refl e
   where
     go : (tokens : List Lexeme) (b : Bool) → begins_as sort tokens ≡ b → language_reader (Single sort f) tokens ≡ took x after → begins_as sort tokens ≡ true
     go tokens true is e = is
@@ -46,7 +46,7 @@ module _ {W B K : Type 0} (f : LanguageFormat W) (Is : W → B → K → Type 0)
       let one : language_reader (mark symbols.Comma *> f) now ≡ took w later = rw (comma, e) refl in
       record {
         seen = so_far.seen ++ w ∷ [];
-        read = goes_on (λ v. v) (mark symbols.Comma *> f) refl so_far.seen w now later (language_reader (separated f) before) (begins-one (ASymbol symbols.Comma) now true (comes (ASymbol symbols.Comma) (λ t. t.from) now between at comma)) one so_far.read;
+        read = goes_on (λ v. v) (mark symbols.Comma *> f) refl so_far.seen w now later (language_reader (separated f) before) (begins-one (ASymbol symbols.Comma) now true (stands_first (ASymbol symbols.Comma) (λ t. t.from) now between at comma)) one so_far.read;
         all = all-push so_far.seen xs ks w x k so_far.all is;
       }
 

@@ -22,13 +22,13 @@ use Rattle.model_core.specs.Inner.FormatReader.{took}
 use Rattle.model_core.specs.Inner.LanguageReader.{language_reader}
 use Rattle.model_core.proofs.EmptyLists.{left_empty, right_empty}
 use Rattle.model_core.proofs.StaticTwins.RowTwins.{same_count, few}
+use Rattle.model_core.proofs.StaticTwins.Twins.{both_empty}
 use Rattle.sig_types.specs.Inner.Checked.{NumberedAs}
 use Rattle.one_pass.specs.Inner.ReadParts.{ReadSure}
 use Rattle.one_pass.specs.Inner.ReadRows.{AllAre, ReadRow}
 use Rattle.one_pass.specs.Inner.ReadTargets.{IsTarget}
 use Rattle.one_pass.specs.Inner.ReadValues.{fitting_faults}
-use Rattle.one_pass.proofs.Sure.{both_empty}
-use Rattle.one_pass.proofs.RowsInTurn.{comes}
+use Rattle.one_pass.proofs.RowsInTurn.{stands_first}
 
 module _ (means : List ℕ → Option Meaning) where
   -- targets without faults, of these numbers and kinds
@@ -73,7 +73,7 @@ module _ (means : List ℕ → Option Meaning) where
       let same : length ks ≡ length values.written = (same_count (length ks) (length values.written) 0).0 counted in
       record {
         written = written.Set at targets.written values.written;
-        read = rw (comes (AWord words.Set) (λ t. t.from) before c1 at word, word, targets.read, becomes, values.read, ends) refl;
+        read = rw (stands_first (AWord words.Set) (λ t. t.from) before c1 at word, word, targets.read, becomes, values.read, ends) refl;
         unbroken = set_unbroken at targets.written values.written (sym many ∙ same) (subst (λ n. n ≤ TARGETS_MAX) many some) t.unbroken (rw t.have_kinds at fit);
         numbers = λ d p. rw (t.numbers d p, values.numbers d p) refl;
       }

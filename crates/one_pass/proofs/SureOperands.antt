@@ -3,13 +3,13 @@ use Rattle.std.proofs.Common.{◌≡◌, ℕ, List, [], ◌++◌, Option, Some, 
 use Rattle.model_core.specs.declared.model.Kind.{Kind}
 use Rattle.model_core.specs.EventGraph as graph
 use Rattle.model_core.specs.Text.Written as written
-use Rattle.model_core.specs.Text.Written.{WrittenName, WrittenNumber, WrittenExpression}
+use Rattle.model_core.specs.Text.Written.{WrittenExpression}
 use Rattle.model_core.specs.Text.Expressions.{place, joining}
 use Rattle.model_core.specs.Static.Meanings.{Meaning}
 use Rattle.model_core.specs.Static.Kinds.{operand_kind, result_kind, right_operand_kind, expression_kind}
 use Rattle.model_core.specs.Static.RuleTable.{kind_mismatch}
 use Rattle.model_core.specs.Static.PartFaults.{expression_faults, kind_faults}
-use Rattle.one_pass.proofs.Sure.{both_empty}
+use Rattle.model_core.proofs.StaticTwins.Twins.{both_empty}
 use Rattle.one_pass.specs.Inner.ReadOperands.{IsOperand}
 
 module _ (means : List ℕ → Option Meaning) where

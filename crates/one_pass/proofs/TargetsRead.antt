@@ -17,12 +17,12 @@ use Rattle.model_core.specs.Static.PartFaults.{use_faults, operand_faults}
 use Rattle.model_core.specs.Inner.FirstTokens.{begins_as}
 use Rattle.model_core.specs.Inner.FormatReader.{took}
 use Rattle.model_core.specs.Inner.LanguageReader.{language_reader}
+use Rattle.model_core.proofs.StaticTwins.Twins.{both_empty}
 use Rattle.sig_types.specs.Inner.Checked.{NumberedAs}
 use Rattle.sig_types.specs.Inner.Seen.{variable_role}
 use Rattle.one_pass.specs.Inner.ReadOperands.{ReadOperand}
 use Rattle.one_pass.specs.Inner.ReadTargets.{ReadTarget}
 use Rattle.one_pass.proofs.SureOperands.{fitting}
-use Rattle.one_pass.proofs.Sure.{both_empty}
 
 module _ (means : List ℕ → Option Meaning) where
   pub scalar_read : (n : WrittenName) (k : ℕ) (kind : Option Kind) (before after : List Lexeme) → language_reader any_name before ≡ took n after → begins_as (ASymbol symbols.OpenBracket) after ≡ false

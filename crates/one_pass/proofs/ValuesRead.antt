@@ -17,6 +17,7 @@ use Rattle.model_core.specs.Inner.FormatReader.{took}
 use Rattle.model_core.specs.Inner.LanguageReader.{language_reader}
 use Rattle.model_core.proofs.EmptyLists.{left_empty, right_empty}
 use Rattle.model_core.proofs.StaticTwins.RowTwins.{same_count}
+use Rattle.model_core.proofs.StaticTwins.Twins.{both_empty}
 use Rattle.model_read.specs.ReadCalls.{with_front}
 use Rattle.model_read.proofs.ReadLoop.{begins-one, goes_on, is_done, front-none}
 use Rattle.sig_types.specs.Inner.Checked.{NumberedAs}
@@ -25,7 +26,6 @@ use Rattle.sig_types.proofs.ListChecks.{one_numbered_more}
 use Rattle.one_pass.specs.Inner.ReadParts.{ReadSure}
 use Rattle.one_pass.specs.Inner.ReadValues.{fitting_faults}
 use Rattle.one_pass.proofs.WholeReads.{applied}
-use Rattle.one_pass.proofs.Sure.{both_empty}
 
 abbrev next_format : LanguageFormat WrittenExpression
 next_format = mark Comma *> expression_format

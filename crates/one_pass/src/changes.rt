@@ -15,6 +15,7 @@ ghost use Rattle.one_pass.specs.Inner.ReadRows.{ReadRow};
 ghost use Rattle.one_pass.specs.Inner.ReadTargets.{IsTarget, ReadTarget};
 
 use crate::expressions::{bracketed, known};
+use crate::refusing::refuse_told;
 use crate::values::values;
 use arrayvec::ArrayVec;
 use model_core::{Change, Kind, RawChange, Symbol, Target, Word};
@@ -94,10 +95,8 @@ fn checked(alloc: Global, names: &Names, raw: &RawChange) -> Result<Change, Stop
 {
     let mut told = Told::new();
     let change = sig_types::change(alloc, names, raw, &mut told)?;
-    match told.fault() {
-        None => Ok(change),
-        Some(_) => Err(Stop::Unexpected),
-    }
+    refuse_told(&told)?;
+    Ok(change)
 }
 
 /// Reads a change as it is written, and checks it then.

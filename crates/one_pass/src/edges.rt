@@ -17,6 +17,7 @@ ghost use Rattle.sig_types.specs.Inner.Checked.{NumberedAs};
 ghost use Rattle.one_pass.specs.Inner.ReadParts.{ReadSure};
 
 use crate::carried::carried;
+use crate::refusing::refuse_told;
 use crate::values::value;
 use model_core::{Edge, EdgeForm, Expr, Kind, RawEdge, RawNumber, StaticKind, Symbol, Word};
 use model_read::{Cursor, Phrase, Stop};
@@ -43,10 +44,8 @@ fn within(raw: &RawNumber) -> Result<u8, Stop>
 {
     let mut told = Told::new();
     let priority = bounded(raw, 1, 255, StaticKind::PriorityOutside, &mut told);
-    match told.fault() {
-        None => Ok(priority as u8),
-        Some(_) => Err(Stop::Unexpected),
-    }
+    refuse_told(&told)?;
+    Ok(priority as u8)
 }
 
 /// Reads the priority of an edge: 5 where none is written.
@@ -130,10 +129,8 @@ fn checked(
 {
     let mut told = Told::new();
     let edge = sig_types::edge(alloc, names, taken, raw, &mut told)?;
-    match told.fault() {
-        None => Ok(edge),
-        Some(_) => Err(Stop::Unexpected),
-    }
+    refuse_told(&told)?;
+    Ok(edge)
 }
 
 /// Reads an edge as it is written, and checks it then.

@@ -6,24 +6,22 @@ ghost use Rattle.model_core.specs.declared.model.Kind.TheVariants.{Range};
 ghost use Rattle.model_core.specs.declared.token.Word.TheVariants.{Not};
 ghost use Rattle.model_core.specs.EventGraph.{Binary};
 ghost use Rattle.model_core.specs.Code.Views.{operator_of, expression_of};
-ghost use Rattle.model_core.specs.Code.WrittenViews.{written_number};
-ghost use Rattle.model_core.specs.Text.Format.{AWord, ByRule};
-ghost use Rattle.model_core.specs.Text.Expressions.{Unary, Primary, expression_format, whole_format, unary_format, primary_format, in_parentheses_format, call_format, index_format, of_name};
+ghost use Rattle.model_core.specs.Text.Format.{ByRule};
+ghost use Rattle.model_core.specs.Text.Expressions.{Unary, Primary, expression_format, whole_format, unary_format, primary_format, in_parentheses_format, call_format, index_format};
 ghost use Rattle.model_core.specs.Text.Numbering.{declared_place};
 ghost use Rattle.model_core.specs.Static.Meanings.{meaning_of};
 ghost use Rattle.model_core.specs.Static.Kinds.{kind_in_role};
 ghost use Rattle.model_core.specs.Static.Kinds as kinds;
 ghost use Rattle.model_core.specs.Static.RuleTable.{kind_mismatch};
 ghost use Rattle.model_core.specs.Static.PartFaults.{use_faults};
-ghost use Rattle.model_core.specs.Inner.FirstTokens.{begins_as};
-ghost use Rattle.model_core.specs.Inner.FormatReader.{took, and_next};
 ghost use Rattle.model_core.specs.Inner.LanguageReader.{language_reader};
-ghost use Rattle.model_read.specs.Inner.Ladder.{operand_level, climb, if_format, not_format, negative_format, named_format};
+ghost use Rattle.model_read.specs.Inner.Ladder.{operand_level, if_format, not_format, negative_format, named_format};
 ghost use Rattle.model_read.specs.Inner.Spelled.{spelled_name};
 ghost use Rattle.sig_types.specs.Inner.Checked.{NumberedAs};
 ghost use Rattle.sig_types.specs.Inner.Seen.{variable_role};
 ghost use Rattle.one_pass.specs.Inner.ReadOperands.{first_operand, ReadOperand, ClimbsFrom};
 
+use crate::refusing::refuse_told;
 use model_core::{Expr, Kind, Op, Symbol, Word};
 use model_read::{CONJUNCTIONS, Cursor, LEVELS, Spelling, Stop, next_level};
 use sig_types::{
@@ -40,7 +38,7 @@ pub(crate) struct Operand {
     pub at: usize,
 }
 
-/// Sees that an expression is of this kind, where both are known.
+/// Refuses an expression of another kind, where both kinds are known.
 pub(crate) fn expect(wanted: Option<Kind>, operand: &Operand) -> Result<(), Stop>
     ensures { OnOk result (kind_mismatch wanted operand.now.kind operand.now.at ≡ []) }
 {
@@ -58,10 +56,8 @@ pub(crate) fn known(names: &Names, is_array: bool, name: Spelling<'_>) -> Result
 {
     let mut told = Told::new();
     let var = spelled_variable(names, is_array, name.bytes, name.at, &mut told);
-    match told.fault() {
-        None => Ok(var),
-        Some(_) => Err(Stop::Unexpected),
-    }
+    refuse_told(&told)?;
+    Ok(var)
 }
 
 /// Reads an expression.
@@ -91,6 +87,7 @@ fn conditional(alloc: Global, cursor: &mut Cursor<'_>, names: &Names) -> Result<
 }
 
 /// Reads `if` with its parts.
+// Not inlined, as others below: so the frame of the recursion that every expression goes through stays small.
 #[inline(never)]
 #[cycle(expressions)]
 fn branches(alloc: Global, cursor: &mut Cursor<'_>, names: &Names) -> Result<Operand, Stop>
@@ -125,7 +122,7 @@ fn operand_under(
     ensures reads { IfOk result (λ e. ReadOperand (meaning_of names.now) (language_reader (ByRule (operand_level under)) cursor.old) cursor.new (expression_of e.expr) e.kind e.at) }
     ensures shorter { IfOk result (λ e. length cursor.new + 1 ≤ length cursor.old) }
 {
-    let is_negated = begins_negation(cursor, under);
+    let is_negated = cursor.begins_negation(under);
     let first = first_operand(alloc, cursor, names, is_negated)?;
     let least = least_behind(is_negated);
     others(alloc, cursor, names, first, least, under)
@@ -174,14 +171,6 @@ fn others(
         least = next_level(infix.level);
     }
     Ok(left)
-}
-
-/// Whether `not` comes, and may stand before an operand of operators of the level.
-fn begins_negation(cursor: &Cursor<'_>, under: usize) -> bool
-    ensures yes { result ≡ true → (3 ≤ under) × (begins_as (AWord Not) cursor.now ≡ true) }
-    ensures no { result ≡ false → 3 ≤ under → begins_as (AWord Not) cursor.now ≡ false }
-{
-    under >= CONJUNCTIONS && cursor.begins_word(Word::Not)
 }
 
 /// The least level of an operator that may stand behind the first operand.

@@ -8,6 +8,7 @@ mod changes;
 mod edges;
 mod expressions;
 mod parts;
+mod refusing;
 mod text;
 mod values;
 mod vertices;

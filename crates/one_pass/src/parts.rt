@@ -57,6 +57,7 @@ pub(crate) trait Part: Drop {
     ) -> Result<Self, Stop>
         ensures { IfOk result (λ part. ReadSure format (meaning_of names.now) (faults (meaning_of names.now) taken.now) number cursor.old cursor.new (plain part)) };
 
+    // It has a token at least.
     ghost some_tokens: { nullable format ≡ false };
 }
 

@@ -49,7 +49,8 @@ fn behind(
     })
 }
 
-/// Reads a model text whose vertices begin so, and nothing behind it. All its faults are told.
+/// Reads a model text whose vertices begin so, and nothing behind it. Faults of its declarations and of its length are
+/// told; at a fault in a vertex the reading stops.
 fn text(
     alloc: Global,
     cursor: &mut Cursor<'_>,
@@ -71,7 +72,8 @@ fn text(
     Ok(model)
 }
 
-/// The model that all of the tokens spell, or none where it breaks a static rule or has too many openings.
+/// The model that all of the tokens spell, or none where a fault is told or a part has too many openings. At any other fault
+/// the reading stops.
 fn found(alloc: Global, tokens: &Tokens<'_>) -> Result<Option<Model>, Stop>
     ensures { IfOk result (λ found. IfSome found (λ model. AreAccepted (lexemes tokens.now) (graph_of model))) }
 {

@@ -1,7 +1,7 @@
 //! Values, which are checked as they are read: expressions of kinds that are known before. Where one breaks a static rule
 //! these functions give up.
 
-ghost use Rattle.std.specs.Prelude.{◌≡◌, map, IfOk};
+ghost use Rattle.std.specs.Prelude.{map, IfOk};
 ghost use Rattle.model_core.specs.declared.token.Symbol.TheVariants.{Comma};
 ghost use Rattle.model_core.specs.Code.Views.{expression_of};
 ghost use Rattle.model_core.specs.Text.Format.{mark, ◌*>◌, separated};
@@ -10,7 +10,6 @@ ghost use Rattle.model_core.specs.Text.Numbering as numbering;
 ghost use Rattle.model_core.specs.Text.Numbering.{each_numbered};
 ghost use Rattle.model_core.specs.Static.Meanings.{meaning_of};
 ghost use Rattle.model_core.specs.Static.PartFaults.{operand_faults};
-ghost use Rattle.sig_types.specs.Inner.Wanted.{wanted};
 ghost use Rattle.one_pass.specs.Inner.ReadParts.{ReadSure};
 ghost use Rattle.one_pass.specs.Inner.ReadValues.{fitting_faults};
 
@@ -18,10 +17,10 @@ use crate::expressions::{expect, expression};
 use model_core::{Expr, Kind, Symbol};
 use model_read::{Cursor, Stop, packed};
 use sig_base::List;
-use sig_types::Names;
+use sig_types::{Names, wanted_at};
 use std::alloc::Global;
 
-/// Reads an expression of this kind, where both are known.
+/// Reads an expression of this kind, where both kinds are known.
 pub(crate) fn value(
     alloc: Global,
     cursor: &mut Cursor<'_>,
@@ -47,16 +46,6 @@ fn next(
     cursor.symbol(Symbol::Comma)?;
     let value = value(alloc, cursor, names, wanted)?;
     Ok(value)
-}
-
-/// The kind that the value at a place must have.
-fn wanted_at(kinds: &[Option<Kind>], i: usize) -> Option<Kind>
-    ensures { result ≡ wanted kinds.now i }
-{
-    match kinds.get(i) {
-        Some(kind) => *kind,
-        None => None,
-    }
 }
 
 /// Reads values, separated by commas: one of each of these kinds.

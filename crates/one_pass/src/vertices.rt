@@ -12,6 +12,7 @@ ghost use Rattle.one_pass.specs.Inner.ReadParts.{ReadVertex, ReadVertices};
 
 use crate::beginnings::begin_alike;
 use crate::parts::take_all;
+use crate::refusing::refuse_told;
 use model_core::{Kind, RawVertex, StaticKind, Symbol, Vertex};
 use model_read::{Cursor, Repeated, Stop, begun_vertex};
 use sig_base::{CHANGES_MAX, EDGES_MAX, List, NAME_MAX};
@@ -28,10 +29,8 @@ fn known_parameters(alloc: Global, names: &Names, begun: &RawVertex) -> Result<L
     let long = begun.name.name.as_slice().len() > NAME_MAX;
     told.note(long, StaticKind::NameTooLong, begun.name.at);
     let params = parameters(alloc, names, items(&begun.params), &mut told)?;
-    match told.fault() {
-        None => Ok(params),
-        Some(_) => Err(Stop::Unexpected),
-    }
+    refuse_told(&told)?;
+    Ok(params)
 }
 
 /// Reads a vertex, which must begin as expected.

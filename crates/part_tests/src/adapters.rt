@@ -2,6 +2,7 @@
 
 ghost use Rattle.std.specs.Prelude.{◌≡◌, [], Some, IfOk, OnOk};
 
+use crate::memory::BYTES;
 use sig_base::{Failed, Sink, Source, StdSink, StdSource, TakeError, Text, put, take_all};
 use std::alloc::Global;
 use std::io;
@@ -74,8 +75,6 @@ impl<W: Write> Write for Device<W> {
         self.inner.flush()
     }
 }
-
-const BYTES: &[u8] = b"an event graph has vertices and edges";
 
 /// The bytes, taken from a reader whose first calls are interrupted.
 fn taken(alloc: Global, interruptions: u32) -> Result<Text, TakeError> {
@@ -183,6 +182,8 @@ fn a_write_of_no_byte_fails_at_once(rt: HostRuntime) {
 fn a_read_of_no_byte_is_the_end(rt: HostRuntime) {
     assert!(rt; outcome_of_read(0, Then::MovesNoByte) == (true, 1));
 }
+
+// No test calls these two: by being proved they show that a client can promise so much from the clauses alone.
 
 /// The bytes, through a reader of std.
 fn through_reader(alloc: Global, bytes: &[u8]) -> Result<Text, TakeError>

@@ -2,13 +2,11 @@
 
 ghost use Rattle.std.specs.Prelude.{◌≡◌, ◌<◌, ◌++◌, [], ◌∷◌, IfOk, OnOk};
 
-use sig_base::{
-    Failed, List, MemorySink, MemorySource, NoMemory, Sink, TakeError, Text, put, take_all,
-};
+use sig_base::{Failed, List, MemorySink, MemorySource, NoMemory, TakeError, Text, put, take_all};
 use std::alloc::Global;
 use std::test::*;
 
-const BYTES: &[u8] = b"an event graph has vertices and edges";
+pub const BYTES: &[u8] = b"an event graph has vertices and edges";
 
 /// Why not all of the bytes were taken, in pieces of 7 and up to a limit, or else whether they were; and how often the
 /// source was called. One call fails.
@@ -74,6 +72,8 @@ fn a_long_source_is_taken_whole(rt: HostRuntime) -> Result<(), Fail> {
     assert!(rt; source.calls() <= 60);
     Ok(())
 }
+
+// No test calls these three: by being proved they show that a client can promise so much from the clauses alone.
 
 /// The bytes, through a source over memory.
 fn through_source(alloc: Global, content: Text, piece: usize) -> Result<Text, TakeError>

@@ -16,7 +16,7 @@ use crate::truth_rows::{
 use model_core::{Bounds, Op};
 
 /// What an operator makes of the bounds of its operands.
-pub fn operator_bounds(op: Op, a: &Bounds, b: &Bounds) -> Bounds
+pub(crate) fn operator_bounds(op: Op, a: &Bounds, b: &Bounds) -> Bounds
     ensures { result ≡ operator_bounds (operator_of op) a.now b.now }
 {
     match op {
@@ -74,8 +74,8 @@ fn taken_branch(c: &Bounds, a: &Bounds, b: &Bounds) -> Bounds
     }
 }
 
-/// Of `if c then a else b`.
-pub fn chosen_bounds(c: &Bounds, a: &Bounds, b: &Bounds) -> Bounds
+/// The bounds of `if c then a else b`.
+pub(crate) fn chosen_bounds(c: &Bounds, a: &Bounds, b: &Bounds) -> Bounds
     ensures { result ≡ chosen_bounds c.now a.now b.now }
 {
     Bounds {

@@ -45,8 +45,8 @@ fn rows_bounds(rows: &[Row]) -> Bounds
     }
 }
 
-/// Of what a draw gives.
-pub fn choice_bounds(model: &Model, choice: &Choice) -> Bounds
+/// The bounds of what a draw gives.
+pub(crate) fn choice_bounds(model: &Model, choice: &Choice) -> Bounds
     ensures { result ≡ choice_bounds (graph_of model.now) (choice_of choice.now) }
 {
     match choice {

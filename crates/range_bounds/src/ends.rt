@@ -7,7 +7,7 @@ ghost use Rattle.model_core.specs.Rules.BoundsTable.{number_bounds, truth_bounds
 use model_core::Bounds;
 
 /// The bounds of a whole number.
-pub fn number_bounds(lo: i64, hi: i64, quiet: bool) -> Bounds
+pub(crate) fn number_bounds(lo: i64, hi: i64, quiet: bool) -> Bounds
     ensures { result ≡ number_bounds lo hi quiet }
 {
     Bounds {
@@ -20,7 +20,7 @@ pub fn number_bounds(lo: i64, hi: i64, quiet: bool) -> Bounds
 }
 
 /// The bounds of a truth value.
-pub fn truth_bounds(can_false: bool, can_true: bool, quiet: bool) -> Bounds
+pub(crate) fn truth_bounds(can_false: bool, can_true: bool, quiet: bool) -> Bounds
     ensures { result ≡ truth_bounds can_false can_true quiet }
 {
     Bounds {
@@ -58,14 +58,14 @@ fn quiet_where(quiet: bool, x: i128, y: i128) -> bool
 
 /// A pair that is quiet where neither end had to be moved.
 #[tactic(auto, unfolding(model_core::specs::Rules::BoundsTable::exact_bounds))]
-pub fn exact_bounds(lo: i128, hi: i128, quiet: bool) -> Bounds
+pub(crate) fn exact_bounds(lo: i128, hi: i128, quiet: bool) -> Bounds
     ensures { result ≡ exact_bounds lo hi quiet }
 {
     number_bounds(nearest(lo), nearest(hi), quiet_where(quiet, lo, hi))
 }
 
 /// Whether both operands are quiet.
-pub fn both_quiet(a: &Bounds, b: &Bounds) -> bool
+pub(crate) fn both_quiet(a: &Bounds, b: &Bounds) -> bool
     ensures { result ≡ (a.now.quiet && b.now.quiet) }
 {
     a.quiet && b.quiet
@@ -86,21 +86,21 @@ fn greatest_of(p: i128, q: i128, r: i128, s: i128) -> i128
 }
 
 /// The least and the greatest of the results at four pairs of ends.
-pub fn of_four(p: i128, q: i128, r: i128, s: i128, quiet: bool) -> Bounds
+pub(crate) fn of_four(p: i128, q: i128, r: i128, s: i128, quiet: bool) -> Bounds
     ensures { result ≡ exact_bounds (least_of p q r s) (greatest_of p q r s) quiet }
 {
     exact_bounds(least_of(p, q, r, s), greatest_of(p, q, r, s), quiet)
 }
 
 /// Whether 0 lies between the ends.
-pub fn has_zero(b: &Bounds) -> bool
+pub(crate) fn has_zero(b: &Bounds) -> bool
     ensures { result ≡ has_zero b.now }
 {
     b.lo <= 0 && 0 <= b.hi
 }
 
 /// The greatest distance from 0.
-pub fn magnitude(a: &Bounds) -> u64
+pub(crate) fn magnitude(a: &Bounds) -> u64
     ensures most { result ≤ 2 ^ 63 }
     ensures value { result ≡ magnitude a.now }
 {

@@ -1,7 +1,7 @@
 //! Conditions of which at most one is true.
 #![tactic(auto, using(crate::proofs::SignedBits::signed_bits))]
 
-ghost use Rattle.std.specs.Prelude.{◌≡◌, ◌^◌, ℤ, pos, neg_ℤ, ◌≤ℤ◌, ◌+ℤ◌, ◌-ℤ◌, ◌&&◌, ◌||◌, not, IfSome};
+ghost use Rattle.std.specs.Prelude.{◌≡◌, ℤ, pos, ◌+ℤ◌, ◌&&◌, ◌||◌, IfSome};
 ghost use Rattle.model_core.specs.EventGraph.{Binary};
 ghost use Rattle.model_core.specs.Rules.Exclusive.{same_expression, compares, is_comparison, number_literal, literal_number, comparison_of, some_meets_both, is_negation_of, compare_apart, exclusive};
 ghost use Rattle.model_core.specs.Code.Views.{graph_of, expression_of, operator_of};
@@ -128,14 +128,14 @@ fn is_negation_of(a: &Expr, b: &Expr) -> bool
     }
 }
 
-/// Whether two conditions are never both true, as one is `not` of the other, one never holds, or both compare the same
-/// with numbers that no whole number meets both.
+/// Whether it is told that two conditions are never both true: one is `not` of the other, one never holds, or both compare
+/// the same with numbers that no whole number meets both.
 pub fn exclusive(model: &Model, a: &Expr, b: &Expr) -> bool
     ensures { result ≡ exclusive (graph_of model.now) (expression_of a.now) (expression_of b.now) }
 {
     is_negation_of(a, b)
         || is_negation_of(b, a)
+        || compare_apart(a, b)
         || refuted(model, a)
         || refuted(model, b)
-        || compare_apart(a, b)
 }

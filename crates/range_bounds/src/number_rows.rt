@@ -9,8 +9,8 @@ ghost use Rattle.model_core.specs.Rules.BoundsTable.{negative_bounds, operator_b
 use crate::ends::{both_quiet, exact_bounds, has_zero, magnitude, number_bounds, of_four};
 use model_core::Bounds;
 
-/// Of `-a`.
-pub fn negative_bounds(a: &Bounds) -> Bounds
+/// The bounds of `-a`.
+pub(crate) fn negative_bounds(a: &Bounds) -> Bounds
     ensures { result ≡ negative_bounds a.now }
 {
     exact_bounds(-(a.hi as i128), -(a.lo as i128), a.quiet)
@@ -22,8 +22,8 @@ fn plus(a: i64, b: i64) -> i128
     a as i128 + b as i128
 }
 
-/// Of `a + b`.
-pub fn sum_bounds(a: &Bounds, b: &Bounds) -> Bounds
+/// The bounds of `a + b`.
+pub(crate) fn sum_bounds(a: &Bounds, b: &Bounds) -> Bounds
     ensures { result ≡ operator_bounds Add a.now b.now }
 {
     exact_bounds(plus(a.lo, b.lo), plus(a.hi, b.hi), both_quiet(a, b))
@@ -35,8 +35,8 @@ fn minus(a: i64, b: i64) -> i128
     a as i128 - b as i128
 }
 
-/// Of `a - b`.
-pub fn difference_bounds(a: &Bounds, b: &Bounds) -> Bounds
+/// The bounds of `a - b`.
+pub(crate) fn difference_bounds(a: &Bounds, b: &Bounds) -> Bounds
     ensures { result ≡ operator_bounds Subtract a.now b.now }
 {
     exact_bounds(minus(a.lo, b.hi), minus(a.hi, b.lo), both_quiet(a, b))
@@ -48,8 +48,8 @@ fn times(a: i64, b: i64) -> i128
     a as i128 * b as i128
 }
 
-/// Of `a * b`.
-pub fn product_bounds(a: &Bounds, b: &Bounds) -> Bounds
+/// The bounds of `a * b`.
+pub(crate) fn product_bounds(a: &Bounds, b: &Bounds) -> Bounds
     ensures { result ≡ operator_bounds Multiply a.now b.now }
 {
     of_four(
@@ -70,8 +70,8 @@ fn over(a: i64, b: i64) -> i128
     a as i128 / b as i128
 }
 
-/// Of `a / b`.
-pub fn quotient_bounds(a: &Bounds, b: &Bounds) -> Bounds
+/// The bounds of `a / b`.
+pub(crate) fn quotient_bounds(a: &Bounds, b: &Bounds) -> Bounds
     ensures { result ≡ quotient_bounds a.now b.now }
 {
     if has_zero(b) {
@@ -113,23 +113,23 @@ fn apart(a: &Bounds, b: &Bounds) -> bool
     both_quiet(a, b) && !has_zero(b)
 }
 
-/// Of `a % b`.
-pub fn remainder_bounds(a: &Bounds, b: &Bounds) -> Bounds
+/// The bounds of `a % b`.
+pub(crate) fn remainder_bounds(a: &Bounds, b: &Bounds) -> Bounds
     ensures { result ≡ remainder_bounds a.now b.now }
 {
     let m = greatest_rest(b);
     number_bounds(remainder_from(a.lo, m), remainder_to(a.hi, m), apart(a, b))
 }
 
-/// Of `min(a, b)`.
-pub fn least_bounds(a: &Bounds, b: &Bounds) -> Bounds
+/// The bounds of `min(a, b)`.
+pub(crate) fn least_bounds(a: &Bounds, b: &Bounds) -> Bounds
     ensures { result ≡ operator_bounds Least a.now b.now }
 {
     number_bounds(a.lo.min(b.lo), a.hi.min(b.hi), both_quiet(a, b))
 }
 
-/// Of `max(a, b)`.
-pub fn greatest_bounds(a: &Bounds, b: &Bounds) -> Bounds
+/// The bounds of `max(a, b)`.
+pub(crate) fn greatest_bounds(a: &Bounds, b: &Bounds) -> Bounds
     ensures { result ≡ operator_bounds Greatest a.now b.now }
 {
     number_bounds(a.lo.max(b.lo), a.hi.max(b.hi), both_quiet(a, b))

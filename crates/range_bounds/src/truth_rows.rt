@@ -1,5 +1,4 @@
 //! The rows of the table that give truth values, one function each.
-#![tactic(auto)]
 
 ghost use Rattle.std.specs.Prelude.{◌≡◌, int_le, ◌&&◌, ◌||◌};
 ghost use Rattle.std.specs.Ordering.{int_eq};
@@ -9,22 +8,22 @@ ghost use Rattle.model_core.specs.Rules.BoundsTable.{opposite, below_bounds, at_
 use crate::ends::{both_quiet, truth_bounds};
 use model_core::Bounds;
 
-/// Of `not a`.
-pub fn opposite(a: &Bounds) -> Bounds
+/// The bounds of `not a`.
+pub(crate) fn opposite(a: &Bounds) -> Bounds
     ensures { result ≡ opposite a.now }
 {
     truth_bounds(a.can_true, a.can_false, a.quiet)
 }
 
-/// Of `a < b`.
-pub fn below_bounds(a: &Bounds, b: &Bounds) -> Bounds
+/// The bounds of `a < b`.
+pub(crate) fn below_bounds(a: &Bounds, b: &Bounds) -> Bounds
     ensures { result ≡ below_bounds a.now b.now }
 {
     truth_bounds(b.lo <= a.hi, a.lo < b.hi, both_quiet(a, b))
 }
 
-/// Of `a <= b`.
-pub fn at_most_bounds(a: &Bounds, b: &Bounds) -> Bounds
+/// The bounds of `a <= b`.
+pub(crate) fn at_most_bounds(a: &Bounds, b: &Bounds) -> Bounds
     ensures { result ≡ at_most_bounds a.now b.now }
 {
     truth_bounds(b.lo < a.hi, a.lo <= b.hi, both_quiet(a, b))
@@ -60,8 +59,8 @@ fn can_differ(a: &Bounds, b: &Bounds) -> bool
     a.can_true && b.can_false || a.can_false && b.can_true
 }
 
-/// Of `a = b`.
-pub fn equal_bounds(a: &Bounds, b: &Bounds) -> Bounds
+/// The bounds of `a = b`.
+pub(crate) fn equal_bounds(a: &Bounds, b: &Bounds) -> Bounds
     ensures { result ≡ equal_bounds a.now b.now }
 {
     if of_truth_value(a) {
@@ -71,8 +70,8 @@ pub fn equal_bounds(a: &Bounds, b: &Bounds) -> Bounds
     }
 }
 
-/// Of `a and b`.
-pub fn and_bounds(a: &Bounds, b: &Bounds) -> Bounds
+/// The bounds of `a and b`.
+pub(crate) fn and_bounds(a: &Bounds, b: &Bounds) -> Bounds
     ensures { result ≡ operator_bounds And a.now b.now }
 {
     truth_bounds(
@@ -82,8 +81,8 @@ pub fn and_bounds(a: &Bounds, b: &Bounds) -> Bounds
     )
 }
 
-/// Of `a or b`.
-pub fn or_bounds(a: &Bounds, b: &Bounds) -> Bounds
+/// The bounds of `a or b`.
+pub(crate) fn or_bounds(a: &Bounds, b: &Bounds) -> Bounds
     ensures { result ≡ operator_bounds Or a.now b.now }
 {
     truth_bounds(

@@ -1,6 +1,6 @@
 -- The first edge that passes a test, where none before it does.
 use Rattle.std.proofs.Common.{◌≡◌, ℕ, ◌+◌, Bool, true, false, cond, List, [], ◌∷◌, ◌++◌, length, Option, Some, None, refl, ap, ◌∙◌, arith}
-use Rattle.std.specs.List.{AllByRecursion, position_from}
+use Rattle.std.specs.List.{position_from}
 use Rattle.model_core.specs.EventGraph.{EventEdge, EventVertex}
 use Rattle.model_core.specs.Rules.PlacedEdges.{edge_or, first_edge}
 use Rattle.reducer.specs.Inner.LaterRules.{NoneOf, NoneIn}

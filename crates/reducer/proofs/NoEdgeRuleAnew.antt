@@ -1,9 +1,9 @@
 -- Where no edge can be pruned or settled, none can be after a drop, a merge or a slice: bounds of conditions stay.
-use Rattle.std.proofs.Common.{◌≡◌, ℕ, zero, suc, Bool, true, false, cond, List, [], ◌∷◌, ◌++◌, map, length, Option, Some, None, refl, sym, ap, ◌∙◌, subst}
+use Rattle.std.proofs.Common.{◌≡◌, ℕ, zero, suc, Bool, true, false, List, [], ◌∷◌, map, length, Option, Some, None, refl, sym, ◌∙◌, subst}
 use Rattle.std.specs.Prelude.{slice_index_or}
-use Rattle.std.specs.List.{AllByRecursion, remove}
+use Rattle.std.specs.List.{remove}
 use Rattle.std.specs.Option.{option_map_or}
-use Rattle.model_core.specs.EventGraph.{EventEdge, EventVertex, Expression, EventGraph}
+use Rattle.model_core.specs.EventGraph.{EventEdge, EventVertex, EventGraph}
 use Rattle.model_core.specs.Static.Reading.{IsValid}
 use Rattle.model_core.specs.Run.Step.{no_vertex, vertex_at}
 use Rattle.model_core.specs.Rules.Conditions.{first_failed}
@@ -19,8 +19,8 @@ use Rattle.model_core.specs.Rules.Needed.{unneeded}
 use Rattle.model_core.specs.Rules.Slice.{slice_conditions, sliced}
 use Rattle.model_core.specs.Rules.Reduction.{RuleApplication, Prune, Settle, Drop, Merge, Slice, vertices_named, two_vertices_named, variables_named, unless_failed, applied, drop_of, merge_of, slice_of, first_given, first_rule}
 use Rattle.model_core.specs.Text.Canonical.{variable_name, vertex_name}
+use Rattle.model_core.proofs.EachOne.{every-joined}
 use Rattle.reducer.specs.Inner.LaterRules.{NoneOf, NoneIn, NoEdgeRule}
-use Rattle.reducer.proofs.SweepRules.{all-append}
 use Rattle.reducer.proofs.FirstLaterRule.{later_is_first}
 use Rattle.reducer.proofs.FirstEdge.{first_edge-none, none-first_edge}
 
@@ -63,7 +63,7 @@ module _ (test : EventEdge → Bool) where
     none-joined a none = one (plain_urgent a) where
       one : (o : Option ℕ) → NoneOf test (option_map_or (merged_vertex b (values_at_once a) a) o a).edges
       one None = none
-      one (Some k) = all-append (λ e. test e ≡ false) (remove a.edges k) b.edges (none-removed a.edges k none) clear
+      one (Some k) = every-joined (λ e. test e ≡ false) (remove a.edges k) b.edges (none-removed a.edges k none) clear
 
     none-placed : (vs : List EventVertex) (k : ℕ) → NoneIn test vs → NoneIn test (with_place (merged_with b) k vs)
     none-placed [] k none = tt

@@ -1,11 +1,10 @@
 -- Each application behind the rules of edges leaves less, so the strategy ends: a drop fewer vertices, a merge fewer with
 -- a plain urgent edge, a slice fewer variables.
-use Rattle.std.proofs.Common.{◌≡◌, ℕ, zero, suc, ◌+◌, ◌<◌, ◌≤◌, ◌==◌, Bool, true, false, not, ◌&&◌, cond, List, [], ◌∷◌, ◌++◌, map, length, Option, Some, None, is_some, is_none, slice_get, refl, sym, ap, ap₂, ◌∙◌, subst, arith}
+use Rattle.std.proofs.Common.{◌≡◌, ℕ, zero, suc, ◌+◌, ◌<◌, ◌≤◌, ◌==◌, Bool, true, false, not, ◌&&◌, cond, List, [], ◌∷◌, ◌++◌, map, length, Option, Some, None, is_some, is_none, refl, sym, ap, ap₂, ◌∙◌, subst, arith}
 use Rattle.std.specs.Prelude.{filter, count_by, slice_index_or}
-use Rattle.std.specs.List.{AllByRecursion, position_from, range_with_len, remove}
-use Rattle.std.specs.Option.{option_map_or}
+use Rattle.std.specs.List.{AllByRecursion, position_from, range_with_len}
 use Rattle.std.proofs.lemmas.List.{length-map}
-use Rattle.std.proofs.lemmas.List.Sums.{sum_by-cons, sum_by-append}
+use Rattle.std.proofs.lemmas.List.Sums.{sum_by-cons}
 use Rattle.model_core.specs.EventGraph.{EventEdge, EventVertex, EdgeKind, Schedule, Urgent, CancelNext, CancelEqual, CancelAll, Expression, Number, Truth, Clock, Scalar, Cell, Negative, Not, Binary, If, EventGraph}
 use Rattle.model_core.specs.Static.Reading.{IsValid}
 use Rattle.model_core.specs.Run.Step.{no_vertex, vertex_at}
@@ -19,13 +18,12 @@ use Rattle.model_core.specs.Rules.Drop.{lists_some, lists_exactly, drop_conditio
 use Rattle.model_core.specs.Rules.Merge.{merge_conditions, merged_with, merged, first_merge}
 use Rattle.model_core.specs.Rules.Needed.{needed_at_once, needed_beside, needed_marks, unneeded}
 use Rattle.model_core.specs.Rules.Slice.{slice_conditions, expression_renumbered, kind_left, edge_left, vertex_left, sliced}
-use Rattle.model_core.specs.Rules.Reduction.{RuleApplication, applied, drop_of, merge_of, slice_of, first_rule, Strategy}
+use Rattle.model_core.specs.Rules.Reduction.{RuleApplication, applied, drop_of, merge_of, first_rule, Strategy}
 use Rattle.model_core.proofs.EntailedMarks.{entailed_marks-long}
 use Rattle.model_core.proofs.StayingMarks.{staying-unmarked, exactly-equal}
 use Rattle.edge_pruning.proofs.ReachedMarks.{reached_marks-long}
 use Rattle.merge_rules.proofs.MergeHolds.{every-holds, conditions_hold}
 use Rattle.merge_rules.proofs.MergeResult.{joined_is}
-use Rattle.merge_rules.proofs.PlainEdges.{PlainEdge}
 use Rattle.reducer.specs.Inner.LaterRules.{NoEdgeRule, Made}
 use Rattle.reducer.proofs.FirstLaterRule.{unmarked-within, below, drop_made, drop_not_made, merge_holds, merge_made, merge_not_made, slice_made, slice_not_made, drop_is_made, merge_is_made, slice_is_made}
 use Rattle.reducer.proofs.NoEdgeRuleAnew.{LeavesEdges, later_kept, none-applied}

@@ -1,5 +1,5 @@
 -- One sweep of a rule makes the applications that the strategy makes, each time beginning again from the first vertex.
-use Rattle.std.proofs.Common.{◌≡◌, ℕ, ◌+◌, Bool, true, false, ◌&&◌, eqb, eq-eqb, cond, add-one, List, [], ◌∷◌, ◌++◌, map, length, Option, Some, None, is_some, refl, sym, ap, ap₂, ◌∙◌, subst, append_assoc, length-append, arith}
+use Rattle.std.proofs.Common.{◌≡◌, ℕ, ◌+◌, Bool, true, false, ◌&&◌, cond, add-one, List, [], ◌∷◌, ◌++◌, map, length, Option, Some, None, is_some, refl, sym, ap, ap₂, ◌∙◌, subst, append_assoc, length-append, arith}
 use Rattle.std.specs.Prelude.{slice_get}
 use Rattle.std.specs.List.{IsDistinct, AllByRecursion, flat_map}
 use Rattle.std.specs.Option.{option_map, option_map_or, option_and_then, option_or}
@@ -13,6 +13,7 @@ use Rattle.model_core.specs.Rules.Prune.{has_refuted_condition, prune_conditions
 use Rattle.model_core.specs.Rules.Settle.{is_conditional, has_proved_condition, settle_conditions, unconditional, with_settled, settled, can_be_settled, first_settle}
 use Rattle.model_core.specs.Rules.Reduction.{RuleApplication, Prune, Settle, place_of_vertex, from_zero, edge_named, unless_failed, applied, at_edge, first_rule}
 use Rattle.model_core.proofs.EdgesAlike.{with_vertices}
+use Rattle.model_core.proofs.EachOne.{every-joined, every-front, every-behind}
 use Rattle.edge_pruning.specs.declared.finding.EdgeRule.{EdgeRule}
 use Rattle.edge_pruning.specs.declared.finding.EdgeRule.TheVariants as rules
 use Rattle.edge_pruning.specs.EdgeRules.{test_of}
@@ -53,20 +54,6 @@ not_named (w ∷ front) v later h = (first_named w.name front v later h.0, not_n
 with_place-behind : {A : Type 0} (f : A → A) (front : List A) (x : A) (later : List A) → with_place f (length front) (front ++ x ∷ later) ≡ front ++ f x ∷ later
 with_place-behind f [] x later = refl
 with_place-behind f (w ∷ front) x later = ap (λ xs. w ∷ xs) (with_place-behind f front x later)
-
--- ---- all elements of lists put together
-
-pub all-append : {A : Type 0} (P : A → Type 0) (xs ys : List A) → AllByRecursion P xs → AllByRecursion P ys → AllByRecursion P (xs ++ ys)
-all-append P [] ys all more = more
-all-append P (x ∷ xs) ys all more = (all.0, all-append P xs ys all.1 more)
-
-all-front : {A : Type 0} (P : A → Type 0) (xs ys : List A) → AllByRecursion P (xs ++ ys) → AllByRecursion P xs
-all-front P [] ys all = tt
-all-front P (x ∷ xs) ys all = (all.0, all-front P xs ys all.1)
-
-all-back : {A : Type 0} (P : A → Type 0) (xs ys : List A) → AllByRecursion P (xs ++ ys) → AllByRecursion P ys
-all-back P [] ys all = all
-all-back P (x ∷ xs) ys all = all-back P xs ys all.1
 
 -- ---- what a rule asks of edges, so that no rule before it applies
 
@@ -156,7 +143,7 @@ module _ (g : EventGraph) (front : List EventVertex) (v : EventVertex) (later : 
     test = test_of rule g
 
     all_ready : (es : List EventEdge) → AllByRecursion (IsReady rule g) es → AreReady rule g (front ++ with_edges v es ∷ later)
-    all_ready es ready = all-append (λ (v : EventVertex). AllByRecursion (IsReady rule g) v.edges) front (with_edges v es ∷ later) front_ready (ready, later_ready)
+    all_ready es ready = every-joined (λ (v : EventVertex). AllByRecursion (IsReady rule g) v.edges) front (with_edges v es ∷ later) front_ready (ready, later_ready)
 
     first_here : (kept : List EventEdge) (e : EventEdge) (es : List EventEdge) → NoneOf test kept → AllByRecursion (IsReady rule g) (kept ++ e ∷ es) → test e ≡ true → first_rule (at_edges (kept ++ e ∷ es)) ≡ Some (application_by rule v.name (length kept + 1))
     first_here kept e es none ready passes =
@@ -177,8 +164,8 @@ module _ (g : EventGraph) (front : List EventVertex) (v : EventVertex) (later : 
         let more = kept ++ instead rule e in
         let left = flat_map (left_by_sweep rule g) es in
         let wide : length more ≡ length kept + width rule = length-append kept (instead rule e) ∙ ap (λ n. length kept + n) (instead-length rule e) in
-        let more_ready = all-append (IsReady rule g) more es (all-append (IsReady rule g) kept (instead rule e) (all-front (IsReady rule g) kept (e ∷ es) ready) (instead-ready rule g e)) (all-back (IsReady rule g) kept (e ∷ es) ready).1 in
-        let more_none = all-append (λ e. test e ≡ false) kept (instead rule e) none (instead-none rule g e) in (
+        let more_ready = every-joined (IsReady rule g) more es (every-joined (IsReady rule g) kept (instead rule e) (every-front (IsReady rule g) kept (e ∷ es) ready) (instead-ready rule g e)) (every-behind (IsReady rule g) kept (e ∷ es) ready).1 in
+        let more_none = every-joined (λ e. test e ≡ false) kept (instead rule e) none (instead-none rule g e) in (
           first_here kept e es none ready passes,
           at_edges (kept ++ (instead rule e ++ es)),
           it_applies kept e es rule passes,
@@ -191,7 +178,7 @@ module _ (g : EventGraph) (front : List EventVertex) (v : EventVertex) (later : 
         let left = flat_map (left_by_sweep rule g) es in
         let wide : length more ≡ length kept + 1 = length-append kept (e ∷ []) in
         let more_ready = subst (AllByRecursion (IsReady rule g)) (sym (append_assoc kept (e ∷ []) es)) ready in
-        let more_none = all-append (λ e. test e ≡ false) kept (e ∷ []) none (passes, tt) in
+        let more_none = every-joined (λ e. test e ≡ false) kept (e ∷ []) none (passes, tt) in
         subst (λ (x : List EventEdge). AreFirst (at_edges x) (applied_behind rule g v.name (length kept + 1) es) (at_edges (kept ++ e ∷ left))) (append_assoc kept (e ∷ []) es)
         (subst (λ (x : List EventEdge). AreFirst (at_edges (more ++ es)) (applied_behind rule g v.name (length kept + 1) es) (at_edges x)) (append_assoc kept (e ∷ []) left)
         (subst (λ (k : ℕ). AreFirst (at_edges (more ++ es)) (applied_behind rule g v.name k es) (at_edges (more ++ left))) wide (go more more_none more_ready)))
@@ -205,14 +192,14 @@ module _ (g : EventGraph) (front : List EventVertex) (v : EventVertex) (later : 
 module _ (rule : EdgeRule) (g : EventGraph) where
   left-none : (es : List EventEdge) → NoneOf (test_of rule g) (flat_map (left_by_sweep rule g) es)
   left-none [] = tt
-  left-none (e ∷ es) = all-append (λ e. test_of rule g e ≡ false) (left_by_sweep rule g e) (flat_map (left_by_sweep rule g) es) (one (test_of rule g e) refl) (left-none es) where
+  left-none (e ∷ es) = every-joined (λ e. test_of rule g e ≡ false) (left_by_sweep rule g e) (flat_map (left_by_sweep rule g) es) (one (test_of rule g e) refl) (left-none es) where
     one : (b : Bool) → test_of rule g e ≡ b → NoneOf (test_of rule g) (cond b (instead rule e) (e ∷ []))
     one true passes = instead-none rule g e
     one false passes = (passes, tt)
 
   left-ready : (es : List EventEdge) → AllByRecursion (IsReady rule g) es → AllByRecursion (IsReady rule g) (flat_map (left_by_sweep rule g) es)
   left-ready [] ready = tt
-  left-ready (e ∷ es) ready = all-append (IsReady rule g) (left_by_sweep rule g e) (flat_map (left_by_sweep rule g) es) (one (test_of rule g e)) (left-ready es ready.1) where
+  left-ready (e ∷ es) ready = every-joined (IsReady rule g) (left_by_sweep rule g e) (flat_map (left_by_sweep rule g) es) (one (test_of rule g e)) (left-ready es ready.1) where
     one : (b : Bool) → AllByRecursion (IsReady rule g) (cond b (instead rule e) (e ∷ []))
     one true = instead-ready rule g e
     one false = (ready.0, tt)
@@ -238,8 +225,8 @@ module _ (rule : EdgeRule) (g : EventGraph) where
       let pushed = front ++ s ∷ [] in
       let here = sweeps_edges g front v vs (not_named front v vs distinct) rule clean front_ready ready.1 v.edges [] tt ready.0 in
       let go = sweeps_from pushed vs
-      (all-append (λ (v : EventVertex). NoneOf (test_of rule g) v.edges) front (s ∷ []) clean (left-none v.edges, tt))
-      (all-append (λ (v : EventVertex). AllByRecursion (IsReady rule g) v.edges) front (s ∷ []) front_ready (left-ready v.edges ready.0, tt))
+      (every-joined (λ (v : EventVertex). NoneOf (test_of rule g) v.edges) front (s ∷ []) clean (left-none v.edges, tt))
+      (every-joined (λ (v : EventVertex). AllByRecursion (IsReady rule g) v.edges) front (s ∷ []) front_ready (left-ready v.edges ready.0, tt))
       ready.1 (subst (IsDistinct same_bytes) (names-swept front v vs) distinct) in
       are_first-append (applied_behind rule g v.name 0 v.edges) (applied_to_all rule g vs) (with_vertices g (front ++ v ∷ vs)) (with_vertices g (front ++ s ∷ vs)) (with_vertices g (front ++ s ∷ map (swept_vertex rule g) vs)) here
       (subst (λ (x : List EventVertex). AreFirst (with_vertices g x) (applied_to_all rule g vs) (with_vertices g (front ++ s ∷ map (swept_vertex rule g) vs))) (append_assoc front (s ∷ []) vs)

@@ -1,5 +1,5 @@
 -- One sweep of prune, one of settle, and then the first rule again and again are the strategy.
-use Rattle.std.proofs.Common.{◌≡◌, ◌∙◌, ℕ, List, [], ◌∷◌, ◌++◌, map, Some, sym, ap, ap₂, subst, append_assoc}
+use Rattle.std.proofs.Common.{◌≡◌, ◌∙◌, List, [], ◌∷◌, ◌++◌, map, Some, sym, ap, ap₂, subst, append_assoc}
 use Rattle.std.specs.List.{AllByRecursion}
 use Rattle.model_core.specs.EventGraph.{EventGraph, EventVertex, EventEdge}
 use Rattle.model_core.specs.Static.Reading.{IsValid}

@@ -4,7 +4,7 @@ ghost use Rattle.std.specs.Prelude.{◌≡◌, map, IfOk};
 ghost use Rattle.model_core.specs.Code.Views.{graph_of};
 ghost use Rattle.reducer.specs.Inner.LaterRules.{name_at_place};
 
-use model_core::{Model, copy_name};
+use model_core::Model;
 use sig_base::{Name, NoMemory};
 use std::alloc::Global;
 
@@ -40,14 +40,9 @@ pub(crate) fn name_at(
 ) -> Result<Name, NoMemory>
     ensures { IfOk result (λ name. name ≡ name_at_place declared (graph_of model.now) place) }
 {
-    match declared {
-        Declared::Variables => match model.vars.as_slice().get(place) {
-            Some(var) => copy_name(alloc, &var.name),
-            None => Ok(Name::from_vec(Vec::new(alloc))),
-        },
-        Declared::Vertices => match model.vertices.as_slice().get(place) {
-            Some(vertex) => copy_name(alloc, &vertex.name),
-            None => Ok(Name::from_vec(Vec::new(alloc))),
-        },
-    }
+    let name = match declared {
+        Declared::Variables => model.variable_name(place),
+        Declared::Vertices => model.vertex_name(place),
+    };
+    Ok(Name::from_vec(Vec::from_slice(alloc, name)?))
 }

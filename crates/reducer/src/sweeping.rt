@@ -4,7 +4,7 @@ ghost use Rattle.std.specs.Prelude.{◌≡◌, ◌++◌, ◌+◌, ◌<◌, ◌^�
 ghost use Rattle.model_core.specs.Code.Views.{graph_of, vertex_of, edge_of, application_of};
 ghost use Rattle.edge_pruning.specs.declared.finding.EdgeRule.TheVariants as rules;
 ghost use Rattle.edge_pruning.specs.EdgeRules.{test_of};
-ghost use Rattle.reducer.specs.Inner.Sweep.{application_by, width, swept_vertex, applied_to, applied_to_all, settled_if_proved, application_here, next_before};
+ghost use Rattle.reducer.specs.Inner.Sweep.{application_by, width, swept_vertex, applied_to, applied_to_all, settled_if_proved, application_here};
 
 use edge_pruning::{EdgeRule, can_apply};
 use model_core::{Application, Edge, Expr, Model, Vertex, copy_name};

@@ -65,9 +65,6 @@ declared-end name more (n ∷ names) = by_test (same_bytes n name) (same_bytes m
   by_test false true None p h = ap (option_map (λ k. k + 1)) h ∙ ap Some (omega arith)
   by_test false false None p h = ap (option_map (λ k. k + 1)) h
 
-pub has_no_places : HasPlaces [] []
-has_no_places name = refl
-
 -- one name more, where the table has the places of those before it
 pub has_place_more : (names : List (List ℕ)) (table : List (List ℕ × ℕ)) (more : List ℕ) (place : ℕ) → place ≡ length names → HasPlaces names table → HasPlaces (names ++ more ∷ []) (with_first table more place)
 has_place_more names table more place at has name = by_first (listed_place more table) refl where

@@ -1,18 +1,19 @@
 //! The checker: whether a list of applications leads from one model to another.
 
-ghost use Rattle.std.specs.Prelude.{◌≡◌, map, cond, Ok, Some, None, OnOk, IfOk};
+ghost use Rattle.std.specs.Prelude.{◌≡◌, map, cond, Ok, Some, None, is_some, OnOk, IfOk};
 ghost use Rattle.model_core.specs.EventGraph.{EventGraph};
 ghost use Rattle.model_core.specs.Code.Views.{graph_of, application_of};
 ghost use Rattle.model_core.specs.Rules.Reduction.{Prune, Settle, Drop, Merge, Slice, applied, first_bad};
 ghost use Rattle.model_core.specs.Rules.Verdict.{graph_reached, verdict};
+ghost use Rattle.merge_rules.specs.Measured.{IsMeasured};
 ghost use Rattle.reduction_cert.specs.VerdictView.{verdict_of};
 ghost use Rattle.reduction_cert.specs.Inner.PlacesListed.{HasPlaces, names_of_vertices, is_drop};
 
 use crate::by_name::{all_named, edge_named, two_vertices_named};
 use crate::places::Places;
 use edge_pruning::{drop_vertices, prune, settle};
-use merge_rules::merge;
-use model_core::{Application, Model, copy_model, same_model, was_made};
+use merge_rules::merge_measured;
+use model_core::{Application, Model, RuleError, copy_model, same_model, was_made};
 use sig_base::{List, Name, NoMemory};
 use std::alloc::Global;
 use var_slicing::slice;
@@ -60,8 +61,9 @@ fn apply_all(
     ensures reached { result ≡ Ok None → graph_reached (graph_of model.old) (map application_of applications.now) ≡ Some (graph_of model.new) }
 {
     let mut vertices = Places::of_vertices(alloc, model.vertices.as_slice())?;
+    let mut bytes = None;
     for (place, application) in applications.iter().enumerate() {
-        if !apply(alloc, model, &vertices, application)? {
+        if !apply(alloc, model, &mut bytes, &vertices, application)? {
             return Ok(Some(place + 1));
         }
         list_anew(alloc, application, model, &mut vertices)?;
@@ -102,16 +104,21 @@ fn list_anew(
     Ok(())
 }
 
-/// Makes one application, and says whether it names what the model has and meets the conditions of its rule.
+/// Makes one application, and says whether it names what the model has and meets the conditions of its rule. Beside the
+/// model it keeps how many bytes its canonical text has, where a merge has told it.
 fn apply(
     alloc: Global,
     model: &mut Model,
+    bytes: &mut Option<u64>,
     vertices: &Places,
     application: &Application,
 ) -> Result<bool, NoMemory>
-    requires { HasPlaces (names_of_vertices (graph_of model.old).vertices) vertices.now }
-    ensures { IfOk result (λ made. applied (graph_of model.old) (application_of application.now) ≡ cond made (Some (graph_of model.new)) None) }
+    requires listed { HasPlaces (names_of_vertices (graph_of model.old).vertices) vertices.now }
+    requires measured { IsMeasured (graph_of model.old) bytes.old }
+    ensures made { IfOk result (λ made. applied (graph_of model.old) (application_of application.now) ≡ cond made (Some (graph_of model.new)) None) }
+    ensures measured { OnOk result (IsMeasured (graph_of model.new) bytes.new) }
 {
+    let told = bytes.take();
     match application {
         Application::Prune { vertex, edge } => Ok(apply_prune(model, vertices, vertex, *edge)),
         Application::Settle { vertex, edge } => Ok(apply_settle(model, vertices, vertex, *edge)),
@@ -119,7 +126,8 @@ fn apply(
             apply_drop(alloc, model, vertices, names.as_slice())
         }
         Application::Merge { vertex, target } => {
-            apply_merge(alloc, model, vertices, vertex, target)
+            *bytes = apply_merge(alloc, model, told, vertices, vertex, target)?;
+            Ok(bytes.is_some())
         }
         Application::Slice { vars } => apply_slice(alloc, model, vars.as_slice()),
     }
@@ -163,21 +171,29 @@ fn apply_drop(
     was_made(drop_vertices(alloc, model, &dropped))
 }
 
-/// Merges two vertices, and says whether they could be.
+/// Merges two vertices, where they can be, and tells how many bytes the canonical text of the result has. It may be told
+/// how many that of the model has, so that the whole isn't measured.
 fn apply_merge(
     alloc: Global,
     model: &mut Model,
+    bytes: Option<u64>,
     vertices: &Places,
     vertex: &Name,
     target: &Name,
-) -> Result<bool, NoMemory>
-    requires { HasPlaces (names_of_vertices (graph_of model.old).vertices) vertices.now }
-    ensures { IfOk result (λ made. applied (graph_of model.old) (Merge vertex.now target.now) ≡ cond made (Some (graph_of model.new)) None) }
+) -> Result<Option<u64>, NoMemory>
+    requires listed { HasPlaces (names_of_vertices (graph_of model.old).vertices) vertices.now }
+    requires measured { IsMeasured (graph_of model.old) bytes }
+    ensures made { IfOk result (λ now. applied (graph_of model.old) (Merge vertex.now target.now) ≡ cond (is_some now) (Some (graph_of model.new)) None) }
+    ensures measured { IfOk result (λ now. IsMeasured (graph_of model.new) now) }
 {
     let Some((vertex, target)) = two_vertices_named(vertices, vertex, target) else {
-        return Ok(false);
+        return Ok(None);
     };
-    was_made(merge(alloc, model, vertex, target))
+    match merge_measured(alloc, model, bytes, vertex, target) {
+        Ok(now) => Ok(Some(now)),
+        Err(RuleError::Refused { condition: _ }) => Ok(None),
+        Err(RuleError::NoMemory) => Err(NoMemory),
+    }
 }
 
 /// Slices variables away, and says whether they could be.

@@ -181,7 +181,7 @@ fn whole(alloc: Global, cursor: &mut Cursor<'_>) -> Result<List<Application>, St
     Ok(applications)
 }
 
-/// The applications of the certificate that all of the tokens from the place on are. A place is here the number of tokens
+/// Reads the tokens from a place on, which all together must be one certificate, as its applications. A place is here the number of tokens
 /// before it.
 ///
 /// `Unexpected` tells the first byte from which no continuation makes a certificate: that of a token, or the text's length.

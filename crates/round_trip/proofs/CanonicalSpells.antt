@@ -7,7 +7,7 @@ use Rattle.model_core.specs.declared.token.Word.TheVariants as words
 use Rattle.model_core.specs.EventGraph.{Variable, WeightTable, EventVertex, EventGraph}
 use Rattle.model_core.specs.Text.Written.{WrittenName, WrittenVariable, WrittenTable, WrittenVertex, WrittenModel}
 use Rattle.model_core.specs.Text.Numbering as numbering
-use Rattle.model_core.specs.Text.Numbering.{Declared, declared_by, numbered}
+use Rattle.model_core.specs.Text.Numbering.{numbered}
 use Rattle.model_core.specs.Text.Canonical.{canonical, variable_line, table_line, vertex_lines}
 use Rattle.model_core.specs.Text.Spellable.{extent, IsSpellable, ReadsBack, SpellableVariable, SpellableTable, SpellableVertex, BeginsAsWritten}
 use Rattle.model_core.specs.Static.WrittenByKind.{IsWrittenByKind, VariablesByKind}

@@ -80,7 +80,7 @@ pairs-same [] (y ∷ ys) h = absurd h
 pairs-same (x ∷ xs) [] h = absurd h
 pairs-same (x ∷ xs) (y ∷ ys) h = λ i. h.0 i ∷ pairs-same xs ys h.1 i
 
-pub certificate-writes : (applications : List RuleApplication) → AllByRecursion SpellableApplication applications → Writes certificate_format (certificate applications) Any OPENINGS_MAX OPENINGS_MAX (λ read. read ≡ applications)
+certificate-writes : (applications : List RuleApplication) → AllByRecursion SpellableApplication applications → Writes certificate_format (certificate applications) Any OPENINGS_MAX OPENINGS_MAX (λ read. read ≡ applications)
 unfolding certificate_format
 certificate-writes applications h =
     writes-widened _ (λ read pairs. pairs-same applications read pairs)

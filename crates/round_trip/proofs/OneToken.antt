@@ -30,7 +30,7 @@ neither k zero e o = record { passes = λ from to left. rw (e, o) refl }
 neither k (suc i) e o = record { passes = λ from to left. rw (e, o) refl }
 
 -- one token, of which a value is made
-pub writes-token : {A : Type 0} (s : TokenSort) (f : Lexeme → A) (G : A → Type 0) (c : ℕ) (w : List ℕ) (k : LexemeKind) (F : List ℕ → Type 0) {i j : ℕ}
+writes-token : {A : Type 0} (s : TokenSort) (f : Lexeme → A) (G : A → Type 0) (c : ℕ) (w : List ℕ) (k : LexemeKind) (F : List ℕ → Type 0) {i j : ℕ}
     → ((rest : List ℕ) → F rest → front c (w ++ rest) ≡ Longest (suc (length w)) k) → sort_of k ≡ s → Passes k i j → ((from to : ℕ) → G (f (token from to k))) → Writes (Single s f) (c ∷ w) F i j G
 writes-token s f G c w k F is same pass makes = record {
   run = λ at. (
@@ -86,7 +86,7 @@ pub ends : (k : LexemeKind) (i : ℕ) → ends_part k ≡ true → Passes k i OP
 ends k zero e = record { passes = λ from to left. rw e refl }
 ends k (suc i) e = record { passes = λ from to left. rw e refl }
 
-pub an_opening : {i : ℕ} (c : ℕ) (k : Symbol) → ((rest : List ℕ) → front c rest ≡ Longest 1 (Mark k)) → ends_part (Mark k) ≡ false → is_opening (Mark k) ≡ true → Writes (mark k) (c ∷ []) Any (suc i) i (λ at. Unit {0})
+an_opening : {i : ℕ} (c : ℕ) (k : Symbol) → ((rest : List ℕ) → front c rest ≡ Longest 1 (Mark k)) → ends_part (Mark k) ≡ false → is_opening (Mark k) ≡ true → Writes (mark k) (c ∷ []) Any (suc i) i (λ at. Unit {0})
 an_opening {i} c k is e o = writes-symbol (λ t. t.from) (λ at. Unit {0}) c [] k Any (λ rest h. is rest) (opens (Mark k) i e o) (λ from to. tt)
 
 pub an_end : {i : ℕ} (c : ℕ) (k : Symbol) → ((rest : List ℕ) → front c rest ≡ Longest 1 (Mark k)) → ends_part (Mark k) ≡ true → Writes (mark k) (c ∷ []) Any i OPENINGS_MAX (λ at. Unit {0})

@@ -1,5 +1,5 @@
 -- What a format tells of the values that it spells from the tokens of a text, and of the openings that they take.
-use Rattle.std.proofs.Common.{◌≡◌, ℕ, zero, suc, ◌+◌, ◌≤◌, ◌<◌, Bool, true, false, cond, List, [], ◌∷◌, length, refl, sym, ap, subst, inl, inr, arith}
+use Rattle.std.proofs.Common.{◌≡◌, ℕ, zero, suc, ◌+◌, ◌≤◌, Bool, true, false, List, [], ◌∷◌, refl, sym, ap, subst, inl, inr, arith}
 use Rattle.std.specs.Prelude.{Option, Some, None}
 use Rattle.std.specs.List.{AllByRecursion}
 use Rattle.std.specs.Option.{option_map, option_and_then}
@@ -8,11 +8,11 @@ use Rattle.sig_base.specs.declared.limits.TheConstants.{OPENINGS_MAX}
 use Rattle.model_core.specs.declared.token.Word.{Word}
 use Rattle.model_core.specs.declared.token.Symbol.{Symbol}
 use Rattle.model_core.specs.declared.token.Symbol.TheVariants as symbols
-use Rattle.model_core.specs.Text.Lexing.{same_bytes, Lexeme, LexemeKind, NameOf, Reserved, NumberOf, Mark}
+use Rattle.model_core.specs.Text.Lexing.{Lexeme, LexemeKind, NameOf, Reserved, NumberOf, Mark}
 use Rattle.model_core.specs.Text.Openings.{ends_part, is_opening}
 use Rattle.model_core.specs.Text.Grammar.{Grammar, many}
 use Rattle.model_core.specs.Text.Written.{WrittenExpression, WrittenName, WrittenNumber}
-use Rattle.model_core.specs.Text.Numbering.{each_numbered, declared_place}
+use Rattle.model_core.specs.Text.Numbering.{each_numbered}
 use Rattle.model_core.specs.Text.Spellable.{IsName, HasOne, openings_together}
 use Rattle.model_core.specs.Text.Format.{TokenSort, AName, ANumber, AWord, ASymbol, sort_of, Yields, Single, Apply, Either, Many, derives, name_bytes, number_value, any_name, any_number, mark, reserved, ◌<*◌, ◌*>◌, maybe, at_least_one, separated}
 use Rattle.model_core.specs.Text.Expressions.{Level, LanguageFormat}
@@ -68,7 +68,7 @@ steps t left false false is opens (suc k) d = (suc k, refl, rw (is, opens) at d)
 abbrev pub Taken : LexemeKind → ℕ → ℕ → Type 0
 Taken kind k j = Steps (ends_part kind) (is_opening kind) k j
 
-pub tells-token : {A : Type 0} {levels : Level → Grammar WrittenExpression} (s : TokenSort) (f : Lexeme → A) (R : Telling A) → ((t : Lexeme) → GoodKind t.kind → sort_of t.kind ≡ s → (k j : ℕ) → Taken t.kind k j → R k (f t) j) → Tells levels (Single s f) R
+tells-token : {A : Type 0} {levels : Level → Grammar WrittenExpression} (s : TokenSort) (f : Lexeme → A) (R : Telling A) → ((t : Lexeme) → GoodKind t.kind → sort_of t.kind ≡ s → (k j : ℕ) → Taken t.kind k j → R k (f t) j) → Tells levels (Single s f) R
 tells-token {A} {levels} s f R makes = record { run = go }
   where
     go : (k : ℕ) (tokens : List Lexeme) (v : A) (left : List Lexeme) → Sound k tokens → derives levels (Single s f) tokens v left → (j : ℕ) × R k v j × Sound j left
@@ -212,15 +212,12 @@ module _ {levels : Level → Grammar WrittenExpression} where
 pub bound : {A B : Type 0} (f : A → Option B) (o : Option A) (y : B) → option_and_then f o ≡ Some y → (x : A) × (o ≡ Some x) × (f x ≡ Some y)
 bound f o y e = option_and_then_some f o y e (λ x is makes. (x, is, makes))
 
+pub some_same : {A : Type 0} (x y : A) → Some x ≡ Some y → x ≡ y
+some_same x y e = cc
+
 pub mapped : {A B : Type 0} (f : A → B) (o : Option A) (y : B) → option_map f o ≡ Some y → (x : A) × (o ≡ Some x) × (f x ≡ y)
 mapped f None y e = cc
 mapped f (Some x) y e = (x, refl, some_same (f x) y e)
-  where
-    some_same : {B : Type 0} (a b : B) → Some a ≡ Some b → a ≡ b
-    some_same a b h = cc
-
-pub some_same : {A : Type 0} (x y : A) → Some x ≡ Some y → x ≡ y
-some_same x y e = cc
 
 pub none_some : {A : Type 0} {P : Type 0} (y : A) → None ≡ Some y → P
 none_some y e = absurd cc
@@ -241,16 +238,3 @@ together f Good cost k (w ∷ ws) j h es e =
     let a = h.1 first.0 first.1 in
     let b = together f Good cost h.0 ws j h.2 later.0 later.1 in
     subst (Fits (AllByRecursion Good) (openings_together cost) k j) (some_same (first.0 ∷ later.0) es later.2) ((a.0, b.0), omega (arith, a.1, b.1))
-
--- a name that is found has its place among the names
-pub place-within : (name : List ℕ) (names : List (List ℕ)) (v : ℕ) → declared_place name names ≡ Some v → v < length names
-place-within name [] v e = none_some v e
-place-within name (n ∷ names) v e = by-first (same_bytes n name) e (place-within name names)
-  where
-    by-first : (b : Bool) → cond b (Some 0) (option_map (λ k. k + 1) (declared_place name names)) ≡ Some v → ((u : ℕ) → declared_place name names ≡ Some u → u < length names) → v < suc (length names)
-    by-first true e later = let zero_is : 0 ≡ v = some_same 0 v e in omega (arith, zero_is)
-    by-first false e later =
-        let m = mapped (λ k. k + 1) (declared_place name names) v e in
-        let within = later m.0 m.1 in
-        let is : m.0 + 1 ≡ v = m.2 in
-        omega (arith, within, is)

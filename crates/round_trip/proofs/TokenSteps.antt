@@ -12,7 +12,7 @@ abbrev pub token : ℕ → ℕ → LexemeKind → Lexeme
 token from to kind = record { from = from; to = to; kind = kind }
 
 -- what is inside a token is passed over
-pub tokens_from_inside : (at : ℕ) (w rest : List ℕ) → tokens_from at (length w) (w ++ rest) ≡ tokens_from (at + length w) 0 rest
+tokens_from_inside : (at : ℕ) (w rest : List ℕ) → tokens_from at (length w) (w ++ rest) ≡ tokens_from (at + length w) 0 rest
 tokens_from_inside at [] rest = let e : at ≡ at + 0 = omega arith in ap (λ k. tokens_from k 0 rest) e
 tokens_from_inside at (c ∷ w) rest =
     let e : (at + 1) + length w ≡ at + suc (length w) = omega arith in

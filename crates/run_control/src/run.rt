@@ -8,7 +8,7 @@ ghost use Rattle.model_core.specs.Code.Views.{graph_of};
 use crate::begin_error::BeginError;
 use crate::occurrence::occur;
 use crate::room::make_room;
-use crate::starts::{at_least_one, carried, check_starts, schedule_first};
+use crate::starts::{carried, check_starts, schedule_first};
 use crate::turn::Turn;
 use event_list::{Entry, First, Pending};
 use model_core::{Model as Graph, Vertex, runs_stay_in_range};
@@ -77,7 +77,7 @@ impl<'m, P: Pending> Run<'m, P> {
     ghost use Rattle.run_control.specs.Turns.{Turns, ComesNext, StepKeeps, HasRoom, IsDue};
 
     /// A run of a model as it begins: at clock 0 with the initial values, no words taken, and the first vertex's event,
-    /// which carries the starting values. The list is given empty, and room for so many events and for 1 is made in it.
+    /// which carries the starting values. `pending` is given empty; room is made in it for `room` events, and for one at least.
     pub fn begin(
         alloc: Global,
         model: &'m Graph,
@@ -98,7 +98,7 @@ impl<'m, P: Pending> Run<'m, P> {
         check_starts(model, starts.as_slice())?;
         let state = State::begin(alloc, model)?;
         let mut pending = pending;
-        pending.reserve(at_least_one(room))?;
+        pending.reserve(room.max(1))?;
         let first = Entry {
             time: 0,
             priority: 5,

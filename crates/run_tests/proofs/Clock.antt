@@ -1,6 +1,6 @@
 -- The clock can be run.
-use Rattle.std.proofs.Common.{◌≡◌, ℕ, zero, suc, ◌<◌, List, [], ◌∷◌, length, refl, arith, All, IsTrue}
-use Rattle.model_core.specs.EventGraph.{Variable, EventVertex, EventEdge, StateChange, Location, Expression}
+use Rattle.std.proofs.Common.{zero, suc, [], ◌∷◌, refl, arith, All, IsTrue}
+use Rattle.model_core.specs.EventGraph.{Variable}
 use Rattle.model_core.specs.Run.State.{within}
 use Rattle.sig_expr.specs.Possible.{PossibleExpression, PossibleLocation, PossibleChange}
 use Rattle.run_control.specs.PossibleModel.{PossibleEdge, PossibleVertex, PossibleModel}

@@ -12,7 +12,7 @@ const WORDS: [i64; 6] = [
     0xa15c02b7, 0x7b47f409, 0xba1d3330, 0x83d2f293, 0xbfa4784b, 0xcbed606e,
 ];
 
-/// A draw from `lo` to `hi` from stream 54, where there is a next word.
+/// A draw from 1 to `hi` from stream 54; 0 where `hi` isn't allowed, or over 100 words were taken.
 fn drawn(streams: &mut Streams, hi: i64) -> i64 {
     if streams.taken(54) > 100 || hi < 1 || hi > 4_294_967_296 {
         return 0;
@@ -63,7 +63,7 @@ fn weighted(alloc: Global) -> Result<Table, NoMemory>
     Ok(Table { name, rows })
 }
 
-/// A draw by a table from stream 54, where there is a next word.
+/// A draw by a table from stream 54; 0 where over 100 words were taken.
 fn drawn_by(streams: &mut Streams, table: &Table) -> i64
     requires { sum (map (λ r. r.weight) table.now.rows) ≤ 2 ^ 32 }
 {

@@ -91,7 +91,7 @@ fn begun<'m>(alloc: Global, model: &'m Model) -> Result<Run<'m, PlainPending>, R
     Ok(Run::begin(alloc, model, pending, 42, &List::new(alloc), 2)?)
 }
 
-/// What following a run from its beginning comes to.
+/// What following a run from its beginning comes to, and then, where it has spent its budget, for a hundred events more.
 fn followed<K: Sink, L: Ledger>(
     alloc: Global,
     model: &Model,
@@ -99,30 +99,10 @@ fn followed<K: Sink, L: Ledger>(
     events: u64,
     sink: &mut K,
     blank: Blank,
-) -> Result<Outcome, Refused>
-    requires possible { PossibleModel (graph_of model.now) }
-    requires soon { until ≤ 2 ^ 48 }
-    requires budget { events ≤ 2 ^ 40 }
-    requires name { blank.name ≡ L.name }
-    requires parts { blank.parts ≡ L.parts }
-    requires some { 0 < blank.parts }
-{
-    let mut steps: Steps<L> = Steps::begin(blank);
-    let mut tracer = Tracer::begin(alloc, model)?;
-    let mut run = begun(alloc, model)?;
-    Ok(follow(&mut tracer, &mut run, until, events, sink, &mut steps))
-}
-
-/// What following a run for two events comes to, and then for a hundred more.
-fn followed_twice<K: Sink, L: Ledger>(
-    alloc: Global,
-    model: &Model,
-    until: u64,
-    sink: &mut K,
-    blank: Blank,
 ) -> Result<(Outcome, Outcome), Refused>
     requires possible { PossibleModel (graph_of model.now) }
     requires soon { until ≤ 2 ^ 48 }
+    requires few { events ≤ 1000 }
     requires name { blank.name ≡ L.name }
     requires parts { blank.parts ≡ L.parts }
     requires some { 0 < blank.parts }
@@ -130,7 +110,7 @@ fn followed_twice<K: Sink, L: Ledger>(
     let mut steps: Steps<L> = Steps::begin(blank);
     let mut tracer = Tracer::begin(alloc, model)?;
     let mut run = begun(alloc, model)?;
-    let first = follow(&mut tracer, &mut run, until, 2, sink, &mut steps);
+    let first = follow(&mut tracer, &mut run, until, events, sink, &mut steps);
     match first {
         Outcome::Budget => Ok((
             first,
@@ -173,24 +153,27 @@ vertex B(X) { }
 end
 ";
 
-/// What following a run of up to 1,000 events comes to, with the sink behind it.
+/// What following a run of a model for so many events comes to, and then on, with the sink behind it.
 fn history(
     alloc: Global,
     text: &[u8],
     until: u16,
+    events: u64,
     sink: MemorySink,
-) -> Result<(Outcome, MemorySink), Refused> {
+) -> Result<((Outcome, Outcome), MemorySink), Refused>
+    requires { events ≤ 1000 }
+{
     let mut sink = sink;
     let model = model_of(alloc, text)?;
-    let outcome = followed::<MemorySink, Brand>(
+    let outcomes = followed::<MemorySink, Brand>(
         alloc,
         &model,
         u64::from(until),
-        1000,
+        events,
         &mut sink,
         Blank::new(1),
     )?;
-    Ok((outcome, sink))
+    Ok((outcomes, sink))
 }
 
 /// A model's text and the stop time of a run of up to 1,000 events, what following it comes to, and what is written of it.
@@ -231,8 +214,8 @@ fn histories_are_written_whole(rt: HostRuntime) -> Result<(), Fail> {
     let alloc = rt.alloc();
     for told in &TOLD {
         let sink = MemorySink::begin(alloc, 1000, 1000, List::new(alloc))?;
-        let (outcome, sink) = history(alloc, told.text, told.until, sink)?;
-        assert_eq!(rt; outcome, told.outcome);
+        let (outcomes, sink) = history(alloc, told.text, told.until, 1000, sink)?;
+        assert_eq!(rt; outcomes.0, told.outcome);
         assert_eq!(rt; sink.written(), told.written);
     }
     Ok(())
@@ -241,32 +224,15 @@ fn histories_are_written_whole(rt: HostRuntime) -> Result<(), Fail> {
 #[test]
 fn each_line_is_one_call(rt: HostRuntime) -> Result<(), Fail> {
     let sink = MemorySink::begin(rt.alloc(), 1000, 1000, List::new(rt.alloc()))?;
-    let (_, sink) = history(rt.alloc(), CLOCK, 12, sink)?;
+    let (_, sink) = history(rt.alloc(), CLOCK, 12, 1000, sink)?;
     assert_eq!(rt; sink.calls(), 4);
     Ok(())
-}
-
-/// What following a run of the clock up to 12 comes to, for two events and then on, with the sink behind it.
-fn history_in_two(
-    alloc: Global,
-    sink: MemorySink,
-) -> Result<((Outcome, Outcome), MemorySink), Refused> {
-    let mut sink = sink;
-    let model = model_of(alloc, CLOCK)?;
-    let outcomes = followed_twice::<MemorySink, Brand>(
-        alloc,
-        &model,
-        12,
-        &mut sink,
-        Blank::new(1),
-    )?;
-    Ok((outcomes, sink))
 }
 
 #[test]
 fn a_run_is_followed_on_from_its_budget(rt: HostRuntime) -> Result<(), Fail> {
     let sink = MemorySink::begin(rt.alloc(), 1000, 1000, List::new(rt.alloc()))?;
-    let (outcomes, sink) = history_in_two(rt.alloc(), sink)?;
+    let (outcomes, sink) = history(rt.alloc(), CLOCK, 12, 2, sink)?;
     assert_eq!(rt; outcomes, (Outcome::Budget, Outcome::Stopped));
     assert_eq!(rt;
         sink.written(),
@@ -283,8 +249,8 @@ fn no_call_is_made_after_one_that_failed(rt: HostRuntime) -> Result<(), Fail> {
     let whole: &[u8] = b"at 0 N=1\nat 5 N=2\nat 10 N=3\nstopped 12\n";
     for failing in 1..40 {
         let sink = MemorySink::begin(alloc, 1000, 1, List::of_one(alloc, failing)?)?;
-        let (outcome, sink) = history(alloc, CLOCK, 12, sink)?;
-        assert_eq!(rt; outcome, Outcome::WriteFault);
+        let (outcomes, sink) = history(alloc, CLOCK, 12, 1000, sink)?;
+        assert_eq!(rt; outcomes.0, Outcome::WriteFault);
         assert_eq!(rt; sink.calls(), failing);
         assert_eq!(rt; sink.written(), &whole[..failing as usize - 1]);
     }

@@ -2,8 +2,8 @@
 
 ghost use Rattle.std.specs.Prelude.{◌≡◌, ◌<◌, ◌≤◌, ◌^◌, pos, true, [], ◌∷◌, None, IfOk};
 ghost use Rattle.model_core.specs.EventGraph.{Set, Binary, Add, Scalar, Number, Truth, Schedule};
-ghost use Rattle.model_core.specs.Code.Views.{graph_of, change_of, edge_of};
-ghost use Rattle.run_tests.specs.TriedModels.{ticking};
+ghost use Rattle.model_core.specs.Code.Views.{graph_of, variable_of, vertex_of, change_of, edge_of};
+ghost use Rattle.run_tests.specs.TriedModels.{clipped, tick, ticking};
 
 use event_list::{Pending, PlainPending};
 use model_core::{Change, Edge, EdgeForm, Expr, Kind, Model, Op, Target, Var, Vertex};
@@ -51,11 +51,11 @@ fn again(alloc: Global) -> Edge
     }
 }
 
-/// An event that raises a clipped variable, and schedules itself again after 5 ticks.
-fn clock(alloc: Global) -> Result<Model, NoMemory>
-    ensures { IfOk result (λ model. graph_of model ≡ ticking) }
+/// A clipped variable.
+fn clipped(alloc: Global) -> Var
+    ensures { variable_of result ≡ clipped }
 {
-    let var = Var {
+    Var {
         name: no_name(alloc),
         size: 0,
         kind: Kind::Range,
@@ -63,19 +63,35 @@ fn clock(alloc: Global) -> Result<Model, NoMemory>
         hi: 3,
         clip: true,
         initial: 0,
-    };
-    let vertex = Vertex {
+    }
+}
+
+/// An event that raises the variable, and schedules itself again after 5 ticks.
+fn tick(alloc: Global) -> Result<Vertex, NoMemory>
+    ensures { IfOk result (λ vertex. vertex_of vertex ≡ tick) }
+{
+    let changes = List::of_one(alloc, raising(alloc)?)?;
+    let edges = List::of_one(alloc, again(alloc))?;
+    Ok(Vertex {
         name: no_name(alloc),
         params: List::new(alloc),
-        changes: List::of_one(alloc, raising(alloc)?)?,
-        edges: List::of_one(alloc, again(alloc))?,
-    };
+        changes,
+        edges,
+    })
+}
+
+/// A model of that variable and that event.
+fn clock(alloc: Global) -> Result<Model, NoMemory>
+    ensures { IfOk result (λ model. graph_of model ≡ ticking) }
+{
+    let vertices = List::of_one(alloc, tick(alloc)?)?;
+    let vars = List::of_one(alloc, clipped(alloc))?;
     Ok(Model {
         name: no_name(alloc),
-        vars: List::of_one(alloc, var)?,
+        vars,
         tables: List::new(alloc),
         watch: List::new(alloc),
-        vertices: List::of_one(alloc, vertex)?,
+        vertices,
     })
 }
 
@@ -100,7 +116,7 @@ fn turns<P: Pending, L: Ledger>(
     Ok(turns)
 }
 
-/// A run of the clock with as many starting values.
+/// A run of the clock with these starting values.
 fn begun<'m>(
     alloc: Global,
     model: &'m Model,

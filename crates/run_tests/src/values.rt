@@ -1,12 +1,11 @@
 //! Values of expressions, stores and changes over a small model, and what they leave where they fault.
 
-ghost use Rattle.std.specs.Prelude.{◌≡◌, ◌<◌, ◌≤◌, ◌^◌, pos, [], ◌∷◌, IfOk, IsTrue, All, map, length};
+ghost use Rattle.std.specs.Prelude.{◌≡◌, ◌<◌, ◌≤◌, [], All, length, map, IfOk, IsTrue};
 ghost use Rattle.model_core.specs.declared.model.Kind.TheVariants as kinds;
-ghost use Rattle.model_core.specs.EventGraph.{EventGraph, Variable};
 ghost use Rattle.model_core.specs.Run.State.{in_range};
 ghost use Rattle.model_core.specs.Code.Views.{graph_of, variable_of, expression_of, change_of};
 ghost use Rattle.sig_expr.specs.Possible.{PossibleExpression, PossibleChange};
-ghost use Rattle.run_tests.specs.TriedModels.{sample};
+ghost use Rattle.run_tests.specs.TriedModels.{tried};
 
 use model_core::{Change, Expr, Kind, Model, Op, Target, Var};
 use random_streams::Streams;
@@ -30,8 +29,8 @@ fn variable(alloc: Global, size: usize, lo: i64, hi: i64, clip: bool) -> Var
 }
 
 /// An array of three cells, a scalar that faults outside 0..3, one that is clipped, and one from 1 to 6.
-fn sample(alloc: Global) -> Result<Model, NoMemory>
-    ensures { IfOk result (λ model. graph_of model ≡ sample) }
+fn tried(alloc: Global) -> Result<Model, NoMemory>
+    ensures { IfOk result (λ model. graph_of model ≡ tried) }
 {
     let mut vars = List::of_one(alloc, variable(alloc, 3, 0, 9, false))?;
     vars.push(variable(alloc, 0, 0, 3, false))?;
@@ -48,15 +47,15 @@ fn sample(alloc: Global) -> Result<Model, NoMemory>
 
 /// The state as a run of the model begins.
 fn begun(alloc: Global, model: &Model) -> Result<State, NoMemory>
-    requires { graph_of model.now ≡ sample }
-    ensures { IfOk result (λ state. IsTrue (in_range sample state)) }
+    requires { graph_of model.now ≡ tried }
+    ensures { IfOk result (λ state. IsTrue (in_range tried state)) }
 {
     State::begin(alloc, model)
 }
 
 /// The expression of a number.
 fn number(alloc: Global, n: i64) -> Result<Expr, NoMemory>
-    ensures { IfOk result (λ expr. PossibleExpression sample (expression_of expr)) }
+    ensures { IfOk result (λ expr. PossibleExpression tried (expression_of expr)) }
 {
     if n >= 0 {
         return Ok(Expr::Int(n));
@@ -67,9 +66,9 @@ fn number(alloc: Global, n: i64) -> Result<Expr, NoMemory>
 
 /// The expression of an operator and its operands, where these are possible.
 fn binary(alloc: Global, op: Op, left: Expr, right: Expr) -> Result<Expr, NoMemory>
-    requires left { PossibleExpression sample (expression_of left) }
-    requires right { PossibleExpression sample (expression_of right) }
-    ensures { IfOk result (λ expr. PossibleExpression sample (expression_of expr)) }
+    requires left { PossibleExpression tried (expression_of left) }
+    requires right { PossibleExpression tried (expression_of right) }
+    ensures { IfOk result (λ expr. PossibleExpression tried (expression_of expr)) }
 {
     Expr::binary(alloc, op, left, right)
 }
@@ -79,19 +78,25 @@ type Outcome = Result<i64, FaultKind>;
 
 /// The expression of an operator and two numbers.
 fn operation(alloc: Global, op: Op, a: i64, b: i64) -> Result<Expr, NoMemory>
-    ensures { IfOk result (λ expr. PossibleExpression sample (expression_of expr)) }
+    ensures { IfOk result (λ expr. PossibleExpression tried (expression_of expr)) }
 {
     let left = number(alloc, a)?;
     let right = number(alloc, b)?;
     binary(alloc, op, left, right)
 }
 
+/// The value of an expression as a run begins.
+fn evaluated(alloc: Global, expr: &Expr) -> Result<Outcome, NoMemory>
+    requires { PossibleExpression tried (expression_of expr.now) }
+{
+    let model = tried(alloc)?;
+    let state = begun(alloc, &model)?;
+    Ok(value(&model, expr, &state, 0))
+}
+
 /// What an operator makes of two numbers.
 fn operated(alloc: Global, op: Op, a: i64, b: i64) -> Result<Outcome, NoMemory> {
-    let expr = operation(alloc, op, a, b)?;
-    let model = sample(alloc)?;
-    let state = begun(alloc, &model)?;
-    Ok(value(&model, &expr, &state, 0))
+    evaluated(alloc, &operation(alloc, op, a, b)?)
 }
 
 #[test]
@@ -123,11 +128,8 @@ fn arithmetic_is_exact_or_faults(rt: HostRuntime) -> Result<(), Fail> {
 
 /// The value of a cell of the array, whose values are all 0.
 fn cell(alloc: Global, index: i64) -> Result<Outcome, NoMemory> {
-    let model = sample(alloc)?;
-    let state = begun(alloc, &model)?;
     let index = Box::new(alloc, number(alloc, index)?)?;
-    let expr = Expr::Cell(0, index);
-    Ok(value(&model, &expr, &state, 0))
+    evaluated(alloc, &Expr::Cell(0, index))
 }
 
 #[test]
@@ -144,11 +146,9 @@ fn an_index_is_below_the_size(rt: HostRuntime) -> Result<(), Fail> {
 
 /// The value of `if test then 1 else 1 / 0`.
 fn chosen(alloc: Global, test: bool) -> Result<Outcome, NoMemory> {
-    let model = sample(alloc)?;
-    let state = begun(alloc, &model)?;
     let faulty = binary(alloc, Op::Div, Expr::Int(1), Expr::Int(0))?;
     let expr = Expr::conditional(alloc, Expr::Truth(test), Expr::Int(1), faulty)?;
-    Ok(value(&model, &expr, &state, 0))
+    evaluated(alloc, &expr)
 }
 
 #[test]
@@ -161,13 +161,24 @@ fn the_other_part_is_not_evaluated(rt: HostRuntime) -> Result<(), Fail> {
 /// `set` of a scalar to itself and so much more.
 fn raised(alloc: Global, var: usize, by: i64) -> Result<Change, NoMemory>
     requires { var < 4 }
-    ensures { IfOk result (λ change. PossibleChange sample (change_of change)) }
+    ensures { IfOk result (λ change. PossibleChange tried (change_of change)) }
 {
     let expr = binary(alloc, Op::Add, Expr::Scalar(var), number(alloc, by)?)?;
     Ok(Change::Set {
         targets: List::of_one(alloc, Target { var, index: None })?,
         values: List::of_one(alloc, expr)?,
     })
+}
+
+/// Two raises of a scalar.
+fn two_raises(alloc: Global, var: usize, by: i64) -> Result<List<Change>, NoMemory>
+    requires { var < 4 }
+    ensures few { IfOk result (λ changes. length changes ≤ 1000) }
+    ensures possible { IfOk result (λ changes. All (PossibleChange tried) (map change_of changes)) }
+{
+    let mut changes = List::of_one(alloc, raised(alloc, var, by)?)?;
+    changes.push(raised(alloc, var, by)?)?;
+    Ok(changes)
 }
 
 /// What two raises of a scalar come to, and what it holds then.
@@ -178,11 +189,10 @@ fn raised_twice(
 ) -> Result<(Result<(), FaultKind>, Outcome), NoMemory>
     requires { var < 4 }
 {
-    let model = sample(alloc)?;
+    let changes = two_raises(alloc, var, by)?;
+    let model = tried(alloc)?;
     let mut state = begun(alloc, &model)?;
     let mut streams = Streams::begin(42);
-    let mut changes = List::of_one(alloc, raised(alloc, var, by)?)?;
-    changes.push(raised(alloc, var, by)?)?;
     let applied = apply(&model, &changes, &mut state, &mut streams, 0);
     Ok((applied, value(&model, &Expr::Scalar(var), &state, 0)))
 }

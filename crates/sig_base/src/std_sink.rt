@@ -49,11 +49,8 @@ impl<W: Write> Sink for StdSink<W> {
             match self.inner.write(piece) {
                 Ok(0) => break,
                 Ok(count) => return Ok(count),
-                Err(error) => {
-                    if error.kind() != ErrorKind::Interrupted {
-                        break;
-                    }
-                }
+                Err(error) if error.kind() == ErrorKind::Interrupted => {}
+                Err(_) => break,
             }
         }
         self.faults = one_more(self.faults);
@@ -67,11 +64,8 @@ impl<W: Write> Sink for StdSink<W> {
                     self.settled = true;
                     return Ok(());
                 }
-                Err(error) => {
-                    if error.kind() != ErrorKind::Interrupted {
-                        break;
-                    }
-                }
+                Err(error) if error.kind() == ErrorKind::Interrupted => {}
+                Err(_) => break,
             }
         }
         self.faults = one_more(self.faults);

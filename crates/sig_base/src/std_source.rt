@@ -40,11 +40,8 @@ impl<R: Read> Source for StdSource<R> {
         for _ in 0..TRIES {
             match self.inner.read(into) {
                 Ok(count) => return Ok(count),
-                Err(error) => {
-                    if error.kind() != ErrorKind::Interrupted {
-                        break;
-                    }
-                }
+                Err(error) if error.kind() == ErrorKind::Interrupted => {}
+                Err(_) => break,
             }
         }
         self.faults = one_more(self.faults);

@@ -7,10 +7,11 @@ use arrayvec::ArrayVec;
 /// The values that an event carries for its vertex's parameters.
 pub type Carried = ArrayVec<i64, 8>;
 
-/// A value that a draw by table gives, and how often among the sum of the weights.
+/// A value that a draw by table gives, and how often.
 #[derive(Clone, Copy, Debug, PartialEq, Eq)]
 pub struct Row {
     pub value: i64,
+    /// The value's share of the sum of the table's weights: 1 to 2^32 in an accepted model.
     pub weight: u64,
 }
 

@@ -1,6 +1,7 @@
 -- Places that targets name are there.
-use Rattle.std.proofs.Common.{◌≡◌, ℕ, zero, suc, ◌<◌, List, [], ◌∷◌, length, Option, Some, None, Ok, sym, ap, ◌∙◌, arith, All, IsTrue}
+use Rattle.std.proofs.Common.{◌≡◌, ℕ, suc, ◌<◌, List, [], ◌∷◌, length, Option, Some, None, Ok, sym, ap, ◌∙◌, arith, All, IsTrue}
 use Rattle.std.proofs.lemmas.List.{length-map}
+use Rattle.std.proofs.lemmas.List.Elements.{All-cons}
 use Rattle.model_core.specs.declared.model.Model.{Model}
 use Rattle.model_core.specs.EventGraph.{EventGraph, Expression, Location}
 use Rattle.model_core.specs.Run.State.{State, Place, in_range, cells_of}
@@ -31,10 +32,6 @@ place_at-declared g s clk v (Some i) p below e =
 pub place_of-declared : (g : EventGraph) (s : State) (clk : ℕ) (l : Location) (p : Place) → PossibleLocation g l → place_of g s clk l ≡ Ok p → DeclaredPlace g p
 place_of-declared g s clk l p possible e = place_at-declared g s clk l.variable l.index p possible.declared e
 
-all-cons : {A : Type 0} (P : A → Type 0) (x : A) (xs : List A) → P x → All P xs → All P (x ∷ xs)
-all-cons P x xs p all zero d below = p
-all-cons P x xs p all (suc k) d below = all k d (omega (arith, below))
-
 -- what the targets of a `set` name
 pub places_declared : (g : EventGraph) (s : State) (clk : ℕ) (ls : List Location) (ps : List Place) → All (PossibleLocation g) ls → each (place_of g s clk) ls ≡ Ok ps → All (DeclaredPlace g) ps
 places_declared g s clk [] ps possible e =
@@ -44,7 +41,7 @@ places_declared g s clk (l ∷ ls) ps possible e =
     let (p, at_first, after_first) = bind_ok (place_of g s clk l) (λ p. each (place_of g s clk) ls >>= λ qs. Ok (p ∷ qs)) ps e in
     let (qs, at_rest, at_end) = bind_ok (each (place_of g s clk) ls) (λ qs. Ok (p ∷ qs)) ps after_first in
     let same : p ∷ qs ≡ ps = cc in
-    rw (← same) (all-cons (DeclaredPlace g) p qs (place_of-declared g s clk l p (possible 0 l (omega arith)) at_first) (places_declared g s clk ls qs (λ k d below. possible (suc k) d (omega (arith, below))) at_rest))
+    rw (← same) (All-cons (DeclaredPlace g) p qs (place_of-declared g s clk l p (possible 0 l (omega arith)) at_first) (places_declared g s clk ls qs (λ k d below. possible (suc k) d (omega (arith, below))) at_rest))
 
 -- as many as there are
 pub each_long : {A B : Type 0} (f : A → OrFault B) (xs : List A) (ys : List B) → each f xs ≡ Ok ys → length ys ≡ length xs

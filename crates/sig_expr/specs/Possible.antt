@@ -40,6 +40,7 @@ GivesTruth g (Not a) = GivesTruth g a
 GivesTruth g (Binary op a b) = OperatorGivesTruth op (GivesTruth g a) (GivesTruth g b)
 GivesTruth g (If c a b) = GivesTruth g a × GivesTruth g b
 
+-- the expression can be computed
 abbrev pub PossibleExpression : EventGraph → Expression → Type 0
 PossibleExpression g (Number n) = Unit
 PossibleExpression g (Truth b) = Unit
@@ -53,10 +54,12 @@ PossibleExpression g (If c a b) = PossibleExpression g c × PossibleExpression g
 
 -- ---- changes
 
+-- so can an index, if there is one
 abbrev pub PossibleIndex : EventGraph → Option Expression → Type 0
 PossibleIndex g None = Unit
 PossibleIndex g (Some e) = PossibleExpression g e
 
+-- the target can be found
 pub record PossibleLocation (g : EventGraph) (l : Location) : Type 0 where
   pub declared : l.variable < length g.variables
   pub index : PossibleIndex g l.index
@@ -73,6 +76,7 @@ pub record PossibleTable (g : EventGraph) (t : ℕ) : Type 0 where
   pub declared : t < length g.tables
   pub few : sum (map (λ r. r.weight) (slice_index_or g.tables t no_table).rows) ≤ 2 ^ 32
 
+-- the choice can be drawn from
 abbrev pub PossibleChoice : EventGraph → Choice → Type 0
 PossibleChoice g (Uniform lo hi) = PossibleRange lo hi
 PossibleChoice g (ByTable t) = PossibleTable g t
@@ -84,11 +88,13 @@ pub record PossibleSet (g : EventGraph) (targets : List Location) (rights : List
   pub locations : All (PossibleLocation g) targets
   pub expressions : All (PossibleExpression g) rights
 
+-- the draw can be made and stored
 pub record PossibleDraw (g : EventGraph) (target : Location) (stream : ℕ) (choice : Choice) : Type 0 where
   pub location : PossibleLocation g target
   pub known : stream < 64
   pub possible : PossibleChoice g choice
 
+-- the change can be made
 abbrev pub PossibleChange : EventGraph → StateChange → Type 0
 PossibleChange g (Set targets rights) = PossibleSet g targets rights
 PossibleChange g (Draw target stream choice) = PossibleDraw g target stream choice

@@ -5,7 +5,7 @@ ghost use Rattle.random_streams.specs.Draws.{next_word, after_word};
 ghost use Rattle.model_core.specs.EventGraph.{Set, Draw};
 ghost use Rattle.model_core.specs.Run.State.{in_range};
 ghost use Rattle.model_core.specs.Run.Value.{in_turn};
-ghost use Rattle.model_core.specs.Run.Changes.{Drawn, set_all, picked, make_change, taken_from, left_by_set, left_by_draw, left_by_change, left_by_changes};
+ghost use Rattle.model_core.specs.Run.Changes.{set_all, picked, make_change, taken_from, left_by_set, left_by_draw, left_by_change, left_by_changes};
 ghost use Rattle.model_core.specs.Code.Views.{graph_of, expression_of, location_of, choice_of, change_of};
 ghost use Rattle.sig_expr.specs.Outcomes.{with_ok};
 ghost use Rattle.sig_expr.specs.Possible.{PossibleExpression, PossibleLocation, PossibleChoice, PossibleSet, PossibleDraw, PossibleChange};

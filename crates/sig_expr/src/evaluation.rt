@@ -51,8 +51,8 @@ fn other_truth(a: i64) -> i64
     1 - a
 }
 
-/// The value of an expression in a state and at a clock's time in ticks, or its first fault from left to right. Mostly
-/// it is a number or a scalar.
+/// The value of an expression in a state and at a clock's time in ticks, or its first fault from left to right. Numbers,
+/// truth values and scalars, which are most expressions, are answered without a call.
 #[cycle(evaluation)]
 #[inline(always)]
 pub fn value(model: &Model, expr: &Expr, state: &State, clk: u64) -> Result<i64, FaultKind>
@@ -69,7 +69,7 @@ pub fn value(model: &Model, expr: &Expr, state: &State, clk: u64) -> Result<i64,
     }
 }
 
-/// The value of an expression with parts, and of any other.
+/// The same, of any expression.
 #[cycle(evaluation)]
 fn evaluate(model: &Model, expr: &Expr, state: &State, clk: u64) -> Result<i64, FaultKind>
     requires possible { PossibleExpression (graph_of model.now) (expression_of expr.now) }

@@ -14,7 +14,7 @@ use arrayvec::ArrayVec;
 use model_core::{Expr, Model, Target};
 use sig_base::{Carried, FaultKind};
 
-/// Puts the values of at most eight expressions into an empty list, up to the first that faults.
+/// Puts the values of at most eight expressions, at a clock's time in ticks, into an empty list, up to the first that faults.
 pub fn put_values(
     model: &Model,
     exprs: &[Expr],

@@ -48,7 +48,7 @@ fn part(cells: &[i64], span: Span) -> &[i64]
 fn cell_count(var: &Var) -> usize
     ensures { result ≡ cell_count (variable_of var.now) }
 {
-    if var.size == 0 { 1 } else { var.size }
+    var.size.max(1)
 }
 
 /// Adds so many cells that hold `value`.

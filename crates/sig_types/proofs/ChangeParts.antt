@@ -7,7 +7,7 @@ use Rattle.model_core.specs.declared.model.Kind.{Kind}
 use Rattle.model_core.specs.declared.model.Kind.TheVariants as kinds
 use Rattle.model_core.specs.EventGraph as graph
 use Rattle.model_core.specs.Text.Written as written
-use Rattle.model_core.specs.Text.Written.{WrittenName, WrittenNumber, WrittenSigned, WrittenExpression, WrittenTarget, WrittenChoice}
+use Rattle.model_core.specs.Text.Written.{WrittenNumber, WrittenSigned, WrittenExpression, WrittenTarget, WrittenChoice}
 use Rattle.model_core.specs.Text.Numbering as numbering
 use Rattle.model_core.specs.Text.Numbering.{each_numbered, written_or, declared_place, expression, location, natural, signed}
 use Rattle.model_core.specs.Static.FaultOrder.{StaticFault, earliest_fault}

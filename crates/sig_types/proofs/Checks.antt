@@ -6,7 +6,7 @@ use Rattle.model_core.specs.Static.Meanings.{Meaning}
 use Rattle.model_core.proofs.EmptyLists.{left_empty, right_empty}
 use Rattle.sig_types.specs.Inner.Checked.{Checked, NumberedAs, CheckedPart, CheckedPlain}
 
-pub earliest-append : (told : Option StaticFault) (fs gs : List StaticFault) → earliest_fault told (fs ++ gs) ≡ earliest_fault (earliest_fault told fs) gs
+earliest-append : (told : Option StaticFault) (fs gs : List StaticFault) → earliest_fault told (fs ++ gs) ≡ earliest_fault (earliest_fault told fs) gs
 earliest-append told [] gs = refl
 earliest-append told (f ∷ fs) gs = earliest-append (earlier_fault told f) fs gs
 

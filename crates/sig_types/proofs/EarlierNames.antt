@@ -20,13 +20,13 @@ abbrev pub names_before : List (List ℕ) → List WrittenName → List (List �
 names_before earlier [] = earlier
 names_before earlier (n ∷ ns) = names_before (n.name ∷ earlier) ns
 
-pub repeated_names-push : (earlier : List (List ℕ)) (ns : List WrittenName) (n : WrittenName) → repeated_names earlier (ns ++ n ∷ []) ≡ repeated_names earlier ns ++ duplicate_name (names_before earlier ns) n
+repeated_names-push : (earlier : List (List ℕ)) (ns : List WrittenName) (n : WrittenName) → repeated_names earlier (ns ++ n ∷ []) ≡ repeated_names earlier ns ++ duplicate_name (names_before earlier ns) n
 repeated_names-push earlier [] n = append-nil (duplicate_name earlier n)
 repeated_names-push earlier (m ∷ ns) n =
     ap (λ fs. duplicate_name earlier m ++ fs) (repeated_names-push (m.name ∷ earlier) ns n)
     ∙ sym (append_assoc (duplicate_name earlier m) (repeated_names (m.name ∷ earlier) ns) (duplicate_name (names_before (m.name ∷ earlier) ns) n))
 
-pub names_before-push : (earlier : List (List ℕ)) (ns : List WrittenName) (n : WrittenName) → names_before earlier (ns ++ n ∷ []) ≡ n.name ∷ names_before earlier ns
+names_before-push : (earlier : List (List ℕ)) (ns : List WrittenName) (n : WrittenName) → names_before earlier (ns ++ n ∷ []) ≡ n.name ∷ names_before earlier ns
 names_before-push earlier [] n = refl
 names_before-push earlier (m ∷ ns) n = names_before-push (m.name ∷ earlier) ns n
 
@@ -44,7 +44,7 @@ any-push name (y ∷ xs) x = ap (λ b. same_bytes name y || b) (any-push name xs
     swap false b c = refl
 
 -- the names known, with one more unless it was known
-pub one_more_known : (xs more ys : List (List ℕ)) (x : List ℕ) (b : Bool) → list_any (same_bytes x) xs ≡ b → more ≡ cond b xs (xs ++ x ∷ []) → SameNames xs ys → SameNames more (x ∷ ys)
+one_more_known : (xs more ys : List (List ℕ)) (x : List ℕ) (b : Bool) → list_any (same_bytes x) xs ≡ b → more ≡ cond b xs (xs ++ x ∷ []) → SameNames xs ys → SameNames more (x ∷ ys)
 one_more_known xs more ys x true known is same = λ name. ap (list_any (same_bytes name)) is ∙ same name ∙ by_name name (same_bytes name x) refl
   where
     by_name : (name : List ℕ) (b : Bool) → same_bytes name x ≡ b → list_any (same_bytes name) ys ≡ (b || list_any (same_bytes name) ys)

@@ -5,7 +5,7 @@ use Rattle.model_core.specs.declared.model.Kind.{Kind}
 use Rattle.model_core.specs.declared.model.Kind.TheVariants as kinds
 use Rattle.model_core.specs.EventGraph as graph
 use Rattle.model_core.specs.Text.Written as written
-use Rattle.model_core.specs.Text.Written.{WrittenName, WrittenNumber, WrittenExpression, WrittenEdge}
+use Rattle.model_core.specs.Text.Written.{WrittenNumber, WrittenExpression, WrittenEdge}
 use Rattle.model_core.specs.Text.Numbering as numbering
 use Rattle.model_core.specs.Text.Numbering.{each_numbered, written_or, declared_place, expression, natural}
 use Rattle.model_core.specs.Static.FaultOrder.{StaticFault}

@@ -32,7 +32,7 @@ one_numbered_more f xs x ys y e h = rw (each-push f xs x, e, h) refl
 
 module _ (means : List ℕ → Option Meaning) {W B : Type 0} (F : W → List StaticFault) (f : Declared → W → Option B) where
   -- parts that are checked, and one more
-  pub checked_more : {t0 t1 t2 : Option StaticFault} (seen more : List W) (x : W) (ys after : List B) (y : B) → more ≡ seen ++ x ∷ [] → after ≡ ys ++ y ∷ []
+  checked_more : {t0 t1 t2 : Option StaticFault} (seen more : List W) (x : W) (ys after : List B) (y : B) → more ≡ seen ++ x ∷ [] → after ≡ ys ++ y ∷ []
       → CheckedPart means t0 t1 (flat_map F seen) (λ d. each_numbered (f d) seen) ys → CheckedPart means t1 t2 (F x) (λ d. f d x) y
       → CheckedPart means t0 t2 (flat_map F more) (λ d. each_numbered (f d) more) after
   checked_more seen more x ys after y is put c e =

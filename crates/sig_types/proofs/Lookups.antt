@@ -31,7 +31,7 @@ none_seen None = refl
 none_seen (Some w) = refl
 
 -- a name is new exactly where it is looked up in vain
-pub new_name : (name : List ℕ) (entries : List (Bytes ℕ × Meaning)) (shown : List Declaration) (o : Option Meaning)
+new_name : (name : List ℕ) (entries : List (Bytes ℕ × Meaning)) (shown : List Declaration) (o : Option Meaning)
     → seen entries ≡ shown → o ≡ lookup (λ (k : Bytes ℕ). pointwise nat_eq name k.items) entries → is_none o ≡ is_none (meaning_of shown name)
 new_name name entries shown o is found =
     ap is_none found ∙ sym (none_seen (lookup (λ (k : Bytes ℕ). pointwise nat_eq name k.items) entries))
@@ -61,7 +61,7 @@ put_back true x xs key w first same later e = let is : first ≡ x.1 = cc in rw 
 put_back false x xs key w first same later e = rw same (ap (λ ds. declaration_of x.0.items (meaning_seen x.1) ∷ ds) (later e))
 
 -- a name that is there keeps its meaning, if that is put back
-pub restored : (entries : List (Bytes ℕ × Meaning)) (key : Bytes ℕ) (w first : Meaning)
+restored : (entries : List (Bytes ℕ × Meaning)) (key : Bytes ℕ) (w first : Meaning)
     → lookup (λ (k : Bytes ℕ). pointwise nat_eq key.items k.items) entries ≡ Some first
     → seen (insert_entry (λ (a b : Bytes ℕ). pointwise nat_eq a.items b.items) (insert_entry (λ (a b : Bytes ℕ). pointwise nat_eq a.items b.items) entries key w) key first) ≡ seen entries
 restored [] key w first e = cc

@@ -17,11 +17,11 @@ abbrev pub weights_sum : ℤ → List WrittenRow → ℤ
 weights_sum before [] = before
 weights_sum before (r ∷ rs) = weights_sum (before +ℤ certain_value r.weight) rs
 
-pub weights_sum-push : (before : ℤ) (rs : List WrittenRow) (r : WrittenRow) → weights_sum before (rs ++ r ∷ []) ≡ weights_sum before rs +ℤ certain_value r.weight
+weights_sum-push : (before : ℤ) (rs : List WrittenRow) (r : WrittenRow) → weights_sum before (rs ++ r ∷ []) ≡ weights_sum before rs +ℤ certain_value r.weight
 weights_sum-push before [] r = refl
 weights_sum-push before (q ∷ rs) r = weights_sum-push (before +ℤ certain_value q.weight) rs r
 
-abbrev pub row_faults : ℤ → WrittenRow → List StaticFault
+abbrev row_faults : ℤ → WrittenRow → List StaticFault
 row_faults before r = literal_too_large r.value ++ number_too_large r.weight ++ weight_outside before r.weight
 
 rows_faults-push : (before : ℤ) (rs : List WrittenRow) (r : WrittenRow) → rows_faults before (rs ++ r ∷ []) ≡ rows_faults before rs ++ row_faults (weights_sum before rs) r

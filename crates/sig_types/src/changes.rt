@@ -72,6 +72,7 @@ struct TypedTargets {
     kinds: Vec<Option<Kind>>,
 }
 
+/// Variables and cells that take values, in order.
 fn all_targets(
     alloc: Global,
     names: &Names,
@@ -92,8 +93,8 @@ fn all_targets(
     Ok(TypedTargets { targets, kinds })
 }
 
-/// The kind that a value must have.
-fn wanted_at(kinds: &[Option<Kind>], i: usize) -> Option<Kind>
+/// The kind that the value at a place must have.
+pub fn wanted_at(kinds: &[Option<Kind>], i: usize) -> Option<Kind>
     ensures { result ≡ wanted kinds.now i }
 {
     match kinds.get(i) {
@@ -103,7 +104,7 @@ fn wanted_at(kinds: &[Option<Kind>], i: usize) -> Option<Kind>
 }
 
 /// Values beside the kinds that they must have, as far as both lists go.
-pub fn values(
+pub(crate) fn values(
     alloc: Global,
     names: &Names,
     kinds: &[Option<Kind>],

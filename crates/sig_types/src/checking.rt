@@ -91,7 +91,7 @@ fn numbered_among(
     })
 }
 
-/// The model with numbers in place of names. Where it has a fault, another one.
+/// The model with numbers in place of names. Where it has a fault, nothing is said of what is given.
 fn numbered(alloc: Global, raw: RawModel, told: &mut Told) -> Result<Model, NoMemory>
     ensures { IfOk result (λ model. Checked told.old told.new (faults_of_parts (written_model raw)) (numbering.numbered (written_model raw) ≡ Some (graph_of model))) }
 {
@@ -118,7 +118,7 @@ pub fn tell_too_long(model: &Model, end_at: usize, told: &mut Told)
     }
 }
 
-/// The model with numbers in place of names. All its faults are told.
+/// The model with numbers in place of names. Of all its faults `told` keeps the one to tell.
 fn told_model(alloc: Global, raw: RawModel, told: &mut Told) -> Result<Model, NoMemory>
     requires { told.old ≡ None }
     ensures told { OnOk result (told.new ≡ told_fault (written_model raw)) }
@@ -130,7 +130,8 @@ fn told_model(alloc: Global, raw: RawModel, told: &mut Told) -> Result<Model, No
     Ok(model)
 }
 
-/// The model that is written, where it keeps every static rule, and else the first fault.
+/// The model that is written, where it keeps every static rule, and else the fault at the least byte of the text; of those
+/// at one byte, the first in the order of `StaticKind`.
 pub fn check(alloc: Global, raw: RawModel) -> Result<Model, StaticError>
     // What is accepted is numbered as it is written, and breaks no rule.
     ensures accepted { IfOk result (λ model. Accepted (written_model raw) (graph_of model)) }

@@ -35,7 +35,7 @@ pub trait Declares {
 }
 
 /// Declares names behind others, and tells each that is declared already.
-pub fn declare_all<T: Declares>(
+pub(crate) fn declare_all<T: Declares>(
     alloc: Global,
     names: &mut Names,
     parts: &[T],

@@ -5,13 +5,12 @@ ghost use Rattle.sig_types.specs.declared.error.StaticError.TheVariants as error
 
 use model_core::StaticKind;
 use sig_base::NoMemory;
-use std::alloc::{AllocError, AllocFailed};
 use thiserror::Error;
 
 /// Why a model isn't accepted.
 #[derive(Clone, Copy, Debug, PartialEq, Eq, Error)]
 pub enum StaticError {
-    /// A static rule is broken at a byte of the text.
+    /// A static rule is broken at this byte of the text, counted from 0.
     #[error("static fault")]
     Fault { kind: StaticKind, at: usize },
     /// Memory was refused.

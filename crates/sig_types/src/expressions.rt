@@ -1,6 +1,6 @@
 //! Expressions: their faults, their kind and their numbers in one walk.
 
-ghost use Rattle.std.specs.Prelude.{◌≡◌, Bool, IfOk};
+ghost use Rattle.std.specs.Prelude.{◌≡◌, IfOk};
 ghost use Rattle.model_core.specs.Code.Views.{expression_of};
 ghost use Rattle.model_core.specs.Code.WrittenViews.{written_expression};
 ghost use Rattle.model_core.specs.Text.Numbering.{expression};
@@ -19,7 +19,7 @@ use std::alloc::Global;
 
 /// An expression whose kind must be this one, where both are known.
 #[cycle(expressions)]
-pub fn operand(
+pub(crate) fn operand(
     alloc: Global,
     names: &Names,
     wanted: Option<Kind>,
@@ -53,7 +53,7 @@ fn boxed_operand(
     Ok(Typed { part, kind })
 }
 
-/// The expression with numbers in place of names. Where it has a fault, another one.
+/// The expression with numbers in place of names. Where it has a fault, nothing is said of what is given.
 #[cycle(expressions)]
 fn typed_expression(
     alloc: Global,

@@ -1,6 +1,6 @@
 //! The names of variables, tables and vertices, in one table.
 
-ghost use Rattle.std.specs.Prelude.{◌≡◌, [], ◌∷◌, ◌++◌, IfOk, is_some, is_none, if◌then◌else◌};
+ghost use Rattle.std.specs.Prelude.{◌≡◌, [], ◌∷◌, ◌++◌, IfOk, is_none, if◌then◌else◌};
 ghost use Rattle.std.specs.Option.{option_map};
 ghost use Rattle.model_core.specs.Static.Meanings.{meaning_of};
 ghost use Rattle.sig_types.specs.Inner.Seen.{meaning_seen, declaration_of};
@@ -23,7 +23,7 @@ pub enum Meaning {
     Vertex(usize),
 }
 
-/// Names with their first declarations, which contracts see as a list of declarations at no place.
+/// Names with their first declarations, which contracts see as a list of declarations, each at byte 0.
 #[derive(Drop)]
 pub struct Names {
     table: IndexMap<Vec<u8>, Meaning>,
@@ -66,6 +66,7 @@ impl Names {
         let Some(first) = self.table.insert(key, meaning)? else {
             return Ok(true);
         };
+        // It was declared already: its first meaning is put back.
         let key = Vec::from_slice(alloc, name.as_slice())?;
         self.table.insert(key, first)?;
         Ok(false)

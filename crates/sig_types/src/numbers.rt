@@ -13,7 +13,7 @@ use model_core::{RawNumber, RawSigned, StaticKind};
 use sig_base::{LITERAL_MAX, WEIGHTS_MAX};
 
 /// The number as far as it is certain: above 2^63 - 1 it counts as 2^63.
-pub fn certain_number(value: Option<i64>) -> i128
+pub(crate) fn certain_number(value: Option<i64>) -> i128
     ensures is { result ≡ table.certain_number value }
     ensures low { negsuc 9223372036854775807 ≤ℤ result }
     ensures high { result ≤ℤ pos 9223372036854775808 }
@@ -35,7 +35,7 @@ fn certain_signed(raw: &RawSigned) -> i128
 }
 
 /// A literal. Where it is outside the limit of literals, 0.
-pub fn literal(raw: &RawSigned, told: &mut Told) -> i64
+pub(crate) fn literal(raw: &RawSigned, told: &mut Told) -> i64
     ensures { CheckedPlain told.old told.new (literal_too_large (written_signed raw.now)) (signed (written_signed raw.now)) result }
 {
     let certain = certain_signed(raw);
@@ -70,7 +70,7 @@ pub fn bounded(
 }
 
 /// Tells that a first bound exceeds the second.
-pub fn tell_empty(lo: &RawSigned, hi: &RawSigned, told: &mut Told)
+pub(crate) fn tell_empty(lo: &RawSigned, hi: &RawSigned, told: &mut Told)
     ensures { told.new ≡ earliest_fault told.old (empty_range (written_signed lo.now) (written_signed hi.now)) }
 {
     let empty = certain_signed(hi) < certain_signed(lo);
@@ -78,7 +78,7 @@ pub fn tell_empty(lo: &RawSigned, hi: &RawSigned, told: &mut Told)
 }
 
 /// Tells that from a first bound to a second there are too many values for a draw.
-pub fn tell_wide(lo: &RawSigned, hi: &RawSigned, told: &mut Told)
+pub(crate) fn tell_wide(lo: &RawSigned, hi: &RawSigned, told: &mut Told)
     ensures { told.new ≡ earliest_fault told.old (draw_outside (written_signed lo.now) (written_signed hi.now)) }
 {
     let wide = certain_signed(lo) + i128::from(WEIGHTS_MAX) <= certain_signed(hi);
@@ -86,7 +86,7 @@ pub fn tell_wide(lo: &RawSigned, hi: &RawSigned, told: &mut Told)
 }
 
 /// Tells that an initial value is outside its range.
-pub fn tell_outside(lo: &RawSigned, hi: &RawSigned, initial: &RawSigned, told: &mut Told)
+pub(crate) fn tell_outside(lo: &RawSigned, hi: &RawSigned, initial: &RawSigned, told: &mut Told)
     ensures { told.new ≡ earliest_fault told.old (initial_outside (written_signed lo.now) (written_signed hi.now) (written_signed initial.now)) }
 {
     let inside = lies_between(

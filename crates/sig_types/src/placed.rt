@@ -29,7 +29,7 @@ pub trait Placed {
 }
 
 /// Tells the first part behind a limit.
-pub fn tell_too_many<T: Placed>(limit: usize, parts: &[T], told: &mut Told)
+pub(crate) fn tell_too_many<T: Placed>(limit: usize, parts: &[T], told: &mut Told)
     ensures { told.new ≡ earliest_fault told.old (too_many limit (map T.begins (map T.written parts.now))) }
 {
     if let Some(part) = parts.get(limit) {

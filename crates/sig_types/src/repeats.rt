@@ -49,7 +49,11 @@ fn tell_many(alloc: Global, raws: &[RawName], told: &mut Told) -> Result<(), NoM
 }
 
 /// Tells each name that stands earlier in the list.
-pub fn tell_repeated(alloc: Global, raws: &[RawName], told: &mut Told) -> Result<(), NoMemory>
+pub(crate) fn tell_repeated(
+    alloc: Global,
+    raws: &[RawName],
+    told: &mut Told,
+) -> Result<(), NoMemory>
     ensures { OnOk result (told.new ≡ earliest_fault told.old (repeated_names [] (map written_name raws.now))) }
 {
     if raws.len() <= PARAMETERS_MAX {

@@ -19,7 +19,7 @@ use model_core::{RawNumber, RawRow, RawTable, StaticKind};
 use sig_base::{List, NAME_MAX, NoMemory, ROWS_MAX, Row, Table, WEIGHTS_MAX};
 use std::alloc::Global;
 
-/// A weight behind others of this sum. It counts as 0 where it is below.
+/// A weight, where those before it in its table sum to `before`. Below 0, which no text spells, it counts as 0.
 fn weight(raw: &RawNumber, before: i128, told: &mut Told) -> u64
     requires low { negsuc 85070591730234615865843651857942052864 ≤ℤ before }
     requires high { before ≤ℤ pos 85070591730234615865843651857942052864 }

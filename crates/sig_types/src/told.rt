@@ -38,6 +38,7 @@ fn row(kind: StaticKind) -> u8
     kind as u8
 }
 
+/// Whether the first fault is told before the second: by place, and at one place by row.
 fn is_before(a: Fault, b: Fault) -> bool
     ensures { result ≡ is_told_before (record { at = a.at; kind = a.kind }) (record { at = b.at; kind = b.kind }) }
 {

@@ -31,6 +31,7 @@ pub enum Role {
     Watched,
 }
 
+/// Whether a name of this meaning may be used so.
 fn is_fit(role: Role, meaning: Meaning) -> bool
     ensures { result ≡ fits_role (role_seen role) (meaning_seen meaning) }
 {
@@ -113,7 +114,7 @@ pub(crate) fn variable(
 }
 
 /// The kind of a scalar of this name.
-pub fn kind_of_scalar(names: &Names, raw: &RawName) -> Option<Kind>
+pub(crate) fn kind_of_scalar(names: &Names, raw: &RawName) -> Option<Kind>
     ensures { result ≡ kind_in_role AsScalar (meaning_of names.now raw.now.name) }
 {
     let meaning = names.find(raw.name.as_slice());
@@ -131,7 +132,7 @@ fn table_meant(meaning: Option<Meaning>) -> usize
 }
 
 /// A name that is used as a table.
-pub fn table(names: &Names, raw: &RawName, told: &mut Told) -> usize
+pub(crate) fn table(names: &Names, raw: &RawName, told: &mut Told) -> usize
     ensures { CheckedPart (meaning_of names.now) told.old told.new (use_faults (meaning_of names.now) AsTable (written_name raw.now)) (λ d. declared_place raw.now.name d.tables) result }
 {
     let meaning = used(names, Role::Table, raw.name.as_slice(), raw.at, told);
@@ -178,7 +179,7 @@ fn watch_meant(meaning: Option<Meaning>) -> Watch
 }
 
 /// A name that is watched.
-pub fn watched(names: &Names, raw: &RawName, told: &mut Told) -> Watch
+pub(crate) fn watched(names: &Names, raw: &RawName, told: &mut Told) -> Watch
     ensures { CheckedPart (meaning_of names.now) told.old told.new (use_faults (meaning_of names.now) AsWatched (written_name raw.now)) (λ d. numbering.watched d (written_name raw.now)) (watched_of result) }
 {
     let meaning = used(names, Role::Watched, raw.name.as_slice(), raw.at, told);

@@ -1,14 +1,11 @@
 //! The top call over memory: worked texts, words, limits, and devices that fail at one call.
 
 use crate::calls::{Answer, Failing, SOUND, Seen, done, run, told, words};
-use crate::histories::BANK;
+use crate::models::{BANK, ONE};
 use sig_base::{NoMemory, TEXT_MAX};
 use sigma_top::Status;
 use std::alloc::Global;
 use std::test::*;
-
-const ONE: &[u8] =
-    b"model ONE;\nvar N : 0..9 = 0;\nwatch N;\nvertex RUN {\n  set N := 4;\n  schedule RUN after 5 when false;\n}\nend\n";
 
 const ONE_WRITTEN: &[u8] =
     b"model ONE;\nvar N : 0..9 = 0;\nwatch N;\nvertex RUN {\n  set N := 4;\n}\nend\ncertificate\nprune RUN 1\nend\n";

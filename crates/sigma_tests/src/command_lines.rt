@@ -295,7 +295,7 @@ fn options_of_a_run_are_read(rt: HostRuntime) -> Result<(), Fail> {
 }
 
 #[test]
-fn other_commands_take_no_option(rt: HostRuntime) -> Result<(), Fail> {
+fn each_other_command_has_its_word(rt: HostRuntime) -> Result<(), Fail> {
     let check = given(rt.alloc(), &["check", "--"])?;
     assert!(rt; matches!(words(rt.alloc(), &check), Ok(Job::Check)));
     let print = given(rt.alloc(), &["--", "print"])?;
@@ -304,6 +304,8 @@ fn other_commands_take_no_option(rt: HostRuntime) -> Result<(), Fail> {
     assert!(rt; matches!(words(rt.alloc(), &reduce), Ok(Job::Reduce)));
     let uses = given(rt.alloc(), &["uses"])?;
     assert!(rt; matches!(words(rt.alloc(), &uses), Ok(Job::Uses)));
+    let certify = given(rt.alloc(), &["certify"])?;
+    assert!(rt; matches!(words(rt.alloc(), &certify), Ok(Job::Certify)));
     Ok(())
 }
 

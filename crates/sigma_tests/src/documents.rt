@@ -1,22 +1,14 @@
 //! Documents and their certificates: which hold, which are rejected and at which line, and which texts are no document.
 
 use crate::calls::{Answer, SOUND, run, words};
+use crate::models::{CHAIN, CHAIN_REDUCED, ONE};
 use sig_base::NoMemory;
-use sigma_top::{Job, Status};
+use sigma_top::Status;
 use std::alloc::Global;
 use std::test::*;
 
-const ONE: &[u8] =
-    b"model ONE;\nvar N : 0..9 = 0;\nwatch N;\nvertex RUN {\n  set N := 4;\n  schedule RUN after 5 when false;\n}\nend\n";
-
 const ONE_REDUCED: &[u8] =
     b"model ONE;\nvar N : 0..9 = 0;\nwatch N;\nvertex RUN {\n  set N := 4;\n}\nend\n";
-
-const CHAIN: &[u8] =
-    b"model CHAIN;\nvar N : 0..9 = 0;\nwatch N;\nvertex RUN {\n  urgent A;\n}\nvertex A {\n  set N := 1;\n  urgent B;\n}\nvertex B {\n  set N := 2;\n}\nend\n";
-
-const CHAIN_REDUCED: &[u8] =
-    b"model CHAIN;\nvar N : 0..9 = 0;\nwatch N;\nvertex RUN {\n  set N := 1;\n  set N := 2;\n}\nend\n";
 
 /// A model that uses a name which isn't declared.
 const UNKNOWN: &[u8] = b"model M; vertex A { set X := 1; } end ";
@@ -203,12 +195,5 @@ fn other_texts_are_no_documents(rt: HostRuntime) -> Result<(), Fail> {
     for case in &REFUSED {
         assert!(rt; is_answered(rt.alloc(), case)?);
     }
-    Ok(())
-}
-
-#[test]
-fn a_word_asks_for_it(rt: HostRuntime) -> Result<(), Fail> {
-    let asked = sigma_top::words(rt.alloc(), &words(rt.alloc(), "certify")?);
-    assert!(rt; matches!(asked, Ok(Job::Certify)));
     Ok(())
 }

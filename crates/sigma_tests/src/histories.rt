@@ -1,9 +1,10 @@
 //! `run` over memory: worked histories, starting values, and a write that fails midway.
 
 use crate::calls::{Answer, Failing, SOUND, Seen, run, told, words};
+use crate::models::{BANK, DRAWN, DRAWN_APART, LOOP};
 use sig_base::NoMemory;
 use sigma_top::Status;
-use std::alloc::{AllocError, Global};
+use std::alloc::Global;
 use std::test::*;
 
 const CLOCK: &[u8] =
@@ -11,18 +12,6 @@ const CLOCK: &[u8] =
 
 const TIGHT: &[u8] =
     b"model CLOCK;\nvar N : 0..3 = 0;\nwatch N;\nvertex RUN {\n  set N := N + 1;\n  schedule RUN after 5;\n}\nend\n";
-
-pub const BANK: &[u8] =
-    b"model BANK;\nvar QUEUE : 0..1000000 = 0;\nvar IDLE : 0..2 = 0;\nvar GAP : 1..6 = 1;\nvar SEEN : 0..1000000 clip = 0;\nwatch QUEUE, IDLE;\nvertex RUN(IDLE) {\n  urgent ENTER;\n}\nvertex ENTER {\n  set QUEUE, SEEN := QUEUE + 1, SEEN + 1;\n  draw GAP from 54 in 1..6;\n  schedule ENTER after GAP;\n  urgent START when IDLE > 0;\n}\nvertex START {\n  set QUEUE, IDLE := QUEUE - 1, IDLE - 1;\n  schedule LEAVE after 7;\n}\nvertex LEAVE {\n  set IDLE := IDLE + 1;\n  urgent START when QUEUE > 0;\n}\nend\n";
-
-const LOOP: &[u8] =
-    b"model LOOP; vertex RUN { urgent A; } vertex A { urgent B; } vertex B { urgent A; } end";
-
-const DRAWN: &[u8] =
-    b"model DRAWN; var X : 1..6 = 1; var Y : 1..6 = 1; watch X; vertex RUN { draw Y from 54 in 1..6; draw X from 54 in 1..6; } end";
-
-const DRAWN_FROM_OTHERS: &[u8] =
-    b"model DRAWN; var X : 1..6 = 1; var Y : 1..6 = 1; watch X; vertex RUN { draw Y from 53 in 1..6; draw X from 54 in 1..6; } end";
 
 const CUT: &[u8] =
     b"model CUT; var X : 0..9 = 0; watch X, B; vertex RUN { schedule B(3) after 5; schedule B(4) after 5; schedule B(3) after 6; cancel B(3); } vertex B(X) { } end";
@@ -44,7 +33,7 @@ const NEXT: &[u8] =
 
 const EARLY: &[u8] = b"model EARLY; vertex RUN { schedule RUN after 0 - 1; } end";
 
-/// Runs that end, each with its words, its text, its status and its history.
+/// Runs, each with its words, its text, its status and its history.
 const HISTORIES: [(&str, &[u8], Status, &[u8]); 21] = [
     (
         "run --seed 42 --events 1000 --until 12",
@@ -116,7 +105,7 @@ const HISTORIES: [(&str, &[u8], Status, &[u8]); 21] = [
     ),
     (
         "run --seed 42 --events 1000 --until 100",
-        DRAWN_FROM_OTHERS,
+        DRAWN_APART,
         Status::Done,
         b"at 0 X=4\nended 0\n",
     ),

@@ -12,4 +12,6 @@ mod documents;
 #[cfg(test)]
 mod histories;
 #[cfg(test)]
+mod models;
+#[cfg(test)]
 mod reductions;

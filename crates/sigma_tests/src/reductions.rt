@@ -1,7 +1,7 @@
 //! Models to which each rule applies, or doesn't: what they are reduced to, and the same history of both.
 
 use crate::calls::{Answer, SOUND, run, words};
-use crate::histories::BANK;
+use crate::models::{BANK, CHAIN, CHAIN_REDUCED, DRAWN, DRAWN_APART, LOOP};
 use sig_base::NoMemory;
 use sigma_top::Status;
 use std::alloc::{AllocError, Global};
@@ -27,15 +27,6 @@ const FAULTING_CERTIFICATE: &[u8] = b"certificate\nsettle RUN 2\ndrop B\nend\n";
 /// The bank with its first event as one, and without the variable that is counted for nobody.
 const BANK_REDUCED: &[u8] =
     b"model BANK;\nvar QUEUE : 0..1000000 = 0;\nvar IDLE : 0..2 = 0;\nvar GAP : 1..6 = 1;\nwatch QUEUE, IDLE;\nvertex RUN(IDLE) {\n  set QUEUE := QUEUE + 1;\n  draw GAP from 54 in 1..6;\n  schedule ENTER after GAP;\n  urgent START when IDLE > 0;\n}\nvertex ENTER {\n  set QUEUE := QUEUE + 1;\n  draw GAP from 54 in 1..6;\n  schedule ENTER after GAP;\n  urgent START when IDLE > 0;\n}\nvertex START {\n  set QUEUE, IDLE := QUEUE - 1, IDLE - 1;\n  schedule LEAVE after 7;\n}\nvertex LEAVE {\n  set IDLE := IDLE + 1;\n  urgent START when QUEUE > 0;\n}\nend\n";
-
-const CHAIN: &[u8] =
-    b"model CHAIN; var N : 0..9 = 0; watch N; vertex RUN { urgent A; } vertex A { set N := 1; urgent B; } vertex B { set N := 2; } end";
-
-const CHAIN_REDUCED: &[u8] =
-    b"model CHAIN;\nvar N : 0..9 = 0;\nwatch N;\nvertex RUN {\n  set N := 1;\n  set N := 2;\n}\nend\n";
-
-const LOOP: &[u8] =
-    b"model LOOP;\nvertex RUN {\n  urgent A;\n}\nvertex A {\n  urgent B;\n}\nvertex B {\n  urgent A;\n}\nend\n";
 
 const CHOOSING: &[u8] =
     b"model CHOOSING; var X : 0..9 = 3; watch X; vertex RUN { urgent P; } vertex P { urgent A when X > 0; urgent B when not X > 0; } vertex A { } vertex B { } end";
@@ -63,13 +54,6 @@ const COUNTED_UNSEEN: &[u8] =
 
 const COUNTED_UNSEEN_REDUCED: &[u8] =
     b"model DOWN;\nvar S : 0..2 = 2;\nvertex RUN {\n  set S := S - 1;\n}\nend\n";
-
-/// Two draws from one stream: without the first, the second would take its word.
-const DRAWN: &[u8] =
-    b"model DRAWN;\nvar X : 1..6 = 1;\nvar Y : 1..6 = 1;\nwatch X;\nvertex RUN {\n  draw Y from 54 in 1..6;\n  draw X from 54 in 1..6;\n}\nend\n";
-
-const DRAWN_APART: &[u8] =
-    b"model DRAWN; var X : 1..6 = 1; var Y : 1..6 = 1; watch X; vertex RUN { draw Y from 53 in 1..6; draw X from 54 in 1..6; } end";
 
 const DRAWN_APART_REDUCED: &[u8] =
     b"model DRAWN;\nvar X : 1..6 = 1;\nwatch X;\nvertex RUN {\n  draw X from 54 in 1..6;\n}\nend\n";

@@ -1,5 +1,6 @@
 -- What the words behind `--` give, and the limits that a job keeps which is asked for.
 use Rattle.std.proofs.Common.{◌≡◌, ℕ, ℤ, ◌<◌, ◌≤◌, Bool, true, false, ◌&&◌, cond, List, [], ◌∷◌, length, drop, map, get_or, Option, Some, None, refl, ap, ◌∙◌, subst, arith}
+use Rattle.std.proofs.lemmas.Option.{same_Some}
 use Rattle.std.specs.Prelude.{codes, nat_le}
 use Rattle.std.proofs.lemmas.Bool.{leb-true}
 use Rattle.sig_base.specs.declared.limits.TheConstants.{STOP_MAX, EVENTS_MAX}
@@ -28,19 +29,16 @@ behind_dashes bytes (v ∷ next ∷ words) w some is dashes =
 
 -- ---- the limits of a run
 
-same_asked : {a b : Job} → Some a ≡ Some b → a ≡ b
-same_asked e = cc
-
-picked : (a b c : Bool) (n m : ℕ) → cond (a && (b && c)) (Some n) None ≡ Some m → (c ≡ true) × (n ≡ m)
-picked true true true n m e = (refl, cc)
-picked true true false n m e = absurd cc
-picked true false c n m e = absurd cc
-picked false b c n m e = absurd cc
+within_highest : (a b c : Bool) (n m : ℕ) → cond (a && (b && c)) (Some n) None ≡ Some m → (c ≡ true) × (n ≡ m)
+within_highest true true true n m e = (refl, cc)
+within_highest true true false n m e = absurd cc
+within_highest true false c n m e = absurd cc
+within_highest false b c n m e = absurd cc
 
 at_most_highest : (lowest highest : ℕ) (text : List ℕ) (m : ℕ) → number_within lowest highest text ≡ Some m → m ≤ highest
 at_most_highest lowest highest text m e =
     let n = number_written text in
-    let (below, same) = picked (is_digits text) (nat_le lowest n) (nat_le n highest) n m e in
+    let (below, same) = within_highest (is_digits text) (nat_le lowest n) (nat_le n highest) n m e in
     subst (λ (k : ℕ). k ≤ highest) same (leb-true n highest below)
 
 needed_at_most : (lowest highest : ℕ) (values : List (List ℕ)) (m : ℕ) → needed (number_within lowest highest) values ≡ Some m → m ≤ highest
@@ -49,7 +47,7 @@ needed_at_most lowest highest (value ∷ []) m e = at_most_highest lowest highes
 needed_at_most lowest highest (value ∷ other ∷ values) m e = absurd cc
 
 run_within : (until seed events : Option ℕ) (starts : Option (List ℤ)) (room : Option ℕ) → ((m : ℕ) → until ≡ Some m → m ≤ STOP_MAX) → ((m : ℕ) → events ≡ Some m → m ≤ EVENTS_MAX) → (job : Job) → run_with until seed events starts room ≡ Some job → IsWithinLimits job
-run_within (Some until) (Some seed) (Some events) (Some starts) (Some room) soon budget job e = subst IsWithinLimits (same_asked e) (soon until refl, budget events refl)
+run_within (Some until) (Some seed) (Some events) (Some starts) (Some room) soon budget job e = subst IsWithinLimits (same_Some _ _ e) (soon until refl, budget events refl)
 run_within None seed events starts room soon budget job e = absurd cc
 run_within (Some until) None events starts room soon budget job e = absurd cc
 run_within (Some until) (Some seed) None starts room soon budget job e = absurd cc
@@ -57,11 +55,11 @@ run_within (Some until) (Some seed) (Some events) None room soon budget job e = 
 run_within (Some until) (Some seed) (Some events) (Some starts) None soon budget job e = absurd cc
 
 with_within : (command : Command) (given : List PlainArgument) (job : Job) → job_with command given ≡ Some job → IsWithinLimits job
-with_within commands.Check given job e = subst IsWithinLimits (same_asked e) tt
-with_within commands.Print given job e = subst IsWithinLimits (same_asked e) tt
-with_within commands.Reduce given job e = subst IsWithinLimits (same_asked e) tt
-with_within commands.Uses given job e = subst IsWithinLimits (same_asked e) tt
-with_within commands.Certify given job e = subst IsWithinLimits (same_asked e) tt
+with_within commands.Check given job e = subst IsWithinLimits (same_Some _ _ e) tt
+with_within commands.Print given job e = subst IsWithinLimits (same_Some _ _ e) tt
+with_within commands.Reduce given job e = subst IsWithinLimits (same_Some _ _ e) tt
+with_within commands.Uses given job e = subst IsWithinLimits (same_Some _ _ e) tt
+with_within commands.Certify given job e = subst IsWithinLimits (same_Some _ _ e) tt
 with_within commands.Run given job e = run_within _ _ _ _ _ (needed_at_most 0 STOP_MAX (values_of (codes "until") given)) (needed_at_most 1 EVENTS_MAX (values_of (codes "events") given)) job e
 
 if_some : {A : Type 0} (b : Bool) (o : Option A) (x : A) → cond b o None ≡ Some x → o ≡ Some x

@@ -39,11 +39,11 @@ SameComplaint c i d j = (c ≡ d) × (i ≡ j)
 module _ (laws : TextLaws) (text : List ℕ) where
   -- ---- how far a text goes
 
-  record IsCut : Type 0 where
+  record HasTokens : Type 0 where
     tokens : List Lexeme
     are : tokens_of text ≡ Ok tokens
 
-  uncut : (at : ℕ) → tokens_of text ≡ Err at → IsCut → ⊥
+  uncut : (at : ℕ) → tokens_of text ≡ Err at → HasTokens → ⊥
   uncut at e c = let f = c.are in cc
 
   deep_or_not : (a b : List Lexeme) (at : ℕ) → tokens_of text ≡ Ok a → tokens_of text ≡ Ok b → too_deep_at OPENINGS_MAX a ≡ Some at → too_deep_at OPENINGS_MAX b ≡ None → ⊥

@@ -1,22 +1,21 @@
 -- Of each document there is one thing to complain of, or it reads as two models and a certificate, and never both: what comes
 -- of it is computed part by part.
-use Rattle.std.proofs.Common.{◌≡◌, ◌⊎◌, inl, inr, ℕ, ◌≤◌, List, [], length, refl, sym, ap, subst, ◌∙◌}
+use Rattle.std.proofs.Common.{◌≡◌, ◌⊎◌, inl, inr, ℕ, ◌≤◌, List, length, refl, sym, ap, ◌∙◌}
 use Rattle.std.specs.Prelude.{Option, Some, None, Result, Ok, Err}
 use Rattle.sig_base.specs.declared.limits.TheConstants.{DOCUMENT_MAX, OPENINGS_MAX}
 use Rattle.model_core.specs.EventGraph.{EventGraph}
 use Rattle.model_core.specs.Rules.Reduction.{RuleApplication}
 use Rattle.model_core.specs.Text.Lexing.{Lexeme, tokens_of}
 use Rattle.model_core.specs.Text.Written.{WrittenModel}
-use Rattle.model_core.specs.Text.Language.{BeginsWithText}
 use Rattle.model_core.specs.Text.FirstWrong.{told_place, IsUnexpectedAt}
 use Rattle.model_core.specs.Text.Openings.{front_to_end, too_deep_at}
 use Rattle.model_core.specs.Text.CertificateText.{certificate_format, IsCertificate, IsNoCertificateAt}
 use Rattle.model_core.specs.Text.DocumentText.{BeginsWithModel, SpellsDocument}
 use Rattle.model_core.specs.Text.Numbering.{numbered}
 use Rattle.model_core.specs.Static.FaultOrder.{StaticFault}
-use Rattle.model_core.specs.Static.ModelFaults.{IsTold, told_fault, Accepted}
+use Rattle.model_core.specs.Static.ModelFaults.{told_fault, Accepted}
 use Rattle.model_core.specs.Static.Reading.{ReadsDocument}
-use Rattle.model_core.specs.Inner.FormatReader.{Parse, took, stuck, and_next, whole_read}
+use Rattle.model_core.specs.Inner.FormatReader.{Parse, and_next, whole_read}
 use Rattle.model_core.specs.Inner.LanguageReader.{language_reader, text_and_rest}
 use Rattle.model_core.proofs.OpeningLaws.{none-is_few, few-is_none}
 use Rattle.model_core.proofs.Formats.OneTokenDecides.{certificate-fine}
@@ -29,24 +28,24 @@ use Rattle.sigma_top.specs.DocumentComplaints.{IsFrontComplaint, IsCertificateCo
 use Rattle.sigma_top.proofs.Complaining.{TextLaws}
 
 -- a value, or what there is to complain of and where
-abbrev Outcome : Type 0 → Type 0
-Outcome A = Result A (Complaint × ℕ)
+abbrev Computed : Type 0 → Type 0
+Computed A = Result A (Complaint × ℕ)
 
-abbrev and_then : {A B : Type 0} → (A → Outcome B) → Outcome A → Outcome B
+abbrev and_then : {A B : Type 0} → (A → Computed B) → Computed A → Computed B
 and_then next (Ok x) = next x
 and_then next (Err e) = Err e
 
 -- ---- what comes of the front of some tokens
 
-abbrev of_parse : {A : Type 0} → List ℕ → Parse A → Outcome (A × List Lexeme)
+abbrev of_parse : {A : Type 0} → List ℕ → Parse A → Computed (A × List Lexeme)
 of_parse text (Ok r) = Ok r
 of_parse text (Err rest) = Err (complaints.Unexpected, told_place text rest)
 
-abbrev unless_deep : {A : Type 0} → Option ℕ → Outcome A → Outcome A
+abbrev unless_deep : {A : Type 0} → Option ℕ → Computed A → Computed A
 unless_deep None o = o
 unless_deep (Some at) o = Err (complaints.TooDeep, at)
 
-abbrev front_outcome : List ℕ → List Lexeme → Outcome (WrittenModel × List Lexeme)
+abbrev front_outcome : List ℕ → List Lexeme → Computed (WrittenModel × List Lexeme)
 front_outcome text tokens = unless_deep (too_deep_at OPENINGS_MAX (front_to_end tokens)) (of_parse text (text_and_rest tokens))
 
 front_begun : (text : List ℕ) (tokens : List Lexeme) (m : WrittenModel) (left : List Lexeme) → BeginsWithModel tokens m left → front_outcome text tokens ≡ Ok (m, left)
@@ -90,7 +89,7 @@ front_or_fault text tokens = by_opening text tokens (too_deep_at OPENINGS_MAX (f
 abbrev certificate_parse : List Lexeme → Parse (List RuleApplication)
 certificate_parse tokens = and_next whole_read (language_reader certificate_format tokens)
 
-abbrev of_whole : List ℕ → Parse (List RuleApplication) → Outcome (List RuleApplication)
+abbrev of_whole : List ℕ → Parse (List RuleApplication) → Computed (List RuleApplication)
 of_whole text (Ok r) = Ok r.0
 of_whole text (Err rest) = Err (complaints.Unexpected, told_place text rest)
 
@@ -114,13 +113,13 @@ certificate_complained text tokens (complaints.Static kind) at h = absurd h
 abbrev Parts : Type 0
 Parts = WrittenModel × List RuleApplication × WrittenModel
 
-abbrev behind_second : List ℕ → WrittenModel → WrittenModel × List Lexeme → Outcome Parts
+abbrev behind_second : List ℕ → WrittenModel → WrittenModel × List Lexeme → Computed Parts
 behind_second text first second = and_then (λ applications. Ok (first, applications, second.0)) (of_whole text (certificate_parse second.1))
 
-abbrev behind_first : List ℕ → WrittenModel × List Lexeme → Outcome Parts
+abbrev behind_first : List ℕ → WrittenModel × List Lexeme → Computed Parts
 behind_first text first = and_then (behind_second text first.0) (front_outcome text first.1)
 
-abbrev grammar_outcome : List ℕ → List Lexeme → Outcome Parts
+abbrev grammar_outcome : List ℕ → List Lexeme → Computed Parts
 grammar_outcome text tokens = and_then (behind_first text) (front_outcome text tokens)
 
 grammar_complained : (text : List ℕ) (tokens : List Lexeme) (what : Complaint) (at : ℕ) → IsGrammarComplaint text tokens what at → grammar_outcome text tokens ≡ Err (what, at)
@@ -133,18 +132,18 @@ grammar_complained text tokens what at (in_certificate first second left last b 
 
 -- ---- what comes of the document
 
-abbrev unless_fault : Option StaticFault → Outcome Parts → Outcome Parts
+abbrev unless_fault : Option StaticFault → Computed Parts → Computed Parts
 unless_fault None o = o
 unless_fault (Some f) o = Err (complaints.Static f.kind, f.at)
 
-abbrev static_outcome : Parts → Outcome Parts
+abbrev static_outcome : Parts → Computed Parts
 static_outcome (first, applications, second) = unless_fault (told_fault first) (unless_fault (told_fault second) (Ok (first, applications, second)))
 
-abbrev cut_outcome : List ℕ → Result (List Lexeme) ℕ → Outcome Parts
+abbrev cut_outcome : List ℕ → Result (List Lexeme) ℕ → Computed Parts
 cut_outcome text (Ok tokens) = and_then static_outcome (grammar_outcome text tokens)
 cut_outcome text (Err at) = Err (complaints.BadByte, at)
 
-abbrev document_outcome : List ℕ → Outcome Parts
+abbrev document_outcome : List ℕ → Computed Parts
 document_outcome text = cut_outcome text (tokens_of text)
 
 spelled_outcome : (text : List ℕ) (first second : WrittenModel) (applications : List RuleApplication) → SpellsDocument text first applications second → document_outcome text ≡ static_outcome (first, applications, second)
@@ -172,13 +171,13 @@ module _ (laws : TextLaws) (text : List ℕ) where
 
   pub one_document_complaint : (c d : Complaint) (i j : ℕ) → IsDocumentComplaint text c i → IsDocumentComplaint text d j → (c ≡ d) × (i ≡ j)
   one_document_complaint c d i j p q =
-      let e : ◌≡◌ {A = Outcome Parts} (Err (c, i)) (Err (d, j)) = sym (complaint_outcome c i p) ∙ complaint_outcome d j q in
+      let e : ◌≡◌ {A = Computed Parts} (Err (c, i)) (Err (d, j)) = sym (complaint_outcome c i p) ∙ complaint_outcome d j q in
       let f : ◌≡◌ {A = Complaint × ℕ} (c, i) (d, j) = cc in
       (ap (λ (x : Complaint × ℕ). x.0) f, ap (λ (x : Complaint × ℕ). x.1) f)
 
   pub no_document_complaint : (c : Complaint) (i : ℕ) (g : EventGraph) (applications : List RuleApplication) (h : EventGraph) → IsDocumentComplaint text c i → ReadsDocument text g applications h → ⊥
   no_document_complaint c i g applications h p r =
-      let e : ◌≡◌ {A = Outcome Parts} (Err (c, i)) (Ok (r.first, applications, r.second)) = sym (complaint_outcome c i p) ∙ reads_outcome g applications h r in
+      let e : ◌≡◌ {A = Computed Parts} (Err (c, i)) (Ok (r.first, applications, r.second)) = sym (complaint_outcome c i p) ∙ reads_outcome g applications h r in
       cc
 
   -- the two models and the applications
@@ -187,17 +186,17 @@ module _ (laws : TextLaws) (text : List ℕ) where
     pub applications : a ≡ b
     pub reduced : h ≡ l
 
-  same_graph : (m n : WrittenModel) (g h : EventGraph) → m ≡ n → numbered m ≡ Some g → numbered n ≡ Some h → g ≡ h
-  same_graph m n g h e is so = let f : ◌≡◌ {A = Option EventGraph} (Some g) (Some h) = sym is ∙ ap numbered e ∙ so in cc
+  one_graph : (m n : WrittenModel) (g h : EventGraph) → m ≡ n → numbered m ≡ Some g → numbered n ≡ Some h → g ≡ h
+  one_graph m n g h e is so = let f : ◌≡◌ {A = Option EventGraph} (Some g) (Some h) = sym is ∙ ap numbered e ∙ so in cc
 
   pub one_document : (g h k l : EventGraph) (a b : List RuleApplication) → ReadsDocument text g a h → ReadsDocument text k b l → SameDocument g a h k b l
   one_document g h k l a b r s =
-      let e : ◌≡◌ {A = Outcome Parts} (Ok (r.first, a, r.second)) (Ok (s.first, b, s.second)) = sym (reads_outcome g a h r) ∙ reads_outcome k b l s in
+      let e : ◌≡◌ {A = Computed Parts} (Ok (r.first, a, r.second)) (Ok (s.first, b, s.second)) = sym (reads_outcome g a h r) ∙ reads_outcome k b l s in
       let f : ◌≡◌ {A = Parts} (r.first, a, r.second) (s.first, b, s.second) = cc in
       record {
-        originals = same_graph r.first s.first g k (ap (λ (x : Parts). x.0) f) r.first_accepted.numbers s.first_accepted.numbers;
+        originals = one_graph r.first s.first g k (ap (λ (x : Parts). x.0) f) r.first_accepted.numbers s.first_accepted.numbers;
         applications = ap (λ (x : Parts). x.1) f;
-        reduced = same_graph r.second s.second h l (ap (λ (x : Parts). x.2) f) r.second_accepted.numbers s.second_accepted.numbers;
+        reduced = one_graph r.second s.second h l (ap (λ (x : Parts). x.2) f) r.second_accepted.numbers s.second_accepted.numbers;
       }
 
   -- ---- one of them there is

@@ -1,5 +1,4 @@
 pub mod ArgumentLaws
-pub mod NumberLaws
 pub mod InputRead
 pub mod Streaming
 pub mod Performing
@@ -10,3 +9,4 @@ pub mod Determined
 pub mod HasAnswer
 pub mod RunLaws
 mod PassedOn
+mod ToldErrors

@@ -1,5 +1,6 @@
 -- From the job to the call, and from its table of statuses to its other clauses.
 use Rattle.std.proofs.Common.{◌≡◌, ◌⊎◌, inl, inr, ℕ, ℤ, List, [], Option, Some, None, Result, Ok, Err, refl, ap, sym, subst, ◌∙◌, arith}
+use Rattle.std.proofs.lemmas.Option.{same_Some}
 use Rattle.std.specs.Prelude.{IfSome}
 use Rattle.std.proofs.lemmas.List.{append-nil}
 use Rattle.sig_base.specs.Faults.{HasRisen}
@@ -33,9 +34,6 @@ use Rattle.sigma_top.proofs.Performing.{given_is_no_refusal, given_bytes}
 
 abbrev pub MeansTheSame : Type 0
 MeansTheSame = (text out : List ℕ) (g : EventGraph) → Reads text g → Reduces g out → KeepsMeaning text out
-
-same_job : {a b : Job} → Some a ≡ Some b → a ≡ b
-same_job e = cc
 
 module _ (law : MeansTheSame) (text bytes : List ℕ) (end : End) where
   model_means : AnswersJob jobs.Reduce text (Given end bytes) → KeepsMeaning text bytes
@@ -92,7 +90,7 @@ module _ {S K : Type 0} (until seed events : ℕ) (starts : List ℤ) (room : �
       → IfSome i.left (λ told. RunsFit until seed events starts room told → p.state ≡ o.state)
   kept_unless words asked (inl same) = in_any_case i.left (RunsFit until seed events starts room) (p.state ≡ o.state) (ap (λ q. q.state) same.1)
   kept_unless words asked (inr lacks) =
-      begun_unless (subst (λ (job : Job). LacksMemory job i j o p) (same_job (sym lacks.1 ∙ asked)) lacks.2).output_grown
+      begun_unless (subst (λ (job : Job). LacksMemory job i j o p) (same_Some _ _ (sym lacks.1 ∙ asked)) lacks.2).output_grown
 
 -- ---- the answer of the job
 
@@ -163,14 +161,14 @@ module _ {S K E : Type 0} (words : List (List ℕ)) (i j : Inlet S) (o p : Outle
         → IfSome i.left (λ text. (out : List ℕ) × KeepsMeaning text out × GrowsBy o.written p.written out)
     reduced_means law status h asked is_done =
         let done = (subst (λ (s : Status). Ends s words i j o p e f) is_done h).0 in
-        let answer = subst (λ (job : Job). AnswersInput job i (Given ends.Done done.2.bytes)) (same_job (sym done.1 ∙ asked)) done.2.answer in
+        let answer = subst (λ (job : Job). AnswersInput job i (Given ends.Done done.2.bytes)) (same_Some _ _ (sym done.1 ∙ asked)) done.2.answer in
         answer_means law i.left (GrowsBy o.written p.written) answer.text done.2.bytes ends.Done answer.told answer.answers done.2.output_grown
 
     -- what `certify` finds sound means the same
     pub certified_means : SoundMeansTheSame → (status : Status) → Ends status words i j o p e f → job_of words ≡ Some jobs.Certify → status ≡ statuses.Done → IfSome i.left Certifies
     certified_means law status h asked is_done =
         let done = (subst (λ (s : Status). Ends s words i j o p e f) is_done h).0 in
-        let answer = subst (λ (job : Job). AnswersInput job i (Given ends.Done done.2.bytes)) (same_job (sym done.1 ∙ asked)) done.2.answer in
+        let answer = subst (λ (job : Job). AnswersInput job i (Given ends.Done done.2.bytes)) (same_Some _ _ (sym done.1 ∙ asked)) done.2.answer in
         told_sound i.left answer.text answer.told (sound_means law answer.text done.2.bytes answer.answers)
 
     -- where `run` lacks memory it has written nothing, if it fits its room
@@ -182,12 +180,12 @@ module _ {S K E : Type 0} (words : List (List ℕ)) (i j : Inlet S) (o p : Outle
     module _ (job : Job) (asked : job_of words ≡ Some job) (read : HasRisen i.faults j.faults → ⊥) (wrote : HasRisen o.faults p.faults → ⊥) where
       given : (end : End) → ForJob words (λ job. WritesAnswer job end i j o p) → IsComplete job (status_of_end end) i.left (GrowsBy o.written p.written)
       given end h =
-          let answer = subst (λ (job : Job). AnswersInput job i (Given end h.2.bytes)) (same_job (sym h.1 ∙ asked)) h.2.answer in
+          let answer = subst (λ (job : Job). AnswersInput job i (Given end h.2.bytes)) (same_Some _ _ (sym h.1 ∙ asked)) h.2.answer in
           if_answers job (text_of (limit_of job) i.left) (λ a. status_of_end end ≡ status_of_answer a) (λ a. GrowsBy o.written p.written (bytes_of_answer a)) answer.text (Given end h.2.bytes) answer.told answer.answers refl h.2.output_grown
 
       refusal : (why : Refusal) (line : List ℕ) → ForJob words (λ job. Refuses job why line i j o p) → IsComplete job (status_of_refusal why) i.left (GrowsBy o.written p.written)
       refusal why line h =
-          let answer = subst (λ (job : Job). AnswersInput job i (Refused why line)) (same_job (sym h.1 ∙ asked)) h.2.answer in
+          let answer = subst (λ (job : Job). AnswersInput job i (Refused why line)) (same_Some _ _ (sym h.1 ∙ asked)) h.2.answer in
           if_answers job (text_of (limit_of job) i.left) (λ a. status_of_refusal why ≡ status_of_answer a) (λ a. GrowsBy o.written p.written (bytes_of_answer a)) answer.text (Refused why line) answer.told answer.answers refl (unwritten h.2.output_untouched)
 
       pub complete : (status : Status) → Ends status words i j o p e f → (status ≡ statuses.NoMemory) ⊎ IsComplete job status i.left (GrowsBy o.written p.written)

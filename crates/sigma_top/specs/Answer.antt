@@ -29,6 +29,7 @@ done bytes = Given ends.Done bytes
 abbrev pub refused : List ℕ → Answer
 refused line = Refused refusals.Refused line
 
+-- the line of a text over the limit
 abbrev pub too_long : List ℕ
 too_long = codes "sigma: text too long\n"
 
@@ -41,6 +42,7 @@ pub record Reduces (original : EventGraph) (out : List ℕ) : Type 0 where
   pub strategy : Strategy original applications reduced
   pub written : out ≡ canonical reduced ++ certificate applications
 
+-- the line of an accepted model
 abbrev pub accepted_line : EventGraph → List ℕ
 accepted_line g = codes "accepted " ++ g.name ++ codes "\n"
 
@@ -50,8 +52,8 @@ accepted_line g = codes "accepted " ++ g.name ++ codes "\n"
 abbrev pub IsDone : (List ℕ → Type 0) → Answer → Type 0
 IsDone AreWritten a = (out : List ℕ) × AreWritten out × (a ≡ done out)
 
--- `check` says that the model is accepted, `print` writes its canonical text, `reduce` a smaller model with its certificate
--- and `uses` who uses each variable, and `run` tells the history of a run. `certify` reads no model but a document.
+-- `check` says that the model is accepted, `print` writes its canonical text, `reduce` a smaller model with its certificate,
+-- `uses` who uses each variable, and `run` the history of a run. `certify` reads a document, and no model alone.
 abbrev pub AnswersModel : Job → EventGraph → Answer → Type 0
 AnswersModel jobs.Check g a = a ≡ done (accepted_line g)
 AnswersModel jobs.Print g a = a ≡ done (canonical g)
@@ -83,6 +85,7 @@ abbrev pub IsWithin : Option ℕ → List ℕ → Type 0
 IsWithin None text = Unit {0}
 IsWithin (Some limit) text = length text ≤ limit
 
+-- the text has more bytes than that
 abbrev pub IsOver : Option ℕ → List ℕ → Type 0
 IsOver None text = ⊥
 IsOver (Some limit) text = limit < length text

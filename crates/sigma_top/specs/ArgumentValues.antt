@@ -24,6 +24,7 @@ whole_number text =
     if starts_with nat_eq text (codes "-") then option_map (λ n. neg_ℤ (pos n)) (number_within 0 (2 ^ 63) (drop 1 text))
     else option_map (λ n. pos n) (number_within 0 (2 ^ 63 - 1) text)
 
+-- a number before others, where all are there
 abbrev pub before_numbers : Option ℤ → Option (List ℤ) → Option (List ℤ)
 before_numbers (Some n) (Some ns) = Some (n ∷ ns)
 before_numbers n ns = None

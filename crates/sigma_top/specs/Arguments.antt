@@ -21,10 +21,12 @@ abbrev pub cut_at : List ℕ → Option ℕ → WordForm
 cut_at text (Some i) = NameWithValue (take i text) (drop (i + 1) text)
 cut_at text None = NameAlone text
 
+-- the form of a word with two dashes before this text
 abbrev pub form_behind_dashes : List ℕ → WordForm
 form_behind_dashes [] = TwoDashes
 form_behind_dashes (c ∷ text) = cut_at (c ∷ text) (position (λ b. b == 61) (c ∷ text))
 
+-- the form of a word
 abbrev pub form_of : List ℕ → WordForm
 form_of word = if starts_with nat_eq word (codes "--") then form_behind_dashes (drop 2 word) else OtherForm
 
@@ -44,6 +46,7 @@ abbrev pub named_argument : List ℕ → List ℕ → Bool → List ℕ → List
 named_argument name word true next from_next behind_next = Setting name next ∷ behind_next
 named_argument name word false next from_next behind_next = CommandWord word ∷ from_next
 
+-- what a word of this form gives before another one
 abbrev pub next_arguments : List ℕ → WordForm → List ℕ → List (List ℕ) → List PlainArgument → List PlainArgument → List PlainArgument
 next_arguments word TwoDashes next words from_next behind_next = map (λ w. CommandWord w) (next ∷ words)
 next_arguments word (NameWithValue name value) next words from_next behind_next = Setting name value ∷ from_next

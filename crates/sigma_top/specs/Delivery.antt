@@ -32,9 +32,11 @@ pub record Outlet (K : Type 0) : Type 0 where
   pub faults : ℕ
   pub settled : Bool
 
+-- what is seen of a source
 abbrev pub inlet : {S : Type 0} → (S → Option (List ℕ)) → (S → ℕ) → S → Inlet S
 inlet left faults s = record { state = s; left = left s; faults = faults s }
 
+-- what is seen of a sink
 abbrev pub outlet : {K : Type 0} → (K → Option (List ℕ)) → (K → ℕ) → (K → Bool) → K → Outlet K
 outlet written faults settled k = record { state = k; written = written k; faults = faults k; settled = settled k }
 
@@ -45,6 +47,7 @@ abbrev pub text_of : Option ℕ → Option (List ℕ) → Option (List ℕ)
 text_of None left = Some []
 text_of (Some limit) left = left
 
+-- the job reads a text
 abbrev pub HasLimit : Option ℕ → Type 0
 HasLimit None = ⊥
 HasLimit (Some limit) = Unit {0}

@@ -2,4 +2,5 @@
 pub mod ArgumentViews
 pub mod Asking
 pub mod Frame
+pub mod Refusals
 pub mod RunSteps

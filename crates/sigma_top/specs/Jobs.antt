@@ -33,6 +33,7 @@ options_of commands.Run = codes "until" ∷ codes "seed" ∷ codes "events" ∷ 
 
 -- ---- the job of a command and its options
 
+-- the job of a run, where each of these is there
 abbrev pub run_with : Option ℕ → Option ℕ → Option ℕ → Option (List ℤ) → Option ℕ → Option Job
 run_with (Some until) (Some seed) (Some events) (Some starts) (Some room) = Some (jobs.Run until seed events starts room)
 run_with until seed events starts room = None
@@ -46,6 +47,7 @@ run_of given = run_with
     (besides [] starting_values (values_of (codes "start") given))
     (besides ROOM_USUAL (number_within 0 ROOM_MAX) (values_of (codes "room") given))
 
+-- the job of a command with these options
 abbrev pub job_with : Command → List PlainArgument → Option Job
 job_with commands.Check given = Some jobs.Check
 job_with commands.Print given = Some jobs.Print
@@ -59,6 +61,7 @@ abbrev pub job_asked : Option Command → List PlainArgument → Option Job
 job_asked None given = None
 job_asked (Some command) given = if has_only_options (options_of command) given then job_with command given else None
 
+-- the command that the words name, where there is one word
 abbrev pub only_command : List (List ℕ) → Option Command
 only_command (word ∷ []) = command_of word
 only_command words = None

@@ -18,9 +18,11 @@ use Rattle.sigma_top.specs.declared.status.Refusal.TheVariants as refusals
 
 -- ---- the starting values
 
+-- the line for another number of starting values than the first vertex has parameters
 abbrev pub count_line : ℕ → ℕ → List ℕ
 count_line needed given = codes "sigma: starting values needed " ++ decimal needed ++ codes " given " ++ decimal given ++ codes "\n"
 
+-- the line for a starting value outside its parameter's range
 abbrev pub outside_line : ℕ → ℤ → List ℕ
 outside_line place value = codes "sigma: starting value " ++ decimal place ++ codes " outside: " ++ signed_decimal value ++ codes "\n"
 
@@ -50,10 +52,12 @@ end_of Going = ends.Budget
 abbrev pub told_of : EventGraph → ℕ → ℕ → Look → Answer
 told_of g until events seen = Given (end_of seen.standing) (history_text g until events seen)
 
+-- the run is refused with this line, if there is one
 abbrev pub refused_or : Option (List ℕ) → Answer → Answer
 refused_or (Some line) answer = Refused refusals.BadStart line
 refused_or None answer = answer
 
+-- what `run` answers for a model
 abbrev pub run_answer : EventGraph → ℕ → ℕ → ℕ → List ℤ → Answer
 run_answer g until seed events starts = refused_or (start_refusal g starts) (told_of g until events (look g seed starts until events))
 

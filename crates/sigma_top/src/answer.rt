@@ -29,19 +29,12 @@ pub enum Answer {
     Refused(Refusal, Text),
 }
 
-/// A refusal of the text, with its line.
-fn refused(alloc: Global, line: &[u8]) -> Result<Answer, NoMemory>
-    ensures { IfOk result (λ a. a ≡ refused line.now) }
-{
-    let line = Vec::from_slice(alloc, line)?;
-    Ok(Answer::Refused(Refusal::Refused, Text::from_vec(line)))
-}
-
 /// The refusal of a text over the limit.
 pub fn too_long(alloc: Global) -> Result<Answer, NoMemory>
     ensures { IfOk result (λ a. a ≡ refused too_long) }
 {
-    refused(alloc, b"sigma: text too long\n")
+    let line = Vec::from_slice(alloc, b"sigma: text too long\n")?;
+    Ok(Answer::Refused(Refusal::Refused, Text::from_vec(line)))
 }
 
 /// The refusal of a text that reads as no model.

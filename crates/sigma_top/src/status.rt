@@ -8,7 +8,7 @@ ghost use Rattle.sigma_top.specs.Ending.{exit_status_of, status_of_end, status_o
 pub enum Status {
     /// The job is done: the input was read to its end, and everything was written and finished.
     Done,
-    /// The text is too long, or spells no accepted model.
+    /// The text is too long, or reads as no model, or for `certify` as no document.
     Refused,
     /// The words are no job.
     Usage,
@@ -78,7 +78,7 @@ impl End {
 /// Why a job writes nothing.
 #[derive(Clone, Copy, Debug, PartialEq, Eq)]
 pub enum Refusal {
-    /// The text is too long, or spells no accepted model.
+    /// The text is too long, or reads as no model, or for `certify` as no document.
     Refused,
     /// The starting values of the run aren't allowed.
     BadStart,

@@ -1,20 +1,16 @@
 //! Which vertices of a model may be merged, why others may not, and the text of a merged model.
 
+use crate::static_rules::checked;
 use merge_rules::{first_merge, merge, merge_measured};
 use model_core::{Model, RuleError};
-use model_lex::tokens;
 use model_print::{print, printed_length};
-use model_read::parse;
 use sig_base::NoMemory;
-use sig_types::check;
 use std::alloc::Global;
 use std::test::*;
 
 /// The model that a text reads as.
 fn model_of_text(alloc: Global, text: &[u8]) -> Result<Model, NoMemory> {
-    let tokens = tokens(alloc, text).map_err(|_| NoMemory)?;
-    let raw = parse(alloc, &tokens).map_err(|_| NoMemory)?;
-    check(alloc, raw).map_err(|_| NoMemory)
+    checked(alloc, text).map_err(|_| NoMemory)
 }
 
 /// What comes of merging the vertices at these places of the model that a text reads as.

@@ -79,8 +79,9 @@ fn prefix(text: &[u8], length: usize) -> &[u8] {
     }
 }
 
-// A word that is cut short is a name, and no name can stand where one of this text's reserved words does. One point is no
-// token, and a colon can't stand before the equals sign. All other cuts leave a text that can go on.
+/// Why a cut text is refused. A word that is cut short is a name, and no name can stand where one of this text's reserved
+/// words does. One point is no token, and a colon can't stand before the equals sign. All other cuts leave a text that can
+/// go on.
 fn cut(tokens: &[Token], length: usize) -> Refused {
     for token in tokens {
         if token.from < length && length < token.to {
@@ -128,60 +129,63 @@ fn a_text_is_read_with_its_names_and_places(rt: HostRuntime) -> Result<(), Fail>
     Ok(())
 }
 
+/// Texts that spell no model, each with the place where it goes wrong.
+const REFUSED: [(&[u8], Refused); 17] = [
+    (b"model", Refused::Unexpected(5)),
+    (b"model model;", Refused::Unexpected(6)),
+    (b"# model", Refused::Unexpected(7)),
+    (b"model ; $", Refused::BadByte(8)),
+    (b"model M; var X : 0.5 = 0;", Refused::BadByte(18)),
+    (
+        b"model M; vertex A { schedule A after ; } end",
+        Refused::Unexpected(37),
+    ),
+    (b"model M; vertex A { } end end", Refused::Unexpected(26)),
+    (
+        b"model M; vertex A { set X := 1 < 2 < 3; } end",
+        Refused::Unexpected(35),
+    ),
+    (
+        b"model M; vertex A { cancel all A(1); } end",
+        Refused::Unexpected(32),
+    ),
+    (
+        b"model M; vertex A { urgent A after 0; } end",
+        Refused::Unexpected(29),
+    ),
+    (
+        b"model M; vertex A { set X := if 1 then 2; } end",
+        Refused::Unexpected(40),
+    ),
+    (
+        b"model M; vertex A { set X := not 1 + not 2; } end",
+        Refused::Unexpected(37),
+    ),
+    (
+        b"model M; vertex A { set X := -not 1; } end",
+        Refused::Unexpected(30),
+    ),
+    (
+        b"model M; vertex A { set X := 1 + if 1 then 2 else 3; } end",
+        Refused::Unexpected(33),
+    ),
+    (
+        b"model M; vertex A { set X := min(1); } end",
+        Refused::Unexpected(34),
+    ),
+    (
+        b"model M; table T { } vertex A { } end",
+        Refused::Unexpected(19),
+    ),
+    (
+        b"model M; vertex A { schedule B; set X := 1; } end",
+        Refused::Unexpected(32),
+    ),
+];
+
 #[test]
 fn texts_are_refused_where_they_go_wrong(rt: HostRuntime) {
-    for (text, place) in [
-        (b"model".as_slice(), Refused::Unexpected(5)),
-        (b"model model;", Refused::Unexpected(6)),
-        (b"# model", Refused::Unexpected(7)),
-        (b"model ; $", Refused::BadByte(8)),
-        (b"model M; var X : 0.5 = 0;", Refused::BadByte(18)),
-        (
-            b"model M; vertex A { schedule A after ; } end",
-            Refused::Unexpected(37),
-        ),
-        (b"model M; vertex A { } end end", Refused::Unexpected(26)),
-        (
-            b"model M; vertex A { set X := 1 < 2 < 3; } end",
-            Refused::Unexpected(35),
-        ),
-        (
-            b"model M; vertex A { cancel all A(1); } end",
-            Refused::Unexpected(32),
-        ),
-        (
-            b"model M; vertex A { urgent A after 0; } end",
-            Refused::Unexpected(29),
-        ),
-        (
-            b"model M; vertex A { set X := if 1 then 2; } end",
-            Refused::Unexpected(40),
-        ),
-        (
-            b"model M; vertex A { set X := not 1 + not 2; } end",
-            Refused::Unexpected(37),
-        ),
-        (
-            b"model M; vertex A { set X := -not 1; } end",
-            Refused::Unexpected(30),
-        ),
-        (
-            b"model M; vertex A { set X := 1 + if 1 then 2 else 3; } end",
-            Refused::Unexpected(33),
-        ),
-        (
-            b"model M; vertex A { set X := min(1); } end",
-            Refused::Unexpected(34),
-        ),
-        (
-            b"model M; table T { } vertex A { } end",
-            Refused::Unexpected(19),
-        ),
-        (
-            b"model M; vertex A { schedule B; set X := 1; } end",
-            Refused::Unexpected(32),
-        ),
-    ] {
+    for (text, place) in REFUSED {
         assert_eq!(rt; refusal(rt.alloc(), text), Some(place));
     }
 }
@@ -212,84 +216,28 @@ fn value(
     Ok(refusal(alloc, text.as_slice()))
 }
 
-// 256 openings are read, and dropped again. One more front has the opening that is too many, at this place.
+/// Values with 256 openings: a front, a middle and a back, and how often the front and the back stand. Where they stand once
+/// more, the opening that is too many stands at this place.
+const DEEPEST: [(&[u8], &[u8], &[u8], usize, usize); 13] = [
+    (b"(", b"1", b")", 256, 285),
+    (b"not ", b"true", b"", 256, 1053),
+    (b"-", b"1", b"", 256, 285),
+    (b"if true then 1 else ", b"2", b"", 256, 5149),
+    (b"if ", b"true", b" then true else true", 256, 797),
+    (b"min(", b"1", b", 2)", 128, 541),
+    (b"max(1, ", b"2", b")", 128, 925),
+    (b"X[", b"1", b"]", 256, 542),
+    (b"1 + ", b"1", b"", 256, 1055),
+    (b"1 - (", b"1", b")", 128, 671),
+    (b"1 * ", b"1", b"", 256, 1055),
+    (b"true and ", b"true", b"", 256, 2338),
+    (b"true or not ", b"true", b"", 128, 1570),
+];
+
+/// The deepest values are read, and dropped again.
 #[test]
 fn the_deepest_texts_are_read(rt: HostRuntime) -> Result<(), Fail> {
-    for (front, middle, back, times, place) in [
-        (b"(".as_slice(), b"1".as_slice(), b")".as_slice(), 256, 285),
-        (
-            b"not ".as_slice(),
-            b"true".as_slice(),
-            b"".as_slice(),
-            256,
-            1053,
-        ),
-        (b"-".as_slice(), b"1".as_slice(), b"".as_slice(), 256, 285),
-        (
-            b"if true then 1 else ".as_slice(),
-            b"2".as_slice(),
-            b"".as_slice(),
-            256,
-            5149,
-        ),
-        (
-            b"if ".as_slice(),
-            b"true".as_slice(),
-            b" then true else true".as_slice(),
-            256,
-            797,
-        ),
-        (
-            b"min(".as_slice(),
-            b"1".as_slice(),
-            b", 2)".as_slice(),
-            128,
-            541,
-        ),
-        (
-            b"max(1, ".as_slice(),
-            b"2".as_slice(),
-            b")".as_slice(),
-            128,
-            925,
-        ),
-        (b"X[".as_slice(), b"1".as_slice(), b"]".as_slice(), 256, 542),
-        (
-            b"1 + ".as_slice(),
-            b"1".as_slice(),
-            b"".as_slice(),
-            256,
-            1055,
-        ),
-        (
-            b"1 - (".as_slice(),
-            b"1".as_slice(),
-            b")".as_slice(),
-            128,
-            671,
-        ),
-        (
-            b"1 * ".as_slice(),
-            b"1".as_slice(),
-            b"".as_slice(),
-            256,
-            1055,
-        ),
-        (
-            b"true and ".as_slice(),
-            b"true".as_slice(),
-            b"".as_slice(),
-            256,
-            2338,
-        ),
-        (
-            b"true or not ".as_slice(),
-            b"true".as_slice(),
-            b"".as_slice(),
-            128,
-            1570,
-        ),
-    ] {
+    for (front, middle, back, times, place) in DEEPEST {
         assert_eq!(rt; value(rt.alloc(), front, middle, back, times)?, None);
         assert_eq!(rt;
             value(rt.alloc(), front, middle, back, times + 1)?,

@@ -36,141 +36,144 @@ fn told(alloc: Global, text: &[u8]) -> Option<(StaticKind, usize)> {
     }
 }
 
+/// Texts that break a rule, each with the fault that is told of it and the byte.
+const BROKEN: [(&[u8], StaticKind, usize); 25] = [
+    (
+        b"model M; vertex ABCDEFGHIJKLMNOPQRSTUVWXYZABCDEFG { } end",
+        StaticKind::NameTooLong,
+        16,
+    ),
+    (
+        b"model M; vertex RUN { schedule OFF; } end",
+        StaticKind::UnknownName,
+        31,
+    ),
+    (
+        b"model M; vertex RUN { } vertex RUN { } end",
+        StaticKind::DuplicateName,
+        31,
+    ),
+    (
+        b"model M; vertex RUN { set RUN := 1; } end",
+        StaticKind::WrongUse,
+        26,
+    ),
+    (
+        b"model M; var B : bool = 2; vertex RUN { } end",
+        StaticKind::KindMismatch,
+        24,
+    ),
+    (
+        b"model M; var X : 0..9 = 0; vertex RUN { set X := 1, 2; } end",
+        StaticKind::ValueCount,
+        40,
+    ),
+    (
+        b"model M; vertex RUN { schedule RUN after 9223372036854775808; } end",
+        StaticKind::LiteralTooLarge,
+        41,
+    ),
+    (
+        b"model M; var B : 3..2 = 3; vertex RUN { } end",
+        StaticKind::EmptyRange,
+        17,
+    ),
+    (
+        b"model M; var X : 0..9 = 10; vertex RUN { } end",
+        StaticKind::InitialOutside,
+        24,
+    ),
+    (
+        b"model M; var X[0] : 0..9 = 0; vertex RUN { } end",
+        StaticKind::SizeOutside,
+        15,
+    ),
+    (
+        b"model M; vertex RUN { schedule RUN priority 0; } end",
+        StaticKind::PriorityOutside,
+        44,
+    ),
+    (
+        b"model M; var X : 0..9 = 0; vertex RUN { draw X from 64 in 0..9; } end",
+        StaticKind::StreamOutside,
+        52,
+    ),
+    (
+        b"model M; var X : 0..9 = 0; vertex RUN { draw X from 0 in 0..4294967296; } end",
+        StaticKind::DrawOutside,
+        57,
+    ),
+    (
+        b"model M; table T { 1 : 4294967296; 2 : 1; } vertex RUN { } end",
+        StaticKind::WeightOutside,
+        39,
+    ),
+    (
+        b"model M; var X : 0..9 = 0; vertex RUN { set X, X, X, X, X, X, X, X, X := 1, 1, 1, 1, 1, 1, 1, 1, 1; } end",
+        StaticKind::TooMany,
+        68,
+    ),
+    // An initial value outside stands before an unknown name.
+    (
+        b"model M; var N : 0..3 = 5; vertex RUN { set Q := 1; } end",
+        StaticKind::InitialOutside,
+        24,
+    ),
+    // Both are told at one byte: the first of the table is.
+    (
+        b"model M; watch X, X; vertex RUN { } end",
+        StaticKind::UnknownName,
+        15,
+    ),
+    // A parameter, and a watched vertex, that stand twice.
+    (
+        b"model M; var X : 0..9 = 0; vertex RUN(X, X) { } end",
+        StaticKind::DuplicateName,
+        41,
+    ),
+    (
+        b"model M; watch RUN, RUN; vertex RUN { } end",
+        StaticKind::DuplicateName,
+        20,
+    ),
+    // A truth value is carried to a parameter that is a number, and the parts of an `if` differ.
+    (
+        b"model M; var X : 0..9 = 0; vertex RUN(X) { schedule RUN(true); } end",
+        StaticKind::KindMismatch,
+        56,
+    ),
+    (
+        b"model M; var X : 0..9 = 0; vertex RUN { set X := if true then 1 else false; } end",
+        StaticKind::KindMismatch,
+        69,
+    ),
+    // A table is no variable, an array no scalar, and a variable no vertex.
+    (
+        b"model M; table T { 1 : 1; } vertex RUN { set T := 1; } end",
+        StaticKind::WrongUse,
+        45,
+    ),
+    (
+        b"model M; var X[2] : 0..9 = 0; vertex RUN { set X := 1; } end",
+        StaticKind::WrongUse,
+        47,
+    ),
+    (
+        b"model M; var X : 0..9 = 0; vertex RUN { urgent X; } end",
+        StaticKind::WrongUse,
+        47,
+    ),
+    // `cancel` counts no values, but `cancel` with values does.
+    (
+        b"model M; var X : 0..9 = 0; vertex RUN(X) { cancel RUN; cancel all RUN; urgent RUN; } end",
+        StaticKind::ValueCount,
+        78,
+    ),
+];
+
 #[test]
 fn each_rule_is_told_at_its_byte(rt: HostRuntime) {
-    for (text, kind, at) in [
-        (
-            b"model M; vertex ABCDEFGHIJKLMNOPQRSTUVWXYZABCDEFG { } end".as_slice(),
-            StaticKind::NameTooLong,
-            16,
-        ),
-        (
-            b"model M; vertex RUN { schedule OFF; } end".as_slice(),
-            StaticKind::UnknownName,
-            31,
-        ),
-        (
-            b"model M; vertex RUN { } vertex RUN { } end".as_slice(),
-            StaticKind::DuplicateName,
-            31,
-        ),
-        (
-            b"model M; vertex RUN { set RUN := 1; } end".as_slice(),
-            StaticKind::WrongUse,
-            26,
-        ),
-        (
-            b"model M; var B : bool = 2; vertex RUN { } end".as_slice(),
-            StaticKind::KindMismatch,
-            24,
-        ),
-        (
-            b"model M; var X : 0..9 = 0; vertex RUN { set X := 1, 2; } end".as_slice(),
-            StaticKind::ValueCount,
-            40,
-        ),
-        (
-            b"model M; vertex RUN { schedule RUN after 9223372036854775808; } end".as_slice(),
-            StaticKind::LiteralTooLarge,
-            41,
-        ),
-        (
-            b"model M; var B : 3..2 = 3; vertex RUN { } end".as_slice(),
-            StaticKind::EmptyRange,
-            17,
-        ),
-        (
-            b"model M; var X : 0..9 = 10; vertex RUN { } end".as_slice(),
-            StaticKind::InitialOutside,
-            24,
-        ),
-        (
-            b"model M; var X[0] : 0..9 = 0; vertex RUN { } end".as_slice(),
-            StaticKind::SizeOutside,
-            15,
-        ),
-        (
-            b"model M; vertex RUN { schedule RUN priority 0; } end".as_slice(),
-            StaticKind::PriorityOutside,
-            44,
-        ),
-        (
-            b"model M; var X : 0..9 = 0; vertex RUN { draw X from 64 in 0..9; } end".as_slice(),
-            StaticKind::StreamOutside,
-            52,
-        ),
-        (
-            b"model M; var X : 0..9 = 0; vertex RUN { draw X from 0 in 0..4294967296; } end".as_slice(),
-            StaticKind::DrawOutside,
-            57,
-        ),
-        (
-            b"model M; table T { 1 : 4294967296; 2 : 1; } vertex RUN { } end".as_slice(),
-            StaticKind::WeightOutside,
-            39,
-        ),
-        (
-            b"model M; var X : 0..9 = 0; vertex RUN { set X, X, X, X, X, X, X, X, X := 1, 1, 1, 1, 1, 1, 1, 1, 1; } end".as_slice(),
-            StaticKind::TooMany,
-            68,
-        ),
-        // An initial value outside stands before an unknown name.
-        (
-            b"model M; var N : 0..3 = 5; vertex RUN { set Q := 1; } end".as_slice(),
-            StaticKind::InitialOutside,
-            24,
-        ),
-        // Both are told at one byte: the first of the table is.
-        (
-            b"model M; watch X, X; vertex RUN { } end".as_slice(),
-            StaticKind::UnknownName,
-            15,
-        ),
-        // A parameter, and a watched vertex, that stand twice.
-        (
-            b"model M; var X : 0..9 = 0; vertex RUN(X, X) { } end".as_slice(),
-            StaticKind::DuplicateName,
-            41,
-        ),
-        (
-            b"model M; watch RUN, RUN; vertex RUN { } end".as_slice(),
-            StaticKind::DuplicateName,
-            20,
-        ),
-        // A truth value is carried to a parameter that is a number, and the parts of an `if` differ.
-        (
-            b"model M; var X : 0..9 = 0; vertex RUN(X) { schedule RUN(true); } end".as_slice(),
-            StaticKind::KindMismatch,
-            56,
-        ),
-        (
-            b"model M; var X : 0..9 = 0; vertex RUN { set X := if true then 1 else false; } end".as_slice(),
-            StaticKind::KindMismatch,
-            69,
-        ),
-        // A table is no variable, an array no scalar, and a variable no vertex.
-        (
-            b"model M; table T { 1 : 1; } vertex RUN { set T := 1; } end".as_slice(),
-            StaticKind::WrongUse,
-            45,
-        ),
-        (
-            b"model M; var X[2] : 0..9 = 0; vertex RUN { set X := 1; } end".as_slice(),
-            StaticKind::WrongUse,
-            47,
-        ),
-        (
-            b"model M; var X : 0..9 = 0; vertex RUN { urgent X; } end".as_slice(),
-            StaticKind::WrongUse,
-            47,
-        ),
-        // `cancel` counts no values, but `cancel` with values does.
-        (
-            b"model M; var X : 0..9 = 0; vertex RUN(X) { cancel RUN; cancel all RUN; urgent RUN; } end".as_slice(),
-            StaticKind::ValueCount,
-            78,
-        ),
-    ] {
+    for (text, kind, at) in BROKEN {
         assert_eq!(rt; told(rt.alloc(), text), Some((kind, at)));
         assert!(rt; read_at_once(rt.alloc(), text).is_none());
     }

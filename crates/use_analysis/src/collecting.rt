@@ -1,5 +1,4 @@
 //! The variables that stand in parts of a model, added to a list in the order in which they stand there.
-#![tactic(auto)]
 
 ghost use Rattle.std.specs.Prelude.{◌≡◌, ◌++◌, map, OnOk};
 ghost use Rattle.std.specs.List.{flat_map};

@@ -1,7 +1,6 @@
 //! The table of uses: for each variable the vertices that read it, those that write it, and whether it is watched.
-#![tactic(auto)]
 
-ghost use Rattle.std.specs.Prelude.{◌≡◌, ◌++◌, map, OnOk, IfOk};
+ghost use Rattle.std.specs.Prelude.{◌≡◌, map, OnOk, IfOk};
 ghost use Rattle.model_core.specs.Rules.PlacedEdges.{with_place};
 ghost use Rattle.model_core.specs.Rules.Uses.{use_table};
 ghost use Rattle.model_core.specs.Rules.Needed.{watched_variables};

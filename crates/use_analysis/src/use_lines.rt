@@ -1,9 +1,8 @@
 //! The text of the uses in a model: a line for each variable.
-#![tactic(auto)]
 
 ghost use Rattle.std.specs.Prelude.{◌≡◌, ◌++◌, ℕ, map, codes, OnOk};
 ghost use Rattle.std.specs.List.{flat_map};
-ghost use Rattle.model_core.specs.Text.Canonical.{variable_name, vertex_name};
+ghost use Rattle.model_core.specs.Text.Canonical.{vertex_name};
 ghost use Rattle.model_core.specs.Rules.Uses.{use_table};
 ghost use Rattle.model_core.specs.Code.Views.{graph_of};
 ghost use Rattle.use_analysis.specs.UseRows.{uses_row};
@@ -14,33 +13,13 @@ use model_core::Model;
 use sig_base::{NoMemory, put_bytes};
 use std::alloc::Global;
 
-/// The name of the variable at a place. A place that nothing has gives no bytes.
-fn variable_name(model: &Model, var: usize) -> &[u8]
-    ensures { result.now ≡ variable_name (graph_of model.now) var }
-{
-    match model.vars.as_slice().get(var) {
-        Some(found) => found.name.as_slice(),
-        None => b"",
-    }
-}
-
-/// The name of the vertex at a place. A place that nothing has gives no bytes.
-fn vertex_name(model: &Model, vertex: usize) -> &[u8]
-    ensures { result.now ≡ vertex_name (graph_of model.now) vertex }
-{
-    match model.vertices.as_slice().get(vertex) {
-        Some(found) => found.name.as_slice(),
-        None => b"",
-    }
-}
-
 /// Adds the names of vertices, each behind a comma.
 fn put_later_users(out: &mut Vec<u8>, model: &Model, vertices: &[usize]) -> Result<(), NoMemory>
     ensures { OnOk result (out.new.items ≡ out.old.items ++ flat_map (λ (w : ℕ). codes "," ++ vertex_name (graph_of model.now) w) vertices.now) }
 {
     for vertex in vertices {
         put_bytes(out, b",")?;
-        put_bytes(out, vertex_name(model, *vertex))?;
+        put_bytes(out, model.vertex_name(*vertex))?;
     }
     Ok(())
 }
@@ -52,7 +31,7 @@ fn put_users(out: &mut Vec<u8>, model: &Model, vertices: &[usize]) -> Result<(),
     let [first, rest @ ..] = vertices else {
         return put_bytes(out, b"-");
     };
-    put_bytes(out, vertex_name(model, *first))?;
+    put_bytes(out, model.vertex_name(*first))?;
     put_later_users(out, model, rest)
 }
 
@@ -67,7 +46,7 @@ fn yes_or_no(watched: bool) -> &'static [u8]
 fn put_uses_line(out: &mut Vec<u8>, model: &Model, var: usize, row: &UseRow) -> Result<(), NoMemory>
     ensures { OnOk result (out.new.items ≡ out.old.items ++ uses_line (graph_of model.now) var (uses_row row.now)) }
 {
-    put_bytes(out, variable_name(model, var))?;
+    put_bytes(out, model.variable_name(var))?;
     put_bytes(out, b" readers ")?;
     put_users(out, model, row.readers.as_slice())?;
     put_bytes(out, b" writers ")?;

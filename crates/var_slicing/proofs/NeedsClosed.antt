@@ -2,14 +2,14 @@
 use Rattle.std.proofs.Common.{◌≡◌, inl, inr, ℕ, ◌<◌, ◌≤◌, ◌==◌, Bool, true, false, ◌&&◌, cond, List, [], ◌∷◌, ◌++◌, length, map, zip, Option, Some, None, refl, sym, ap, subst, arith}
 use Rattle.std.specs.Prelude.{IfSome}
 use Rattle.std.specs.List.{AllByRecursion, flat_map, list_any, range_with_len}
-use Rattle.model_core.specs.EventGraph.{EventGraph, Expression, Number, Truth, Clock, Scalar, Cell, Negative, Not, Binary, If, Location, Choice, StateChange, Set, Draw, EdgeKind, Schedule, Urgent, CancelNext, CancelEqual, CancelAll, EventEdge, EventVertex, Watched, WatchedVariable, WatchedVertex}
+use Rattle.model_core.specs.EventGraph.{EventGraph, Expression, Number, Truth, Clock, Scalar, Cell, Negative, Not, Binary, If, Location, Choice, StateChange, Set, Draw, EdgeKind, Schedule, Urgent, CancelNext, CancelEqual, CancelAll, EventEdge, EventVertex, Watched, WatchedVariable, WatchedVertex, scalar_location}
 use Rattle.model_core.specs.Run.Step.{no_vertex, vertex_at}
 use Rattle.model_core.specs.Text.Spellable.{extent, SpellableExpression, SpellableLocation, SpellableChange, SpellableKind, SpellableEdge, SpellableVertex, SpellableWatched, IsSpellable}
 use Rattle.model_core.specs.Static.OwnRules.{KeepsChange, KeepsVertex, parameters_of, KeepsParts}
 use Rattle.model_core.specs.Rules.BoundsOfParts.{quiet_set, quiet_change}
 use Rattle.model_core.specs.Rules.MarkedPlaces.{is_marked}
 use Rattle.model_core.specs.Rules.Uses.{variables_in, index_reads, location_reads, delay_reads}
-use Rattle.model_core.specs.Rules.Needed.{all_changes, all_edges, carried_pairs, is_scheduling, compares_values, watched_variables, compared_parameters, deciding_reads, faulting_target, faulting_writes, as_target, faulting_parameters, needed_by_edge, needed_at_once, each_beside, needed_by_targets, needed_by_parameters, streams_drawn, needed_by_streams, needed_beside}
+use Rattle.model_core.specs.Rules.Needed.{all_changes, all_edges, carried_pairs, is_scheduling, compares_values, watched_variables, compared_parameters, deciding_reads, faulting_target, faulting_writes, faulting_parameters, needed_by_edge, needed_at_once, each_beside, needed_by_targets, needed_by_parameters, streams_drawn, needed_by_streams, needed_beside}
 use Rattle.model_core.proofs.Among.{Among, among-map, among-front, among-back, of-among, each-among, any-among, among-any}
 use Rattle.model_core.proofs.Marks.{Marked}
 use Rattle.model_core.proofs.MarksBelow.{tested-marked, marked-tested}
@@ -37,7 +37,7 @@ ChangeNeeds g marks live (Set targets rights) = AllByRecursion (SetNeeds g marks
 ChangeNeeds g marks live (Draw target stream choice) = (Marked marks target.variable → IndexReadsMarked marks target.index × Marked live stream) × (is_marked marks target.variable ≡ false → (is_marked live stream ≡ false) × (quiet_change g (Draw target stream choice) ≡ true))
 
 abbrev pub ParameterNeeds : EventGraph → List Bool → ℕ × Expression → Type 0
-ParameterNeeds g marks (v, e) = StoreNeeds g marks (as_target v) e
+ParameterNeeds g marks (v, e) = StoreNeeds g marks (scalar_location v) e
 
 abbrev pub CarriedNeed : EventGraph → List Bool → EventEdge → Type 0
 CarriedNeed g marks e = AllByRecursion (ParameterNeeds g marks) (carried_pairs g e)
@@ -220,7 +220,7 @@ module _ (g : EventGraph) (s : IsSpellable g) (keeps : KeepsParts g) (marks : Li
   -- ---- edges
 
   abbrev of_carried : ℕ × Expression → List ℕ
-  of_carried (v, x) = faulting_target g (as_target v) x
+  of_carried (v, x) = faulting_target g (scalar_location v) x
 
   abbrev beside_carried : ℕ × Expression → List (ℕ × ℕ)
   beside_carried (v, x) = each_beside v (variables_in x)
@@ -240,7 +240,7 @@ module _ (g : EventGraph) (s : IsSpellable g) (keeps : KeepsParts g) (marks : Li
   carried-needs e there spelled goes = each-among (ParameterNeeds g marks) (carried_pairs g e) (λ ((v, x) : ℕ × Expression) among.
       let value = of-among (SpellableExpression count) e.values x spelled.values (among-second (vertex_at g e.target).parameters e.values v x among) in (
         (λ marked. (tt, led-marked v marked (variables_in x) (variables-below count x value) (λ w h. beside-parameter e there (v, w) (among-flat_map beside_carried (carried_pairs g e) (v, x) (v, w) among (among-map (λ w. (v, w)) (variables_in x) w h))))),
-        λ unmarked. true_unless (quiet_set g (as_target v) x) v (λ faults. goes v (among-flat_map of_carried (carried_pairs g e) (v, x) v among faults) unmarked),
+        λ unmarked. true_unless (quiet_set g (scalar_location v) x) v (λ faults. goes v (among-flat_map of_carried (carried_pairs g e) (v, x) v among faults) unmarked),
       ))
 
   faulting-marked : (e : EventEdge) → Among e (all_edges g) → is_scheduling e.kind ≡ true → (v : ℕ) → Among v (flat_map of_carried (carried_pairs g e)) → v < count → Marked marks v
@@ -251,7 +251,7 @@ module _ (g : EventGraph) (s : IsSpellable g) (keeps : KeepsParts g) (marks : Li
   of_carried-below : (e : EventEdge) (v : ℕ) → Among v (flat_map of_carried (carried_pairs g e)) → v < count
   of_carried-below e v h =
       let ((u, x), among, faults) = among-of_flat_map of_carried (carried_pairs g e) v h in
-      let same : u ≡ v = the_variable (quiet_set g (as_target u) x) u v faults in
+      let same : u ≡ v = the_variable (quiet_set g (scalar_location u) x) u v faults in
       subst (λ v. v < count) same (of-among (λ v. v < count) (vertex_at g e.target).parameters u (parameters-below e.target) (among-first (vertex_at g e.target).parameters e.values u x among))
 
   quiet-carried : (e : EventEdge) → Among e (all_edges g) → SpellableEdge (extent g) e → is_scheduling e.kind ≡ true → CarriedNeed g marks e
@@ -260,7 +260,7 @@ module _ (g : EventGraph) (s : IsSpellable g) (keeps : KeepsParts g) (marks : Li
   compared-carried : (e : EventEdge) → Among e (all_edges g) → SpellableEdge (extent g) e → e.kind ≡ CancelEqual → CarriedNeed g marks e
   compared-carried e there spelled is = carried-needs e there spelled (λ v h unmarked.
       let ((u, x), among, faults) = among-of_flat_map of_carried (carried_pairs g e) v h in
-      let same : u ≡ v = the_variable (quiet_set g (as_target u) x) u v faults in
+      let same : u ≡ v = the_variable (quiet_set g (scalar_location u) x) u v faults in
       both_marks marks v (subst (Marked marks) same (of-among (Marked marks) (vertex_at g e.target).parameters u (compared-marked e there is) (among-first (vertex_at g e.target).parameters e.values u x among))) unmarked)
 
   deciding-marked : (e : EventEdge) → Among e (all_edges g) → (xs : List ℕ) → AllBelow count xs → ((w : ℕ) → Among w xs → Among w (deciding_reads e)) → AllByRecursion (Marked marks) xs

@@ -2,7 +2,7 @@
 use Rattle.std.proofs.Common.{◌≡◌, ℕ, zero, suc, slice_get, slice_index_or, Some, ◌≤◌, ◌^◌, ℤ, true, false, ◌&&◌, Bool, IsTrue, List, [], ◌∷◌, map, zip, length, Ok, refl, sym, ap, ◌∙◌, subst, arith}
 use Rattle.std.specs.List.{AllByRecursion, AllZip}
 use Rattle.model_core.specs.declared.model.Kind.{Kind}
-use Rattle.model_core.specs.EventGraph.{EventGraph, Expression, Location, StateChange, Set, Draw, EventVertex, EventEdge, EdgeKind, Schedule, Urgent, CancelNext, CancelEqual, CancelAll}
+use Rattle.model_core.specs.EventGraph.{EventGraph, Expression, Location, StateChange, Set, Draw, EventVertex, EventEdge, EdgeKind, Schedule, Urgent, CancelNext, CancelEqual, CancelAll, scalar_location}
 use Rattle.model_core.specs.Run.State.{State, Place, variable_at, in_range, with_cell}
 use Rattle.model_core.specs.Run.Value.{each, in_turn, value_of, place_of}
 use Rattle.model_core.specs.Run.Changes.{Drawn, kept, store, set_all, make_change}
@@ -11,7 +11,6 @@ use Rattle.model_core.specs.Static.HasKind.{IsVariable, HasKind}
 use Rattle.model_core.specs.Static.OwnRules.{TakesKind, TakeCarried, KeepsChange, CarriesValues, KeepsEdge, KeepsVertex, parameters_of, KeepsParts}
 use Rattle.model_core.specs.Rules.BoundsOfParts.{quiet_set, quiet_change}
 use Rattle.model_core.specs.Rules.MarkedPlaces.{is_marked}
-use Rattle.model_core.specs.Rules.Needed.{as_target}
 use Rattle.model_core.proofs.Results.{bind_ok}
 use Rattle.model_core.proofs.InRange.{in_range-kept}
 use Rattle.model_core.proofs.EachOne.{every-map}
@@ -83,7 +82,7 @@ module _ (g : EventGraph) (quiet : QuietChanges g) (s : State) (inside : IsTrue 
     carried-fits (v ∷ vs) (e ∷ es) [] taken given needs = absurd taken
     carried-fits (v ∷ vs) (e ∷ es) (k ∷ ks) taken given needs =
         let (reads, quietly) = needs.0 in
-        ((λ marked. (reads marked).1), (λ unmarked. (stores_quietly (as_target v) e k taken.0 given.0 (quietly unmarked)).has_value), carried-fits vs es ks taken.1 given.1 needs.1)
+        ((λ marked. (reads marked).1), (λ unmarked. (stores_quietly (scalar_location v) e k taken.0 given.0 (quietly unmarked)).has_value), carried-fits vs es ks taken.1 given.1 needs.1)
 
     fits-carried : (e : EventEdge) → TakeCarried g.variables (length g.tables) (parameters_of g) (vertex_at g e.target).parameters e.values → CarriedNeed g marks e → ValuesFit g marks s clk (vertex_at g e.target).parameters e.values
     fits-carried e carried needs = carried-fits (vertex_at g e.target).parameters e.values carried.kinds carried.taken carried.given needs

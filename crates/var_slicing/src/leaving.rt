@@ -1,5 +1,4 @@
 //! What is left of a model where some variables go: a copy without them, in which the others have their new numbers.
-#![tactic(auto)]
 
 ghost use Rattle.std.specs.Prelude.{◌≡◌, ◌++◌, map, OnOk, IfOk};
 ghost use Rattle.std.specs.List.{flat_map};
@@ -11,8 +10,8 @@ ghost use Rattle.var_slicing.specs.Inner.Beside.{keeps_beside};
 
 use crate::needs::parameters_at;
 use marked_walks::Staying;
-use model_core::{Change, Edge, EdgeForm, Expr, Model, Target, Vertex};
-use sig_base::{List, Name, NoMemory};
+use model_core::{Change, Edge, EdgeForm, Expr, Model, Target, Vertex, copy_name};
+use sig_base::{List, NoMemory};
 use std::alloc::Global;
 use use_analysis::add_target_vars;
 
@@ -241,13 +240,6 @@ fn edges_left(
     Ok(List::from_vec(left))
 }
 
-/// A copy of a name.
-pub(crate) fn name_left(alloc: Global, name: &Name) -> Result<Name, NoMemory>
-    ensures { IfOk result (λ left. left ≡ name.now) }
-{
-    Ok(Name::from_vec(Vec::from_slice(alloc, name.as_slice())?))
-}
-
 /// What is left of a vertex of a model.
 fn vertex_left(
     alloc: Global,
@@ -258,7 +250,7 @@ fn vertex_left(
     ensures { IfOk result (λ left. vertex_of left ≡ vertex_left (graph_of model.now) staying.now (vertex_of vertex.now)) }
 {
     Ok(Vertex {
-        name: name_left(alloc, &vertex.name)?,
+        name: copy_name(alloc, &vertex.name)?,
         params: params_left(alloc, staying, vertex.params.as_slice())?,
         changes: changes_left(alloc, staying, vertex.changes.as_slice())?,
         edges: edges_left(alloc, staying, model, vertex.edges.as_slice())?,

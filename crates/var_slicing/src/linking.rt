@@ -1,7 +1,6 @@
 //! From pairs of places to the places behind each place.
-#![tactic(auto)]
 
-ghost use Rattle.std.specs.Prelude.{◌≡◌, ◌++◌, ◌∷◌, [], OnOk, IfOk};
+ghost use Rattle.std.specs.Prelude.{◌≡◌, OnOk, IfOk};
 ghost use Rattle.model_core.specs.Rules.PlacedEdges.{with_place};
 ghost use Rattle.var_slicing.specs.Inner.Linking.{no_lists, with_behind, linked};
 

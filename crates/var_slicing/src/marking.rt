@@ -1,5 +1,4 @@
 //! Which variables are needed, and which aren't.
-#![tactic(auto)]
 
 ghost use Rattle.std.specs.Prelude.{◌≡◌, IfOk};
 ghost use Rattle.model_core.specs.Rules.Needed.{needed_marks, unneeded};
@@ -21,8 +20,7 @@ pub(crate) fn needed(alloc: Global, model: &Model) -> Result<Vec<bool>, NoMemory
     let count = model.vars.len();
     add_stream_pairs(alloc, &mut needs.pairs, needs.draws.as_slice(), count)?;
     let next = lists_behind(alloc, count, needs.pairs.as_slice())?;
-    let marks = entailed(alloc, needs.first.as_slice(), &next)?;
-    Ok(marks)
+    entailed(alloc, needs.first.as_slice(), &next)
 }
 
 /// The variables that aren't needed: their places from 0, in the order of declaration.

@@ -1,12 +1,11 @@
 //! What is needed at once, and pairs of variables of which the second is needed where the first is, collected from a model.
-#![tactic(auto)]
 
-ghost use Rattle.std.specs.Prelude.{◌≡◌, ℕ, ◌++◌, [], ◌∷◌, map, zip, OnOk, IfOk};
+ghost use Rattle.std.specs.Prelude.{◌≡◌, ℕ, ◌++◌, [], map, zip, OnOk, IfOk};
 ghost use Rattle.std.specs.List.{flat_map};
-ghost use Rattle.model_core.specs.EventGraph.{Location, Expression};
+ghost use Rattle.model_core.specs.EventGraph.{Location, Expression, scalar_location};
 ghost use Rattle.model_core.specs.Run.Step.{vertex_at};
 ghost use Rattle.model_core.specs.Rules.Uses.{variables_in, location_reads};
-ghost use Rattle.model_core.specs.Rules.Needed.{watched_variables, compared_parameters, as_target, faulting_target, faulting_parameters, each_beside, needed_by_parameters, is_scheduling, compares_values};
+ghost use Rattle.model_core.specs.Rules.Needed.{watched_variables, compared_parameters, faulting_target, faulting_parameters, each_beside, needed_by_parameters, is_scheduling, compares_values};
 ghost use Rattle.model_core.specs.Code.Views.{graph_of, vertex_of, change_of, edge_of, edge_kind_of, location_of, expression_of, watched_of};
 ghost use Rattle.var_slicing.specs.Inner.Needing.{collected_of, nothing, with_change, with_changes, with_all_changes, with_edge, with_edges, with_all_edges, beside_at, collected};
 
@@ -214,7 +213,7 @@ fn add_faulting_value(
     param: usize,
     value: &Expr,
 ) -> Result<(), NoMemory>
-    ensures { OnOk result (out.new.items ≡ out.old.items ++ faulting_target (graph_of model.now) (as_target param) (expression_of value.now)) }
+    ensures { OnOk result (out.new.items ≡ out.old.items ++ faulting_target (graph_of model.now) (scalar_location param) (expression_of value.now)) }
 {
     let of = bounds(model, value);
     if !(of.quiet && quiet_store(model, param, &of)) {
@@ -231,7 +230,7 @@ fn add_faulting_value_at(
     values: &[Expr],
     place: usize,
 ) -> Result<(), NoMemory>
-    ensures { OnOk result (out.new.items ≡ out.old.items ++ beside_at (faulting_target (graph_of model.now) (as_target param)) (map expression_of values.now) place) }
+    ensures { OnOk result (out.new.items ≡ out.old.items ++ beside_at (faulting_target (graph_of model.now) (scalar_location param)) (map expression_of values.now) place) }
 {
     match values.get(place) {
         Some(value) => add_faulting_value(out, model, param, value),
@@ -246,7 +245,7 @@ fn add_faulting_values(
     params: &[usize],
     values: &[Expr],
 ) -> Result<(), NoMemory>
-    ensures { OnOk result (out.new.items ≡ out.old.items ++ flat_map (λ ((v, x) : ℕ × Expression). faulting_target (graph_of model.now) (as_target v) x) (zip params.now (map expression_of values.now))) }
+    ensures { OnOk result (out.new.items ≡ out.old.items ++ flat_map (λ ((v, x) : ℕ × Expression). faulting_target (graph_of model.now) (scalar_location v) x) (zip params.now (map expression_of values.now))) }
 {
     for (place, param) in params.iter().enumerate() {
         add_faulting_value_at(out, model, *param, values, place)?;

@@ -1,5 +1,4 @@
 //! Slice: the model without the variables that aren't needed.
-#![tactic(auto)]
 
 ghost use Rattle.std.specs.Prelude.{◌≡◌, map, None, OnOk, OnErr, IfOk, IfErr};
 ghost use Rattle.model_core.specs.Rules.Conditions.{first_failed, TellsCondition};
@@ -7,10 +6,10 @@ ghost use Rattle.model_core.specs.Rules.MarkedPlaces.{marked_of};
 ghost use Rattle.model_core.specs.Rules.Slice.{slice_conditions, watched_left, of_marked_variables, sliced};
 ghost use Rattle.model_core.specs.Code.Views.{graph_of, variable_of, watched_of};
 
-use crate::leaving::{name_left, vertices_left};
+use crate::leaving::vertices_left;
 use crate::marking::needed;
 use marked_walks::{Staying, unmarked};
-use model_core::{Model, RuleError, Var, Watch};
+use model_core::{Model, RuleError, Var, Watch, copy_name};
 use sig_base::{List, NoMemory};
 use std::alloc::Global;
 
@@ -19,7 +18,7 @@ fn var_left(alloc: Global, var: &Var) -> Result<Var, NoMemory>
     ensures { IfOk result (λ left. variable_of left ≡ variable_of var.now) }
 {
     Ok(Var {
-        name: name_left(alloc, &var.name)?,
+        name: copy_name(alloc, &var.name)?,
         size: var.size,
         kind: var.kind,
         lo: var.lo,

@@ -1,5 +1,4 @@
 //! Pairs between the variables of one stream's draws, so few that they are linear in the draws.
-#![tactic(auto)]
 
 ghost use Rattle.std.specs.Prelude.{◌≡◌, ◌++◌, OnOk, IfOk};
 ghost use Rattle.std.specs.List.{flat_map};

@@ -1,5 +1,5 @@
 -- What is kept of watched variables, as a tracer begins and as it takes the values of a state.
-use Rattle.std.proofs.Common.{◌≡◌, ◌⊎◌, inl, inr, ℕ, suc, zero, ◌<◌, ◌≤◌, ℤ, Bool, ◌&&◌, List, [], ◌∷◌, map, length, get_or, refl, sym, ap, ◌∙◌, subst, arith, IsTrue}
+use Rattle.std.proofs.Common.{◌≡◌, ◌⊎◌, inl, inr, ℕ, ◌<◌, ◌≤◌, ℤ, Bool, ◌&&◌, List, [], ◌∷◌, map, length, refl, sym, ap, ◌∙◌, subst, arith, IsTrue}
 use Rattle.std.specs.List.{AllByRecursion, flat_map, list_all}
 use Rattle.std.proofs.lemmas.Bool.{cases_lt}
 use Rattle.std.proofs.Math.ListN.{get_or-eq_default}
@@ -9,13 +9,7 @@ use Rattle.model_core.specs.Run.State.{State, variable_at, cell_count, cells_of,
 use Rattle.model_core.specs.Run.Pending.{same_values}
 use Rattle.model_core.specs.Run.History.{watched_values}
 use Rattle.model_core.proofs.InRange.{cells_are_declared}
-use Rattle.watch_trace.specs.Inner.KeptMarks.{Keeping, fresh, emptied, Fits, are_same, with_values_of}
-
--- what holds of every element holds of the one at i
-pub every-at : {A : Type 0} (P : A → Type 0) (xs : List A) (i : ℕ) (d : A) → AllByRecursion P xs → i < length xs → P (get_or xs i d)
-every-at P [] i d all below = absurd (omega arith)
-every-at P (x ∷ xs) zero d all below = all.0
-every-at P (x ∷ xs) (suc i) d all below = every-at P xs i d all.1 (omega arith)
+use Rattle.watch_trace.specs.Inner.KeptNotes.{Keeping, fresh, emptied, Fits, are_same, with_values_of}
 
 -- a variable that is not there has no cells
 cells_fit : (g : EventGraph) (s : State) (v : ℕ) → IsTrue (in_range g s) → length (cells_of s v) ≤ cell_count (variable_at g v)

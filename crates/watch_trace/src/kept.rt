@@ -17,7 +17,7 @@ pub struct Kept {
 
 impl Model for Kept {
     ghost use Rattle.std.specs.Prelude.{◌≤◌, vec_capacity};
-    ghost use Rattle.watch_trace.specs.Inner.KeptMarks.{Keeping};
+    ghost use Rattle.watch_trace.specs.Inner.KeptNotes.{Keeping};
 
     ghost Value = { Keeping };
 

@@ -1,10 +1,10 @@
 //! The history of a run, written as it happens.
 #![tactic(auto)]
 
-mod ends;
+mod end_line;
 mod kept;
+mod last_notes;
 mod line;
-mod marks;
 mod moves;
 mod names;
 mod notes;

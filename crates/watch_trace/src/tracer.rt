@@ -4,8 +4,8 @@ ghost use Rattle.std.specs.Prelude.{◌≡◌, map, None, IfOk};
 ghost use Rattle.model_core.specs.Run.History.{watched_values};
 ghost use Rattle.model_core.specs.Code.Views.{graph_of, watched_of};
 
+use crate::last_notes::LastNotes;
 use crate::line::Line;
-use crate::marks::Marks;
 use event_list::Pending;
 use model_core::Model as Graph;
 use run_control::{Run, Turn};
@@ -16,7 +16,7 @@ use std::marker::Model;
 /// Tells which note of a run's history is due, and keeps the values of the last `at` note.
 #[derive(Drop)]
 pub struct Tracer<'m> {
-    pub(crate) marks: Marks<'m>,
+    pub(crate) last_notes: LastNotes<'m>,
     pub(crate) line: Line,
 }
 
@@ -29,7 +29,7 @@ impl<'m> Model for Tracer<'m> {
 
     ghost coded = { Prim.hlevel (codes, expressions.the_row.coded) };
 
-    ghost view = { λ t. t.marks };
+    ghost view = { λ t. t.last_notes };
 }
 
 impl<'m> Tracer<'m> {
@@ -42,7 +42,7 @@ impl<'m> Tracer<'m> {
         ensures { IfOk result (λ tracer. tracer ≡ record { model = model.now; noted = None }) }
     {
         Ok(Tracer {
-            marks: Marks::begin(alloc, model)?,
+            last_notes: LastNotes::begin(alloc, model)?,
             line: Line::begin(alloc)?,
         })
     }
@@ -54,7 +54,7 @@ impl<'m> Tracer<'m> {
         ensures { result ≡ (leaves_time run.now.now.clock until (next_entry run.now.now.pending)
             && is_new (watched_values (map watched_of self.now.model.watch) run.now.now.state) self.now.noted) }
     {
-        self.marks.leaving(run, until)
+        self.last_notes.leaving(run, until)
     }
 
     /// Takes the run's watched values as those of the last `at` note.
@@ -62,7 +62,7 @@ impl<'m> Tracer<'m> {
         requires one_model { self.old.model ≡ run.now.model }
         ensures { self.new ≡ record self.old { noted = Some (watched_values (map watched_of self.old.model.watch) run.now.now.state) } }
     {
-        self.marks.remember(run);
+        self.last_notes.remember(run);
     }
 
     /// The place in the watch list of the vertex that ran: `None` where the turn isn't `Ran`, or its vertex isn't
@@ -70,6 +70,6 @@ impl<'m> Tracer<'m> {
     pub fn completed(&self, turn: &Turn) -> Option<usize>
         ensures { result ≡ place_of_turn (graph_of self.now.model) turn.now }
     {
-        self.marks.completed(turn)
+        self.last_notes.completed(turn)
     }
 }

@@ -1,5 +1,5 @@
 -- What is computed of a certificate and of a document is what their grammar and the static rules say of them.
-use Rattle.std.proofs.Common.{◌≡◌, ℕ, ◌≤◌, List, [], refl, sym, ap, subst, ◌∙◌}
+use Rattle.std.proofs.Common.{◌≡◌, ℕ, ◌≤◌, List, [], refl, sym, subst, ◌∙◌}
 use Rattle.std.specs.Prelude.{Option, Some, None, Result, Ok, Err}
 use Rattle.sig_base.specs.declared.limits.TheConstants.{DOCUMENT_MAX, OPENINGS_MAX}
 use Rattle.std.specs.Prelude.{length}
@@ -11,7 +11,6 @@ use Rattle.model_core.specs.Text.FirstWrong.{told_place}
 use Rattle.model_core.specs.Text.Openings.{front_to_end, too_deep_at}
 use Rattle.model_core.specs.Text.Numbering.{numbered}
 use Rattle.model_core.specs.Text.CertificateText.{certificate_format, IsNoCertificateAt}
-use Rattle.model_core.specs.Text.DocumentText.{SpellsDocument}
 use Rattle.model_core.specs.Static.ModelFaults.{told_fault, Accepted}
 use Rattle.model_core.specs.Static.Reading.{ReadsDocument}
 use Rattle.model_core.specs.Inner.FormatReader.{Parse, took, and_next, whole_read}

@@ -1,8 +1,8 @@
 -- What follows where two machines show the same: how they end, and what they show.
-use Rattle.std.proofs.Common.{◌≡◌, ℕ, zero, suc, ◌<◌, ◌≤◌, ◌^◌, ℤ, IsTrue, List, [], map, false, nat_lt, refl, sym, ◌∙◌, ap, subst, arith}
+use Rattle.std.proofs.Common.{◌≡◌, ℕ, zero, suc, ◌<◌, ◌≤◌, ◌^◌, ℤ, IsTrue, List, [], ◌∷◌, map, false, nat_lt, refl, sym, ◌∙◌, ap, subst, arith}
 use Rattle.std.proofs.lemmas.Bool.{le-ltb}
 use Rattle.model_core.specs.EventGraph.{EventGraph}
-use Rattle.model_core.specs.Run.Machine.{Going, Look, finished, Move, Rests, Fails, Goes, before, ahead, after, look_of}
+use Rattle.model_core.specs.Run.Machine.{Note, On, Going, Look, finished, Move, Rests, Fails, Goes, before, ahead, after, look_of}
 use Rattle.model_core.specs.Run.History.{next_move, start, allowed, look}
 use Rattle.model_core.specs.Run.Same.{Begins, SameLooks, thing, first_parameters, Same}
 use Rattle.model_core.proofs.Simulation.{Answers, Joined}
@@ -114,3 +114,7 @@ answered_by {S} {T} f g R s t {m} {k} first second answers =
 -- no stop time is before 0
 pub none_below_0 : (until : ℕ) → nat_lt until 0 ≡ false
 none_below_0 until = le-ltb until 0 (omega arith)
+
+-- no note begins a history that has none
+pub nothing_begins : (notes : List Note) → notes ≡ [] → Begins (On 0 0 [] ∷ []) notes → ⊥
+nothing_begins notes none (rest, e) = cc

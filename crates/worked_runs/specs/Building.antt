@@ -1,7 +1,7 @@
 -- Words for writing down event graphs, and what is seen of their runs.
 use Rattle.std.specs.Prelude.{ℕ, ℤ, pos, true, false, List, [], ◌∷◌, map, Some, None}
 use Rattle.model_core.specs.declared.model.Kind.TheVariants as kinds
-use Rattle.model_core.specs.EventGraph.{Variable, Location, Expression, Number, Scalar, Negative, Binary, Add, Subtract, Divide, Above, Equal, Truth, StateChange, Set, Draw, Uniform, EventEdge, EdgeKind, Schedule, Urgent, EventVertex}
+use Rattle.model_core.specs.EventGraph.{Variable, Location, Expression, Number, Scalar, Negative, Binary, Add, Subtract, Divide, Above, Equal, Truth, StateChange, Set, Draw, Uniform, EventEdge, EdgeKind, Schedule, Urgent, EventVertex, Watched, WatchedVariable}
 use Rattle.model_core.specs.Run.Machine.{Note, Standing, Look}
 
 -- a range variable lo..hi that is a scalar, and begins with this value
@@ -41,6 +41,10 @@ schedule target delay = plain_edge (Schedule delay 5) target []
 abbrev pub schedule_with : ℕ → ℕ → ℕ → EventEdge
 schedule_with target carried delay = plain_edge (Schedule (whole delay) 5) target (whole carried ∷ [])
 
+-- to the second vertex, after 2 ticks
+abbrev pub forward : EventEdge
+forward = schedule 1 (whole 2)
+
 -- two numbers that an edge carries
 abbrev pub two_numbers : ℕ → ℕ → List Expression
 two_numbers a b = whole a ∷ whole b ∷ []
@@ -57,6 +61,10 @@ event name changes edges = record { name = name; parameters = []; changes = chan
 
 abbrev pub takes : List ℕ → EventVertex → EventVertex
 takes parameters v = record v { parameters = parameters }
+
+-- the first variable is watched, and nothing else
+abbrev pub x_watched : List Watched
+x_watched = WatchedVariable 0 ∷ []
 
 -- the values of watched scalars
 abbrev pub scalars : List ℕ → List (List ℤ)

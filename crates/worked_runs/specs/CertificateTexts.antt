@@ -1,5 +1,5 @@
 -- Texts of certificates and of documents, what they spell, and how that is computed.
-use Rattle.std.specs.Prelude.{◌≡◌, ℕ, List, [], ◌∷◌, ◌++◌, codes, Option, None, Result, Ok, Err}
+use Rattle.std.specs.Prelude.{◌≡◌, ℕ, List, [], ◌∷◌, codes, Option, None, Result, Ok, Err}
 use Rattle.model_core.specs.EventGraph.{EventGraph}
 use Rattle.model_core.specs.Rules.Reduction.{RuleApplication, Drop}
 use Rattle.model_core.specs.Text.Lexing.{Lexeme, tokens_of}

@@ -1,7 +1,7 @@
 -- Models in which an event schedules another at once, and what merging the two leaves.
 use Rattle.std.specs.Prelude.{ℕ, List, [], ◌∷◌, codes, replicate}
 use Rattle.model_core.specs.EventGraph.{EventGraph, EventVertex, EventEdge, Variable, Expression, Scalar, Not, Binary, Equal, Below, Urgent, CancelNext, Watched, WatchedVariable}
-use Rattle.worked_runs.specs.Building.{ranged, whole, set, schedule, plain_edge, urgent, only_if, event, takes, positive, minus_one}
+use Rattle.worked_runs.specs.Building.{ranged, whole, set, schedule, plain_edge, urgent, only_if, event, takes, positive, minus_one, x_watched}
 use Rattle.worked_runs.specs.Models.{bank, bank_enter, bank_start, bank_leave}
 
 -- one variable, and these vertices
@@ -60,16 +60,13 @@ with_others watch others =
     event (codes "C") [] [] ∷
     [])
 
-abbrev pub watched_x : List Watched
-watched_x = WatchedVariable 0 ∷ []
-
 abbrev pub cancels_next : ℕ → EventEdge
 cancels_next target = plain_edge CancelNext target []
 
 -- RUN has no change, and then sets X to 1 in place of giving it to B
 abbrev pub with_others_merged : EventGraph
 with_others_merged =
-    of_one (ranged (codes "X") 0 9 0) watched_x
+    of_one (ranged (codes "X") 0 9 0) x_watched
     (event (codes "RUN") (set 0 (whole 1) ∷ []) (schedule 2 (whole 3) ∷ []) ∷
     takes (0 ∷ []) (event (codes "B") [] []) ∷
     event (codes "C") [] [] ∷
@@ -89,7 +86,7 @@ counting_down watch =
 -- RUN has so many changes, and B one
 abbrev pub of_so_many_changes : ℕ → EventGraph
 of_so_many_changes count =
-    of_one (ranged (codes "X") 0 9 0) watched_x
+    of_one (ranged (codes "X") 0 9 0) x_watched
     (event (codes "RUN") (replicate count (set 0 (whole 1))) (urgent 1 ∷ []) ∷
     event (codes "B") (set 0 (whole 1) ∷ []) [] ∷
     [])

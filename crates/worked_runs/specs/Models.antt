@@ -1,6 +1,6 @@
 -- The models whose runs are worked out.
 use Rattle.std.specs.Prelude.{ℕ, ℤ, pos, List, [], ◌∷◌, ◌++◌, codes}
-use Rattle.model_core.specs.EventGraph.{EventGraph, Variable, Expression, Scalar, Binary, Add, Subtract, Divide, Set, StateChange, Draw, ByTable, CancelEqual, CancelAll, EventEdge, EventVertex, WatchedVariable, WatchedVertex, Schedule}
+use Rattle.model_core.specs.EventGraph.{EventGraph, Variable, Expression, Scalar, Binary, Add, Subtract, Set, StateChange, Draw, ByTable, CancelEqual, CancelAll, EventEdge, EventVertex, WatchedVariable, WatchedVertex, Schedule}
 use Rattle.model_core.specs.Run.State.{initial_state}
 use Rattle.model_core.specs.Run.Value.{OrFault, value_of}
 use Rattle.worked_runs.specs.Building.{ranged, clipped, array, whole, at_variable, at_cell, set, draw, plain_edge, schedule, schedule_with, urgent, only_if, event, takes, plus_one, minus_one, positive, one_over_zero}
@@ -121,7 +121,7 @@ cut cancels = record {
       [];
 }
 
--- the next B(3) is cancelled
+-- the next event of the second vertex that carries 3 is cancelled
 abbrev pub cancel_three : EventEdge
 cancel_three = plain_edge CancelEqual 1 (whole 3 ∷ [])
 
@@ -202,7 +202,7 @@ index_and_cell = Set (at_variable 0 ∷ at_cell 1 (Scalar 0) ∷ []) (whole 1 �
 
 -- A[2] := 1 / 0, where A has no cell 2
 abbrev pub bad_index_and_value : StateChange
-bad_index_and_value = Set (at_cell 1 (whole 2) ∷ []) (Binary Divide (whole 1) (whole 0) ∷ [])
+bad_index_and_value = Set (at_cell 1 (whole 2) ∷ []) (one_over_zero ∷ [])
 
 -- the first event takes X and makes a change of it
 abbrev pub taking : Variable → StateChange → EventGraph

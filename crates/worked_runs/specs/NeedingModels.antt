@@ -1,8 +1,8 @@
 -- Models of two variables, of which one is needed for one reason, or none is; and the bank without the variable that it
 -- doesn't need.
 use Rattle.std.specs.Prelude.{ℕ, List, [], ◌∷◌, codes}
-use Rattle.model_core.specs.EventGraph.{EventGraph, Variable, StateChange, EventEdge, Watched, WatchedVariable, Schedule, Scalar, Set, CancelEqual, Urgent}
-use Rattle.worked_runs.specs.Building.{ranged, clipped, array, whole, plain_edge, event, takes, set, at_variable, plus_one, draw, schedule, schedule_with}
+use Rattle.model_core.specs.EventGraph.{EventGraph, Variable, StateChange, EventEdge, Watched, Schedule, Scalar, Set, CancelEqual, Urgent}
+use Rattle.worked_runs.specs.Building.{ranged, clipped, array, whole, plain_edge, event, takes, set, at_variable, plus_one, draw, schedule, schedule_with, x_watched}
 use Rattle.worked_runs.specs.Models.{bank, bank_run, bank_start, bank_leave, entering, two_draws}
 
 -- X and Y; RUN takes these and makes these changes, and its edges lead to A, which takes X
@@ -33,16 +33,9 @@ strict changes edges = two_variables (ranged (codes "X") 0 9 0) (clipped_one (co
 abbrev pub with_cells : List Watched → List StateChange → EventGraph
 with_cells watch changes = two_variables (array 3 (clipped_one (codes "X"))) (clipped (ranged (codes "Y") 0 2 0)) watch [] changes []
 
-abbrev pub x_watched : List Watched
-x_watched = WatchedVariable 0 ∷ []
-
 -- the edge to A carries the value of a variable
 abbrev pub carrying_variable : ℕ → EventEdge
 carrying_variable v = plain_edge (Schedule (whole 5) 5) 1 (Scalar v ∷ [])
-
--- the edge cancels the next A that carries 3
-abbrev pub cancelling_three : EventEdge
-cancelling_three = plain_edge CancelEqual 1 (whole 3 ∷ [])
 
 -- X and Y grow by 1, each by what it is
 abbrev pub both_grow : StateChange

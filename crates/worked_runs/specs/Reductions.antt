@@ -1,15 +1,11 @@
 -- A model with edges that never do anything, and what is left of it as they are pruned.
 use Rattle.std.specs.Prelude.{false, List, [], ◌∷◌, codes}
 use Rattle.model_core.specs.EventGraph.{EventGraph, EventEdge, Truth}
-use Rattle.worked_runs.specs.Building.{whole, schedule, only_if, event}
+use Rattle.worked_runs.specs.Building.{whole, schedule, forward, only_if, event}
 
 -- an edge back to RUN that never does anything
 abbrev pub idle_edge : EventEdge
 idle_edge = only_if (Truth false) (schedule 0 (whole 5))
-
--- an edge to A after 2 ticks
-abbrev pub later : EventEdge
-later = schedule 1 (whole 2)
 
 -- RUN leads to A, which has these edges
 abbrev pub leading_on : List EventEdge → EventGraph
@@ -18,14 +14,14 @@ leading_on edges = record {
   variables = [];
   tables = [];
   watch = [];
-  vertices = event (codes "RUN") [] (later ∷ []) ∷ event (codes "A") [] edges ∷ [];
+  vertices = event (codes "RUN") [] (forward ∷ []) ∷ event (codes "A") [] edges ∷ [];
 }
 
 abbrev pub idle : EventGraph
-idle = leading_on (idle_edge ∷ later ∷ idle_edge ∷ [])
+idle = leading_on (idle_edge ∷ forward ∷ idle_edge ∷ [])
 
 abbrev pub once_pruned : EventGraph
-once_pruned = leading_on (later ∷ idle_edge ∷ [])
+once_pruned = leading_on (forward ∷ idle_edge ∷ [])
 
 abbrev pub twice_pruned : EventGraph
-twice_pruned = leading_on (later ∷ [])
+twice_pruned = leading_on (forward ∷ [])

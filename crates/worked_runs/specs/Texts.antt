@@ -4,7 +4,7 @@ use Rattle.model_core.specs.declared.model.Kind.TheVariants as kinds
 use Rattle.model_core.specs.EventGraph.{Expression, Truth, Scalar, Not, Binary, Add, Subtract, Multiply, WatchedVariable, WatchedVertex, Uniform, ByTable, Set, Draw, EventEdge, EdgeKind, Schedule, Urgent, CancelNext, CancelEqual, CancelAll, EventVertex, EventGraph}
 use Rattle.worked_runs.specs.Building.{whole, at_variable, at_cell}
 
--- the expressions that stand in the texts: n is the variable N, and open is OPEN
+-- the expressions that stand in the texts: `n` is the variable N, and `is_open` is OPEN
 abbrev pub n : Expression
 n = Scalar 0
 

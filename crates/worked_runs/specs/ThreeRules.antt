@@ -1,7 +1,7 @@
 -- A model in which one edge is pruned, one is settled and a vertex is dropped, and what each of these leaves.
 use Rattle.std.specs.Prelude.{ℕ, List, [], ◌∷◌, codes}
 use Rattle.model_core.specs.EventGraph.{EventGraph, EventVertex, EventEdge, Expression, Scalar, Binary, Divide, Above, Below, WatchedVariable}
-use Rattle.worked_runs.specs.Building.{ranged, whole, schedule, only_if, event}
+use Rattle.worked_runs.specs.Building.{ranged, whole, schedule, forward, only_if, event}
 
 -- 5 / X > 9
 abbrev pub above_nine : Expression
@@ -9,10 +9,6 @@ above_nine = Binary Above (Binary Divide (whole 5) (Scalar 0)) (whole 9)
 
 abbrev pub back : EventEdge
 back = only_if above_nine (schedule 0 (whole 1))
-
--- to A, after 2 ticks
-abbrev pub forward : EventEdge
-forward = schedule 1 (whole 2)
 
 abbrev pub forward_below_four : EventEdge
 forward_below_four = only_if (Binary Below (Scalar 0) (whole 4)) forward

@@ -3,7 +3,8 @@ use Rattle.std.specs.Prelude.{List, ℕ, true, false, [], ◌∷◌, Some, None,
 use Rattle.model_core.specs.EventGraph as graph
 use Rattle.model_core.specs.EventGraph.{Operator}
 use Rattle.model_core.specs.Text.Written.{Number, Truth, Negative, Not, Cell, Binary, If, SignedLiteral, TruthLiteral, Uniform, ByTable, Set, Draw, Schedule, Urgent, CancelNext, CancelEqual, CancelAll, WrittenVariable, WrittenVertex, WrittenModel}
-use Rattle.worked_runs.specs.WrittenParts.{spelled, figure, huge, plain_figure, minus_figure, plain_huge, minus_huge, constant, reading, ranging, ranging_clip, truth_valued, sized, row_of, tabled, storing, to_index, leading, with_carried, with_condition, occurring, run_at, with_parameters, composed, with_tables, with_watch, with_own_name}
+use Rattle.model_core.specs.Text.Language.{row_written}
+use Rattle.worked_runs.specs.WrittenParts.{spelled, figure, huge, plain_figure, minus_figure, plain_huge, minus_huge, constant, reading, ranging, ranging_clip, truth_valued, sized, tabled, storing, to_index, leading, with_carried, with_condition, occurring, run_at, with_parameters, composed, with_tables, with_watch, with_own_name}
 
 -- var N : 0..3 = 0; at byte 9
 abbrev pub n_variable : WrittenVariable
@@ -79,7 +80,7 @@ two_kinds = composed
 
 -- model M; var N : 0..3 = 0; var A[2] : 0..3 = 0; table T { 1 : 1; } watch T; vertex RUN(A) { set N[0], A := T, RUN; draw N from 0 by N; schedule N; } end
 abbrev pub wrong_uses : WrittenModel
-wrong_uses = with_watch (spelled (codes "T") 73 ∷ []) (with_tables (tabled 48 (spelled (codes "T") 54) (row_of (plain_figure 1 58) (figure 1 62) ∷ []) ∷ []) (composed
+wrong_uses = with_watch (spelled (codes "T") 73 ∷ []) (with_tables (tabled 48 (spelled (codes "T") 54) (row_written (plain_figure 1 58) (figure 1 62) ∷ []) ∷ []) (composed
     (n_variable
     ∷ sized (figure 2 33) (ranging 27 (spelled (codes "A") 31) (plain_figure 0 38) (plain_figure 3 41) (SignedLiteral (plain_figure 0 45))) ∷ [])
     (with_parameters (spelled (codes "A") 87 ∷ [])
@@ -290,11 +291,11 @@ far_uniform = composed
 
 -- model M; table T { 1 : 0; } vertex RUN { } end
 abbrev pub no_weight : WrittenModel
-no_weight = with_tables (tabled 9 (spelled (codes "T") 15) (row_of (plain_figure 1 19) (figure 0 23) ∷ []) ∷ []) (composed [] (run_at 28 [] [] ∷ []) 43)
+no_weight = with_tables (tabled 9 (spelled (codes "T") 15) (row_written (plain_figure 1 19) (figure 0 23) ∷ []) ∷ []) (composed [] (run_at 28 [] [] ∷ []) 43)
 
 -- model M; table T { 1 : 4294967295; 2 : 1; 3 : 1; } vertex RUN { } end
 abbrev pub heavy_table : WrittenModel
-heavy_table = with_tables (tabled 9 (spelled (codes "T") 15) (row_of (plain_figure 1 19) (figure 4294967295 23) ∷ row_of (plain_figure 2 35) (figure 1 39) ∷ row_of (plain_figure 3 42) (figure 1 46) ∷ []) ∷ []) (composed [] (run_at 51 [] [] ∷ []) 66)
+heavy_table = with_tables (tabled 9 (spelled (codes "T") 15) (row_written (plain_figure 1 19) (figure 4294967295 23) ∷ row_written (plain_figure 2 35) (figure 1 39) ∷ row_written (plain_figure 3 42) (figure 1 46) ∷ []) ∷ []) (composed [] (run_at 51 [] [] ∷ []) 66)
 
 -- model M; var N : 0..4611686018427387904 = 4611686018427387905; vertex RUN { } end
 abbrev pub large_initial : WrittenModel
@@ -305,7 +306,7 @@ large_initial = composed
 
 -- model M; table T { -4611686018427387905 : 99999999999999999999; } vertex RUN { } end
 abbrev pub large_row : WrittenModel
-large_row = with_tables (tabled 9 (spelled (codes "T") 15) (row_of (minus_figure 4611686018427387905 19) (huge 42) ∷ []) ∷ []) (composed [] (run_at 66 [] [] ∷ []) 81)
+large_row = with_tables (tabled 9 (spelled (codes "T") 15) (row_written (minus_figure 4611686018427387905 19) (huge 42) ∷ []) ∷ []) (composed [] (run_at 66 [] [] ∷ []) 81)
 
 -- model M; var N : 0..3 = 0; vertex RUN { draw N from 99999999999999999999 in -4611686018427387905..3; } end
 abbrev pub large_draw : WrittenModel
@@ -353,7 +354,7 @@ variables_at_nine count = composed (replicate count n_variable) (run_at 27 [] []
 
 -- so many tables T with one row, all at byte 9
 abbrev pub tables_at_nine : ℕ → WrittenModel
-tables_at_nine count = with_tables (replicate count (tabled 9 (spelled (codes "T") 15) (row_of (plain_figure 1 19) (figure 1 23) ∷ []))) (composed [] (run_at 28 [] [] ∷ []) 43)
+tables_at_nine count = with_tables (replicate count (tabled 9 (spelled (codes "T") 15) (row_written (plain_figure 1 19) (figure 1 23) ∷ []))) (composed [] (run_at 28 [] [] ∷ []) 43)
 
 -- so many vertices RUN, all at byte 9
 abbrev pub vertices_at_nine : ℕ → WrittenModel
@@ -361,7 +362,7 @@ vertices_at_nine count = composed [] (replicate count (run_at 9 [] [])) 24
 
 -- a table of so many rows, all at byte 19
 abbrev pub rows_at_nineteen : ℕ → WrittenModel
-rows_at_nineteen count = with_tables (tabled 9 (spelled (codes "T") 15) (replicate count (row_of (plain_figure 1 19) (figure 1 23))) ∷ []) (composed [] (run_at 28 [] [] ∷ []) 43)
+rows_at_nineteen count = with_tables (tabled 9 (spelled (codes "T") 15) (replicate count (row_written (plain_figure 1 19) (figure 1 23))) ∷ []) (composed [] (run_at 28 [] [] ∷ []) 43)
 
 -- so many changes set N := 1; all at byte 40
 abbrev pub changes_at_forty : ℕ → WrittenModel
@@ -393,7 +394,7 @@ serve_written = with_parameters (spelled (codes "N") 161 ∷ spelled (codes "OPE
 
 -- the text of the model desk
 abbrev pub desk_written : WrittenModel
-desk_written = with_watch (spelled (codes "N") 122 ∷ spelled (codes "SERVE") 125 ∷ []) (with_tables (tabled 86 (spelled (codes "GAP") 92) (row_of (minus_figure 1 98) (figure 2 103) ∷ row_of (plain_figure 30 106) (figure 1 111) ∷ []) ∷ []) (with_own_name (spelled (codes "DESK") 6) (composed
+desk_written = with_watch (spelled (codes "N") 122 ∷ spelled (codes "SERVE") 125 ∷ []) (with_tables (tabled 86 (spelled (codes "GAP") 92) (row_written (minus_figure 1 98) (figure 2 103) ∷ row_written (plain_figure 30 106) (figure 1 111) ∷ []) ∷ []) (with_own_name (spelled (codes "DESK") 6) (composed
     (ranging_clip 12 (spelled (codes "N") 16) (minus_figure 3 20) (plain_figure 7 24) (SignedLiteral (minus_figure 1 33))
     ∷ truth_valued 37 (spelled (codes "OPEN") 41) (TruthLiteral 55 true)
     ∷ sized (figure 4 71) (ranging 61 (spelled (codes "CELLS") 65) (plain_figure 0 76) (plain_figure 9 79) (SignedLiteral (plain_figure 0 83))) ∷ [])

@@ -53,9 +53,6 @@ truth_valued at name initial = record { at = at; name = name; size = None; kind 
 abbrev pub sized : WrittenNumber → WrittenVariable → WrittenVariable
 sized n v = record v { size = Some n }
 
-abbrev pub row_of : WrittenSigned → WrittenNumber → WrittenRow
-row_of value weight = record { at = value.at; value = value; weight = weight }
-
 abbrev pub tabled : ℕ → WrittenName → List WrittenRow → WrittenTable
 tabled at name rows = record { at = at; name = name; rows = rows }
 

@@ -1,7 +1,7 @@
 //! A bank with one teller, whose customers come after drawn gaps.
 
 ghost use Rattle.std.specs.Prelude.{◌≡◌, pos, [], ◌∷◌};
-ghost use Rattle.model_core.specs.Run.Machine.{At, Stopped, Going, Standing, Look};
+ghost use Rattle.model_core.specs.Run.Machine.{At, Stopped, Going};
 ghost use Rattle.model_core.specs.Run.History.{look};
 ghost use Rattle.worked_runs.specs.Building.{scalars, showing};
 ghost use Rattle.worked_runs.specs.Models.{bank, smaller_bank};

@@ -1,6 +1,6 @@
 //! Certificates and documents: which applications and models they spell, and where they are refused.
 
-ghost use Rattle.std.specs.Prelude.{◌^◌, ◌-◌, List, [], ◌∷◌, codes};
+ghost use Rattle.std.specs.Prelude.{[], ◌∷◌, codes};
 ghost use Rattle.model_core.specs.Rules.Reduction.{Prune, Settle, Drop, Merge, Slice};
 ghost use Rattle.model_core.specs.Text.CertificateText.{certificate_format};
 ghost use Rattle.model_core.specs.Static.Reading.{ReadsDocument};

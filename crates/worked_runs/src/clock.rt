@@ -23,7 +23,7 @@ pub fn clock_counts()
     ensures failing_takes_a_step { look strict_clock 42 [] 1000 3 ≡ showing (At 0 (scalars (1 ∷ [])) ∷ At 5 (scalars (2 ∷ [])) ∷ []) Going }
 {}
 
-/// A run at one clock may go on for ever, and shows nothing.
+/// A run at one clock may go on for ever, and shows nothing. A delay below 0 is a fault.
 pub fn loop_goes_on()
     ensures goes_on_after_50_steps { look loop 42 [] 100 50 ≡ showing [] Going }
     ensures never_waits_below_0 { look backwards 42 [] 100 1000 ≡ showing [] (Faulted 0 faults.NegativeDelay) }

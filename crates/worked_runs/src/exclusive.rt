@@ -2,7 +2,7 @@
 #![tactic(auto, unfolding(model_core::specs::Rules::BoundsTable::exact_bounds))]
 
 ghost use Rattle.std.specs.Prelude.{◌≡◌, true, false};
-ghost use Rattle.model_core.specs.EventGraph.{Not, Binary, Equal, NotEqual, Below, AtMost, Above, AtLeast, Number};
+ghost use Rattle.model_core.specs.EventGraph.{Not, Binary, Equal, NotEqual, Below, AtMost, Above, AtLeast};
 ghost use Rattle.model_core.specs.Rules.Exclusive.{exclusive};
 ghost use Rattle.worked_runs.specs.Building.{whole, minus};
 ghost use Rattle.worked_runs.specs.BoundedModel.{bounded, x, y, b};

@@ -1,6 +1,6 @@
 //! The grammar of model texts: what expressions and lines spell, and where a text is refused.
 
-ghost use Rattle.std.specs.Prelude.{◌≡◌, true, false, List, [], ◌∷◌, Some, None, codes};
+ghost use Rattle.std.specs.Prelude.{true, false, [], ◌∷◌, Some, None, codes};
 ghost use Rattle.model_core.specs.EventGraph.{Subtract, Divide, Add, Multiply, Equal, Below, And, Or, Least, Greatest};
 ghost use Rattle.model_core.specs.Text.Written.{Truth, Clock, Scalar, Cell, Negative, Not, Binary, If, TruthKind, TruthLiteral, Set, Draw, Uniform, Schedule, Urgent, CancelNext, CancelEqual, CancelAll};
 ghost use Rattle.model_core.specs.Text.Expressions.{expression_format};

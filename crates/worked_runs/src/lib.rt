@@ -1,6 +1,6 @@
-//! Runs of small models, worked out: what is seen of each follows from the definition of a run by computing, and
-//! which of them are the same follows from what is seen. The clauses are theorems. The functions that carry them
-//! do nothing.
+//! Definitions computed on small examples: runs, texts, tokens, static faults, bounds, reductions and limits; and pairs of
+//! models that are the same, or that sameness tells apart. The clauses are theorems. The functions that carry them do
+//! nothing.
 #![tactic(auto)]
 
 mod alike;
@@ -86,7 +86,7 @@ pub use needing::uses_are_told;
 pub use openings::a_part_has_256_openings;
 pub use openings::openings_are_counted;
 pub use openings::parts_are_apart;
-pub use order::equal_events_are_cut;
+pub use order::equal_events_are_cancelled;
 pub use order::events_come_in_order;
 pub use order::others_stay;
 pub use quiet_parts::changes_may_be_quiet;

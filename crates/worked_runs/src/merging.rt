@@ -6,9 +6,9 @@ ghost use Rattle.model_core.specs.EventGraph.{WatchedVariable, WatchedVertex, Sc
 ghost use Rattle.model_core.specs.Rules.Conditions.{first_failed};
 ghost use Rattle.model_core.specs.Rules.UrgentEdges.{plain_urgent};
 ghost use Rattle.model_core.specs.Rules.Merge.{merge_conditions, merged, first_merge};
-ghost use Rattle.worked_runs.specs.Building.{whole, schedule, urgent, only_if, event, positive};
+ghost use Rattle.worked_runs.specs.Building.{whole, schedule, urgent, only_if, event, positive, x_watched};
 ghost use Rattle.worked_runs.specs.Models.{bank, loop};
-ghost use Rattle.worked_runs.specs.MergingModels.{three_at_once, chain_merged, bank_merged, choosing, not_positive, is_zero, below_five, with_others, watched_x, cancels_next, with_others_merged, counting_down, of_so_many_changes};
+ghost use Rattle.worked_runs.specs.MergingModels.{three_at_once, chain_merged, bank_merged, choosing, not_positive, is_zero, below_five, with_others, cancels_next, with_others_merged, counting_down, of_so_many_changes};
 
 /// A vertex has a plain urgent edge where it has one urgent edge, without a condition.
 pub fn plain_edges_are_alone()
@@ -34,9 +34,9 @@ pub fn merge_has_conditions()
     ensures either_by_numbers { first_failed (merge_conditions (choosing is_zero) 0 1) ≡ None }
     ensures perhaps_both { first_failed (merge_conditions (choosing below_five) 0 1) ≡ Some 3 }
     ensures target_watched { first_failed (merge_conditions (with_others (WatchedVertex 1 ∷ []) []) 0 1) ≡ Some 4 }
-    ensures cancelled { first_failed (merge_conditions (with_others watched_x (cancels_next 1 ∷ [])) 0 1) ≡ Some 5 }
-    ensures another_cancelled { first_failed (merge_conditions (with_others watched_x (cancels_next 2 ∷ [])) 0 1) ≡ None }
-    ensures reads_what_is_given { first_failed (merge_conditions (with_others watched_x (schedule 2 (Scalar 0) ∷ [])) 0 1) ≡ Some 6 }
+    ensures cancelled { first_failed (merge_conditions (with_others x_watched (cancels_next 1 ∷ [])) 0 1) ≡ Some 5 }
+    ensures another_cancelled { first_failed (merge_conditions (with_others x_watched (cancels_next 2 ∷ [])) 0 1) ≡ None }
+    ensures reads_what_is_given { first_failed (merge_conditions (with_others x_watched (schedule 2 (Scalar 0) ∷ [])) 0 1) ≡ Some 6 }
     ensures may_fault { first_failed (merge_conditions (counting_down (WatchedVertex 0 ∷ [])) 0 1) ≡ Some 7 }
     ensures unseen_fault { first_failed (merge_conditions (counting_down []) 0 1) ≡ None }
     ensures writes_what_is_watched { first_failed (merge_conditions (with_others (WatchedVertex 0 ∷ WatchedVariable 0 ∷ []) []) 0 1) ≡ Some 7 }
@@ -48,7 +48,7 @@ pub fn merge_has_conditions()
 pub fn merge_has_a_result()
     ensures chain_of_three { merged three_at_once 1 2 ≡ chain_merged }
     ensures of_bank { merged bank 0 1 ≡ bank_merged }
-    ensures parameters_are_set { merged (with_others watched_x (schedule 2 (whole 3) ∷ [])) 0 1 ≡ with_others_merged }
+    ensures parameters_are_set { merged (with_others x_watched (schedule 2 (whole 3) ∷ [])) 0 1 ≡ with_others_merged }
 {}
 
 /// The first vertex that may be merged is merged with the one to which its plain urgent edge leads.

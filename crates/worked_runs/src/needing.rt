@@ -7,9 +7,9 @@ ghost use Rattle.model_core.specs.Rules.Conditions.{first_failed};
 ghost use Rattle.model_core.specs.Rules.Uses.{vertex_reads, vertex_writes, use_table};
 ghost use Rattle.model_core.specs.Rules.Needed.{needed_marks, unneeded};
 ghost use Rattle.model_core.specs.Rules.Slice.{slice_conditions, sliced};
-ghost use Rattle.worked_runs.specs.Building.{whole, at_cell, set, draw, schedule, schedule_with, urgent, only_if, positive, plus_one, minus_one, one_over_zero, plain_edge};
-ghost use Rattle.worked_runs.specs.Models.{bank, bank_enter, two_draws};
-ghost use Rattle.worked_runs.specs.NeedingModels.{unfaulting, strict, with_cells, x_watched, carrying_variable, cancelling_three, both_grow, unseen_bank, one_draw, growing, x_alone, two_carried, one_carried};
+ghost use Rattle.worked_runs.specs.Building.{whole, at_cell, set, draw, schedule, schedule_with, urgent, only_if, positive, plus_one, minus_one, one_over_zero, plain_edge, x_watched};
+ghost use Rattle.worked_runs.specs.Models.{bank, bank_enter, cancel_three, two_draws};
+ghost use Rattle.worked_runs.specs.NeedingModels.{unfaulting, strict, with_cells, carrying_variable, both_grow, unseen_bank, one_draw, growing, x_alone, two_carried, one_carried};
 
 /// Changes and edges read what stands in them but for their targets, and parameters and targets are written.
 pub fn uses_are_told()
@@ -28,7 +28,7 @@ pub fn some_variables_are_needed_at_once()
     ensures none { unneeded (unfaulting [] [] (both_grow ∷ []) (schedule_with 1 3 5 ∷ [])) ≡ 0 ∷ 1 ∷ [] }
     ensures watched { unneeded (unfaulting x_watched [] [] []) ≡ 1 ∷ [] }
     ensures given { unneeded (unfaulting [] (1 ∷ []) [] []) ≡ 0 ∷ [] }
-    ensures compared { unneeded (unfaulting [] [] [] (cancelling_three ∷ [])) ≡ 1 ∷ [] }
+    ensures compared { unneeded (unfaulting [] [] [] (cancel_three ∷ [])) ≡ 1 ∷ [] }
     ensures in_a_condition { unneeded (unfaulting [] [] [] (only_if (positive 1) (urgent 0) ∷ [])) ≡ 0 ∷ [] }
     ensures in_a_delay { unneeded (unfaulting [] [] [] (schedule 0 (Scalar 1) ∷ [])) ≡ 0 ∷ [] }
 {}

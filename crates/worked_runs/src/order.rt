@@ -24,8 +24,9 @@ pub fn events_come_in_order()
         ≡ showing (At 0 [] ∷ On 3 1 [] ∷ []) (Ended 3) }
 {}
 
-/// A cancelling edge with values takes the next event that carries exactly these.
-pub fn equal_events_are_cut()
+/// A cancelling edge with values takes the next event that carries exactly these, and one for all takes all. Delays are
+/// looked at before values, and values as the event comes.
+pub fn equal_events_are_cancelled()
     ensures once { look (cut (cancel_three ∷ [])) 42 [] 100 1000
         ≡ showing
         (At 0 (scalars (0 ∷ [])) ∷ On 5 1 (scalars (4 ∷ [])) ∷ At 5 (scalars (4 ∷ []))

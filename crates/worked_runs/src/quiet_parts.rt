@@ -2,7 +2,7 @@
 #![tactic(auto, unfolding(model_core::specs::Rules::BoundsTable::exact_bounds))]
 
 ghost use Rattle.std.specs.Prelude.{◌≡◌, pos, neg_ℤ, true, false, [], ◌∷◌};
-ghost use Rattle.model_core.specs.EventGraph.{Truth, Binary, Divide, Least, Scalar, Set, Draw, Uniform, ByTable, Schedule, Urgent, CancelNext};
+ghost use Rattle.model_core.specs.EventGraph.{Binary, Divide, Least, Set, Draw, Uniform, ByTable, Schedule, Urgent, CancelNext};
 ghost use Rattle.model_core.specs.Run.State.{variable_at};
 ghost use Rattle.model_core.specs.Rules.BoundsOfParts.{quiet_store, choice_bounds, quiet_change, quiet_edge};
 ghost use Rattle.worked_runs.specs.Building.{whole, at_variable, at_cell, set, plain_edge, only_if};

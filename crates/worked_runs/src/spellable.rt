@@ -1,10 +1,10 @@
 //! What a text can write: the openings of parts are those of their canonical texts, and what no text writes.
 
-ghost use Rattle.std.specs.Prelude.{◌≡◌, negsuc, [], ◌∷◌, map, false, true, codes};
-ghost use Rattle.model_core.specs.EventGraph.{Number, Truth, Clock, Scalar, Cell, Negative, Not, Binary, If, Equal, Least, Or, And, CancelNext, CancelEqual};
-ghost use Rattle.model_core.specs.Text.Spellable.{IsName, IsSigned, SpellableExpression, CarriesAsWritten, expression_openings, change_openings, edge_openings};
+ghost use Rattle.std.specs.Prelude.{◌≡◌, negsuc, [], ◌∷◌, map, codes};
+ghost use Rattle.model_core.specs.EventGraph.{Number, Clock, Scalar, Cell, Negative, Not, Binary, If, Equal, Least, Or, CancelNext, CancelEqual};
+ghost use Rattle.model_core.specs.Text.Spellable.{IsName, SpellableExpression, CarriesAsWritten, expression_openings, change_openings, edge_openings};
 ghost use Rattle.worked_runs.specs.Building.{whole};
-ghost use Rattle.worked_runs.specs.Texts.{desk, serve, n, is_open, plus, less, times};
+ghost use Rattle.worked_runs.specs.Texts.{serve, n, is_open, plus, less, times};
 ghost use Rattle.worked_runs.specs.LineOpenings.{openings_of_text, openings_of_changes, openings_of_edges};
 
 /// Parentheses count where they are written, and an index, a call, a sign and `=` do.

@@ -9,7 +9,7 @@ ghost use Rattle.model_core.specs.Rules.Reached.{reached_marks, unreached};
 ghost use Rattle.model_core.specs.Rules.Drop.{drop_conditions, dropped};
 ghost use Rattle.model_core.specs.Rules.Reduction.{Prune, Settle, Drop, failed_condition, applied, first_bad, first_rule, Strategy};
 ghost use Rattle.model_core.specs.Rules.Certificate.{certificate};
-ghost use Rattle.worked_runs.specs.ThreeRules.{narrow, narrow_pruned, narrow_settled, narrow_dropped, faulting, faulting_settled, faulting_reduced};
+ghost use Rattle.worked_runs.specs.ThreeRules.{narrow, narrow_pruned, narrow_settled, narrow_dropped, faulting, faulting_reduced};
 ghost use Rattle.worked_runs.specs.ReachedVertices.{five, three};
 
 /// A condition that the ranges refute may be pruned, and one that can fault may not, though it never holds.

@@ -1,6 +1,6 @@
 //! Values of expressions, exact inside the signed numbers of 64 bits.
 
-ghost use Rattle.std.specs.Prelude.{◌≡◌, pos, negsuc, true, false, Ok, Err, [], ◌∷◌};
+ghost use Rattle.std.specs.Prelude.{◌≡◌, pos, negsuc, true, false, Ok, Err};
 ghost use Rattle.sig_base.specs.declared.fault.FaultKind.TheVariants as faults;
 ghost use Rattle.model_core.specs.EventGraph.{Truth, Clock, Cell, Negative, Not, Binary, If, Add, Subtract, Multiply, Divide, Remainder, Least, Greatest, Equal, NotEqual, Below, AtMost, Above, AtLeast, And, Or};
 ghost use Rattle.worked_runs.specs.Building.{whole, minus, one_over_zero, is_one_over_zero};

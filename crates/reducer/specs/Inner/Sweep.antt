@@ -1,5 +1,5 @@
 -- What one sweep of a rule of edges over vertices applies, and what it leaves.
-use Rattle.std.specs.Prelude.{ℕ, ◌+◌, Bool, true, false, cond, List, [], ◌∷◌, map}
+use Rattle.std.specs.Prelude.{ℕ, ◌+◌, Bool, true, false, cond, List, [], ◌∷◌}
 use Rattle.std.specs.List.{flat_map}
 use Rattle.model_core.specs.EventGraph.{EventEdge, EventVertex, EventGraph}
 use Rattle.model_core.specs.Rules.Settle.{unconditional}

@@ -8,11 +8,13 @@ use Rattle.sig_types.specs.declared.names.Meaning.TheVariants as meanings
 use Rattle.sig_types.specs.declared.uses.Role.{Role}
 use Rattle.sig_types.specs.declared.uses.Role.TheVariants as roles
 
+-- what a name is declared as
 abbrev pub meaning_seen : Meaning → plain.Meaning
 meaning_seen (meanings.Variable var kind is_array) = plain.MeansVariable var kind is_array
 meaning_seen (meanings.Table k) = plain.MeansTable k
 meaning_seen (meanings.Vertex k) = plain.MeansVertex k
 
+-- what a name is used as
 abbrev pub role_seen : Role → plain.Role
 role_seen roles.Scalar = plain.AsScalar
 role_seen roles.Array = plain.AsArray
@@ -34,5 +36,6 @@ vertex_meant meaning = None
 abbrev pub declaration_of : List ℕ → plain.Meaning → Declaration
 declaration_of name meaning = record { name = record { name = name; at = 0 }; meaning = meaning }
 
+-- the bytes of a written name, without its place
 abbrev pub bytes_of : RawName → List ℕ
 bytes_of n = n.name

@@ -7,10 +7,12 @@ use Rattle.model_core.specs.Static.FaultOrder.{StaticFault}
 use Rattle.model_core.specs.Static.Meanings.{Meaning}
 use Rattle.model_core.specs.Static.PartFaults.{target_kind, target_faults, values_faults}
 
+-- the kind, where the list has one at the place and it is known
 abbrev pub kind_or_none : Option (Option Kind) → Option Kind
 kind_or_none None = None
 kind_or_none (Some kind) = kind
 
+-- the kind that the value at this place must have
 abbrev pub wanted : List (Option Kind) → ℕ → Option Kind
 wanted kinds i = kind_or_none (slice_get kinds i)
 

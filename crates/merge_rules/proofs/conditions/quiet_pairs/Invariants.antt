@@ -1,7 +1,7 @@
 use Rattle.std.proofs.Common.{◌≡◌, map, drop}
 use lib.Pointwise.{pointwise}
+use Rattle.model_core.specs.EventGraph.{scalar_location}
 use Rattle.model_core.specs.Rules.BoundsOfParts.{quiet_set}
-use Rattle.model_core.specs.Rules.Merge.{scalar_location}
 use Rattle.model_core.specs.Code.Views.{graph_of, expression_of}
 use Rattle.merge_rules.proofs.conditions.quiet_pairs.Given as goal
 

@@ -1,5 +1,5 @@
 use Rattle.std.proofs.Common.{◌≡◌, map, take}
-use Rattle.model_core.specs.Rules.Merge.{scalar_location}
+use Rattle.model_core.specs.EventGraph.{scalar_location}
 use Rattle.model_core.specs.Code.Views.{location_of}
 use Rattle.merge_rules.proofs.taking_over.scalar_targets.Given as goal
 

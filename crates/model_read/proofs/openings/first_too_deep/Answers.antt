@@ -1,8 +1,13 @@
 -- A token ends a part, or opens, or neither.
-use Rattle.std.proofs.Common.{arith}
+use Rattle.std.proofs.Common.{map, sym, arith}
+use Rattle.model_core.specs.Code.TokenViews.{lexeme_of}
+use Rattle.model_core.proofs.OpeningLaws.{deep-is_counted}
 use Rattle.model_read.proofs.OpeningSteps.{behind-end, behind-opening, behind-other}
 use Rattle.model_read.proofs.openings.first_too_deep.Goals.{then-ends, else-ends+then-opens+else-room-eq0, else-ends+else-opens}
 use Rattle.model_read.proofs.openings.first_too_deep.Goals as goal
+
+pub loop-token-init : goal.loop-token-init
+loop-token-init c = λ text. sym (deep-is_counted c.args.limit (map (lexeme_of text) c.args.tokens.now))
 
 pub loop-token-preserved : goal.loop-token-preserved
 loop-token-preserved c = λ text. elim c.if-ends.branch [

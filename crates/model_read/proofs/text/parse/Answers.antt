@@ -1,11 +1,12 @@
 -- The openings are counted, and then the reader of the grammar tells.
-use Rattle.std.proofs.Common.{◌≡◌, refl, ap, ◌∙◌, map}
+use Rattle.std.proofs.Common.{◌≡◌, refl, sym, ap, ◌∙◌, map}
 use Rattle.sig_base.specs.declared.limits.TheConstants.{OPENINGS_MAX}
 use Rattle.model_core.specs.Code.TokenViews.{lexeme_of}
 use Rattle.model_core.specs.Code.WrittenViews.{written_model}
 use Rattle.model_core.specs.Inner.LanguageReader.{text_read}
+use Rattle.model_core.proofs.OpeningLaws.{none-is_few}
 use Rattle.model_lex.specs.Lexemes.{lexemes}
-use Rattle.model_read.proofs.WholeText.{is_deep, is_few, deep-place, whole-ok, whole-unexpected, never_deep}
+use Rattle.model_read.proofs.WholeText.{deep-place, whole-ok, whole-unexpected, never_deep}
 use Rattle.model_read.proofs.PlacedReads.{placed-tells}
 use Rattle.model_read.proofs.text.parse.Goals as goal
 
@@ -17,12 +18,12 @@ returns-clause-ok c =
     let are : c.new-cursor.result ≡ lexemes c.args.tokens.now = c.new-cursor.ensures ∙ ap (map (lexeme_of c.args.tokens.now.text.now)) c.as_slice-list.ensures in
     whole-ok c.args.tokens.now.text.now (lexemes c.args.tokens.now) c.whole-read.new.cursor OPENINGS_MAX c.placed.result
     (placed-tells written_model c.args.tokens.now.text.now c.whole-read.result c.whole-read.new.cursor (text_read (lexemes c.args.tokens.now)) c.placed.result (c.placed.ensures c.args.tokens.now.text.now refl) (rw are at c.whole-read.ensures))
-    (is_few OPENINGS_MAX (lexemes c.args.tokens.now) c.first_too_deep.result (rw c.as_slice-list.ensures at (c.first_too_deep.ensures c.args.tokens.now.text.now)) c.in_default.is)
+    (none-is_few OPENINGS_MAX (lexemes c.args.tokens.now) (sym (rw c.as_slice-list.ensures at (c.first_too_deep.ensures c.args.tokens.now.text.now)) ∙ c.in_default.is))
 
 pub returns-clause-unexpected : goal.returns-clause-unexpected
 returns-clause-unexpected c = λ at e.
     let are : c.new-cursor.result ≡ lexemes c.args.tokens.now = c.new-cursor.ensures ∙ ap (map (lexeme_of c.args.tokens.now.text.now)) c.as_slice-list.ensures in (
-      is_deep OPENINGS_MAX (lexemes c.args.tokens.now) c.first_too_deep.result (rw c.as_slice-list.ensures at (c.first_too_deep.ensures c.args.tokens.now.text.now)) ∙ c.in_default.is,
+      sym (rw c.as_slice-list.ensures at (c.first_too_deep.ensures c.args.tokens.now.text.now)) ∙ c.in_default.is,
       whole-unexpected c.args.tokens.now.text.now (lexemes c.args.tokens.now) c.whole-read.new.cursor c.placed.result at
           (placed-tells written_model c.args.tokens.now.text.now c.whole-read.result c.whole-read.new.cursor (text_read (lexemes c.args.tokens.now)) c.placed.result (c.placed.ensures c.args.tokens.now.text.now refl) (rw are at c.whole-read.ensures)) e,
     )

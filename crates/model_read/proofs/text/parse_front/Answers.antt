@@ -8,9 +8,10 @@ use Rattle.model_core.specs.Code.TokenViews.{lexeme_of}
 use Rattle.model_core.specs.Code.WrittenViews.{written_model}
 use Rattle.model_core.specs.Text.Openings.{front_to_end}
 use Rattle.model_core.specs.Inner.LanguageReader.{text_and_rest}
+use Rattle.model_core.proofs.OpeningLaws.{none-is_few}
 use Rattle.model_lex.specs.Lexemes.{lexemes}
 use Rattle.model_lex.specs.declared.parse_error.ParseError.TheVariants as errors
-use Rattle.model_read.proofs.WholeText.{is_deep, is_few, deep-place, front-left, front-ok, some-are, front-counted, same-error, error-unexpected, error-never_deep}
+use Rattle.model_read.proofs.WholeText.{deep-place, front-left, front-ok, some-are, front-counted, same-error, error-unexpected, error-never_deep}
 use Rattle.model_read.proofs.PlacedReads.{placed-tells}
 use Rattle.model_read.proofs.text.parse_front.Goals as goal
 
@@ -30,15 +31,14 @@ returns-clause-ok c =
     let are : c.new-cursor.result ≡ drop c.args.from (lexemes c.args.tokens.now) = c.new-cursor.ensures ∙ some-are c.args.tokens.now.text.now c.as_slice.result.now c.args.tokens.now.list c.args.from c.as_slice.ensures in
     rw (c.len-left.ensures, c.len.ensures) (front-ok (lexemes c.args.tokens.now) c.model-read.new.cursor c.args.from _ OPENINGS_MAX (written_model c.in_ok-model.model) (sym (length-map c.args.tokens.now.list (lexeme_of c.args.tokens.now.text.now))) c.requires
     (placed-tells written_model c.args.tokens.now.text.now c.model-read.result c.model-read.new.cursor (text_and_rest (drop c.args.from (lexemes c.args.tokens.now))) (Ok c.in_ok-model.model) (c.in_ok-model.ensures c.args.tokens.now.text.now refl) (rw are at c.model-read.ensures))
-    (is_few OPENINGS_MAX (front_to_end (drop c.args.from (lexemes c.args.tokens.now))) c.first_too_deep.result
-    (front-counted c.args.tokens.now.text.now c.as_slice.result.now c.args.tokens.now.list c.args.from c.front_length.result OPENINGS_MAX c.first_too_deep.result c.as_slice.ensures (c.first_too_deep.ensures c.args.tokens.now.text.now) (c.front_length.ensures.front c.args.tokens.now.text.now)) c.in_default.is))
+    (none-is_few OPENINGS_MAX (front_to_end (drop c.args.from (lexemes c.args.tokens.now)))
+    (sym (front-counted c.args.tokens.now.text.now c.as_slice.result.now c.args.tokens.now.list c.args.from c.front_length.result OPENINGS_MAX c.first_too_deep.result c.as_slice.ensures (c.first_too_deep.ensures c.args.tokens.now.text.now) (c.front_length.ensures.front c.args.tokens.now.text.now)) ∙ c.in_default.is)))
 
 pub returns-in_err-model-clause-unexpected : goal.returns-in_err-model-clause-unexpected
 returns-in_err-model-clause-unexpected c = λ at e.
     let are : c.new-cursor.result ≡ drop c.args.from (lexemes c.args.tokens.now) = c.new-cursor.ensures ∙ some-are c.args.tokens.now.text.now c.as_slice.result.now c.args.tokens.now.list c.args.from c.as_slice.ensures in
     let p = err_from_is_err_and c.from_residual.result c.from_residual.ensures.1 in (
-      is_deep OPENINGS_MAX (front_to_end (drop c.args.from (lexemes c.args.tokens.now))) c.first_too_deep.result
-          (front-counted c.args.tokens.now.text.now c.as_slice.result.now c.args.tokens.now.list c.args.from c.front_length.result OPENINGS_MAX c.first_too_deep.result c.as_slice.ensures (c.first_too_deep.ensures c.args.tokens.now.text.now) (c.front_length.ensures.front c.args.tokens.now.text.now))
+      sym (front-counted c.args.tokens.now.text.now c.as_slice.result.now c.args.tokens.now.list c.args.from c.front_length.result OPENINGS_MAX c.first_too_deep.result c.as_slice.ensures (c.first_too_deep.ensures c.args.tokens.now.text.now) (c.front_length.ensures.front c.args.tokens.now.text.now))
           ∙ c.in_default.is,
       error-unexpected c.args.tokens.now.text.now (drop c.args.from (lexemes c.args.tokens.now)) c.model-read.new.cursor c.in_err-model.field-0.0 at
           (placed-tells written_model c.args.tokens.now.text.now c.model-read.result c.model-read.new.cursor (text_and_rest (drop c.args.from (lexemes c.args.tokens.now))) (Err c.in_err-model.field-0.0) (c.in_err-model.ensures c.args.tokens.now.text.now refl) (rw are at c.model-read.ensures))

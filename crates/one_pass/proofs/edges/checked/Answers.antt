@@ -6,9 +6,9 @@ use Rattle.model_core.specs.Static.PartFaults.{edge_faults}
 use Rattle.model_core.proofs.ToldFaults.{none_told}
 use Rattle.one_pass.proofs.edges.checked.Goals as goal
 
-pub returns-in-None : goal.returns-in-None
-returns-in-None c =
+pub returns : goal.returns
+returns c =
     let check = c.in_ok-edge.ensures in
     let told = rw c.new-told.ensures at check.told in
-    let none = none_told (edge_faults (meaning_of c.args.names.now) c.args.taken.now (written_edge c.args.raw.now)) (sym told ∙ c.in-None.ensures) in
+    let none = none_told (edge_faults (meaning_of c.args.names.now) c.args.taken.now (written_edge c.args.raw.now)) (sym told ∙ c.in_ok-refuse_told.ensures.untold) in
     record { unbroken = none; numbers = check.unbroken none }

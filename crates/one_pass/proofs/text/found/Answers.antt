@@ -1,11 +1,11 @@
 -- Nothing was told of the model, so it is accepted.
-use Rattle.std.proofs.Common.{◌≡◌, [], map, ap, ◌∙◌}
+use Rattle.std.proofs.Common.{◌≡◌, [], map, sym, ap, ◌∙◌}
 use Rattle.std.specs.Option.{option_map}
 use Rattle.sig_base.specs.declared.limits.TheConstants.{OPENINGS_MAX}
 use Rattle.model_core.specs.Code.TokenViews.{lexeme_of}
 use Rattle.model_core.proofs.Formats.TextLaws.{whole-is_spelled}
+use Rattle.model_core.proofs.OpeningLaws.{none-is_few}
 use Rattle.model_lex.specs.Lexemes.{lexemes}
-use Rattle.model_read.proofs.WholeText.{is_few}
 use Rattle.one_pass.proofs.text.found.Goals as goal
 
 pub returns-in-None : goal.returns-in-None
@@ -17,6 +17,6 @@ returns-in-None c =
     record {
       written = read.written;
       spelled = whole-is_spelled ls read.written [] read.read;
-      few = is_few OPENINGS_MAX ls c.first_too_deep.result (rw c.as_slice-list.ensures at (c.first_too_deep.ensures text)) c.in_default.is;
+      few = none-is_few OPENINGS_MAX ls (sym (rw c.as_slice-list.ensures at (c.first_too_deep.ensures text)) ∙ c.in_default.is);
       accepted = read.accepted (c.fault.ensures ∙ ap (option_map _) c.in-None.is);
     }

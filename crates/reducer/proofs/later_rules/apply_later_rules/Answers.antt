@@ -1,5 +1,4 @@
 -- Each turn leaves less, and leads on by the first rule.
-use Rattle.model_core.specs.Code.Views.{graph_of}
 use Rattle.reducer.proofs.RuleByRule.{led_on, leaves_less, led_to_the_end}
 use Rattle.reducer.proofs.later_rules.apply_later_rules.Goals as goal
 

@@ -1,5 +1,4 @@
 -- Made is what the first of the three gives.
-use Rattle.model_core.specs.Code.Views.{graph_of}
 use Rattle.reducer.proofs.FirstLaterRule.{drop_is_made, merge_is_made, slice_is_made}
 use Rattle.reducer.proofs.RuleByRule.{answer_of}
 use Rattle.reducer.proofs.later_rules.apply_one.Goals as goal

@@ -1,7 +1,6 @@
 -- Dropped and noted are the vertices that can't be reached, and there is one at least.
 use Rattle.std.proofs.Common.{◌≡◌, map, ap, length, ◌∙◌, ◌++◌, [], ◌∷◌, List, ℕ}
 use Rattle.model_core.specs.Code.Views.{graph_of, application_of}
-use Rattle.model_core.specs.Rules.Drop.{dropped}
 use Rattle.model_core.specs.Rules.Reduction.{Drop}
 use Rattle.model_core.specs.Text.Canonical.{vertex_name}
 use Rattle.reducer.proofs.FirstLaterRule.{drop_holds, drop_made}

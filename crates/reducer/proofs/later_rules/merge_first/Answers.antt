@@ -1,5 +1,5 @@
 -- Merged and noted are the first two that can be, if there are any.
-use Rattle.std.proofs.Common.{◌≡◌, ℕ, map, Some, None, Err, List, [], ◌∷◌, ◌++◌, sym, ap, ap₂, ◌∙◌}
+use Rattle.std.proofs.Common.{◌≡◌, ℕ, map, Some, Err, List, [], ◌∷◌, ◌++◌, sym, ap, ap₂, ◌∙◌}
 use Rattle.model_core.specs.declared.rule_error.RuleError.TheVariants as errors
 use Rattle.model_core.specs.Code.Views.{graph_of, application_of}
 use Rattle.model_core.specs.Rules.Merge.{first_merge}

@@ -1,5 +1,5 @@
 -- Of the verdicts only that of a sound certificate is told as done.
-use Rattle.std.proofs.Common.{◌≡◌, inl, inr, List, ℕ, refl, sym, ◌∙◌}
+use Rattle.std.proofs.Common.{◌≡◌, inl, inr, List, ℕ, refl}
 use Rattle.model_core.specs.Rules.Verdict.{Verdict, Sound, Rejected, Differs, verdict}
 use Rattle.sigma_top.specs.declared.answer.Answer.TheVariants.{Given}
 use Rattle.sigma_top.specs.declared.status.End.TheVariants as ends

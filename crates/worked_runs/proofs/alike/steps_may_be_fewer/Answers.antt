@@ -1,12 +1,12 @@
 -- Two moves of the one machine are answered by one move of the other. The other way round, the looks come too late.
 use Rattle.std.proofs.Common.{◌≡◌, ℕ, zero, suc, ◌≤◌, ℤ, None, IsTrue, List, [], ◌∷◌, replicate, refl, ◌∙◌, ap, lit<, lit≤, arith}
 use Rattle.model_core.specs.Run.Pending.{Entry}
-use Rattle.model_core.specs.Run.Machine.{Note, At, On, Ended, Going, Look, Goes}
+use Rattle.model_core.specs.Run.Machine.{At, On, Ended, Going, Look, Goes}
 use Rattle.model_core.specs.Run.History.{Moment, next_move, allowed, look}
-use Rattle.model_core.specs.Run.Same.{Begins, SameLooks}
+use Rattle.model_core.specs.Run.Same.{SameLooks}
 use Rattle.model_core.proofs.Simulation.{rests, goes, Joined, one, two_go, two_for_one}
 use Rattle.worked_runs.specs.Pairs.{ends, comes_twice, two_events, one_event, a_first, a_second}
-use Rattle.worked_runs.proofs.Looks.{joined_by, none_below_0}
+use Rattle.worked_runs.proofs.Looks.{joined_by, none_below_0, nothing_begins}
 use Rattle.worked_runs.proofs.alike.steps_may_be_fewer.Goals as goal
 
 -- at clock 0, before any note
@@ -136,10 +136,7 @@ a_comes_later (suc zero) le = refl
 a_comes_later (suc (suc zero)) le = refl
 a_comes_later (suc (suc (suc m))) le = absurd (omega arith)
 
-begins_with_none : (notes : List Note) → notes ≡ [] → Begins (On 0 0 [] ∷ []) notes → ⊥
-begins_with_none notes none (rest, e) = cc
-
 pub returns-clause-not_more_for_ever : goal.returns-clause-not_more_for_ever
 returns-clause-not_more_for_ever c = λ same.
     let (m, le, begins) = (same.runs 42 (lit< tt) [] refl 100 (lit≤ tt)).shows 2 in
-    begins_with_none (look a_second 42 [] 100 m).history (a_comes_later m le) begins
+    nothing_begins (look a_second 42 [] 100 m).history (a_comes_later m le) begins

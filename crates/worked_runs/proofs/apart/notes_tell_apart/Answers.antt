@@ -7,7 +7,7 @@ use Rattle.model_core.specs.Run.Same.{Begins}
 use Rattle.worked_runs.specs.Building.{scalars, showing, whole, set, schedule}
 use Rattle.worked_runs.specs.Models.{changing, ordering}
 use Rattle.worked_runs.specs.Pairs.{Apart, a_first, b_first, silent}
-use Rattle.worked_runs.proofs.Looks.{circles, other_notes, apart_by_ends, apart_by_notes}
+use Rattle.worked_runs.proofs.Looks.{circles, other_notes, apart_by_ends, apart_by_notes, nothing_begins}
 use Rattle.worked_runs.proofs.apart.notes_tell_apart.Goals as goal
 
 -- in five steps both are finished
@@ -25,9 +25,6 @@ once_more = record {
 silent_for_ever : (n : ℕ) → (look silent 42 [] 100 n).history ≡ []
 silent_for_ever zero = refl
 silent_for_ever (suc n) = ap (λ (l : Look). l.history) (circles (next_move silent 42 100) once_more refl n)
-
-nothing_begins : (notes : List Note) → notes ≡ [] → Begins (On 0 0 [] ∷ []) notes → ⊥
-nothing_begins notes none (rest, e) = cc
 
 other_head : (rest later : List Note) → (On 0 0 [] ∷ []) ++ rest ≡ On 0 1 [] ∷ later → ⊥
 other_head rest later e = cc

@@ -1,0 +1,17 @@
+//! Refusal of what breaks a static rule, where it is known only that some rule is broken.
+
+ghost use Rattle.std.specs.Prelude.{◌≡◌, ◌≢◌, None, OnOk, OnErr};
+
+use model_read::Stop;
+use sig_types::Told;
+
+/// Gives up where a fault is told.
+pub(crate) fn refuse_told(told: &Told) -> Result<(), Stop>
+    ensures untold { OnOk result (told.now ≡ None) }
+    ensures told { OnErr result (told.now ≢ None) }
+{
+    match told.fault() {
+        None => Ok(()),
+        Some(_) => Err(Stop::Unexpected),
+    }
+}
