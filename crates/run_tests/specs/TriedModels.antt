@@ -19,8 +19,8 @@ tried = record {
 }
 
 -- a variable that is clipped to 0..3
-abbrev pub clipped : Variable
-clipped = record { name = []; size = 0; kind = kinds.Range; lo = pos 0; hi = pos 3; clip = true; initial = pos 0 }
+abbrev pub clipped_scalar : Variable
+clipped_scalar = record { name = []; size = 0; kind = kinds.Range; lo = pos 0; hi = pos 3; clip = true; initial = pos 0 }
 
 -- an event that raises the variable, and schedules itself again after 5 ticks
 abbrev pub tick : EventVertex
@@ -33,4 +33,4 @@ tick = record {
 
 -- a model of that variable and that event
 abbrev pub ticking : EventGraph
-ticking = record { name = []; variables = clipped ∷ []; tables = []; watch = []; vertices = tick ∷ [] }
+ticking = record { name = []; variables = clipped_scalar ∷ []; tables = []; watch = []; vertices = tick ∷ [] }

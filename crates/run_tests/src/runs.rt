@@ -3,7 +3,7 @@
 ghost use Rattle.std.specs.Prelude.{◌≡◌, ◌<◌, ◌≤◌, ◌^◌, pos, true, [], ◌∷◌, None, IfOk};
 ghost use Rattle.model_core.specs.EventGraph.{Set, Binary, Add, Scalar, Number, Truth, Schedule};
 ghost use Rattle.model_core.specs.Code.Views.{graph_of, variable_of, vertex_of, change_of, edge_of};
-ghost use Rattle.run_tests.specs.TriedModels.{clipped, tick, ticking};
+ghost use Rattle.run_tests.specs.TriedModels.{clipped_scalar, tick, ticking};
 
 use event_list::{Pending, PlainPending};
 use model_core::{Change, Edge, EdgeForm, Expr, Kind, Model, Op, Target, Var, Vertex};
@@ -52,8 +52,8 @@ fn again(alloc: Global) -> Edge
 }
 
 /// A clipped variable.
-fn clipped(alloc: Global) -> Var
-    ensures { variable_of result ≡ clipped }
+fn clipped_scalar(alloc: Global) -> Var
+    ensures { variable_of result ≡ clipped_scalar }
 {
     Var {
         name: no_name(alloc),
@@ -85,7 +85,7 @@ fn clock(alloc: Global) -> Result<Model, NoMemory>
     ensures { IfOk result (λ model. graph_of model ≡ ticking) }
 {
     let vertices = List::of_one(alloc, tick(alloc)?)?;
-    let vars = List::of_one(alloc, clipped(alloc))?;
+    let vars = List::of_one(alloc, clipped_scalar(alloc))?;
     Ok(Model {
         name: no_name(alloc),
         vars,
