@@ -12,7 +12,8 @@ use Rattle.model_core.proofs.Marks.{Marked, marked-placed}
 use Rattle.model_core.proofs.Among.{Among, among-contained, contained-among, among-map, of-among}
 use Rattle.edge_pruning.proofs.ReachedMarks.{has_edges, reachable-marked, reached_marks-hold, reached_marks-long, reached_marks-reachable}
 use Rattle.model_core.proofs.Ranks.{rank-none}
-use Rattle.edge_pruning.proofs.DropSame.{at-map, NamesVertices}
+use Rattle.model_core.proofs.Images.{at-map}
+use Rattle.edge_pruning.proofs.DropSame.{NamesVertices}
 
 -- each place of what is left is the new place of a marked one
 old_place : {A : Type 0} (marks : List Bool) (xs : List A) (i : ℕ) → i < length (marked_of marks xs) → (k : ℕ) × Marked marks k × (rank marks k ≡ i) × (k < length xs)

@@ -1,5 +1,5 @@
 -- The graph of the vertices that can be reached has the runs of the whole one, where each edge leads to a vertex.
-use Rattle.std.proofs.Common.{◌≡◌, ℕ, zero, suc, ◌<◌, Bool, List, [], ◌∷◌, length, map, slice_index_or, refl, ap, ◌∙◌}
+use Rattle.std.proofs.Common.{ℕ, ◌<◌, Bool, List, length, map, ap, ◌∙◌}
 use Rattle.std.specs.List.{AllByRecursion}
 use Rattle.model_core.specs.EventGraph.{EventGraph, EventEdge, Watched, WatchedVariable, WatchedVertex}
 use Rattle.model_core.specs.Run.Step.{no_vertex, vertex_at}
@@ -11,12 +11,9 @@ use Rattle.model_core.proofs.Marks.{Marked, rank-apart, marked-placed}
 use Rattle.model_core.proofs.Among.{Among, each-among, of-among}
 use Rattle.model_core.proofs.Ranks.{rank-none}
 use Rattle.edge_pruning.proofs.ReachedMarks.{first-begins, watched-begins, HoldReached, reached_marks-hold}
-use Rattle.edge_pruning.proofs.Renumbered.{WatchedLive, renumbered-Same}
-
-pub at-map : {A B : Type 0} (f : A → B) (xs : List A) (k : ℕ) (d : A) → slice_index_or (map f xs) k (f d) ≡ f (slice_index_or xs k d)
-at-map f [] k d = refl
-at-map f (x ∷ xs) zero d = refl
-at-map f (x ∷ xs) (suc k) d = at-map f xs k d
+use Rattle.model_core.proofs.Images.{at-map}
+use Rattle.model_core.proofs.MappedVertices.{WatchedTold}
+use Rattle.edge_pruning.proofs.Renumbered.{renumbered-Same}
 
 -- there is a first vertex, and edges and the watch list name vertices
 pub record NamesVertices (g : EventGraph) : Type 0 where
@@ -24,9 +21,9 @@ pub record NamesVertices (g : EventGraph) : Type 0 where
   pub edges : (k : ℕ) → AllByRecursion (λ (e : EventEdge). e.target < length g.vertices) (vertex_at g k).edges
   pub watch : (k : ℕ) → Among (WatchedVertex k) g.watch → k < length g.vertices
 
-watched-live : (g : EventGraph) (marks : List Bool) → ((k : ℕ) → Among (WatchedVertex k) g.watch → Marked marks k) → AllByRecursion (WatchedLive (Marked marks)) g.watch
-watched-live g marks live = each-among (WatchedLive (Marked marks)) g.watch one where
-  one : (w : Watched) → Among w g.watch → WatchedLive (Marked marks) w
+watched-live : (g : EventGraph) (marks : List Bool) → ((k : ℕ) → Among (WatchedVertex k) g.watch → Marked marks k) → AllByRecursion (WatchedTold (Marked marks)) g.watch
+watched-live g marks live = each-among (WatchedTold (Marked marks)) g.watch one where
+  one : (w : Watched) → Among w g.watch → WatchedTold (Marked marks) w
   one (WatchedVariable v) h = tt
   one (WatchedVertex v) h = live v h
 

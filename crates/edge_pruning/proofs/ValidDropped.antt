@@ -1,27 +1,29 @@
 -- The graph of the marked vertices keeps the static rules, can be written, and has no longer text, where the marks hold what
 -- is reached.
-use Rattle.std.proofs.Common.{◌≡◌, inl, inr, ℕ, zero, suc, ◌+◌, ◌<◌, ◌≤◌, ◌==◌, nat_eq, Bool, true, false, List, [], ◌∷◌, ◌++◌, map, length, slice_get, slice_index_or, Option, Contains, refl, sym, ap, ap₂, subst, arith, ◌∙◌, le_trans}
+use Rattle.std.proofs.Common.{◌≡◌, inl, inr, ℕ, zero, suc, ◌+◌, ◌<◌, ◌≤◌, Bool, true, false, List, [], ◌∷◌, ◌++◌, map, length, slice_get, slice_index_or, Option, refl, sym, ap, ap₂, subst, arith, ◌∙◌, le_trans}
 use Rattle.std.specs.Prelude.{codes}
 use Rattle.std.specs.List.{AllByRecursion, flat_map, IsDistinct}
 use Rattle.std.specs.Option.{option_map_or}
-use Rattle.std.proofs.lemmas.Bool.Decides.{nat_tests}
 use Rattle.std.proofs.lemmas.List.{length-map}
 use Rattle.std.proofs.lemmas.Simd.{map-map}
 use Rattle.sig_base.specs.declared.limits.TheConstants.{EDGES_MAX}
-use Rattle.model_core.specs.EventGraph.{EventGraph, EventVertex, EventEdge, EdgeKind, Schedule, Urgent, CancelNext, CancelEqual, CancelAll, StateChange, Set, Draw, Uniform, ByTable, Expression, Variable, WeightTable, Watched, WatchedVariable, WatchedVertex}
+use Rattle.model_core.specs.EventGraph.{EventGraph, EventVertex, EventEdge, Variable, WeightTable, Watched, WatchedVariable, WatchedVertex}
 use Rattle.model_core.specs.Run.Step.{no_vertex, vertex_at}
 use Rattle.model_core.specs.Text.Lexing.{same_bytes}
 use Rattle.model_core.specs.Text.Canonical.{vertex_name, vertex_lines, variable_name, change_line, edge_line, edge_word, expression_texts, timing_text, condition_text, in_parentheses, variable_line, table_line, watched_name, watch_names_line, watch_line, canonical}
 use Rattle.model_core.specs.Text.Spellable.{HasOne, Extent, extent, SpellableEdge, SpellableVertex, SpellableWatched, IsSpellable}
-use Rattle.model_core.specs.Static.OwnRules.{TakeCarried, KeepsChange, CarriesValues, KeepsTiming, KeepsEdge, KeepsVertex, IsWatchable, watch_number, parameters_of, KeepsParts, KeepsStaticRules}
+use Rattle.model_core.specs.Static.OwnRules.{KeepsChange, KeepsEdge, KeepsVertex, IsWatchable, parameters_of, KeepsParts, KeepsStaticRules}
 use Rattle.model_core.specs.Rules.MarkedPlaces.{rank, marked_of}
 use Rattle.model_core.specs.Rules.Drop.{edge_renumbered, vertex_renumbered, watched_renumbered, only_marked}
 use Rattle.model_core.proofs.Marks.{Marked, rank-apart}
 use Rattle.round_trip.proofs.MadeAgain.{VertexFrom, EdgeFrom, ChangeFrom, made-spellable, same_change, same_edge}
-use Rattle.model_core.proofs.Among.{Among, contained-among, of-among, each-among}
+use Rattle.model_core.proofs.Among.{Among, contained-among, of-among, each-among, all-map, all-contained}
+use Rattle.model_core.proofs.Images.{shown-map, flat_map-map}
+use Rattle.model_core.proofs.WatchedApart.{WatchedItem, watch_apart}
 use Rattle.model_core.proofs.MarksBelow.{marked-among}
 use Rattle.model_core.proofs.SomeOfAList.{some-marked_of, some-behind, some-distinct, some-few}
 use Rattle.edge_pruning.proofs.DropMarks.{marked_of-map}
+use Rattle.model_core.proofs.OtherTakes.{change_still, carries_still, timing_still}
 use Rattle.model_core.proofs.NoLongerTexts.{NoLonger, no_longer-behind, no_longer-before, no_longer-same, no_longer-both}
 use Rattle.edge_pruning.proofs.ReachedMarks.{watched-begins, HoldReached}
 use Rattle.edge_pruning.proofs.DropSame.{NamesVertices}
@@ -50,20 +52,9 @@ lines-marked old new (b ∷ bs) [] same = record { at_most = omega arith }
 lines-marked old new (true ∷ bs) (x ∷ xs) same = no_longer-both (no_longer-same (new x) (old x) (same x (inl refl))) (lines-marked old new bs xs (λ y there. same y (inr there)))
 lines-marked old new (false ∷ bs) (x ∷ xs) same = no_longer-both (let e : NoLonger [] (old x) = record { at_most = omega arith } in e) (lines-marked old new bs xs same)
 
-all-map : {A B : Type 0} (P : B → Type 0) (f : A → B) (xs : List A) → ((x : A) → Among x xs → P (f x)) → AllByRecursion P (map f xs)
-all-map P f [] each = tt
-all-map P f (x ∷ xs) each = (each x (inl refl), all-map P f xs (λ y there. each y (inr there)))
-
-all-contained : {A : Type 0} (xs : List A) → AllByRecursion (Contains xs) xs
-all-contained xs = each-among (Contains xs) xs (λ x there. contained-among xs x there)
-
 map-alike : {A B : Type 0} (f h : A → B) (xs : List A) → ((x : A) → Among x xs → f x ≡ h x) → map f xs ≡ map h xs
 map-alike f h [] same = refl
 map-alike f h (x ∷ xs) same = ap₂ (λ y ys. y ∷ ys) (same x (inl refl)) (map-alike f h xs (λ y there. same y (inr there)))
-
-flat_map-map : {A B C : Type 0} (f : A → B) (h : B → List C) (xs : List A) → flat_map h (map f xs) ≡ flat_map (λ x. h (f x)) xs
-flat_map-map f h [] = refl
-flat_map-map f h (x ∷ xs) = ap (λ ys. h (f x) ++ ys) (flat_map-map f h xs)
 
 flat_map-alike : {A C : Type 0} (f h : A → List C) (xs : List A) → ((x : A) → Among x xs → f x ≡ h x) → flat_map f xs ≡ flat_map h xs
 flat_map-alike f h [] same = refl
@@ -76,11 +67,6 @@ among-of_marked (true ∷ bs) (y ∷ xs) x (inl e) = inl e
 among-of_marked (true ∷ bs) (y ∷ xs) x (inr h) = inr (among-of_marked bs xs x h)
 among-of_marked (false ∷ bs) (y ∷ xs) x h = inr (among-of_marked bs xs x h)
 
-shown-map : {A B : Type 0} (n : A → B) (f : A → A) (d : B) → ((x : A) → n (f x) ≡ n x) → (xs : List A) (k : ℕ) → option_map_or n (slice_get (map f xs) k) d ≡ option_map_or n (slice_get xs k) d
-shown-map n f d same [] k = refl
-shown-map n f d same (x ∷ xs) zero = same x
-shown-map n f d same (x ∷ xs) (suc k) = shown-map n f d same xs k
-
 some-marked : {A : Type 0} (marks : List Bool) (xs : List A) → Marked marks 0 → 0 < length xs → HasOne (marked_of marks xs)
 some-marked [] xs marked some = cc
 some-marked (b ∷ bs) [] marked some = absurd (omega arith)
@@ -90,61 +76,6 @@ some-marked (false ∷ bs) (x ∷ xs) marked some = cc
 has_one-map : {A B : Type 0} (f : A → B) (xs : List A) → HasOne xs → HasOne (map f xs)
 has_one-map f [] one = absurd one
 has_one-map f (x ∷ xs) one = tt
-
--- ---- watch items stay apart
-
-vertex_apart : (n a b i j : ℕ) → nat_eq (n + a) (n + b) ≡ false → (i == j) ≡ (a == b) → nat_eq (n + i) (n + j) ≡ false
-vertex_apart n a b i j e same = grind (arith, nat_tests)
-
-variable_apart : (n v i : ℕ) → v < n → nat_eq v (n + i) ≡ false
-variable_apart n v i below = grind (arith, nat_tests)
-
-vertex_from_variable : (n v i : ℕ) → v < n → nat_eq (n + i) v ≡ false
-vertex_from_variable n v i below = grind (arith, nat_tests)
-
-abbrev LiveItem : ℕ → List Bool → Watched → Type 0
-LiveItem n marks (WatchedVariable v) = v < n
-LiveItem n marks (WatchedVertex v) = Marked marks v
-
-item_apart : (n : ℕ) (marks : List Bool) (a b : Watched) → LiveItem n marks a → LiveItem n marks b → nat_eq (watch_number n a) (watch_number n b) ≡ false → nat_eq (watch_number n (watched_renumbered (rank marks) a)) (watch_number n (watched_renumbered (rank marks) b)) ≡ false
-item_apart n marks (WatchedVariable v) (WatchedVariable w) la lb e = e
-item_apart n marks (WatchedVariable v) (WatchedVertex w) la lb e = variable_apart n v (rank marks w) la
-item_apart n marks (WatchedVertex v) (WatchedVariable w) la lb e = vertex_from_variable n w (rank marks v) lb
-item_apart n marks (WatchedVertex v) (WatchedVertex w) la lb e = vertex_apart n v w (rank marks v) (rank marks w) e (rank-apart marks v w la lb)
-
-items_apart : (n : ℕ) (marks : List Bool) (a : Watched) (watch : List Watched) → LiveItem n marks a → AllByRecursion (LiveItem n marks) watch → AllByRecursion (λ y. nat_eq (watch_number n a) y ≡ false) (map (watch_number n) watch) → AllByRecursion (λ y. nat_eq (watch_number n (watched_renumbered (rank marks) a)) y ≡ false) (map (watch_number n) (map (watched_renumbered (rank marks)) watch))
-items_apart n marks a [] la all e = tt
-items_apart n marks a (b ∷ watch) la all e = (item_apart n marks a b la all.0 e.0, items_apart n marks a watch la all.1 e.1)
-
-watch_apart : (n : ℕ) (marks : List Bool) (watch : List Watched) → AllByRecursion (LiveItem n marks) watch → IsDistinct nat_eq (map (watch_number n) watch) → IsDistinct nat_eq (map (watch_number n) (map (watched_renumbered (rank marks)) watch))
-unfolding IsDistinct
-watch_apart n marks [] all distinct = tt
-watch_apart n marks (a ∷ watch) all distinct = (items_apart n marks a watch all.0 all.1 distinct.0, watch_apart n marks watch all.1 distinct.1)
-
--- ---- rules that don't ask what vertices take
-
-module _ (variables : List Variable) (tables : ℕ) (old new : List (List ℕ)) where
-  change_still : (c : StateChange) → KeepsChange variables tables old c → KeepsChange variables tables new c
-  change_still (Set targets values) (few, takes) = (few, record { kinds = takes.kinds; taken = takes.taken; given = takes.given })
-  change_still (Draw target stream (Uniform lo hi)) k = k
-  change_still (Draw target stream (ByTable t)) k = k
-
-  carried_still : (parameters : List ℕ) (values : List Expression) → TakeCarried variables tables old parameters values → TakeCarried variables tables new parameters values
-  carried_still parameters values k = record { kinds = k.kinds; taken = k.taken; given = k.given }
-
-  carries_still : (kind : EdgeKind) (parameters : List ℕ) (values : List Expression) → CarriesValues variables tables old kind parameters values → CarriesValues variables tables new kind parameters values
-  carries_still (Schedule delay priority) parameters values k = carried_still parameters values k
-  carries_still Urgent parameters values k = carried_still parameters values k
-  carries_still CancelNext parameters values k = k
-  carries_still CancelEqual parameters values k = carried_still parameters values k
-  carries_still CancelAll parameters values k = k
-
-  timing_still : (kind : EdgeKind) → KeepsTiming variables tables old kind → KeepsTiming variables tables new kind
-  timing_still (Schedule delay priority) k = k
-  timing_still Urgent k = tt
-  timing_still CancelNext k = tt
-  timing_still CancelEqual k = tt
-  timing_still CancelAll k = tt
 
 -- ---- the graph of the marked vertices
 
@@ -271,9 +202,9 @@ module _ (g : EventGraph) (marks : List Bool) (hold : HoldReached g marks) (name
     one (WatchedVariable v) there = of-among (IsWatchable (length g.variables) (length g.vertices)) g.watch (WatchedVariable v) k.watch there
     one (WatchedVertex v) there = let below = names.watch v there in within_h v (hold.begins v (watched-begins g v there) below) below
 
-  items_live : KeepsParts g → AllByRecursion (LiveItem (length g.variables) marks) g.watch
-  items_live k = each-among (LiveItem (length g.variables) marks) g.watch one where
-    one : (w : Watched) → Among w g.watch → LiveItem (length g.variables) marks w
+  items_live : KeepsParts g → AllByRecursion (WatchedItem (length g.variables) (Marked marks)) g.watch
+  items_live k = each-among (WatchedItem (length g.variables) (Marked marks)) g.watch one where
+    one : (w : Watched) → Among w g.watch → WatchedItem (length g.variables) (Marked marks) w
     one (WatchedVariable v) there = of-among (IsWatchable (length g.variables) (length g.vertices)) g.watch (WatchedVariable v) k.watch there
     one (WatchedVertex v) there = hold.begins v (watched-begins g v there) (names.watch v there)
 
@@ -296,7 +227,7 @@ module _ (g : EventGraph) (marks : List Bool) (hold : HoldReached g marks) (name
     tables = k.tables;
     few_tables = k.few_tables;
     watch = watch_keeps k;
-    watched_once = watch_apart (length g.variables) marks g.watch (items_live k) k.watched_once;
+    watched_once = watch_apart (length g.variables) (rank marks) (Marked marks) (rank-apart marks) g.watch (items_live k) k.watched_once;
     vertices = all-map (KeepsVertex g.variables (length g.tables) (parameters_of h)) (vertex_renumbered f) kept (λ v there.
         keeps_vertex v there (of-among (KeepsVertex g.variables (length g.tables) (parameters_of g)) g.vertices v k.vertices (among-of_marked marks g.vertices v there)));
     few_vertices = le_trans (subst (λ n. n ≤ length g.vertices) (sym (length-map kept (vertex_renumbered f))) (some-few (some-marked_of marks g.vertices))) k.few_vertices;

@@ -19,13 +19,15 @@ use Rattle.model_core.proofs.Keeping.{Kept, received, changed}
 use Rattle.model_core.proofs.EdgesAlike.{with_vertices}
 use Rattle.model_core.proofs.EachOne.{every-map}
 use Rattle.model_core.proofs.EntailedMarks.{same-place}
+use Rattle.model_core.proofs.PlacesChanged.{suc-apart}
+use Rattle.model_core.proofs.Spared.HeldValues.{Holds}
 use Rattle.merge_rules.proofs.EdgesOnLists.{list_treat, list_occur, occur_lists}
 use Rattle.merge_rules.proofs.InsertedEntry.{DueBefore}
 use Rattle.merge_rules.proofs.EdgesAside.{Aside, Calm, Waits, waits-due, urgent_entry, urgent_edge}
 use Rattle.merge_rules.proofs.TwoInOne.{Split, joined_vertex, merged-splits, Known}
 use Rattle.merge_rules.proofs.MergedRuns.{Merging, merged-looks}
 use Rattle.merge_rules.proofs.UrgentEvents.{Settled, settled-next, Exclusive, PriorityOk, occur-settled}
-use Rattle.merge_rules.proofs.Unwritten.{Holds, treat-same, UnwrittenBy, unwritten-holds, suc-apart}
+use Rattle.merge_rules.proofs.Unwritten.{treat-same, UnwrittenBy, unwritten-holds}
 
 -- the graph with the merged vertex in place of the first
 abbrev pub joined_at : EventGraph → ℕ → ℕ → List EventEdge → List Expression → EventGraph

@@ -5,16 +5,15 @@ ghost use lib.Pointwise.{pointwise};
 ghost use Rattle.std.specs.List.{list_any, list_all, flat_map, remove};
 ghost use Rattle.std.specs.Option.{option_map_or};
 ghost use Rattle.model_core.specs.EventGraph.{Location, scalar_location};
-ghost use Rattle.model_core.specs.Run.History.{watches};
 ghost use Rattle.model_core.specs.Rules.BoundsOfParts.{quiet_set, quiet_change, quiet_edge};
 ghost use Rattle.model_core.specs.Rules.Conditions.{first_failed};
 ghost use Rattle.model_core.specs.Rules.MarkedPlaces.{is_among};
 ghost use Rattle.model_core.specs.Rules.Uses.{change_writes, vertex_writes, edge_reads};
 ghost use Rattle.model_core.specs.Rules.UrgentEdges.{plain_urgent_edge, single_urgent};
-ghost use Rattle.model_core.specs.Rules.Merge.{set_parameters, leads_to, is_cancelling, cancels, is_watched_vertex, reads_none_of, is_unwatched, happens_unseen, values_at_once, other_edges, merge_conditions};
-ghost use Rattle.model_core.specs.Code.Views.{graph_of, expression_of, location_of, change_of, edge_kind_of, edge_of, vertex_of, watched_of};
+ghost use Rattle.model_core.specs.Rules.Merge.{set_parameters, leads_to, is_watched_vertex, reads_none_of, is_unwatched, happens_unseen, values_at_once, other_edges, merge_conditions};
+ghost use Rattle.model_core.specs.Code.Views.{graph_of, expression_of, location_of, change_of, edge_of, vertex_of, watched_of};
 
-use model_core::{Change, Edge, EdgeForm, Expr, Model, Target, Vertex, Watch};
+use model_core::{Change, Edge, Expr, Model, Target, Vertex, Watch, is_watched, one_cancels};
 use range_bounds::{bounds, plain_urgent, quiet_change, quiet_edge, quiet_store};
 use use_analysis::{reads_of_edge, writes_of_vertex};
 
@@ -29,58 +28,6 @@ fn leads_at_once(vertex: &Vertex, target: usize) -> bool
             None => false,
         },
     }
-}
-
-fn watches(vertex: usize, item: &Watch) -> bool
-    ensures { result ≡ watches vertex (watched_of item.now) }
-{
-    match item {
-        Watch::Variable { var: _ } => false,
-        Watch::Event { vertex: watched } => *watched == vertex,
-    }
-}
-
-/// Whether the vertex is watched.
-fn is_watched(model: &Model, vertex: usize) -> bool
-    ensures { result ≡ is_watched_vertex (graph_of model.now) vertex }
-{
-    for item in model.watch.as_slice() {
-        if watches(vertex, item) {
-            return true;
-        }
-    }
-    false
-}
-
-fn is_cancelling(form: &EdgeForm) -> bool
-    ensures { result ≡ is_cancelling (edge_kind_of form.now) }
-{
-    match form {
-        EdgeForm::CancelNext | EdgeForm::CancelEqual | EdgeForm::CancelAll => true,
-        EdgeForm::Urgent => false,
-        EdgeForm::Schedule {
-            delay: _,
-            priority: _,
-        } => false,
-    }
-}
-
-fn cancels(target: usize, edge: &Edge) -> bool
-    ensures { result ≡ cancels target (edge_of edge.now) }
-{
-    is_cancelling(&edge.form) && edge.target == target
-}
-
-/// Whether one of the edges cancels events of the vertex.
-fn one_cancels(target: usize, edges: &[Edge]) -> bool
-    ensures { result ≡ list_any (cancels target) (map edge_of edges.now) }
-{
-    for edge in edges {
-        if cancels(target, edge) {
-            return true;
-        }
-    }
-    false
 }
 
 fn reads_one(edge: &Edge, vars: &[usize]) -> bool

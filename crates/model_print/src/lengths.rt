@@ -1,13 +1,15 @@
 //! Lengths of canonical texts, in one walk and without memory.
 
-ghost use Rattle.std.specs.Prelude.{◌≡◌, ◌++◌, ◌-◌, ◌^◌, length, map, min};
+ghost use Rattle.std.specs.Prelude.{◌≡◌, ◌++◌, ◌-◌, ◌<◌, ◌^◌, false, length, map, min};
 ghost use Rattle.std.specs.List.{flat_map};
 ghost use Rattle.model_core.specs.Text.Canonical.{canonical, expression_text, change_line, edge_line};
-ghost use Rattle.model_core.specs.Rules.Merge.{set_parameters};
+ghost use Rattle.model_core.specs.Rules.Fuse.{fused};
+ghost use Rattle.model_core.specs.Rules.Merge.{is_watched_vertex, set_parameters};
 ghost use Rattle.model_core.specs.Rules.Prune.{pruned};
 ghost use Rattle.model_core.specs.Code.Views.{graph_of, expression_of, change_of, edge_of};
 
 use crate::expressions::put_expression;
+use crate::fused::put_model_fused;
 use crate::model::put_model;
 use crate::pen::Count;
 use crate::vertices::{put_change, put_edge, put_taken_over};
@@ -67,5 +69,17 @@ pub fn taken_over_length(vertex: &Vertex, values: &[Expr], model: &Model) -> u64
 {
     let mut count = Count { bytes: 0 };
     put_taken_over(&mut count, model, vertex, values);
+    count.total()
+}
+
+/// How many bytes the canonical text of a model has in which the vertex at `keep` stands for the one at `gone` behind it,
+/// or 2^64 - 1 where it has more.
+pub fn fused_length(model: &Model, keep: usize, gone: usize) -> u64
+    requires first { keep < gone }
+    requires unwatched { is_watched_vertex (graph_of model.now) gone ≡ false }
+    ensures { result ≡ min (length (canonical (fused (graph_of model.now) keep gone))) (2 ^ 64 - 1) }
+{
+    let mut count = Count { bytes: 0 };
+    put_model_fused(&mut count, model, keep, gone);
     count.total()
 }

@@ -3,6 +3,7 @@
 
 mod declarations;
 mod expressions;
+mod fused;
 mod lengths;
 mod model;
 mod names;
@@ -12,7 +13,9 @@ mod printed;
 mod vertices;
 mod without_edge;
 
+pub use fused::standing_for;
 pub use lengths::{
-    change_length, edge_length, expr_length, length_without_edge, printed_length, taken_over_length,
+    change_length, edge_length, expr_length, fused_length, length_without_edge, printed_length,
+    taken_over_length,
 };
 pub use printed::{print, print_expr};

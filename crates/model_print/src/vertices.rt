@@ -151,16 +151,23 @@ fn put_timing<P: Pen>(out: &mut P, model: &Model, form: &EdgeForm)
     }
 }
 
-/// Puts the line of an edge.
-pub(crate) fn put_edge<P: Pen>(out: &mut P, model: &Model, edge: &Edge)
-    ensures { P.adds out.old out.new (edge_line (graph_of model.now) (edge_of edge.now)) }
+/// Puts the line of an edge that leads to this vertex in place of its own target.
+pub(crate) fn put_edge_to<P: Pen>(out: &mut P, model: &Model, target: usize, edge: &Edge)
+    ensures { P.adds out.old out.new (edge_line (graph_of model.now) (record (edge_of edge.now) { target = target })) }
 {
     put_edge_word(out, &edge.form);
-    put_vertex_name(out, model, edge.target);
+    put_vertex_name(out, model, target);
     put_passed(out, model, edge.values.as_slice());
     put_timing(out, model, &edge.form);
     put_condition(out, model, &edge.condition);
     out.put_bytes(b";\n");
+}
+
+/// Puts the line of an edge.
+pub(crate) fn put_edge<P: Pen>(out: &mut P, model: &Model, edge: &Edge)
+    ensures { P.adds out.old out.new (edge_line (graph_of model.now) (edge_of edge.now)) }
+{
+    put_edge_to(out, model, edge.target, edge);
 }
 
 /// Puts the names of variables, with a comma and a space between two.

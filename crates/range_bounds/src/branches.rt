@@ -1,5 +1,5 @@
 //! The row of each operator, and the row of `if`.
-#![tactic(auto, using(crate::proofs::SignedBits::signed_bits))]
+#![tactic(auto, using(model_core::proofs::SignedBits::signed_bits))]
 
 ghost use Rattle.std.specs.Prelude.{◌≡◌, ◌&&◌, ◌||◌, not, cond};
 ghost use Rattle.model_core.specs.Rules.BoundsTable.{operator_bounds, either_bounds, chosen_bounds};
@@ -15,8 +15,8 @@ use crate::truth_rows::{
 };
 use model_core::{Bounds, Op};
 
-/// What an operator makes of the bounds of its operands.
-pub(crate) fn operator_bounds(op: Op, a: &Bounds, b: &Bounds) -> Bounds
+/// The bounds of what an operator gives, from those of its operands.
+pub fn operator_bounds(op: Op, a: &Bounds, b: &Bounds) -> Bounds
     ensures { result ≡ operator_bounds (operator_of op) a.now b.now }
 {
     match op {
@@ -74,8 +74,8 @@ fn taken_branch(c: &Bounds, a: &Bounds, b: &Bounds) -> Bounds
     }
 }
 
-/// The bounds of `if c then a else b`.
-pub(crate) fn chosen_bounds(c: &Bounds, a: &Bounds, b: &Bounds) -> Bounds
+/// The bounds of `if c then a else b`, from those of its parts.
+pub fn chosen_bounds(c: &Bounds, a: &Bounds, b: &Bounds) -> Bounds
     ensures { result ≡ chosen_bounds c.now a.now b.now }
 {
     Bounds {

@@ -1,5 +1,5 @@
 //! What a draw gives: the least and the greatest value of its range or its table.
-#![tactic(auto, using(crate::proofs::SignedBits::signed_bits))]
+#![tactic(auto, using(model_core::proofs::SignedBits::signed_bits))]
 
 ghost use Rattle.std.specs.Prelude.{◌≡◌, map};
 ghost use Rattle.std.specs.List.{fold};
@@ -31,7 +31,7 @@ fn greatest_value(start: i64, rows: &[Row]) -> i64
     greatest
 }
 
-#[tactic(auto, using(crate::proofs::SignedBits::signed_bits, crate::proofs::FirstRow::rows_from_first))]
+#[tactic(auto, using(model_core::proofs::SignedBits::signed_bits, crate::proofs::FirstRow::rows_from_first))]
 fn rows_bounds(rows: &[Row]) -> Bounds
     ensures { result ≡ rows_bounds (map weighted_of rows.now) }
 {
@@ -45,8 +45,8 @@ fn rows_bounds(rows: &[Row]) -> Bounds
     }
 }
 
-/// The bounds of what a draw gives.
-pub(crate) fn choice_bounds(model: &Model, choice: &Choice) -> Bounds
+/// The bounds of what a draw gives: from its least value to its greatest one, and 0 alone of a table that isn't there.
+pub fn choice_bounds(model: &Model, choice: &Choice) -> Bounds
     ensures { result ≡ choice_bounds (graph_of model.now) (choice_of choice.now) }
 {
     match choice {

@@ -1,13 +1,13 @@
 //! Pairs of ends, which are computed in 128 bits and moved to the nearest numbers of 64 bits.
-#![tactic(auto, using(crate::proofs::SignedBits::signed_bits))]
+#![tactic(auto, using(model_core::proofs::SignedBits::signed_bits))]
 
 ghost use Rattle.std.specs.Prelude.{◌≡◌, ◌≤◌, ◌^◌, ◌&&◌};
 ghost use Rattle.model_core.specs.Rules.BoundsTable.{number_bounds, truth_bounds, nearest, fits, exact_bounds, least_of, greatest_of, has_zero, magnitude};
 
 use model_core::Bounds;
 
-/// The bounds of a whole number.
-pub(crate) fn number_bounds(lo: i64, hi: i64, quiet: bool) -> Bounds
+/// The bounds of a whole number from `lo` to `hi`, which never faults where it is quiet.
+pub fn number_bounds(lo: i64, hi: i64, quiet: bool) -> Bounds
     ensures { result ≡ number_bounds lo hi quiet }
 {
     Bounds {
@@ -19,8 +19,8 @@ pub(crate) fn number_bounds(lo: i64, hi: i64, quiet: bool) -> Bounds
     }
 }
 
-/// The bounds of a truth value.
-pub(crate) fn truth_bounds(can_false: bool, can_true: bool, quiet: bool) -> Bounds
+/// The bounds of a truth value that can be false, can be true, and never faults where it is quiet.
+pub fn truth_bounds(can_false: bool, can_true: bool, quiet: bool) -> Bounds
     ensures { result ≡ truth_bounds can_false can_true quiet }
 {
     Bounds {
@@ -71,14 +71,14 @@ pub(crate) fn both_quiet(a: &Bounds, b: &Bounds) -> bool
     a.quiet && b.quiet
 }
 
-#[tactic(auto, using(crate::proofs::SignedBits::signed_bits), unfolding(model_core::specs::Rules::BoundsTable::least_of))]
+#[tactic(auto, using(model_core::proofs::SignedBits::signed_bits), unfolding(model_core::specs::Rules::BoundsTable::least_of))]
 fn least_of(p: i128, q: i128, r: i128, s: i128) -> i128
     ensures { result ≡ least_of p q r s }
 {
     p.min(q).min(r.min(s))
 }
 
-#[tactic(auto, using(crate::proofs::SignedBits::signed_bits), unfolding(model_core::specs::Rules::BoundsTable::greatest_of))]
+#[tactic(auto, using(model_core::proofs::SignedBits::signed_bits), unfolding(model_core::specs::Rules::BoundsTable::greatest_of))]
 fn greatest_of(p: i128, q: i128, r: i128, s: i128) -> i128
     ensures { result ≡ greatest_of p q r s }
 {

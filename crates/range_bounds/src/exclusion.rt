@@ -1,5 +1,5 @@
 //! Conditions of which at most one is true.
-#![tactic(auto, using(crate::proofs::SignedBits::signed_bits))]
+#![tactic(auto, using(model_core::proofs::SignedBits::signed_bits))]
 
 ghost use Rattle.std.specs.Prelude.{◌≡◌, ℤ, pos, ◌+ℤ◌, ◌&&◌, ◌||◌, IfSome};
 ghost use Rattle.model_core.specs.EventGraph.{Binary};
@@ -46,8 +46,8 @@ fn number_literal(expr: &Expr) -> Option<i64>
     }
 }
 
-/// A number as it is written, with a sign or without.
-fn literal_number(expr: &Expr) -> Option<i128>
+/// The number of a literal, or of `-` before one; `None` of any other expression.
+pub fn literal_number(expr: &Expr) -> Option<i128>
     ensures number { result ≡ literal_number (expression_of expr.now) }
     ensures near { IfSome result IsNear }
 {
@@ -63,7 +63,7 @@ fn literal_number(expr: &Expr) -> Option<i128>
     }
 }
 
-#[tactic(auto, using(crate::proofs::SignedBits::signed_bits), unfolding(crate::specs::Near::both_meet))]
+#[tactic(auto, using(model_core::proofs::SignedBits::signed_bits), unfolding(crate::specs::Near::both_meet))]
 fn both_meet(p: Op, m: i128, q: Op, n: i128, x: i128) -> bool
     ensures { result ≡ both_meet (operator_of p) m (operator_of q) n x }
 {
@@ -78,7 +78,7 @@ fn this_or_next_meets(p: Op, m: i128, q: Op, n: i128, at: i128) -> bool
 }
 
 /// Whether a number or one of the two beside it makes both comparisons true.
-#[tactic(auto, using(crate::proofs::SignedBits::signed_bits), unfolding(crate::specs::Near::one_beside_meets))]
+#[tactic(auto, using(model_core::proofs::SignedBits::signed_bits), unfolding(crate::specs::Near::one_beside_meets))]
 fn one_beside_meets(p: Op, m: i128, q: Op, n: i128, at: i128) -> bool
     requires { IsNear at }
     ensures { result ≡ one_beside_meets (operator_of p) m (operator_of q) n at }

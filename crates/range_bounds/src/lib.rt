@@ -1,5 +1,5 @@
 //! Which values expressions can have, as the declared ranges tell: bounds, conditions that never or always hold, and
-//! stores, changes and edges that never fault.
+//! stores, changes and edges that never fault. The rows of the table of bounds are public, for bounds under other ranges.
 #![tactic(auto)]
 
 mod branches;
@@ -14,10 +14,15 @@ mod truth_rows;
 mod urgency;
 mod variables;
 
-pub use exclusion::exclusive;
+pub use branches::{chosen_bounds, operator_bounds};
+pub use choices::choice_bounds;
+pub use ends::{number_bounds, truth_bounds};
+pub use exclusion::{exclusive, literal_number};
 pub use expressions::{bounds, proved, refuted};
+pub use number_rows::negative_bounds;
 pub use parts::{quiet_change, quiet_edge, quiet_set, quiet_store};
 pub use soundness::{
     exclusive_conditions_are_never_both_true, quiet_parts_have_no_fault, values_lie_in_bounds,
 };
+pub use truth_rows::opposite;
 pub use urgency::{plain_urgent, single_urgent};

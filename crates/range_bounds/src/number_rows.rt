@@ -1,5 +1,5 @@
 //! The rows of the table that give numbers, one function each.
-#![tactic(auto, using(crate::proofs::SignedBits::signed_bits))]
+#![tactic(auto, using(model_core::proofs::SignedBits::signed_bits))]
 
 ghost use Rattle.std.specs.Prelude.{◌≡◌, pos, ◌+ℤ◌, ◌-ℤ◌, ◌*ℤ◌, ◌≤ℤ◌, neg_ℤ, int_div, int_le, cond, ◌&&◌, not};
 ghost use Rattle.std.specs.Int.{int_min, int_max};
@@ -9,8 +9,8 @@ ghost use Rattle.model_core.specs.Rules.BoundsTable.{negative_bounds, operator_b
 use crate::ends::{both_quiet, exact_bounds, has_zero, magnitude, number_bounds, of_four};
 use model_core::Bounds;
 
-/// The bounds of `-a`.
-pub(crate) fn negative_bounds(a: &Bounds) -> Bounds
+/// The bounds of `-a`, from those of `a`.
+pub fn negative_bounds(a: &Bounds) -> Bounds
     ensures { result ≡ negative_bounds a.now }
 {
     exact_bounds(-(a.hi as i128), -(a.lo as i128), a.quiet)

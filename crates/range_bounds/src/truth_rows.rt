@@ -8,8 +8,8 @@ ghost use Rattle.model_core.specs.Rules.BoundsTable.{opposite, below_bounds, at_
 use crate::ends::{both_quiet, truth_bounds};
 use model_core::Bounds;
 
-/// The bounds of `not a`.
-pub(crate) fn opposite(a: &Bounds) -> Bounds
+/// The bounds of `not a`, from those of `a`.
+pub fn opposite(a: &Bounds) -> Bounds
     ensures { result ≡ opposite a.now }
 {
     truth_bounds(a.can_true, a.can_false, a.quiet)

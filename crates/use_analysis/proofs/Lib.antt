@@ -1,3 +1,1 @@
-pub mod AmongUses
 pub mod NotedRows
-pub mod UseLines

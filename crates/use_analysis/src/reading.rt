@@ -1,11 +1,11 @@
-//! Whether an edge or a change reads a variable, and whether a vertex writes it. Nothing here takes memory.
-#![tactic(auto, using(crate::proofs::AmongUses::among_parts))]
+//! Whether a variable is read by an edge, a change or a vertex, and whether a vertex writes it. Nothing here takes memory.
+#![tactic(auto, using(model_core::proofs::AmongUses::among_parts))]
 
 ghost use Rattle.std.specs.Prelude.{◌≡◌, map, Some};
 ghost use Rattle.std.specs.List.{flat_map};
 ghost use Rattle.model_core.specs.EventGraph.{Location};
 ghost use Rattle.model_core.specs.Rules.MarkedPlaces.{is_among};
-ghost use Rattle.model_core.specs.Rules.Uses.{variables_in, location_reads, change_reads, change_writes, delay_reads, edge_reads, vertex_writes};
+ghost use Rattle.model_core.specs.Rules.Uses.{variables_in, location_reads, change_reads, change_writes, delay_reads, edge_reads, vertex_reads, vertex_writes};
 ghost use Rattle.model_core.specs.Code.Views.{expression_of, location_of, change_of, edge_kind_of, edge_of, vertex_of};
 
 use model_core::{Change, Edge, EdgeForm, Expr, Target, Vertex};
@@ -97,6 +97,37 @@ pub fn reads_of_edge(edge: &Edge, var: usize) -> bool
     stands_in(&edge.condition, var)
         || delays(&edge.form, var)
         || stands_in_one(edge.values.as_slice(), var)
+}
+
+/// Whether one of these changes reads a variable.
+fn reads_of_changes(changes: &[Change], var: usize) -> bool
+    ensures { result ≡ is_among (flat_map change_reads (map change_of changes.now)) var }
+{
+    for change in changes {
+        if reads_of_change(change, var) {
+            return true;
+        }
+    }
+    false
+}
+
+/// Whether one of these edges reads a variable.
+fn reads_of_edges(edges: &[Edge], var: usize) -> bool
+    ensures { result ≡ is_among (flat_map edge_reads (map edge_of edges.now)) var }
+{
+    for edge in edges {
+        if reads_of_edge(edge, var) {
+            return true;
+        }
+    }
+    false
+}
+
+/// Whether a vertex reads a variable: in one of its changes or edges.
+pub fn reads_of_vertex(vertex: &Vertex, var: usize) -> bool
+    ensures { result ≡ is_among (vertex_reads (vertex_of vertex.now)) var }
+{
+    reads_of_changes(vertex.changes.as_slice(), var) || reads_of_edges(vertex.edges.as_slice(), var)
 }
 
 /// Whether one of these targets is the variable, or a cell of it.

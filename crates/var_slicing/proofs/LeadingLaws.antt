@@ -6,17 +6,12 @@ use Rattle.std.specs.List.{flat_map}
 use Rattle.std.proofs.lemmas.Bool.Decides.{nat_tests}
 use Rattle.model_core.specs.Rules.Entailed.{Entailed, over_pair}
 use Rattle.model_core.specs.Rules.Needed.{needed_by_streams}
-use Rattle.model_core.proofs.Among.{Among, contained-among, among-map, among-of_map, among-front, among-back, among-either}
+use Rattle.model_core.proofs.Among.{Among, contained-among, among-map, among-of_map, among-front, among-back, among-flat_map, among-either}
 use Rattle.model_core.proofs.PlacesChanged.{same_number}
 use Rattle.model_core.proofs.EntailedMarks.{same-place, entailed-below, Implied}
 use Rattle.var_slicing.specs.Inner.Leading.{leader, next_leaders, leaders_after, leaders_of, led_pairs}
 
 -- ---- what flat maps and filters hold
-
-pub among-flat_map : {A B : Type 0} (f : A → List B) (xs : List A) (x : A) (y : B) → Among x xs → Among y (f x) → Among y (flat_map f xs)
-among-flat_map f [] x y among there = absurd among
-among-flat_map f (z ∷ xs) x y (inl e) there = among-front (f z) (flat_map f xs) y (subst (λ w. Among y (f w)) (sym e) there)
-among-flat_map f (z ∷ xs) x y (inr later) there = among-back (f z) (flat_map f xs) y (among-flat_map f xs x y later there)
 
 pub among-of_flat_map : {A B : Type 0} (f : A → List B) (xs : List A) (y : B) → Among y (flat_map f xs) → (x : A) × Among x xs × Among y (f x)
 among-of_flat_map f [] y among = absurd among

@@ -5,7 +5,7 @@ use Rattle.model_core.specs.Rules.Uses.{uses_of}
 use Rattle.model_core.specs.Code.Views.{graph_of}
 use Rattle.use_analysis.specs.UseRows.{uses_row}
 use Rattle.use_analysis.specs.UsesText.{uses_line}
-use Rattle.use_analysis.proofs.UseLines.{as-many, seen-at, one_number_more}
+use Rattle.model_core.proofs.NumbersInTurn.{as-many, seen-at, one_number_more}
 use Rattle.use_analysis.proofs.use_lines.put_rows.Goals as goal
 
 pub loop-var-preserved : goal.loop-var-preserved

@@ -2,7 +2,7 @@ use Rattle.std.proofs.Common.{◌≡◌, map, drop}
 use Rattle.std.specs.List.{list_any}
 use Rattle.model_core.specs.Run.History.{watches}
 use Rattle.model_core.specs.Code.Views.{watched_of}
-use Rattle.merge_rules.proofs.conditions.is_watched.Given as goal
+use Rattle.model_core.proofs.watching.is_watched.Given as goal
 
 abbrev pub invariant-loop-item : goal.invariant-loop-item
 invariant-loop-item l =

@@ -1,0 +1,25 @@
+-- Lists of images: what stands at a place, what is shown of it, and what they are put together to.
+use Rattle.std.proofs.Common.{◌≡◌, ℕ, zero, suc, List, [], ◌∷◌, ◌++◌, map, slice_get, slice_index_or, refl, ap}
+use Rattle.std.specs.List.{flat_map, remove}
+use Rattle.std.specs.Option.{option_map_or}
+
+pub at-map : {A B : Type 0} (f : A → B) (xs : List A) (k : ℕ) (d : A) → slice_index_or (map f xs) k (f d) ≡ f (slice_index_or xs k d)
+at-map f [] k d = refl
+at-map f (x ∷ xs) zero d = refl
+at-map f (x ∷ xs) (suc k) d = at-map f xs k d
+
+-- where an image shows what its element shows
+pub shown-map : {A B : Type 0} (n : A → B) (f : A → A) (d : B) → ((x : A) → n (f x) ≡ n x) → (xs : List A) (k : ℕ) → option_map_or n (slice_get (map f xs) k) d ≡ option_map_or n (slice_get xs k) d
+shown-map n f d same [] k = refl
+shown-map n f d same (x ∷ xs) zero = same x
+shown-map n f d same (x ∷ xs) (suc k) = shown-map n f d same xs k
+
+pub flat_map-map : {A B C : Type 0} (f : A → B) (h : B → List C) (xs : List A) → flat_map h (map f xs) ≡ flat_map (λ x. h (f x)) xs
+flat_map-map f h [] = refl
+flat_map-map f h (x ∷ xs) = ap (λ ys. h (f x) ++ ys) (flat_map-map f h xs)
+
+pub map-remove : {A B : Type 0} (f : A → B) (xs : List A) (k : ℕ) → map f (remove xs k) ≡ remove (map f xs) k
+map-remove f [] zero = refl
+map-remove f [] (suc k) = refl
+map-remove f (x ∷ xs) zero = refl
+map-remove f (x ∷ xs) (suc k) = ap (λ ys. f x ∷ ys) (map-remove f xs k)
