@@ -7,6 +7,7 @@ ghost use Rattle.model_core.specs.Code.Views.{graph_of};
 
 use crate::begin_error::BeginError;
 use crate::occurrence::occur;
+use crate::parts::Parts;
 use crate::room::make_room;
 use crate::starts::{carried, check_starts, schedule_first};
 use crate::turn::Turn;
@@ -72,9 +73,12 @@ fn vertex_at(model: &Graph, place: usize) -> &Vertex
 
 impl<'m, P: Pending> Run<'m, P> {
     ghost use Rattle.run_control.specs.Running.{told_next};
+    ghost use Rattle.std.specs.Prelude.{ℕ};
+    ghost use Rattle.model_core.specs.Run.Changes.{taken_from};
     ghost use Rattle.run_control.specs.PossibleModel.{PossibleModel};
+    ghost use Rattle.run_control.specs.SoundRun.{Known};
     ghost use Rattle.run_control.specs.Beginning.{BegunRun, RefusesStart};
-    ghost use Rattle.run_control.specs.Turns.{Turns, ComesNext, StepKeeps, HasRoom, IsDue};
+    ghost use Rattle.run_control.specs.Turns.{Turns, ComesNext, StepKeeps, HasRoom, FitsRoom, IsDue};
 
     /// A run of a model as it begins: at clock 0 with the initial values, no words taken, and the first vertex's event,
     /// which carries the starting values. `pending` is given empty; room is made in it for `room` events, and for one at least.
@@ -118,6 +122,59 @@ impl<'m, P: Pending> Run<'m, P> {
         })
     }
 
+    /// The run that has these parts. The words taken, the steps made and the events ever scheduled may be as many as
+    /// steps within the limits lead to, so that the run can go on.
+    pub fn from_parts(
+        model: &'m Graph,
+        pending: P,
+        state: State,
+        streams: Streams,
+        clock: u64,
+        turns: u64,
+    ) -> Run<'m, P>
+        requires possible { PossibleModel (graph_of model.now) }
+        requires inside { IsTrue (in_range (graph_of model.now) state) }
+        requires words { (stream : ℕ) → taken_from streams.taken stream < 2 ^ 60 }
+        requires countable { P.numbered pending < 2 ^ 61 }
+        requires made_for { P.vertices pending ≡ length model.now.vertices }
+        requires known { Known (length model.now.vertices) (P.entries pending) }
+        ensures { result ≡ record {
+          model = model.now;
+          seed = streams.seed;
+          now = record { clock = clock; state = state; taken = streams.taken; pending = P.entries pending };
+          spare = P.spare pending;
+          turns = turns;
+          faulted = None;
+        } }
+    {
+        Run {
+            model,
+            pending,
+            state,
+            streams,
+            clock,
+            turns,
+            fault: None,
+        }
+    }
+
+    /// The parts of the run.
+    pub fn into_parts(self) -> Parts<P>
+        ensures now { record { clock = result.clock; state = result.state; taken = result.streams.taken; pending = P.entries result.pending } ≡ self.entry.now }
+        ensures inside { IsTrue (in_range (graph_of self.entry.model) result.state) }
+        ensures seed { result.streams.seed ≡ self.entry.seed }
+        ensures spare { P.spare result.pending ≡ self.entry.spare }
+        ensures turns { result.turns ≡ self.entry.turns }
+    {
+        Parts {
+            pending: self.pending,
+            state: self.state,
+            streams: self.streams,
+            clock: self.clock,
+            turns: self.turns,
+        }
+    }
+
     /// What is told of the next event: `None` where nothing is pending, or the run has faulted.
     pub fn next(&self) -> Option<First>
         ensures { result ≡ told_next self.now self.now.faulted }
@@ -159,13 +216,15 @@ impl<'m, P: Pending> Run<'m, P> {
     }
 
     /// Makes one step up to a stop time in ticks: the next event occurs. Room for what it schedules is made before
-    /// anything changes.
+    /// anything changes. The room for events, pending ones among them, never falls, so a step lacks memory only where the
+    /// pending events and those that it may schedule are more than the room with which the run began.
     pub fn step<L: Ledger>(&mut self, until: u64, steps: &mut Steps<L>) -> Result<Turn, NoMemory>
         requires soon { until ≤ 2 ^ 48 }
         requires budget { self.old.turns < 2 ^ 40 }
         ensures ok { IfOk result (λ turn. Turns self.old until turn self.new self.old.faulted) }
         ensures err { OnErr result (self.new ≡ self.old) }
         ensures enough { HasRoom self.old (next_entry self.old.now.pending) → IsOk result }
+        ensures within_room { (room : ℕ) → room ≤ self.old.spare + length self.old.now.pending → FitsRoom self.old room (next_entry self.old.now.pending) → IsOk result }
         ensures due { OnErr result (IsDue until (next_entry self.old.now.pending)) }
         ensures keeps { StepKeeps self.old self.new }
     {

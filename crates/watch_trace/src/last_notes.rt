@@ -1,37 +1,37 @@
 //! Which note of a history is due, and the values that were noted last.
 
-ghost use Rattle.std.specs.Prelude.{◌≡◌, ◌++◌, map, position, None, IfOk, OnOk, IsTrue};
-ghost use Rattle.std.specs.List.{flat_map, AllByRecursion, list_all};
-ghost use Rattle.model_core.specs.Run.State.{cell_count, variable_at, in_range};
+ghost use Rattle.std.specs.Prelude.{◌≡◌, map, position, None, IfOk, IsTrue, length};
+ghost use Rattle.std.specs.List.{sum_by};
+ghost use Rattle.model_core.specs.Run.State.{in_range};
 ghost use Rattle.model_core.specs.Run.History.{watched_values, watches};
 ghost use Rattle.model_core.specs.Code.Views.{graph_of, watched_of};
-ghost use Rattle.watch_trace.specs.Inner.KeptNotes.{fresh, Fits, are_same, with_values_of};
 
-use crate::kept::Kept;
+use crate::watched_cells::{are_same, put_values, take_values, zeros};
 use event_list::Pending;
-use model_core::{Model as Graph, Watch};
+use model_core::{Model as Graph, Watch, watches};
 use run_control::{Run, Turn};
 use sig_base::NoMemory;
 use sig_expr::State;
 use std::alloc::Global;
 use std::marker::Model;
 
-/// The model, and the values of the last `at` note.
+/// The model, and the values of the last `at` note, of all watched cells in order. Before the first note they are zeros.
 #[derive(Drop)]
 pub struct LastNotes<'m> {
     model: &'m Graph,
-    kept: Vec<Kept>,
+    values: Vec<i64>,
     noted: bool,
 }
 
 impl<'m> Model for LastNotes<'m> {
-    ghost use Rattle.std.specs.Prelude.{◌≡◌, Some, None, cond, map};
+    ghost use Rattle.std.specs.Prelude.{◌≡◌, Some, None, cond, map, length};
     ghost use Rattle.std.specs.Coded.{codes};
-    ghost use Rattle.std.specs.List.{flat_map};
+    ghost use Rattle.std.specs.List.{sum_by};
     ghost use Rattle.model_core.specs.contracts.expr.Expr as expressions;
     ghost use Rattle.model_core.specs.Code.Views.{graph_of, watched_of};
     ghost use Rattle.watch_trace.specs.Tracing.{Tracing};
-    ghost use Rattle.watch_trace.specs.Inner.KeptNotes.{fresh, emptied};
+    ghost use Rattle.model_core.specs.Saved.Cells.{watched_sizes, cut_up};
+    ghost use Rattle.watch_trace.specs.Inner.KeptNotes.{watched_size};
 
     ghost Value = { Tracing };
 
@@ -39,59 +39,10 @@ impl<'m> Model for LastNotes<'m> {
 
     ghost view = { λ t. record {
       model = t.model.now;
-      noted = cond t.noted (Some (map (λ k. k.values) t.kept.items)) None;
+      noted = cond t.noted (Some (cut_up (watched_sizes (graph_of t.model.now) (map watched_of t.model.now.watch)) t.values.items)) None;
     } };
 
-    ghost invariant = { λ t. map emptied t.kept.items ≡ flat_map (fresh (graph_of t.model.now)) (map watched_of t.model.now.watch) };
-}
-
-/// How many cells the variable at a place has.
-fn cells_declared(model: &Graph, var: usize) -> usize
-    ensures { result ≡ cell_count (variable_at (graph_of model.now) var) }
-{
-    match model.vars.as_slice().get(var) {
-        Some(found) => found.size.max(1),
-        None => 1,
-    }
-}
-
-/// Adds what is kept of a watched thing.
-fn put_kept(
-    kept: &mut Vec<Kept>,
-    alloc: Global,
-    model: &Graph,
-    watch: Watch,
-) -> Result<(), NoMemory>
-    ensures { OnOk result (kept.new.items ≡ kept.old.items ++ fresh (graph_of model.now) (watched_of watch)) }
-{
-    match watch {
-        Watch::Variable { var } => {
-            kept.push(Kept::begin(alloc, var, cells_declared(model, var))?)?;
-            Ok(())
-        }
-        Watch::Event { vertex: _ } => Ok(()),
-    }
-}
-
-/// What is kept of all that a model watches.
-fn all_kept(alloc: Global, model: &Graph) -> Result<Vec<Kept>, NoMemory>
-    ensures { IfOk result (λ kept. kept.items ≡ flat_map (fresh (graph_of model.now)) (map watched_of model.now.watch)) }
-{
-    let mut kept = Vec::new(alloc);
-    for watch in model.watch.as_slice() {
-        put_kept(&mut kept, alloc, model, *watch)?;
-    }
-    Ok(kept)
-}
-
-/// Whether a watched thing is this vertex.
-fn is_vertex(watch: Watch, vertex: usize) -> bool
-    ensures { result ≡ watches vertex (watched_of watch) }
-{
-    match watch {
-        Watch::Variable { var: _ } => false,
-        Watch::Event { vertex: watched } => watched == vertex,
-    }
+    ghost invariant = { λ t. length t.values.items ≡ sum_by (watched_size (graph_of t.model.now)) (map watched_of t.model.now.watch) };
 }
 
 /// The place of a vertex in a watch list.
@@ -99,38 +50,17 @@ fn place_of(watch: &[Watch], vertex: usize) -> Option<usize>
     ensures { result ≡ position (watches vertex) (map watched_of watch.now) }
 {
     for (place, watched) in watch.iter().enumerate() {
-        if is_vertex(*watched, vertex) {
+        if watches(vertex, watched) {
             return Some(place);
         }
     }
     None
 }
 
-/// Whether all values are those of a state.
-fn all_same(kept: &[Kept], state: &State) -> bool
-    ensures { result ≡ list_all (are_same state.now) kept.now }
-{
-    for one in kept {
-        if !one.is(state.cells(one.var())) {
-            return false;
-        }
-    }
-    true
-}
-
-/// Takes all values from a state.
-fn keep_all(kept: &mut Vec<Kept>, state: &State)
-    requires { AllByRecursion (Fits state.now) kept.old.items }
-    ensures { kept.new.items ≡ map (with_values_of state.now) kept.old.items }
-{
-    for one in kept.iter_mut() {
-        let cells = state.cells(one.var());
-        one.keep(cells);
-    }
-}
-
 impl<'m> LastNotes<'m> {
-    ghost use Rattle.std.specs.Prelude.{◌&&◌, Some};
+    ghost use Rattle.std.specs.Prelude.{◌&&◌, Some, sum};
+    ghost use Rattle.std.specs.Option.{option_map};
+    ghost use Rattle.model_core.specs.Saved.Cells.{watched_sizes, cut_up, in_one_list};
     ghost use Rattle.model_core.specs.Run.Pending.{next_entry};
     ghost use Rattle.watch_trace.specs.Tracing.{leaves_time, is_new, place_of_turn};
 
@@ -140,7 +70,7 @@ impl<'m> LastNotes<'m> {
     {
         Ok(LastNotes {
             model,
-            kept: all_kept(alloc, model)?,
+            values: zeros(alloc, model)?,
             noted: false,
         })
     }
@@ -154,9 +84,10 @@ impl<'m> LastNotes<'m> {
 
     /// Whether the watched values of a state aren't those noted last.
     pub fn is_new(&self, state: &State) -> bool
+        requires { IsTrue (in_range (graph_of self.now.model) state.now) }
         ensures { result ≡ is_new (watched_values (map watched_of self.now.model.watch) state.now) self.now.noted }
     {
-        !self.noted || !all_same(self.kept.as_slice(), state)
+        !self.noted || !are_same(self.model.watch.as_slice(), self.values.as_slice(), state)
     }
 
     /// Notes the watched values of a state.
@@ -164,7 +95,26 @@ impl<'m> LastNotes<'m> {
         requires { IsTrue (in_range (graph_of self.old.model) state.now) }
         ensures { self.new ≡ record self.old { noted = Some (watched_values (map watched_of self.old.model.watch) state.now) } }
     {
-        keep_all(&mut self.kept, state);
+        take_values(&mut self.values, self.model.watch.as_slice(), state);
+        self.noted = true;
+    }
+
+    /// The values of the last `at` note: `None` where nothing is noted.
+    pub fn noted(&self) -> Option<&[i64]>
+        ensures { option_map (λ values. values.now) result ≡ option_map in_one_list self.now.noted }
+    {
+        if !self.noted {
+            return None;
+        }
+        Some(self.values.as_slice())
+    }
+
+    /// Takes values as those of the last `at` note.
+    pub fn note_values(&mut self, values: &[i64])
+        requires { length values.now ≡ sum (watched_sizes (graph_of self.old.model) (map watched_of self.old.model.watch)) }
+        ensures { self.new ≡ record self.old { noted = Some (cut_up (watched_sizes (graph_of self.old.model) (map watched_of self.old.model.watch)) values.now) } }
+    {
+        put_values(&mut self.values, values);
         self.noted = true;
     }
 

@@ -33,7 +33,9 @@ impl<'m> Model for Tracer<'m> {
 }
 
 impl<'m> Tracer<'m> {
-    ghost use Rattle.std.specs.Prelude.{◌&&◌, Some};
+    ghost use Rattle.std.specs.Prelude.{◌&&◌, Some, sum, length};
+    ghost use Rattle.std.specs.Option.{option_map};
+    ghost use Rattle.model_core.specs.Saved.Cells.{watched_sizes, cut_up, in_one_list};
     ghost use Rattle.model_core.specs.Run.Pending.{next_entry};
     ghost use Rattle.watch_trace.specs.Tracing.{leaves_time, is_new, place_of_turn};
 
@@ -63,6 +65,21 @@ impl<'m> Tracer<'m> {
         ensures { self.new ≡ record self.old { noted = Some (watched_values (map watched_of self.old.model.watch) run.now.now.state) } }
     {
         self.last_notes.remember(run);
+    }
+
+    /// The values of the last `at` note, of all watched cells in order: `None` where nothing is noted.
+    pub fn noted(&self) -> Option<&[i64]>
+        ensures { option_map (λ values. values.now) result ≡ option_map in_one_list self.now.noted }
+    {
+        self.last_notes.noted()
+    }
+
+    /// Takes a value for each watched cell, in order, as those of the last `at` note.
+    pub fn note_values(&mut self, values: &[i64])
+        requires { length values.now ≡ sum (watched_sizes (graph_of self.old.model) (map watched_of self.old.model.watch)) }
+        ensures { self.new ≡ record self.old { noted = Some (cut_up (watched_sizes (graph_of self.old.model) (map watched_of self.old.model.watch)) values.now) } }
+    {
+        self.last_notes.note_values(values);
     }
 
     /// The place in the watch list of the vertex that ran: `None` where the turn isn't `Ran`, or its vertex isn't

@@ -1,0 +1,130 @@
+-- The events that a model's edges schedule are good to save.
+use Rattle.std.proofs.Common.{◌≡◌, ℕ, zero, suc, ◌+◌, ◌-◌, ◌^◌, ◌<◌, ◌≤◌, ℤ, pos, negsuc, Bool, true, false, List, [], ◌∷◌, map, length, slice_index_or, Some, Ok, refl, sym, ap, ◌∙◌, subst, arith, IsTrue}
+use Rattle.std.specs.Prelude.{slice_get}
+use Rattle.std.specs.List.{AllByRecursion, AllZip}
+use Rattle.std.proofs.lemmas.Int.{ints}
+use Rattle.model_core.specs.declared.model.Kind.{Kind}
+use Rattle.model_core.specs.declared.model.Kind.TheVariants as kinds
+use Rattle.model_core.specs.EventGraph.{EventGraph, Variable, EventVertex, EventEdge, EdgeKind, Schedule, Urgent, CancelNext, CancelEqual, CancelAll, Expression}
+use Rattle.model_core.specs.Run.State.{State, variable_at, in_range}
+use Rattle.model_core.specs.Run.Value.{each, value_of, number_of}
+use Rattle.model_core.specs.Run.Edges.{Waiting, delay_ticks, delay_of, carried_values}
+use Rattle.model_core.specs.Run.Step.{no_vertex, vertex_at}
+use Rattle.model_core.specs.Text.Spellable.{IsSigned, extent, SpellableExpression, SpellableKind, SpellableEdge, SpellableVertex, SpellableVariable, IsSpellable, HasWrittenRange}
+use Rattle.model_core.specs.Static.HasKind.{HasKind}
+use Rattle.model_core.specs.Static.OwnRules.{FitsKind, KeepsVariable, CarriesValues, KeepsTiming, KeepsEdge, KeepsVertex, TakeCarried, parameters_of, KeepsParts}
+use Rattle.model_core.proofs.Results.{bind_ok}
+use Rattle.model_core.proofs.EachOne.{every-both, every-map}
+use Rattle.model_core.proofs.StaticTwins.Zips.{zip_length}
+use Rattle.model_core.proofs.Soundness.Promise.{TruthsAreDeclared, ZeroToOne}
+use Rattle.model_core.proofs.Soundness.DeclaredRanges.{declared_sound}
+use Rattle.model_core.specs.Saved.SavedRun.{IsWide, IsGoodEntry}
+use Rattle.run_snapshot.proofs.WideValues.{WideRange, value-wide}
+use Rattle.run_snapshot.proofs.MadeEntries.{SchedulesOnly}
+
+-- what holds of each element, and of what stands for none, holds at each place
+pub every-place : {A : Type 0} (P : A → Type 0) (xs : List A) (d : A) (k : ℕ) → AllByRecursion P xs → P d → P (slice_index_or xs k d)
+every-place P [] d k all p = p
+every-place P (x ∷ xs) d zero (here, all) p = here
+every-place P (x ∷ xs) d (suc k) (here, all) p = every-place P xs d k all p
+
+-- the image that stands at a place
+got-image : {A B : Type 0} (f : A → B) (xs : List A) (d : A) (k : ℕ) (y : B) → slice_get (map f xs) k ≡ Some y → (k < length xs) × (f (slice_index_or xs k d) ≡ y)
+got-image f [] d k y e = cc
+got-image f (x ∷ xs) d zero y e = (omega arith, cc)
+got-image f (x ∷ xs) d (suc k) y e = let (below, same) = got-image f xs d k y e in (omega (arith, below), same)
+
+signed-wide : (x : ℤ) → IsSigned x → IsWide x
+signed-wide (pos n) s = record { least = omega (arith, ints); greatest = omega (arith, ints, s) }
+signed-wide (negsuc n) s = record { least = omega (arith, ints, s); greatest = omega (arith, ints) }
+
+-- ---- ranges
+
+written-wide : (v : Variable) (kind : Kind) → HasWrittenRange v kind → WideRange v
+written-wide v kinds.Truth (lo, hi, clip) = record { lo = subst IsWide (sym lo) (signed-wide (pos 0) (omega arith)); hi = subst IsWide (sym hi) (signed-wide (pos 1) (omega arith)) }
+written-wide v kinds.Range (lo, hi) = record { lo = signed-wide v.lo lo; hi = signed-wide v.hi hi }
+
+pub ranges-wide : (g : EventGraph) → IsSpellable g → (v : ℕ) → WideRange (variable_at g v)
+ranges-wide g spelled v =
+    every-place WideRange g.variables _ v (every-map SpellableVariable WideRange (λ v s. written-wide v v.kind s.range) g.variables spelled.variables) (record { lo = signed-wide (pos 0) (omega arith); hi = signed-wide (pos 0) (omega arith) })
+
+truth-declared : (v : Variable) (kind : Kind) → FitsKind kind v → kind ≡ kinds.Truth → ZeroToOne v
+truth-declared v kinds.Truth fits e = record { low = fits.least; high = fits.greatest }
+truth-declared v kinds.Range fits e = cc
+
+truths-declared : (g : EventGraph) → AllByRecursion KeepsVariable g.variables → TruthsAreDeclared g.variables
+truths-declared g kept v =
+    every-place (λ (v : Variable). v.kind ≡ kinds.Truth → ZeroToOne v) g.variables _ v (every-map KeepsVariable _ (λ v k. truth-declared v v.kind k.range) g.variables kept) (λ e. cc)
+
+-- ---- values
+
+number-wide : (b : Bool) → IsWide (number_of b)
+number-wide true = signed-wide (pos 1) (omega arith)
+number-wide false = signed-wide (pos 0) (omega arith)
+
+module _ (g : EventGraph) (parts : KeepsParts g) (spelled : IsSpellable g) (seed : ℕ) (s : State) (clk : ℕ) (early : clk ≤ 2 ^ 48) (inside : IsTrue (in_range g s)) where
+  of-kind-wide : (kind : Kind) (n : ℕ) (e : Expression) (x : ℤ) → HasKind g.variables e kind → SpellableExpression n e → value_of g s clk e ≡ Ok x → IsWide x
+  of-kind-wide kinds.Truth n e x is fits done =
+      let holds = (declared_sound g s clk e kinds.Truth early inside (truths-declared g parts.variables) is).inside x done in
+      subst IsWide (sym holds.value) (number-wide holds.truth)
+  of-kind-wide kinds.Range n e x is fits done = value-wide g s clk early inside (ranges-wide g spelled) n e x is fits done
+
+  each-wide : (n : ℕ) (es : List Expression) (ks : List Kind) (xs : List ℤ) → AllZip (HasKind g.variables) es ks → AllByRecursion (SpellableExpression n) es → each (value_of g s clk) es ≡ Ok xs → (length xs ≡ length es) × AllByRecursion IsWide xs
+  each-wide n [] [] xs kinds fits done = let same : [] ≡ xs = cc in subst (λ (xs : List ℤ). (length xs ≡ 0) × AllByRecursion IsWide xs) same (refl, tt)
+  each-wide n [] (k ∷ ks) xs kinds fits done = absurd kinds
+  each-wide n (e ∷ es) [] xs kinds fits done = absurd kinds
+  each-wide n (e ∷ es) (k ∷ ks) xs (is, kinds) (here, fits) done =
+      let (y, first, later) = bind_ok (value_of g s clk e) _ xs done in
+      let (ys, others, at_end) = bind_ok (each (value_of g s clk) es) (λ ys. Ok (y ∷ ys)) xs later in
+      let (long, wide) = each-wide n es ks ys kinds fits others in
+      let same : y ∷ ys ≡ xs = cc in
+      subst (λ (xs : List ℤ). (length xs ≡ suc (length es)) × AllByRecursion IsWide xs) same (ap suc long, (of-kind-wide k n e y is here first, wide))
+
+  -- ---- edges
+
+  ticks-near : (x : ℤ) (n : ℕ) → IsWide x → delay_ticks x ≡ Ok n → n ≤ 2 ^ 63 - 1
+  ticks-near (pos k) n w e = let same : k ≡ n = cc in omega (arith, ints, w.greatest, same)
+  ticks-near (negsuc k) n w e = cc
+
+  delay-near : (n : ℕ) (delay : Expression) (taken : List ℕ) (wait : Waiting) → HasKind g.variables delay kinds.Range → SpellableExpression n delay → delay_of g seed s clk delay taken ≡ Ok wait → wait.ticks ≤ 2 ^ 63 - 1
+  delay-near n delay taken wait is fits done =
+      let (x, at_value, later) = bind_ok (value_of g s clk delay) _ wait done in
+      let (ticks, at_ticks, at_end) = bind_ok (delay_ticks x) (λ n. Ok (record { ticks = n; taken = taken })) wait later in
+      let same : ticks ≡ wait.ticks = cc in
+      subst (λ (n : ℕ). n ≤ 2 ^ 63 - 1) same (ticks-near x ticks (of-kind-wide kinds.Range n delay x is fits at_value) at_ticks)
+
+  -- an event of this vertex, scheduled now or soon
+  made-good : (e : EventEdge) (parameters : List ℕ) (ticks priority : ℕ) (values : List ℤ) → slice_get (parameters_of g) e.target ≡ Some parameters → ticks ≤ 2 ^ 63 - 1 → priority ≤ 255 → TakeCarried g.variables (length g.tables) (parameters_of g) parameters e.values → AllByRecursion (SpellableExpression (length g.variables)) e.values → carried_values g s clk e ≡ Ok values
+      → IsGoodEntry g clk (record { time = clk + ticks; priority = priority; vertex = e.target; values = values })
+  made-good e parameters ticks priority values target near low carries fits at_values =
+      let (there, same) = got-image (λ (v : EventVertex). v.parameters) g.vertices no_vertex e.target parameters target in
+      let (long, wide) = each-wide (length g.variables) e.values carries.kinds values carries.given fits at_values in
+      let as_many : length e.values ≡ length parameters = zip_length _ e.values carries.kinds carries.given ∙ sym (zip_length _ parameters carries.kinds carries.taken) in
+      record {
+        from_now = omega arith;
+        near = omega (arith, near);
+        priority = low;
+        vertex = there;
+        matched = long ∙ as_many ∙ ap length (sym same);
+        wide = wide;
+      }
+
+  kind-good : (e : EventEdge) (kind : EdgeKind) (parameters : List ℕ) → slice_get (parameters_of g) e.target ≡ Some parameters → CarriesValues g.variables (length g.tables) (parameters_of g) kind parameters e.values → KeepsTiming g.variables (length g.tables) (parameters_of g) kind → SpellableKind (extent g) kind → AllByRecursion (SpellableExpression (length g.variables)) e.values
+      → SchedulesOnly (IsGoodEntry g clk) g seed s clk e kind
+  kind-good e (Schedule delay priority) parameters target carries timing written fits =
+      λ taken wait values at_delay at_values. made-good e parameters wait.ticks priority values target (delay-near (length g.variables) delay taken wait timing.0 written.0 at_delay) timing.2 carries fits at_values
+  kind-good e Urgent parameters target carries timing written fits =
+      λ values at_values. subst (λ (t : ℕ). IsGoodEntry g clk (record { time = t; priority = 0; vertex = e.target; values = values })) (omega arith) (made-good e parameters 0 0 values target (omega arith) (omega arith) carries fits at_values)
+  kind-good e CancelNext parameters target carries timing written fits = tt
+  kind-good e CancelEqual parameters target carries timing written fits = tt
+  kind-good e CancelAll parameters target carries timing written fits = tt
+
+  edge-good : (e : EventEdge) → KeepsEdge g.variables (length g.tables) (parameters_of g) e → SpellableEdge (extent g) e → SchedulesOnly (IsGoodEntry g clk) g seed s clk e e.kind
+  edge-good e kept written = kind-good e e.kind kept.parameters kept.target kept.carries kept.timing written.kind written.values
+
+  -- every edge of a vertex schedules such events only
+  pub edges-good : (k : ℕ) → AllByRecursion (λ e. SchedulesOnly (IsGoodEntry g clk) g seed s clk e e.kind) (vertex_at g k).edges
+  edges-good k =
+      every-both (KeepsEdge g.variables (length g.tables) (parameters_of g)) (SpellableEdge (extent g)) _ edge-good (vertex_at g k).edges
+      (every-place (λ (v : EventVertex). AllByRecursion (KeepsEdge g.variables (length g.tables) (parameters_of g)) v.edges) g.vertices _ k (every-map (KeepsVertex g.variables (length g.tables) (parameters_of g)) _ (λ v kept. kept.edges) g.vertices parts.vertices) tt)
+      (every-place (λ (v : EventVertex). AllByRecursion (SpellableEdge (extent g)) v.edges) g.vertices _ k (every-map (SpellableVertex (extent g)) _ (λ v written. written.edges) g.vertices spelled.vertices) tt)

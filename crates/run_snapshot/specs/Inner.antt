@@ -1,0 +1,2 @@
+-- What the code needs on the way, for its proofs. Nobody has to believe it.
+pub mod NotedValues

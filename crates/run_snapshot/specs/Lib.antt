@@ -1,0 +1,2 @@
+pub mod ResumedRun
+pub mod Inner

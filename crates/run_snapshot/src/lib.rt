@@ -1,0 +1,13 @@
+//! Snapshots of runs: what a saved run is, and that it goes on as the whole run does.
+#![tactic(auto)]
+
+mod laws;
+mod resumed;
+mod resuming;
+mod saving;
+mod snapshot;
+
+pub use laws::{due_order_decides, saved_runs_resume, stopped_runs_go_on};
+pub use resumed::{Resumed, resume};
+pub use saving::save;
+pub use snapshot::Snapshot;
