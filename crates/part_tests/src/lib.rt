@@ -1,8 +1,10 @@
-//! Tests of what no clause says of the lowest crates and of the printer, through their public calls.
+//! Tests of what no clause says of the lowest crates, of the printer and of the conflicts, through their public calls.
 #![tactic(auto)]
 
 #[cfg(test)]
 mod adapters;
+#[cfg(test)]
+mod conflicts;
 #[cfg(test)]
 mod copies;
 #[cfg(test)]

@@ -7,6 +7,8 @@ mod chains;
 #[cfg(test)]
 mod merged_models;
 #[cfg(test)]
+mod narrowed_models;
+#[cfg(test)]
 mod reading;
 #[cfg(test)]
 mod static_rules;

@@ -8,6 +8,7 @@ pub mod ReachedVertices
 pub mod MergingModels
 pub mod BoundedModel
 pub mod Pairs
+pub mod TwoEvents
 pub mod Texts
 pub mod Tokens
 pub mod LineOpenings
@@ -17,4 +18,7 @@ pub mod StockText
 pub mod GrammarTexts
 pub mod WholeTexts
 pub mod NeedingModels
+pub mod NarrowModel
 pub mod CertificateTexts
+pub mod TwinModels
+pub mod SavedExamples

@@ -1,5 +1,5 @@
-//! Definitions computed on small examples: runs, texts, tokens, static faults, bounds, reductions and limits; and pairs of
-//! models that are the same, or that sameness tells apart. The clauses are theorems. The functions that carry them do
+//! Definitions computed on small examples: runs, texts, tokens, static faults, bounds, reductions, conflicts and limits; and
+//! pairs of models that are the same, or that sameness tells apart. The clauses are theorems. The functions that carry them do
 //! nothing.
 #![tactic(auto)]
 
@@ -10,13 +10,17 @@ mod bounds_table;
 mod certificates;
 mod changes;
 mod clock;
+mod commuting;
+mod conflicts;
 mod event_time;
 mod exclusive;
+mod fusing;
 mod grammar;
 mod histories;
 mod left;
 mod limits;
 mod merging;
+mod needed_ranges;
 mod needing;
 mod openings;
 mod order;
@@ -24,6 +28,7 @@ mod quiet_parts;
 mod ranges;
 mod reaching;
 mod rules;
+mod saved_runs;
 mod spellable;
 mod static_rules;
 mod stream;
@@ -56,10 +61,16 @@ pub use changes::variables_are_drawn;
 pub use clock::clock_counts;
 pub use clock::loop_goes_on;
 pub use clock::runs_are_over;
+pub use commuting::conflicts_matter;
+pub use commuting::places_are_kept;
+pub use conflicts::conflicts_have_texts;
 pub use event_time::events_see_their_time;
 pub use exclusive::comparisons_may_be_exclusive;
 pub use exclusive::negations_are_exclusive;
 pub use exclusive::refuted_ones_are_exclusive;
+pub use fusing::fuse_has_conditions;
+pub use fusing::fused_runs_look_alike;
+pub use fusing::twins_are_fused;
 pub use grammar::expressions_have_places;
 pub use grammar::fronts_are_refused;
 pub use grammar::lines_are_refused;
@@ -77,6 +88,8 @@ pub use merging::merge_has_a_result;
 pub use merging::merge_has_conditions;
 pub use merging::plain_edges_are_alone;
 pub use merging::the_first_merge_is_taken;
+pub use needed_ranges::ranges_are_checked;
+pub use needed_ranges::ranges_grow_in_rounds;
 pub use needing::faults_are_needed;
 pub use needing::slice_has_conditions;
 pub use needing::some_variables_are_needed_at_once;
@@ -100,6 +113,8 @@ pub use rules::applications_are_made_in_order;
 pub use rules::conditions_have_numbers;
 pub use rules::the_first_rule_is_taken;
 pub use rules::the_strategy_ends;
+pub use saved_runs::events_are_in_due_order;
+pub use saved_runs::saved_runs_show_the_rest;
 pub use spellable::openings_are_those_of_the_text;
 pub use spellable::some_parts_are_not_written;
 pub use static_rules::counts_have_limits;

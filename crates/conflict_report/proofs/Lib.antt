@@ -1,0 +1,14 @@
+pub mod Deeds
+pub mod SparedEdges
+pub mod WrittenEdges
+pub mod Events
+pub mod OtherVertices
+pub mod PutIn
+pub mod EventsOfVertex
+pub mod EitherOrder
+pub mod NoConflict
+pub mod CrossedEvents
+pub mod PerformedInTurn
+pub mod TwoOrders
+pub mod StreamsOfChanges
+pub mod RowsOfPriorities

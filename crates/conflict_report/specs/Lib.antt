@@ -1,0 +1,2 @@
+pub mod ConflictText
+pub mod Inner

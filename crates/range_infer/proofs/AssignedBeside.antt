@@ -1,0 +1,53 @@
+-- What variables take of the values beside them, one after the other.
+use Rattle.std.proofs.Common.{◌≡◌, ℕ, zero, suc, ◌+◌, ◌<◌, List, [], ◌∷◌, ◌++◌, append_assoc, length, map, drop, slice_index_or, refl, sym, ◌∙◌, ap, arith}
+use Rattle.std.proofs.Math.Seq.{drop-cons}
+use Rattle.model_core.specs.declared.vertex.Target.{Target}
+use Rattle.model_core.specs.EventGraph.{Variable, Expression, Location}
+use Rattle.model_core.specs.declared.incoming.Incoming.{Incoming}
+use Rattle.model_core.specs.declared.bounds.Bounds.{Bounds}
+use Rattle.model_core.specs.declared.expr.Expr.{Expr}
+use Rattle.model_core.specs.Code.Views.{expression_of, location_of}
+use Rattle.model_core.specs.Rules.BoundsOf.{bounds_under}
+use Rattle.model_core.specs.Ranges.Refined.{refined}
+use Rattle.model_core.specs.Ranges.Incoming.{assigned}
+
+module _ (rs : List Variable) where
+  -- the first one, and then the others
+  split : (v : ℕ) (vs : List ℕ) (es : List Expression) (p : ℕ) → assigned rs (v ∷ vs) (drop p es) ≡ assigned rs (v ∷ []) (drop p es) ++ assigned rs vs (drop (suc p) es)
+  split v vs [] zero = sym (none vs)
+    where
+      none : (vs : List ℕ) → assigned rs vs [] ≡ []
+      none [] = refl
+      none (v ∷ vs) = refl
+  split v vs [] (suc p) = sym (none vs)
+    where
+      none : (vs : List ℕ) → assigned rs vs [] ≡ []
+      none [] = refl
+      none (v ∷ vs) = refl
+  split v vs (e ∷ es) zero = refl
+  split v vs (e ∷ es) (suc p) = split v vs es p
+
+  pub one_beside : (ns : List ℕ) (es : List Expression) (p v : ℕ) (before new whole : List Incoming) → p < length ns → slice_index_or ns p 0 ≡ v → new ≡ before ++ assigned rs (v ∷ []) (drop p es) → before ++ assigned rs (drop p ns) (drop p es) ≡ whole → new ++ assigned rs (drop (p + 1) ns) (drop (p + 1) es) ≡ whole
+  one_beside ns es p v before new whole small is added so =
+      let next : p + 1 ≡ suc p = omega arith in
+      let first : drop p ns ≡ v ∷ drop (suc p) ns = drop-cons ns p 0 small ∙ ap (λ (w : ℕ). w ∷ drop (suc p) ns) is in
+      ap (λ (k : ℕ). new ++ assigned rs (drop k ns) (drop k es)) next ∙
+      (ap (λ (xs : List Incoming). xs ++ assigned rs (drop (suc p) ns) (drop (suc p) es)) added ∙
+      (append_assoc before (assigned rs (v ∷ []) (drop p es)) (assigned rs (drop (suc p) ns) (drop (suc p) es)) ∙
+      (ap (λ (xs : List Incoming). before ++ xs) (sym (split v (drop (suc p) ns) es p) ∙ ap (λ (vs : List ℕ). assigned rs vs (drop p es)) (sym first)) ∙ so)))
+
+  -- the value at a place that is looked up
+  pub value_found : (v : ℕ) (values : List Expr) (p : ℕ) (found : Expr) (b : Bounds) → p < length values → found ≡ slice_index_or values p found → b ≡ bounds_under refined rs (expression_of found) → record { variable = v; bounds = b } ∷ [] ≡ assigned rs (v ∷ []) (drop p (map expression_of values))
+  value_found v [] p found b small is so = absurd (omega arith)
+  value_found v (x ∷ values) zero found b small is so = ap (λ (b : Bounds). record { variable = v; bounds = b } ∷ []) (so ∙ ap (λ (e : Expr). bounds_under refined rs (expression_of e)) is)
+  value_found v (x ∷ values) (suc p) found b small is so = value_found v values p found b (omega arith) is so
+
+-- the variable of the target at a place
+pub target_at : (targets : List Target) (p : ℕ) (t : Target) → p < length targets → t ≡ slice_index_or targets p t → slice_index_or (map (λ (l : Location). l.variable) (map location_of targets)) p 0 ≡ t.var
+target_at [] p t small is = absurd (omega arith)
+target_at (x ∷ targets) zero t small is = ap (λ (t : Target). t.var) (sym is)
+target_at (x ∷ targets) (suc p) t small is = target_at targets p t (omega arith) is
+
+pub many_targets : (targets : List Target) → length (map (λ (l : Location). l.variable) (map location_of targets)) ≡ length targets
+many_targets [] = refl
+many_targets (t ∷ targets) = ap suc (many_targets targets)

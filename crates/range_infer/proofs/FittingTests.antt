@@ -1,0 +1,52 @@
+-- What the tests of ranges tell.
+use Rattle.std.proofs.Common.{◌≡◌, ℕ, ◌<◌, ℤ, int_le, Bool, true, false, not, ◌&&◌, ◌||◌, List, length, map, slice_index_or, Option, Some, None, refl, sym, ◌∙◌, ap, ap₂, arith}
+use Rattle.std.specs.Prelude.{IfSome}
+use Rattle.std.specs.Ordering.{int_eq}
+use Rattle.std.proofs.lemmas.Int.{ints}
+use Rattle.std.proofs.lemmas.List.{get_or-map}
+use Rattle.model_core.specs.declared.model.Var.{Var}
+use Rattle.model_core.specs.EventGraph.{EventGraph, Variable}
+use Rattle.model_core.specs.Run.State.{no_variable, variable_at}
+use Rattle.model_core.specs.Code.Views.{variable_of}
+use Rattle.model_core.proofs.InRange.{and_first, and_second}
+use Rattle.model_core.proofs.Soundness.Ends.{le_of, of_le}
+use Rattle.model_core.specs.declared.var_range.VarRange.{VarRange}
+use Rattle.model_core.specs.Ranges.OtherRanges.{declared_range}
+use Rattle.model_core.specs.Ranges.Inductive.{is_fixed, Encloses, FitsVariable}
+use Rattle.range_infer.specs.Inner.RangeTests.{range_fits, encloses_kept}
+
+equal_of : (a b : ℤ) → int_eq a b ≡ true → a ≡ b
+equal_of a b e = grind (arith, ints)
+
+both : (a b : Bool) → a ≡ true → b ≡ true → (a && b) ≡ true
+both a b e f = ap₂ (λ (x y : Bool). x && y) e f
+
+module _ (g : EventGraph) (v : ℕ) (r : VarRange) where
+  abbrev w : Variable
+  w = variable_at g v
+
+  stays_told : (fixed : Bool) → (not fixed || int_eq r.lo w.lo && int_eq r.hi w.hi) ≡ true → fixed ≡ true → r ≡ declared_range w
+  stays_told true e is = ap₂ (λ (x y : ℤ). record { lo = x; hi = y }) (equal_of r.lo w.lo (and_first (int_eq r.lo w.lo) _ e)) (equal_of r.hi w.hi (and_second (int_eq r.lo w.lo) _ e))
+  stays_told false e is = cc
+
+  pub fits_told : range_fits (is_fixed g v) w r ≡ true → FitsVariable g v r
+  fits_told e =
+      let three = and_first (int_le r.lo r.hi && int_le w.lo r.lo && int_le r.hi w.hi) _ e in
+      let two = and_first (int_le r.lo r.hi && int_le w.lo r.lo) _ three in
+      record {
+        ordered = le_of r.lo r.hi (and_first (int_le r.lo r.hi) _ two);
+        inside = record { low = le_of w.lo r.lo (and_second (int_le r.lo r.hi) _ two); high = le_of r.hi w.hi (and_second (int_le r.lo r.hi && int_le w.lo r.lo) _ three) };
+        fixed = stays_told (is_fixed g v) (and_second (int_le r.lo r.hi && int_le w.lo r.lo && int_le r.hi w.hi) _ e);
+      }
+
+-- what stands at a place of the code's list
+pub variable_there : (vars : List Var) (v : ℕ) (found : Var) → v < length vars → found ≡ slice_index_or vars v found → slice_index_or (map variable_of vars) v no_variable ≡ variable_of found
+variable_there vars v found small is = get_or-map variable_of vars v found no_variable small ∙ sym (ap variable_of is)
+
+pub holds_told : (r : VarRange) (o : Option VarRange) → encloses_kept r o ≡ true → IfSome o (Encloses r)
+holds_told r None e = tt
+holds_told r (Some k) e = record { low = le_of r.lo k.lo (and_first (int_le r.lo k.lo) _ e); high = le_of k.hi r.hi (and_second (int_le r.lo k.lo) _ e) }
+
+pub told_holds : (r : VarRange) (o : Option VarRange) → IfSome o (Encloses r) → encloses_kept r o ≡ true
+told_holds r None h = refl
+told_holds r (Some k) h = both (int_le r.lo k.lo) (int_le k.hi r.hi) (of_le r.lo k.lo h.low) (of_le k.hi r.hi h.high)

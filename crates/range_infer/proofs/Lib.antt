@@ -1,0 +1,27 @@
+mod ModelWithRanges
+mod NumbersLeft
+mod LeastLeft
+mod Refining
+mod BoundsInHold
+mod NarrowModels
+mod UnderRanges
+mod SameKept
+mod SameStores
+mod SameChanges
+mod SameEdges
+mod NarrowedRuns
+mod ValidNarrowed
+mod OneRound
+mod OpenEnds
+mod RoundsEnd
+mod OneInference
+mod NumbersHeld
+pub mod Overlays
+mod VariablesOfModel
+mod AssignedBeside
+mod FittingTests
+mod FirstOutside
+mod Numbered
+mod GrownRanges
+mod OneTurn
+mod Declared

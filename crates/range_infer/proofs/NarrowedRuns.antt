@@ -1,0 +1,150 @@
+-- Runs of a model and of the same with inductive ranges declared are the same, in lock step with each moment as it is.
+use Rattle.std.proofs.Common.{◌≡◌, inl, inr, ℕ, ◌≤◌, ◌^◌, ℤ, true, IsTrue, List, [], ◌∷◌, map, zip, Some, None, Ok, refl, sym, ◌∙◌, ap, ap₂, subst}
+use Rattle.std.proofs.lemmas.List.{map-id}
+use Rattle.std.specs.Prelude.{replicate}
+use Rattle.std.specs.List.{AllByRecursion}
+use Rattle.model_core.specs.EventGraph.{EventGraph, EventVertex, EventEdge, StateChange, Watched, WatchedVariable, WatchedVertex}
+use Rattle.model_core.specs.Run.State.{State, scalar, variable_at, in_range}
+use Rattle.model_core.specs.Run.Value.{OrFault, in_turn}
+use Rattle.model_core.specs.Run.Changes.{Drawn, make_change}
+use Rattle.model_core.specs.Run.Pending.{Entry, TakenOff, next_entry}
+use Rattle.model_core.specs.Run.Edges.{Planned, treat}
+use Rattle.model_core.specs.Run.Step.{Configuration, vertex_at, receive, occur}
+use Rattle.model_core.specs.Run.History.{Moment, start}
+use Rattle.model_core.specs.Run.Same.{Same, thing, VariableNamed, Parameter, parameter}
+use Rattle.model_core.specs.Static.OwnRules.{KeepsParts}
+use Rattle.model_core.proofs.Alongside.{Alongside, both_go, both_fail, alongside-equal, alongside-known, bind-alongside, in_turn-alongside}
+use Rattle.model_core.proofs.Among.{Among}
+use Rattle.model_core.proofs.InRange.{in_range-kept}
+use Rattle.model_core.proofs.Keeping.{received}
+use Rattle.model_core.proofs.MappedPending.{taken_off_mapped, next_among-every}
+use Rattle.model_core.proofs.EdgesAlike.{unchanged, taken_off-unchanged, configuration-unchanged}
+use Rattle.model_core.proofs.LockStep.{configuration_mapped, Follows, follows-looks}
+use Rattle.model_core.specs.declared.var_range.VarRange.{VarRange}
+use Rattle.model_core.specs.Ranges.OtherRanges.{with_range, model_with_ranges}
+use Rattle.model_core.specs.Ranges.Inductive.{is_fixed, Fitting, Inductive}
+use Rattle.range_infer.proofs.ModelWithRanges.{same_but_range, range_given, same_start}
+use Rattle.range_infer.proofs.NarrowModels.{fits_everywhere, parameter_fixed, begins_in_range, ChangeKnown, EdgeKnown, VertexKnown, vertices_known}
+use Rattle.range_infer.proofs.SameStores.{StoreFits, same_stores, fixed_fits}
+use Rattle.range_infer.proofs.SameChanges.{same_change}
+use Rattle.range_infer.proofs.SameEdges.{EntryFits, PlannedFits, same_edge, edge_fits}
+
+-- one value, of which a fact holds
+abbrev OneAnd : {S : Type 0} → (S → Type 0) → S → S → Type 0
+OneAnd Q s t = (s ≡ t) × Q s
+
+one-and : {S : Type 0} (Q : S → Type 0) {r q : OrFault S} → r ≡ q → ((s : S) → r ≡ Ok s → Q s) → Alongside (OneAnd Q) r q
+one-and {S} Q e known = alongside-known (λ (s t : S). s ≡ t) Q (alongside-equal (λ (s t : S). s ≡ t) (λ s. refl) e) known
+
+module _ (g : EventGraph) (ranges : List VarRange) (keeps : KeepsParts g) (fitting : Fitting g ranges) (inductive : Inductive g ranges) where
+  abbrev h : EventGraph
+  h = model_with_ranges g ranges
+
+  abbrev Fits : Entry → Type 0
+  Fits = EntryFits g ranges fitting keeps
+
+  -- the state lies within the ranges, and so does what is kept of the values of pending entries
+  pub record Sound (c : Configuration) : Type 0 where
+    pub inside : IsTrue (in_range h c.state)
+    pub pending : AllByRecursion Fits c.pending
+
+  abbrev Inside : State → Type 0
+  Inside s = IsTrue (in_range h s)
+
+  receives : (k : ℕ) (values : List ℤ) → AllByRecursion (StoreFits g ranges fitting) (zip (map scalar (vertex_at g k).parameters) values) → (s : State) → Inside s → Alongside (OneAnd Inside) (receive g (vertex_at g k).parameters values s) (receive h (vertex_at g k).parameters values s)
+  receives k values fits s inside =
+      let same = same_stores g ranges fitting (zip (map scalar (vertex_at g k).parameters) values) fits s in
+      one-and Inside same (λ t done. received h Inside (in_range-kept h) (vertex_at g k).parameters values s t inside (sym same ∙ done))
+
+  abbrev DrawnInside : Drawn → Type 0
+  DrawnInside d = Inside d.state
+
+  changes_made : (seed clk : ℕ) → clk ≤ 2 ^ 48 → (v : EventVertex) → VertexKnown g ranges v → (d : Drawn) → DrawnInside d → Alongside (OneAnd DrawnInside) (in_turn (make_change g seed clk) v.changes d) (in_turn (make_change h seed clk) v.changes d)
+  changes_made seed clk early v known d inside =
+      subst (λ (cs : List StateChange). Alongside (OneAnd DrawnInside) (in_turn (make_change g seed clk) v.changes d) (in_turn (make_change h seed clk) cs d)) (map-id v.changes)
+      (in_turn-alongside (ChangeKnown g ranges) (λ c. c) (OneAnd DrawnInside) (make_change g seed clk) (make_change h seed clk) (λ c known d d2 (one, inside).
+      let same = same_change g ranges fitting keeps seed clk early c d inside known in
+      subst (λ (d2 : Drawn). Alongside (OneAnd DrawnInside) (make_change g seed clk c d) (make_change h seed clk c d2)) one
+      (one-and DrawnInside same (λ e done. (in_range-kept h).by_change seed clk c d e inside (sym same ∙ done)))) v.changes known.changes d d (refl, inside))
+
+  abbrev PlanFits : Planned → Type 0
+  PlanFits = PlannedFits g ranges fitting keeps
+
+  edges_treated : (seed clk : ℕ) → clk ≤ 2 ^ 48 → (v : EventVertex) → VertexKnown g ranges v → (s : State) → Inside s → (p : Planned) → PlanFits p → Alongside (OneAnd PlanFits) (in_turn (treat g seed s clk) v.edges p) (in_turn (treat h seed s clk) v.edges p)
+  edges_treated seed clk early v known s inside p fits =
+      subst (λ (es : List EventEdge). Alongside (OneAnd PlanFits) (in_turn (treat g seed s clk) v.edges p) (in_turn (treat h seed s clk) es p)) (map-id v.edges)
+      (in_turn-alongside (EdgeKnown g ranges) (λ e. e) (OneAnd PlanFits) (treat g seed s clk) (treat h seed s clk) (λ e known p p2 (one, fits).
+      subst (λ (p2 : Planned). Alongside (OneAnd PlanFits) (treat g seed s clk e p) (treat h seed s clk e p2)) one
+      (one-and PlanFits (same_edge g ranges fitting keeps seed s clk e p) (λ q done. edge_fits g ranges fitting keeps s inside clk early seed e known p q fits done))) v.edges known.edges p p (refl, fits))
+
+  occurs : (seed : ℕ) (n : TakenOff) → n.entry.time ≤ 2 ^ 48 → Fits n.entry → AllByRecursion Fits n.others → (s : State) (taken : List ℕ) → Inside s → Alongside (OneAnd Sound) (occur g seed (vertex_at g n.entry.vertex) n s taken) (occur h seed (vertex_at g n.entry.vertex) n s taken)
+  occurs seed n due fit fits s taken inside =
+      let v = vertex_at g n.entry.vertex in
+      let known = vertices_known g ranges keeps inductive n.entry.vertex in
+      let clk = n.entry.time in
+      bind-alongside (OneAnd Inside) (OneAnd Sound) (receives n.entry.vertex n.entry.values fit s inside) _ _ (λ t t2 (one, in_t).
+      bind-alongside (OneAnd DrawnInside) (OneAnd Sound) (subst (λ (t2 : State). Alongside (OneAnd DrawnInside) (in_turn (make_change g seed clk) v.changes (record { state = t; taken = taken })) (in_turn (make_change h seed clk) v.changes (record { state = t2; taken = taken }))) one (changes_made seed clk due v known (record { state = t; taken = taken }) in_t)) _ _ (λ d d2 (one, in_d).
+      bind-alongside (OneAnd PlanFits) (OneAnd Sound) (subst (λ (d2 : Drawn). Alongside (OneAnd PlanFits) (in_turn (treat g seed d.state clk) v.edges (record { pending = n.others; taken = d.taken })) (in_turn (treat h seed d2.state clk) v.edges (record { pending = n.others; taken = d2.taken }))) one (edges_treated seed clk due v known d.state in_d (record { pending = n.others; taken = d.taken }) fits)) _ _ (λ p p2 (same, fit).
+      both_go (ap₂ (λ (d : Drawn) (p : Planned). record { clock = clk; state = d.state; taken = p.taken; pending = p.pending }) one same, record { inside = in_d; pending = fit }))))
+
+  -- ---- each step is followed
+
+  abbrev Mapped : Configuration → Configuration → Type 0
+  Mapped c d = (configuration_mapped (λ s. s) (λ words. words) unchanged c ≡ d) × Sound c
+
+  as_mapped : {r q : OrFault Configuration} → Alongside (OneAnd Sound) r q → Alongside Mapped r q
+  as_mapped (both_go {s = c} {t = d} (same, sound)) = both_go (configuration-unchanged c ∙ same, sound)
+  as_mapped (both_fail k) = both_fail k
+
+  steps_same : (seed : ℕ) (c : Configuration) (n : TakenOff) → Sound c → next_entry c.pending ≡ Some n → n.entry.time ≤ 2 ^ 48 → Alongside Mapped (occur g seed (vertex_at g n.entry.vertex) n c.state c.taken) (occur h seed (vertex_at h n.entry.vertex) (taken_off_mapped unchanged n) c.state c.taken)
+  steps_same seed c n sound next due =
+      let (fit, fits) = next_among-every Fits (λ e. true) c.pending sound.pending n next in
+      subst (λ (m : TakenOff). Alongside Mapped (occur g seed (vertex_at g n.entry.vertex) n c.state c.taken) (occur h seed (vertex_at g n.entry.vertex) m c.state c.taken)) (sym (taken_off-unchanged n))
+      (as_mapped (occurs seed n due fit fits c.state c.taken sound.inside))
+
+  follows : (seed : ℕ) → Follows g h (λ s. s) (λ words. words) (λ v. v) (λ e. e.values) Sound seed
+  follows seed = record {
+    watched = λ s. refl;
+    places = λ c n sound next. refl;
+    steps = steps_same seed;
+  }
+
+  -- ---- as runs begin
+
+  is_parameter : (v : ℕ) → Among v (vertex_at g 0).parameters → is_fixed g v ≡ true
+  is_parameter v there = parameter_fixed g v there
+
+  first_fits : (vs : List ℕ) → ((v : ℕ) → Among v vs → is_fixed g v ≡ true) → (values : List ℤ) → AllByRecursion (StoreFits g ranges fitting) (zip (map scalar vs) values)
+  first_fits [] fixed values = tt
+  first_fits (v ∷ vs) fixed [] = tt
+  first_fits (v ∷ vs) fixed (x ∷ values) = (fixed_fits g ranges fitting (scalar v) x (fixed v (inl refl)), first_fits vs (λ w there. fixed w (inr there)) values)
+
+  begins_sound : (starts : List ℤ) → Sound (start g starts).now
+  begins_sound starts = record {
+    inside = subst (λ (s : State). IsTrue (in_range h s)) (sym (same_start g ranges)) (begins_in_range g ranges fitting inductive);
+    pending = (first_fits (vertex_at g 0).parameters is_parameter starts, tt);
+  }
+
+  begins_so : (starts : List ℤ) → record { now = configuration_mapped (λ s. s) (λ words. words) unchanged (start g starts).now; noted = None } ≡ start h starts
+  begins_so starts = ap (λ (s : State). let m : Moment = record { now = record { clock = 0; state = s; taken = replicate 64 0; pending = record { time = 0; priority = 5; vertex = 0; values = starts } ∷ [] }; noted = None } in m) (same_start g ranges)
+
+  -- ---- what is seen
+
+  thing_same : (w : Watched) → thing g w ≡ thing h w
+  thing_same (WatchedVariable v) = ap VariableNamed (sym (same_but_range g.variables ranges v).name)
+  thing_same (WatchedVertex v) = refl
+
+  parameters_same : (vs : List ℕ) → ((v : ℕ) → Among v vs → is_fixed g v ≡ true) → map (λ v. parameter (variable_at g v)) vs ≡ map (λ v. parameter (variable_at h v)) vs
+  parameters_same [] fixed = refl
+  parameters_same (v ∷ vs) fixed =
+      let as_declared = (fits_everywhere g ranges fitting v).fixed (fixed v (inl refl)) in
+      let same : variable_at h v ≡ variable_at g v = range_given g.variables ranges fitting.as_many v ∙ ap (with_range (variable_at g v)) as_declared in
+      ap₂ (λ (p : Parameter) (ps : List Parameter). p ∷ ps) (ap parameter (sym same)) (parameters_same vs (λ w there. fixed w (inr there)))
+
+  pub narrowed-same : Same g h
+  narrowed-same = record {
+    watched = λ i. map (λ w. thing_same w i) g.watch;
+    started = parameters_same (vertex_at g 0).parameters is_parameter;
+    runs = λ seed fits starts allowed until early.
+        follows-looks g h (λ s. s) (λ words. words) (λ v. v) (λ e. e.values) Sound seed (follows seed) until early starts (begins_so starts) (begins_sound starts);
+  }

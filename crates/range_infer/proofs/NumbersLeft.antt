@@ -1,0 +1,99 @@
+-- A number for which a comparison is true, or false, lies among the numbers that are left.
+use Rattle.std.proofs.Common.{◌≡◌, ℕ, ◌-◌, ◌^◌, ℤ, pos, neg_ℤ, ◌+ℤ◌, ◌-ℤ◌, ◌≤ℤ◌, int_le, int_lt, Bool, true, false, not, cond, Some, Ok, Err, refl, ap, arith}
+use Rattle.std.specs.Ordering.{int_eq}
+use Rattle.std.proofs.lemmas.Int.{ints, clamps}
+use Rattle.sig_base.specs.declared.fault.FaultKind.TheVariants as faults
+use Rattle.model_core.specs.EventGraph.{EventGraph, Expression, Number, Negative, Operator, Equal, NotEqual, Below, AtMost, Above, AtLeast}
+use Rattle.model_core.specs.Run.State.{State, within}
+use Rattle.model_core.specs.Run.Value.{number_of, exact, operate, value_of}
+use Rattle.model_core.specs.Rules.Exclusive.{number_literal, literal_number}
+use Rattle.model_core.proofs.Soundness.Ends.{le_of, lt_of, of_not_lt, of_not_le}
+use Rattle.model_core.specs.declared.var_range.VarRange.{VarRange}
+use Rattle.model_core.specs.Ranges.OtherRanges.{LiesIn}
+use Rattle.model_core.specs.Ranges.Refined.{numbers_left, opposite_comparison}
+
+pub number_of-injective : (a b : Bool) → number_of a ≡ number_of b → a ≡ b
+number_of-injective true true e = refl
+number_of-injective true false e = cc
+number_of-injective false true e = cc
+number_of-injective false false e = refl
+
+not_not : (a b : Bool) → not a ≡ b → a ≡ not b
+not_not true b e = ap not e
+not_not false b e = ap not e
+
+-- one end moves where it is n
+moved_low : (b : Bool) (n lo x : ℤ) → int_eq lo n ≡ b → int_eq x n ≡ false → lo ≤ℤ x → cond b (lo +ℤ pos 1) lo ≤ℤ x
+moved_low true n lo x at other le = grind (arith, ints)
+moved_low false n lo x at other le = le
+
+moved_high : (b : Bool) (n hi x : ℤ) → int_eq hi n ≡ b → int_eq x n ≡ false → x ≤ℤ hi → x ≤ℤ cond b (hi -ℤ pos 1) hi
+moved_high true n hi x at other le = grind (arith, ints)
+moved_high false n hi x at other le = le
+
+eq_of : (x n : ℤ) → int_eq x n ≡ true → x ≡ n
+eq_of x n e = grind (arith, ints)
+
+-- of one comparison
+below_left : (n x : ℤ) (r : VarRange) → LiesIn r x → int_lt x n ≡ true → LiesIn (numbers_left Below n r) x
+below_left n x r i e = record { low = i.low; high = omega (arith, ints, clamps, lt_of x n e, i.high) }
+
+at_most_left : (n x : ℤ) (r : VarRange) → LiesIn r x → int_le x n ≡ true → LiesIn (numbers_left AtMost n r) x
+at_most_left n x r i e = record { low = i.low; high = omega (arith, ints, clamps, le_of x n e, i.high) }
+
+above_left : (n x : ℤ) (r : VarRange) → LiesIn r x → int_le x n ≡ false → LiesIn (numbers_left Above n r) x
+above_left n x r i e = record { low = omega (arith, ints, clamps, of_not_le x n e, i.low); high = i.high }
+
+at_least_left : (n x : ℤ) (r : VarRange) → LiesIn r x → int_lt x n ≡ false → LiesIn (numbers_left AtLeast n r) x
+at_least_left n x r i e = record { low = omega (arith, ints, clamps, of_not_lt x n e, i.low); high = i.high }
+
+equal_left : (n x : ℤ) (r : VarRange) → LiesIn r x → int_eq x n ≡ true → LiesIn (numbers_left Equal n r) x
+equal_left n x r i e = let same : x ≡ n = eq_of x n e in record { low = omega (arith, ints, clamps, i.low); high = omega (arith, ints, clamps, i.high) }
+
+not_equal_left : (n x : ℤ) (r : VarRange) → LiesIn r x → int_eq x n ≡ false → LiesIn (numbers_left NotEqual n r) x
+not_equal_left n x r i e = record { low = moved_low _ n r.lo x refl e i.low; high = moved_high _ n r.hi x refl e i.high }
+
+-- above and at least are told with their operands the other way round
+lt_swapped : (x n : ℤ) (b : Bool) → int_lt n x ≡ b → int_le x n ≡ not b
+lt_swapped x n true e = grind (arith, ints)
+lt_swapped x n false e = grind (arith, ints)
+
+le_swapped : (x n : ℤ) (b : Bool) → int_le n x ≡ b → int_lt x n ≡ not b
+le_swapped x n true e = grind (arith, ints)
+le_swapped x n false e = grind (arith, ints)
+
+-- what is left by a comparison of this value, or by its opposite
+pub by_test : (op : Operator) (t : Bool) (n x : ℤ) (r : VarRange) → LiesIn r x → operate op x n ≡ Ok (number_of t) → LiesIn (numbers_left (cond t op (opposite_comparison op)) n r) x
+by_test Below true n x r i e = below_left n x r i (number_of-injective (int_lt x n) true cc)
+by_test Below false n x r i e = at_least_left n x r i (number_of-injective (int_lt x n) false cc)
+by_test AtMost true n x r i e = at_most_left n x r i (number_of-injective (int_le x n) true cc)
+by_test AtMost false n x r i e = above_left n x r i (number_of-injective (int_le x n) false cc)
+by_test Above true n x r i e = above_left n x r i (lt_swapped x n true (number_of-injective (int_lt n x) true cc))
+by_test Above false n x r i e = at_most_left n x r i (lt_swapped x n false (number_of-injective (int_lt n x) false cc))
+by_test AtLeast true n x r i e = at_least_left n x r i (le_swapped x n true (number_of-injective (int_le n x) true cc))
+by_test AtLeast false n x r i e = below_left n x r i (le_swapped x n false (number_of-injective (int_le n x) false cc))
+by_test Equal true n x r i e = equal_left n x r i (number_of-injective (int_eq x n) true cc)
+by_test Equal false n x r i e = not_equal_left n x r i (number_of-injective (int_eq x n) false cc)
+by_test NotEqual true n x r i e = not_equal_left n x r i (not_not (int_eq x n) true (number_of-injective (not (int_eq x n)) true cc))
+by_test NotEqual false n x r i e = equal_left n x r i (not_not (int_eq x n) false (number_of-injective (not (int_eq x n)) false cc))
+by_test op true n x r i e = i
+by_test op false n x r i e = i
+
+-- the value of a literal
+exact-value : (x y : ℤ) → exact x ≡ Ok y → x ≡ y
+exact-value x y e = known (within (neg_ℤ (pos (2 ^ 63))) (pos (2 ^ 63 - 1)) x) e where
+  known : (b : Bool) → cond b (Ok x) (Err faults.Overflow) ≡ Ok y → x ≡ y
+  known true e = cc
+  known false e = cc
+
+number-value : (g : EventGraph) (s : State) (clk : ℕ) (e : Expression) (n x : ℤ) → number_literal e ≡ Some n → value_of g s clk e ≡ Ok x → x ≡ n
+number-value g s clk (Number m) n x is e = cc
+number-value g s clk e n x is done = cc
+
+negative-value : (g : EventGraph) (s : State) (clk : ℕ) (a : Expression) (n x : ℤ) → literal_number (Negative a) ≡ Some n → value_of g s clk (Negative a) ≡ Ok x → x ≡ n
+negative-value g s clk (Number m) n x is e = let same = exact-value (neg_ℤ m) x e in cc
+negative-value g s clk a n x is done = cc
+
+pub literal-value : (g : EventGraph) (s : State) (clk : ℕ) (e : Expression) (n x : ℤ) → literal_number e ≡ Some n → value_of g s clk e ≡ Ok x → x ≡ n
+literal-value g s clk (Negative a) n x is done = negative-value g s clk a n x is done
+literal-value g s clk e n x is done = number-value g s clk e n x is done

@@ -1,0 +1,3 @@
+pub mod Overlaid
+pub mod RangeTests
+pub mod GrownBy

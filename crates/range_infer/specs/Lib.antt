@@ -1,0 +1,2 @@
+pub mod ToldOfRanges
+pub mod Inner

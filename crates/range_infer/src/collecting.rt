@@ -1,0 +1,254 @@
+//! What a model's variables take under given ranges, collected from its changes and edges.
+
+ghost use Rattle.std.specs.Prelude.{◌≡◌, length, true, [], ◌∷◌, ◌++◌, map, drop, OnOk, IfOk};
+ghost use Rattle.std.specs.List.{flat_map};
+ghost use Rattle.model_core.specs.EventGraph.{Location};
+ghost use Rattle.model_core.specs.Run.Step.{vertex_at};
+ghost use Rattle.model_core.specs.Rules.BoundsOf.{bounds_under};
+ghost use Rattle.model_core.specs.Code.Views.{graph_of, expression_of, location_of, change_of, edge_kind_of, edge_of, vertex_of};
+ghost use Rattle.model_core.specs.Ranges.OtherRanges.{with_ranges};
+ghost use Rattle.model_core.specs.Ranges.Refined.{refined};
+ghost use Rattle.model_core.specs.Ranges.Incoming.{assigned, into_change, can_schedule, into_edge, into_vertex, incoming};
+ghost use Rattle.range_infer.specs.Inner.Overlaid.{ranges_left};
+
+use crate::bounds_left::bounds_left;
+use crate::left_range::LeftRange;
+use crate::refinement::refine;
+use model_core::{Change, Edge, EdgeForm, Expr, Incoming, Model, Target, VarRange, Vertex};
+use range_bounds::choice_bounds;
+use sig_base::NoMemory;
+use std::alloc::Global;
+
+/// Adds what the variable takes of the value at this place, if there is one.
+fn add_value_at(
+    out: &mut Vec<Incoming>,
+    model: &Model,
+    ranges: &[VarRange],
+    left: &mut Vec<LeftRange>,
+    variable: usize,
+    values: &[Expr],
+    place: usize,
+) -> Result<(), NoMemory>
+    requires many { length ranges.now ≡ length model.now.vars }
+    ensures out { OnOk result (out.new.items ≡ out.old.items ++ assigned (ranges_left (graph_of model.now) ranges.now left.old.items) (variable ∷ []) (drop place (map expression_of values.now))) }
+    ensures left { OnOk result (left.new.items ≡ left.old.items) }
+{
+    if let Some(value) = values.get(place) {
+        let bounds = bounds_left(model, ranges, left, value)?;
+        out.push(Incoming { variable, bounds })?;
+    }
+    Ok(())
+}
+
+/// Adds what parameters take of the values beside them.
+fn add_parameters(
+    out: &mut Vec<Incoming>,
+    model: &Model,
+    ranges: &[VarRange],
+    left: &mut Vec<LeftRange>,
+    params: &[usize],
+    values: &[Expr],
+) -> Result<(), NoMemory>
+    requires many { length ranges.now ≡ length model.now.vars }
+    ensures out { OnOk result (out.new.items ≡ out.old.items ++ assigned (ranges_left (graph_of model.now) ranges.now left.old.items) params.now (map expression_of values.now)) }
+    ensures left { OnOk result (left.new.items ≡ left.old.items) }
+{
+    for (place, param) in params.iter().enumerate() {
+        add_value_at(out, model, ranges, left, *param, values, place)?;
+    }
+    Ok(())
+}
+
+/// Adds what targets take of the values beside them.
+fn add_targets(
+    out: &mut Vec<Incoming>,
+    model: &Model,
+    ranges: &[VarRange],
+    left: &mut Vec<LeftRange>,
+    targets: &[Target],
+    values: &[Expr],
+) -> Result<(), NoMemory>
+    requires many { length ranges.now ≡ length model.now.vars }
+    ensures out { OnOk result (out.new.items ≡ out.old.items ++ assigned (ranges_left (graph_of model.now) ranges.now left.old.items) (map (λ (l : Location). l.variable) (map location_of targets.now)) (map expression_of values.now)) }
+    ensures left { OnOk result (left.new.items ≡ left.old.items) }
+{
+    for (place, target) in targets.iter().enumerate() {
+        add_value_at(out, model, ranges, left, target.var, values, place)?;
+    }
+    Ok(())
+}
+
+/// Adds what a change sets or draws.
+fn add_change(
+    alloc: Global,
+    out: &mut Vec<Incoming>,
+    model: &Model,
+    ranges: &[VarRange],
+    change: &Change,
+) -> Result<(), NoMemory>
+    requires many { length ranges.now ≡ length model.now.vars }
+    ensures { OnOk result (out.new.items ≡ out.old.items ++ into_change (graph_of model.now) (with_ranges (graph_of model.now).variables ranges.now) (change_of change.now)) }
+{
+    match change {
+        Change::Set { targets, values } => {
+            let mut left = Vec::new(alloc);
+            let targets = targets.as_slice();
+            add_targets(out, model, ranges, &mut left, targets, values.as_slice())
+        }
+        Change::Draw {
+            target,
+            stream: _,
+            choice,
+        } => {
+            out.push(Incoming {
+                variable: target.var,
+                bounds: choice_bounds(model, choice),
+            })?;
+            Ok(())
+        }
+    }
+}
+
+/// The parameters of the vertex at this place.
+pub(crate) fn parameters_at(model: &Model, vertex: usize) -> &[usize]
+    ensures { result.now ≡ (vertex_at (graph_of model.now) vertex).parameters }
+{
+    match model.vertices.as_slice().get(vertex) {
+        Some(vertex) => vertex.params.as_slice(),
+        None => &[],
+    }
+}
+
+fn can_schedule(form: &EdgeForm) -> bool
+    ensures { result ≡ can_schedule (edge_kind_of form.now) }
+{
+    match form {
+        EdgeForm::Schedule {
+            delay: _,
+            priority: _,
+        } => true,
+        EdgeForm::Urgent => true,
+        EdgeForm::CancelNext | EdgeForm::CancelEqual | EdgeForm::CancelAll => false,
+    }
+}
+
+/// Adds what the parameters of the vertex take that an edge schedules where its condition is true.
+fn add_carried(
+    alloc: Global,
+    out: &mut Vec<Incoming>,
+    model: &Model,
+    ranges: &[VarRange],
+    edge: &Edge,
+) -> Result<(), NoMemory>
+    requires many { length ranges.now ≡ length model.now.vars }
+    ensures { OnOk result (out.new.items ≡ out.old.items ++ assigned (refined (expression_of edge.now.condition) true (with_ranges (graph_of model.now).variables ranges.now)) (vertex_at (graph_of model.now) edge.now.target).parameters (map expression_of edge.now.values)) }
+{
+    let mut left = Vec::new(alloc);
+    refine(model, ranges, &mut left, &edge.condition, true)?;
+    let params = parameters_at(model, edge.target);
+    add_parameters(
+        out,
+        model,
+        ranges,
+        &mut left,
+        params,
+        edge.values.as_slice(),
+    )
+}
+
+/// Whether an expression can be true.
+fn can_be_true(
+    alloc: Global,
+    model: &Model,
+    ranges: &[VarRange],
+    expr: &Expr,
+) -> Result<bool, NoMemory>
+    requires many { length ranges.now ≡ length model.now.vars }
+    ensures { IfOk result (λ can. can ≡ (bounds_under refined (with_ranges (graph_of model.now).variables ranges.now) (expression_of expr.now)).can_true) }
+{
+    let mut left = Vec::new(alloc);
+    let bounds = bounds_left(model, ranges, &mut left, expr)?;
+    Ok(bounds.can_true)
+}
+
+/// Adds what an edge carries, if it schedules where its condition can be true.
+fn add_edge(
+    alloc: Global,
+    out: &mut Vec<Incoming>,
+    model: &Model,
+    ranges: &[VarRange],
+    edge: &Edge,
+) -> Result<(), NoMemory>
+    requires many { length ranges.now ≡ length model.now.vars }
+    ensures { OnOk result (out.new.items ≡ out.old.items ++ into_edge (graph_of model.now) (with_ranges (graph_of model.now).variables ranges.now) (edge_of edge.now)) }
+{
+    if !can_schedule(&edge.form) {
+        return Ok(());
+    }
+    if can_be_true(alloc, model, ranges, &edge.condition)? {
+        add_carried(alloc, out, model, ranges, edge)?;
+    }
+    Ok(())
+}
+
+fn add_changes(
+    alloc: Global,
+    out: &mut Vec<Incoming>,
+    model: &Model,
+    ranges: &[VarRange],
+    changes: &[Change],
+) -> Result<(), NoMemory>
+    requires many { length ranges.now ≡ length model.now.vars }
+    ensures { OnOk result (out.new.items ≡ out.old.items ++ flat_map (into_change (graph_of model.now) (with_ranges (graph_of model.now).variables ranges.now)) (map change_of changes.now)) }
+{
+    for change in changes {
+        add_change(alloc, out, model, ranges, change)?;
+    }
+    Ok(())
+}
+
+fn add_edges(
+    alloc: Global,
+    out: &mut Vec<Incoming>,
+    model: &Model,
+    ranges: &[VarRange],
+    edges: &[Edge],
+) -> Result<(), NoMemory>
+    requires many { length ranges.now ≡ length model.now.vars }
+    ensures { OnOk result (out.new.items ≡ out.old.items ++ flat_map (into_edge (graph_of model.now) (with_ranges (graph_of model.now).variables ranges.now)) (map edge_of edges.now)) }
+{
+    for edge in edges {
+        add_edge(alloc, out, model, ranges, edge)?;
+    }
+    Ok(())
+}
+
+fn add_vertex(
+    alloc: Global,
+    out: &mut Vec<Incoming>,
+    model: &Model,
+    ranges: &[VarRange],
+    vertex: &Vertex,
+) -> Result<(), NoMemory>
+    requires many { length ranges.now ≡ length model.now.vars }
+    ensures { OnOk result (out.new.items ≡ out.old.items ++ into_vertex (graph_of model.now) (with_ranges (graph_of model.now).variables ranges.now) (vertex_of vertex.now)) }
+{
+    add_changes(alloc, out, model, ranges, vertex.changes.as_slice())?;
+    add_edges(alloc, out, model, ranges, vertex.edges.as_slice())
+}
+
+/// All that a model's variables take under these ranges, one for each variable.
+pub(crate) fn incoming(
+    alloc: Global,
+    model: &Model,
+    ranges: &[VarRange],
+) -> Result<Vec<Incoming>, NoMemory>
+    requires many { length ranges.now ≡ length model.now.vars }
+    ensures { IfOk result (λ all. all.items ≡ incoming (graph_of model.now) ranges.now) }
+{
+    let mut out = Vec::new(alloc);
+    for vertex in model.vertices.as_slice() {
+        add_vertex(alloc, &mut out, model, ranges, vertex)?;
+    }
+    Ok(out)
+}

@@ -1,0 +1,45 @@
+-- Pairs that are known not to be alike, one more after the other.
+use Rattle.std.proofs.Common.{◌≡◌, ◌⊎◌, inl, inr, ℕ, suc, ◌+◌, ◌<◌, ◌≤◌, ◌==◌, nat_lt, true, false, ◌&&◌, length, drop, Some, None, ◌∙◌, ap, arith}
+use Rattle.std.specs.Prelude.{is_none, take, if◌then◌else◌}
+use Rattle.std.specs.Option.{option_map}
+use Rattle.std.proofs.lemmas.Bool.Decides.{nat_tests}
+use Rattle.model_core.proofs.EntailedMarks.{same-place}
+use Rattle.model_core.specs.EventGraph.{EventGraph}
+use Rattle.model_core.specs.Rules.Conditions.{first_failed}
+use Rattle.model_core.specs.Rules.Fuse.{fuse_conditions}
+use Rattle.model_core.proofs.InRange.{and_first, and_second}
+use Rattle.model_core.proofs.Among.{either_true}
+use Rattle.twin_rules.specs.Inner.AskedPairs.{are_alike, NoneAlikeBefore, NoneAlikeWith}
+
+-- a vertex isn't alike with one that doesn't stand behind it
+not-behind : (g : EventGraph) (keep gone : ℕ) → gone ≤ keep → are_alike g keep gone ≡ false
+not-behind g keep gone behind =
+    let out : nat_lt keep gone ≡ false = grind (arith, nat_tests) in
+    ap (λ b. is_none (if (b && nat_lt gone (length g.vertices)) then option_map suc (first_failed (drop 1 (take 5 (fuse_conditions g keep gone)))) else Some 1)) out
+
+pub none-behind : (g : EventGraph) (keep y : ℕ) → y < keep + 1 → are_alike g keep y ≡ false
+none-behind g keep y less = not-behind g keep y (omega (arith, less))
+
+last-or-before : (k place : ℕ) → k < place + 1 → (k < place) ⊎ (k ≡ place)
+last-or-before k place less = grind arith
+
+pub one-more-known : (g : EventGraph) (keep gone : ℕ) → ((y : ℕ) → y < gone → are_alike g keep y ≡ false) → are_alike g keep gone ≡ false → (y : ℕ) → y < gone + 1 → are_alike g keep y ≡ false
+one-more-known g keep gone none here y less = by (last-or-before y gone less) where
+  by : (y < gone) ⊎ (y ≡ gone) → are_alike g keep y ≡ false
+  by (inl before) = none y before
+  by (inr same) = ap (are_alike g keep) same ∙ here
+
+pub one-more-row : (g : EventGraph) (keep : ℕ) → ((x y : ℕ) → x < keep → are_alike g x y ≡ false) → NoneAlikeWith g keep None → (x y : ℕ) → x < keep + 1 → are_alike g x y ≡ false
+one-more-row g keep none here x y less = by (last-or-before x keep less) where
+  by : (x < keep) ⊎ (x ≡ keep) → are_alike g x y ≡ false
+  by (inl before) = none x y before
+  by (inr same) = ap (λ x. are_alike g x y) same ∙ here y
+
+told-less : (a b : ℕ) → nat_lt a b ≡ true → a < b
+told-less a b e = grind (arith, nat_tests)
+
+pub none-before-here : (g : EventGraph) (keep gone : ℕ) → ((x y : ℕ) → x < keep → are_alike g x y ≡ false) → NoneAlikeWith g keep (Some gone) → NoneAlikeBefore g (Some (keep, gone))
+none-before-here g keep gone none here x y told = by (either_true (nat_lt x keep) _ told) where
+  by : (nat_lt x keep ≡ true) ⊎ (((x == keep) && nat_lt y gone) ≡ true) → are_alike g x y ≡ false
+  by (inl less) = none x y (told-less x keep less)
+  by (inr both) = ap (λ x. are_alike g x y) (same-place x keep (and_first (x == keep) _ both)) ∙ here y (told-less y gone (and_second (x == keep) _ both))

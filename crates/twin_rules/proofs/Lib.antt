@@ -1,0 +1,12 @@
+pub mod AlikeVertices
+pub mod FusedRuns
+pub mod ValidFused
+pub mod FirstTwins
+pub mod FusingEnds
+pub mod NoLongerFused
+pub mod StillApart
+pub mod FirstFound
+pub mod FusedSoFar
+pub mod Marking
+pub mod StillAsked
+pub mod KnownPairs

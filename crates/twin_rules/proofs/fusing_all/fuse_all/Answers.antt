@@ -1,0 +1,30 @@
+-- Each turn fuses the first twins, and there is a vertex less.
+use Rattle.std.proofs.Common.{◌∙◌, sym, subst}
+use Rattle.model_core.specs.EventGraph.{EventGraph}
+use Rattle.model_core.specs.Code.Views.{graph_of}
+use Rattle.twin_rules.specs.Inner.AskedPairs.{NoneAlike, NoneAlikeBefore}
+use Rattle.twin_rules.proofs.FusingEnds.{vertex-there, vertex-less}
+use Rattle.twin_rules.proofs.FusedSoFar.{one-more-fused, all-fused}
+use Rattle.twin_rules.proofs.fusing_all.fuse_all.Goals as goal
+
+pub fuse-requires : goal.fuse-requires
+fuse-requires c = record {
+  asked = c.loop-keep.invariant.asked;
+  found = sym c.first_twins_in.ensures.found ∙ c.in-Some.is;
+  known = λ known. subst (NoneAlikeBefore (graph_of c.loop-keep.model)) c.in-Some.is (c.first_twins_in.ensures.known known);
+}
+
+pub fuse_at-requires : goal.fuse_at-requires
+fuse_at-requires c = vertex-there c.loop-keep.model c.in-Some.keep c.in-Some.gone (sym c.first_twins_in.ensures.found ∙ c.in-Some.is)
+
+pub loop-keep-smaller : goal.loop-keep-smaller
+loop-keep-smaller c = vertex-less c.loop-keep.model c.fuse_at.new.model c.in-Some.keep c.in-Some.gone (sym c.first_twins_in.ensures.found ∙ c.in-Some.is) c.fuse_at.ensures
+
+pub loop-keep-preserved : goal.loop-keep-preserved
+loop-keep-preserved c = record {
+  fused = one-more-fused _ _ _ _ _ _ (sym c.first_twins_in.ensures.found ∙ c.in-Some.is) c.fuse_at.ensures c.loop-keep.invariant.fused;
+  asked = subst (λ (g : EventGraph). NoneAlike g c.fuse.new.self) (sym c.fuse_at.ensures) c.fuse.ensures;
+}
+
+pub returns : goal.returns
+returns c = all-fused _ _ _ (sym c.first_twins_in.ensures.found ∙ c.in_default.is) c.loop-keep.invariant.fused

@@ -1,0 +1,158 @@
+//! Which pairs of vertices were looked at and aren't alike, so that after a fuse only those are looked at again in which
+//! something changed.
+
+ghost use Rattle.std.specs.Prelude.{◌≡◌, ◌<◌, ◌||◌, ℕ, Some, map, true, false, cond, ◌==◌};
+ghost use Rattle.std.specs.List.{list_any};
+ghost use Rattle.model_core.specs.Rules.Merge.{leads_to};
+ghost use Rattle.model_core.specs.EventGraph.{EventGraph};
+ghost use Rattle.model_core.specs.Rules.MarkedPlaces.{place_without};
+ghost use Rattle.model_core.specs.Rules.Fuse.{fused, first_twins};
+ghost use Rattle.model_core.specs.Code.Views.{graph_of, edge_of};
+ghost use Rattle.twin_rules.specs.Inner.AskedPairs.{is_before_pair, has_changed, was_asked, NoneAlike, NoneAlikeBefore, place_before, some_leads};
+
+use model_core::{Edge, Model};
+use sig_base::VERTICES_MAX;
+
+/// All pairs before this one were looked at, but for those of which a vertex has changed since then. Takes no memory: a
+/// vertex past the limit on vertices counts as changed.
+#[derive(Drop)]
+pub(crate) struct Asked {
+    keep: usize,
+    gone: usize,
+    changed: [bool; VERTICES_MAX],
+}
+
+/// Whether one of the edges leads to the vertex at this place.
+fn one_leads(target: usize, edges: &[Edge]) -> bool
+    ensures { result ≡ list_any (leads_to target) (map edge_of edges.now) }
+{
+    for edge in edges {
+        if edge.target == target {
+            return true;
+        }
+    }
+    false
+}
+
+/// Whether an edge of the vertex at the first place leads to the one at the second.
+fn some_leads(model: &Model, vertex: usize, target: usize) -> bool
+    ensures { result ≡ some_leads (graph_of model.now) vertex target }
+{
+    match model.vertices.as_slice().get(vertex) {
+        Some(vertex) => one_leads(target, vertex.edges.as_slice()),
+        None => false,
+    }
+}
+
+/// The place that a vertex had before the one at `gone` was taken away.
+fn place_before(gone: usize, place: usize) -> usize
+    requires { place < VERTICES_MAX }
+    ensures { result ≡ place_before gone place }
+{
+    if place < gone { place } else { place + 1 }
+}
+
+impl Asked {
+    /// No pair was looked at.
+    pub(crate) fn none() -> Asked
+        ensures keep { result.keep ≡ 0 }
+        ensures gone { result.gone ≡ 0 }
+    {
+        Asked {
+            keep: 0,
+            gone: 0,
+            changed: [false; VERTICES_MAX],
+        }
+    }
+
+    fn has_changed(&self, vertex: usize) -> bool
+        ensures { result ≡ has_changed self.now.changed vertex }
+    {
+        match self.changed.get(vertex) {
+            Some(changed) => *changed,
+            None => true,
+        }
+    }
+
+    fn is_before_pair(&self, x: usize, y: usize) -> bool
+        ensures { result ≡ is_before_pair self.now.keep self.now.gone x y }
+    {
+        x < self.keep || (x == self.keep && y < self.gone)
+    }
+
+    /// Whether the pair was looked at, and neither of the two has changed since then.
+    pub(crate) fn has(&self, x: usize, y: usize) -> bool
+        ensures { result ≡ was_asked self.now x y }
+    {
+        self.is_before_pair(x, y) && !self.has_changed(x) && !self.has_changed(y)
+    }
+
+    /// All pairs before this one were looked at just now.
+    fn up_to(&mut self, keep: usize, gone: usize)
+        ensures keep { self.new.keep ≡ keep }
+        ensures gone { self.new.gone ≡ gone }
+    {
+        self.keep = keep;
+        self.gone = gone;
+        self.changed = [false; VERTICES_MAX];
+    }
+
+    /// Whether the vertex has changed, or changes when `gone` is taken away.
+    fn changes(&self, model: &Model, vertex: usize, gone: usize) -> bool
+        ensures { result ≡ (has_changed self.now.changed vertex || some_leads (graph_of model.now) vertex gone) }
+    {
+        self.has_changed(vertex) || some_leads(model, vertex, gone)
+    }
+
+    /// Marks the vertices from which an edge leads to `gone`, and gives the others the marks that they had, each at the
+    /// place that it has when `gone` is taken away.
+    fn mark(&mut self, model: &Model, gone: usize)
+        ensures keep { self.new.keep ≡ self.old.keep }
+        ensures gone { self.new.gone ≡ self.old.gone }
+        ensures changed { (k : ℕ) → has_changed self.new.changed k ≡ (has_changed self.old.changed (place_before gone k) || some_leads (graph_of model.now) (place_before gone k) gone) }
+    {
+        for place in 0..VERTICES_MAX {
+            self.changed[place] = self.changes(model, place_before(gone, place), gone);
+        }
+    }
+
+    /// The place that the pair has when `gone` is taken away.
+    fn move_up(&mut self, gone: usize)
+        ensures keep { self.new.keep ≡ place_without gone self.old.keep }
+        ensures gone { self.new.gone ≡ cond (self.old.keep == gone) 0 (place_without gone self.old.gone) }
+        ensures changed { self.new.changed ≡ self.old.changed }
+    {
+        if self.keep == gone {
+            self.gone = 0;
+        } else if gone < self.gone {
+            self.gone -= 1;
+        }
+        if gone < self.keep {
+            self.keep -= 1;
+        }
+    }
+
+    /// Counts all pairs before this one as looked at where it is known that they aren't alike, and else none.
+    fn look_up_to(&mut self, keep: usize, gone: usize, known: bool)
+        ensures { (g : EventGraph) → NoneAlike g self.old → (known ≡ true → NoneAlikeBefore g (Some (keep, gone))) → NoneAlike g self.new }
+    {
+        if !known {
+            self.up_to(0, 0);
+        } else if !self.is_before_pair(keep, gone) {
+            self.up_to(keep, gone);
+        }
+    }
+
+    /// Follows the model when its first twins, `keep` and `gone`, are fused, before which it may be known that no pair is
+    /// alike.
+    pub(crate) fn fuse(&mut self, model: &Model, keep: usize, gone: usize, known: bool)
+        requires asked { NoneAlike (graph_of model.now) self.old }
+        requires found { first_twins (graph_of model.now) ≡ Some (keep, gone) }
+        requires known { known ≡ true → NoneAlikeBefore (graph_of model.now) (Some (keep, gone)) }
+        ensures { NoneAlike (fused (graph_of model.now) keep gone) self.new }
+    {
+        self.look_up_to(keep, gone, known);
+        self.mark(model, gone);
+        self.move_up(gone);
+    }
+}

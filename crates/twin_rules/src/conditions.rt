@@ -1,0 +1,76 @@
+//! The conditions of fuse.
+
+ghost use Rattle.std.specs.Prelude.{◌≡◌, ◌<◌, ◌&&◌, true, None, take, length};
+ghost use Rattle.model_core.specs.Rules.Conditions.{first_failed};
+ghost use Rattle.model_core.specs.Rules.Fuse.{fused, has_short_text, fuse_conditions};
+ghost use Rattle.twin_rules.specs.Inner.AskedPairs.{are_alike};
+ghost use Rattle.model_core.specs.Code.Views.{graph_of};
+
+use crate::same_doing::{have_same_edges, have_same_events};
+use crate::untouched::{are_uncancelled, are_unwatched};
+use model_core::Model;
+use model_print::fused_length;
+use sig_base::TEXT_MAX;
+
+/// The first condition but that on the limits that fails, by its number from 1.
+fn failed_before_limits(model: &Model, keep: usize, gone: usize) -> Option<u8>
+    ensures { result ≡ first_failed (take 5 (fuse_conditions (graph_of model.now) keep gone)) }
+{
+    if keep >= gone || gone >= model.vertices.len() {
+        return Some(1);
+    }
+    if !are_unwatched(model, keep, gone) {
+        return Some(2);
+    }
+    if !are_uncancelled(model, keep, gone) {
+        return Some(3);
+    }
+    if !have_same_events(model, keep, gone) {
+        return Some(4);
+    }
+    if !have_same_edges(model, keep, gone) {
+        return Some(5);
+    }
+    None
+}
+
+/// Whether the result is within the limits. It may be told that the model is, so that the result needn't be measured where
+/// the vertex that is kept has no longer name.
+pub(crate) fn is_within_limits(model: &Model, short: bool, keep: usize, gone: usize) -> bool
+    requires short { short ≡ true → has_short_text (graph_of model.now) ≡ true }
+    requires holds { first_failed (take 5 (fuse_conditions (graph_of model.now) keep gone)) ≡ None }
+    ensures { result ≡ has_short_text (fused (graph_of model.now) keep gone) }
+{
+    if short && model.vertex_name(keep).len() <= model.vertex_name(gone).len() {
+        true
+    } else {
+        fused_length(model, keep, gone) <= TEXT_MAX as u64
+    }
+}
+
+/// The first condition of fuse that fails, by its number from 1. It may be told that the model is within the limits.
+pub(crate) fn failed_fuse(model: &Model, short: bool, keep: usize, gone: usize) -> Option<u8>
+    requires short { short ≡ true → has_short_text (graph_of model.now) ≡ true }
+    ensures { result ≡ first_failed (fuse_conditions (graph_of model.now) keep gone) }
+{
+    if let Some(condition) = failed_before_limits(model, keep, gone) {
+        return Some(condition);
+    }
+    if is_within_limits(model, short, keep, gone) {
+        None
+    } else {
+        Some(6)
+    }
+}
+
+/// Whether two vertices meet all conditions but that on the limits. What they do is looked at first, since that tells most
+/// of them apart at once.
+pub(crate) fn are_alike(model: &Model, keep: usize, gone: usize) -> bool
+    requires keep { keep < length model.now.vertices }
+    requires gone { gone < length model.now.vertices }
+    ensures { result ≡ are_alike (graph_of model.now) keep gone }
+{
+    have_same_events(model, keep, gone)
+        && have_same_edges(model, keep, gone)
+        && failed_before_limits(model, keep, gone).is_none()
+}

@@ -1,0 +1,86 @@
+//! The first two vertices that may be fused.
+
+ghost use Rattle.std.specs.Prelude.{◌≡◌, ◌<◌, true, false, length};
+ghost use Rattle.model_core.specs.Rules.Fuse.{has_short_text, are_twins, first_twin_of, first_twins};
+ghost use Rattle.model_core.specs.Code.Views.{graph_of};
+ghost use Rattle.twin_rules.specs.Inner.AskedPairs.{are_alike, NoneAlike, NoneAlikeBefore, NoneAlikeWith};
+
+use crate::asked::Asked;
+use crate::conditions::{are_alike, is_within_limits};
+use model_core::Model;
+
+/// Whether two vertices may be fused. `known` stays where it is known that they are alike only if they may.
+fn are_twins(
+    model: &Model,
+    short: bool,
+    asked: &Asked,
+    keep: usize,
+    gone: usize,
+    known: &mut bool,
+) -> bool
+    requires short { short ≡ true → has_short_text (graph_of model.now) ≡ true }
+    requires asked { NoneAlike (graph_of model.now) asked.now }
+    requires keep { keep < length model.now.vertices }
+    requires gone { gone < length model.now.vertices }
+    ensures twins { result ≡ are_twins (graph_of model.now) keep gone }
+    ensures known { known.new ≡ true → (known.old ≡ true) × (result ≡ false → are_alike (graph_of model.now) keep gone ≡ false) }
+{
+    if asked.has(keep, gone) || !are_alike(model, keep, gone) {
+        return false;
+    }
+    let within = is_within_limits(model, short, keep, gone);
+    *known = *known && within;
+    within
+}
+
+/// The first vertex that may be fused into the one at this place. `known` stays where it is known that none before it is
+/// alike.
+fn first_twin_of(
+    model: &Model,
+    short: bool,
+    asked: &Asked,
+    keep: usize,
+    known: &mut bool,
+) -> Option<usize>
+    requires short { short ≡ true → has_short_text (graph_of model.now) ≡ true }
+    requires asked { NoneAlike (graph_of model.now) asked.now }
+    requires keep { keep < length model.now.vertices }
+    ensures found { result ≡ first_twin_of (graph_of model.now) keep }
+    ensures known { known.new ≡ true → (known.old ≡ true) × NoneAlikeWith (graph_of model.now) keep result }
+{
+    let count = model.vertices.len();
+    for gone in keep + 1..count {
+        if are_twins(model, short, asked, keep, gone, known) {
+            return Some(gone);
+        }
+    }
+    None
+}
+
+/// The first two vertices that may be fused, where no pair that was asked is alike. It may be told that the model is within
+/// the limits. `known` stays where it is known that no pair before them is alike.
+pub(crate) fn first_twins_in(
+    model: &Model,
+    short: bool,
+    asked: &Asked,
+    known: &mut bool,
+) -> Option<(usize, usize)>
+    requires short { short ≡ true → has_short_text (graph_of model.now) ≡ true }
+    requires asked { NoneAlike (graph_of model.now) asked.now }
+    ensures found { result ≡ first_twins (graph_of model.now) }
+    ensures known { known.new ≡ true → NoneAlikeBefore (graph_of model.now) result }
+{
+    for keep in 0..model.vertices.len() {
+        if let Some(gone) = first_twin_of(model, short, asked, keep, known) {
+            return Some((keep, gone));
+        }
+    }
+    None
+}
+
+/// The first two vertices that may be fused, by the one that is kept and then by the one that goes: their places from 0.
+pub fn first_twins(model: &Model) -> Option<(usize, usize)>
+    ensures { result ≡ first_twins (graph_of model.now) }
+{
+    first_twins_in(model, false, &Asked::none(), &mut true)
+}
