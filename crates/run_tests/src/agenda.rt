@@ -1,7 +1,8 @@
-//! A pending list through its trait, with ample memory.
+//! Pending lists through their trait, with ample memory.
 
 ghost use Rattle.std.specs.Prelude.{◌≡◌, ◌<◌};
 
+use event_heap::HeapPending;
 use event_list::{Entry, First, Pending, PlainPending};
 use sig_base::{Carried, NoMemory, Steps};
 use std::alloc::Global;
@@ -79,14 +80,28 @@ fn told(time: u64, priority: u8, vertex: usize, value: i64) -> Option<(First, i6
     Some((first, value))
 }
 
+/// Whether these are the four events that aren't cancelled, by time, priority and scheduling.
+fn is_in_order(order: &[Option<(First, i64)>; 4]) -> bool {
+    order[0] == told(1, 9, 2, 4)
+        && order[1] == told(2, 5, 1, 3)
+        && order[2] == told(2, 5, 2, 5)
+        && order[3] == told(2, 7, 0, 1)
+}
+
 #[test]
 fn the_next_event_is_first_by_time_priority_and_scheduling(rt: HostRuntime) -> Result<(), Fail> {
     let mut pending = PlainPending::begin(rt.alloc(), 3);
     let order = order::<PlainPending, Brand>(&mut pending, Blank::new(1))?;
-    assert!(rt; order[0] == told(1, 9, 2, 4));
-    assert!(rt; order[1] == told(2, 5, 1, 3));
-    assert!(rt; order[2] == told(2, 5, 2, 5));
-    assert!(rt; order[3] == told(2, 7, 0, 1));
+    assert!(rt; is_in_order(&order));
+    assert_eq!(rt; pending.count(), 0);
+    Ok(())
+}
+
+#[test]
+fn heaps_give_the_same_order(rt: HostRuntime) -> Result<(), Fail> {
+    let mut pending = HeapPending::begin(rt.alloc(), 3)?;
+    let order = order::<HeapPending, Brand>(&mut pending, Blank::new(1))?;
+    assert!(rt; is_in_order(&order));
     assert_eq!(rt; pending.count(), 0);
     Ok(())
 }

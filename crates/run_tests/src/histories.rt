@@ -1,84 +1,19 @@
 //! Histories of runs of small models, as they are written to a sink, and what a sink that fails has taken.
 
 ghost use Rattle.std.specs.Prelude.{◌≡◌, ◌<◌, ◌≤◌, ◌^◌, None, IfOk};
-ghost use Rattle.model_core.specs.Text.ModelText.{SpellsText};
 ghost use Rattle.model_core.specs.Code.Views.{graph_of};
-ghost use Rattle.model_core.specs.Code.WrittenViews.{written_model};
 ghost use Rattle.run_control.specs.PossibleModel.{PossibleModel};
 
+use crate::small_models::{CLOCK, Refused, model_of};
 use event_list::PlainPending;
-use model_core::{Model, RawModel, accepted_models_keep_their_rules};
-use model_lex::{LexError, ParseError, tokens};
-use model_read::parse;
-use round_trip::spelled_models_are_spellable;
-use run_control::{BeginError, Run, kept_models_can_be_run};
-use sig_base::{FaultKind, List, MemorySink, NoMemory, Sink, Steps};
-use sig_types::{StaticError, check};
+use model_core::Model;
+use run_control::{Run, kept_models_can_be_run};
+use sig_base::{FaultKind, List, MemorySink, Sink, Steps};
 use std::alloc::Global;
 use std::marker::Brand;
 use std::sync::ledger::{Blank, Ledger};
 use std::test::*;
 use watch_trace::{Outcome, Tracer, follow};
-
-/// Why a history can't be written.
-#[derive(Clone, Copy, Debug)]
-enum Refused {
-    Lexing(LexError),
-    Parsing(ParseError),
-    Checking(StaticError),
-    Beginning(BeginError),
-    NoMemory,
-}
-
-impl From<LexError> for Refused {
-    fn from(error: LexError) -> Refused {
-        Refused::Lexing(error)
-    }
-}
-
-impl From<ParseError> for Refused {
-    fn from(error: ParseError) -> Refused {
-        Refused::Parsing(error)
-    }
-}
-
-impl From<StaticError> for Refused {
-    fn from(error: StaticError) -> Refused {
-        Refused::Checking(error)
-    }
-}
-
-impl From<BeginError> for Refused {
-    fn from(error: BeginError) -> Refused {
-        Refused::Beginning(error)
-    }
-}
-
-impl From<NoMemory> for Refused {
-    fn from(_error: NoMemory) -> Refused {
-        Refused::NoMemory
-    }
-}
-
-/// The model that a text spells, as it is written.
-fn spelled(alloc: Global, text: &[u8]) -> Result<RawModel, Refused>
-    ensures { IfOk result (λ raw. SpellsText text.now (written_model raw)) }
-{
-    let tokens = tokens(alloc, text)?;
-    Ok(parse(alloc, &tokens)?)
-}
-
-/// The model that a text reads as, which can be run.
-fn model_of(alloc: Global, text: &[u8]) -> Result<Model, Refused>
-    ensures { IfOk result (λ model. PossibleModel (graph_of model)) }
-{
-    let raw = spelled(alloc, text)?;
-    let model = check(alloc, raw)?;
-    accepted_models_keep_their_rules();
-    spelled_models_are_spellable();
-    kept_models_can_be_run();
-    Ok(model)
-}
 
 /// A run with the seed 42, no starting values and room for two events, as it begins.
 fn begun<'m>(alloc: Global, model: &'m Model) -> Result<Run<'m, PlainPending>, Refused>
@@ -120,16 +55,6 @@ fn followed<K: Sink, L: Ledger>(
     }
 }
 
-const CLOCK: &[u8] = b"model CLOCK;
-var N : 0..3 clip = 0;
-watch N;
-vertex RUN {
-  set N := N + 1;
-  schedule RUN after 5;
-}
-end
-";
-
 const BOUNDED_CLOCK: &[u8] = b"model CLOCK;
 var N : 0..3 = 0;
 watch N;
@@ -165,6 +90,7 @@ fn history(
 {
     let mut sink = sink;
     let model = model_of(alloc, text)?;
+    kept_models_can_be_run();
     let outcomes = followed::<MemorySink, Brand>(
         alloc,
         &model,

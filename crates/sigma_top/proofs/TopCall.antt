@@ -22,7 +22,7 @@ use Rattle.sigma_top.specs.declared.status.Failure.TheVariants as failures
 use Rattle.sigma_top.specs.declared.status.Status.{Status}
 use Rattle.sigma_top.specs.declared.status.Status.TheVariants as statuses
 use Rattle.sigma_top.specs.Answer.{Answers, AnswersJob, MayStopShort, Reduces, KeepsMeaning}
-use Rattle.sigma_top.specs.RunAnswer.{ExceedsRoom, FitsRoom}
+use Rattle.sigma_top.specs.RunAnswer.{ExceedsRoom, RunFitsRoom}
 use Rattle.sigma_top.specs.CertifyAnswer.{AnswersDocument, Certifies}
 use Rattle.sigma_top.specs.Delivery.{Inlet, Outlet, text_of, Told, WritesAnswer, Refuses, AnswersInput, HasBegun, LacksMemory, ForJob, Ends}
 use Rattle.sigma_top.specs.Ending.{status_of_answer, bytes_of_answer, status_of_end, status_of_refusal, status_of_failure, failure_line}
@@ -65,12 +65,12 @@ told_sound (Some bytes) text same h = subst Certifies same h
 -- ---- where `run` lacks memory
 
 -- a run that fits its room doesn't exceed it
-fits_its_room : (g : EventGraph) (until seed events : ℕ) (starts : List ℤ) (room : ℕ) → FitsRoom g until seed events starts room → ExceedsRoom g until seed events starts room → ⊥
+fits_its_room : (g : EventGraph) (until seed events : ℕ) (starts : List ℤ) (room : ℕ) → RunFitsRoom g until seed events starts room → ExceedsRoom g until seed events starts room → ⊥
 fits_its_room g until seed events starts room fits more = omega (arith, fits more.steps more.here more.next more.within more.lead more.comes more.due, more.exceeds)
 
 -- the runs of the models of a text fit their room
 abbrev pub RunsFit : ℕ → ℕ → ℕ → List ℤ → ℕ → List ℕ → Type 0
-RunsFit until seed events starts room text = (g : EventGraph) → Reads text g → FitsRoom g until seed events starts room
+RunsFit until seed events starts room text = (g : EventGraph) → Reads text g → RunFitsRoom g until seed events starts room
 
 unless_it_fits : (until seed events : ℕ) (starts : List ℤ) (room : ℕ) (left : Option (List ℕ)) (text : List ℕ) (P : Type 0) → IfSome left (λ told. text ≡ told) → MayStopShort (jobs.Run until seed events starts room) text → IfSome left (λ told. RunsFit until seed events starts room told → P)
 unless_it_fits until seed events starts room None text P told short = tt

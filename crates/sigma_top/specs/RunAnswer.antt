@@ -76,6 +76,6 @@ pub record ExceedsRoom (g : EventGraph) (until seed events : ℕ) (starts : List
   pub exceeds : room < scheduled_by (vertex_at g next.entry.vertex).edges + length here.moment.now.pending
 
 -- at each step within the budget what is pending and what the vertex of the event that is due schedules have room together
-abbrev pub FitsRoom : EventGraph → ℕ → ℕ → ℕ → List ℤ → ℕ → Type 0
-FitsRoom g until seed events starts room = (n : ℕ) (here : Reached Moment) (next : TakenOff) → n < events → reached_from g seed until n (start g starts) ≡ Some here
+abbrev pub RunFitsRoom : EventGraph → ℕ → ℕ → ℕ → List ℤ → ℕ → Type 0
+RunFitsRoom g until seed events starts room = (n : ℕ) (here : Reached Moment) (next : TakenOff) → n < events → reached_from g seed until n (start g starts) ≡ Some here
     → next_entry here.moment.now.pending ≡ Some next → next.entry.time ≤ until → scheduled_by (vertex_at g next.entry.vertex).edges + length here.moment.now.pending ≤ room

@@ -10,7 +10,7 @@ ghost use Rattle.model_core.specs.Static.Reading.{Reads, IsValid};
 ghost use Rattle.model_core.specs.Code.Views.{graph_of};
 ghost use Rattle.sigma_top.specs.Answer.{IsWithin, Answers, AnswersModel, AnswersText, AnswersJob, MayFallShort, MayStopShort, KeepsMeaning};
 ghost use Rattle.sigma_top.specs.CertifyAnswer.{Certifies};
-ghost use Rattle.sigma_top.specs.RunAnswer.{FitsRoom};
+ghost use Rattle.sigma_top.specs.RunAnswer.{RunFitsRoom};
 ghost use Rattle.sigma_top.specs.Ending.{status_of_answer, bytes_of_answer};
 ghost use Rattle.sigma_top.specs.Delivery.{inlet, outlet, text_of, Told, Ends};
 ghost use Rattle.sigma_top.specs.Inner.Asking.{IsWithinLimits};
@@ -195,7 +195,7 @@ pub fn sigma<S: Source, K: Sink, E: Sink>(
 
     // Where `run` lacks memory nothing is written, if the run fits the room that it was given.
     ensures within_room { (until seed events : ℕ) (starts : List ℤ) (room : ℕ) → job_of (map string_bytes words.now) ≡ Some (Job.Run until seed events starts room)
-        → result ≡ Status.NoMemory → IfSome (S.left input.old) (λ text. ((g : EventGraph) → Reads text g → FitsRoom g until seed events starts room)
+        → result ≡ Status.NoMemory → IfSome (S.left input.old) (λ text. ((g : EventGraph) → Reads text g → RunFitsRoom g until seed events starts room)
         → output.new ≡ output.old) }
 
     // What `reduce` writes means the same as what it read.

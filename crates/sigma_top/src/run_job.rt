@@ -1,6 +1,6 @@
 //! `run`: the history of a run of the model, written as it happens, or why the run can't begin.
 
-ghost use Rattle.std.specs.Prelude.{◌≡◌, ◌≤◌, ◌<◌, ◌^◌, ◌++◌, ℕ, ℤ, List, IfOk, IfErr, OnOk};
+ghost use Rattle.std.specs.Prelude.{◌≡◌, ◌≤◌, ◌<◌, ◌^◌, ◌++◌, ℕ, ℤ, List, [], length, IfOk, IfErr, OnOk};
 ghost use Rattle.std.specs.Fmt.{signed_decimal};
 ghost use Rattle.model_core.specs.Static.Reading.{IsValid};
 ghost use Rattle.model_core.specs.Code.Views.{graph_of};
@@ -12,7 +12,8 @@ ghost use Rattle.sigma_top.specs.Inner.RunSteps.{RefusalLine, RefusesRun, ending
 
 use crate::delivering::{Said, close};
 use crate::status::{End, Failure, Refusal};
-use event_list::PlainPending;
+use event_heap::HeapPending;
+use event_list::Pending;
 use itoa::Buffer;
 use model_core::Model;
 use round_trip::validity_is_by_parts;
@@ -68,21 +69,24 @@ fn refusal_line(alloc: Global, error: BeginError) -> Result<Text, NoMemory>
     }
 }
 
-/// The run of a valid model as it begins.
-fn begin<'m>(
+/// The run of a valid model as it begins, over an empty pending list.
+fn begin<'m, P: Pending + Drop>(
     alloc: Global,
     model: &'m Model,
+    pending: P,
     seed: u64,
     starts: &List<i64>,
     room: usize,
-) -> Result<Run<'m, PlainPending>, BeginError>
-    requires { IsValid (graph_of model.now) }
+) -> Result<Run<'m, P>, BeginError>
+    requires valid { IsValid (graph_of model.now) }
+    requires empty { P.entries pending ≡ [] }
+    requires fresh { P.numbered pending ≡ 0 }
+    requires made_for { P.vertices pending ≡ length model.now.vertices }
     ensures ok { IfOk result (BegunRun model.now seed starts.now room) }
     ensures err { IfErr result (RefusesStart (graph_of model.now) starts.now) }
 {
     validity_is_by_parts();
     kept_models_can_be_run();
-    let pending = PlainPending::begin(alloc, model.vertices.len());
     Run::begin(alloc, model, pending, seed, starts, room)
 }
 
@@ -100,9 +104,9 @@ fn ending(outcome: Outcome) -> Result<End, Failure>
 }
 
 /// Writes the history of a run that has begun, and answers how the job ends. Its steps are counted by nobody.
-fn tell_history<'m, K: Sink, L: Ledger>(
+fn tell_history<'m, P: Pending + Drop, K: Sink, L: Ledger>(
     alloc: Global,
-    run: Run<'m, PlainPending>,
+    run: Run<'m, P>,
     model: &'m Model,
     until: u64,
     events: u64,
@@ -138,6 +142,38 @@ fn refuse_start(alloc: Global, error: BeginError) -> Result<Said, Failure>
     }
 }
 
+/// Runs the model over an empty pending list.
+fn run_over<P: Pending + Drop, K: Sink>(
+    alloc: Global,
+    model: &Model,
+    pending: P,
+    until: u64,
+    seed: u64,
+    events: u64,
+    starts: &List<i64>,
+    room: usize,
+    output: &mut K,
+) -> Result<Said, Failure>
+    requires valid { IsValid (graph_of model.now) }
+    requires empty { P.entries pending ≡ [] }
+    requires fresh { P.numbered pending ≡ 0 }
+    requires made_for { P.vertices pending ≡ length model.now.vertices }
+    requires soon { until ≤ 2 ^ 48 }
+    requires budget { events ≤ 2 ^ 40 }
+    ensures { Answering (λ a. a ≡ run_answer (graph_of model.now) until seed events starts.now)
+        (ExceedsRoom (graph_of model.now) until seed events starts.now room) result
+        (outlet K.written K.faults K.settled output.old) (outlet K.written K.faults K.settled output.new) }
+{
+    let run = match begin(alloc, model, pending, seed, starts, room) {
+        Ok(run) => run,
+        Err(error) => return refuse_start(alloc, error),
+    };
+    match tell_history::<P, K, Brand>(alloc, run, model, until, events, output, Blank::new(1)) {
+        Ok(end) => close(output, end),
+        Err(failure) => Err(failure),
+    }
+}
+
 /// Runs the model, and writes the history as it happens. The times are in ticks, and the room in pending events.
 pub fn run_model<K: Sink>(
     alloc: Global,
@@ -156,12 +192,10 @@ pub fn run_model<K: Sink>(
         (ExceedsRoom (graph_of model.now) until seed events starts.now room) result
         (outlet K.written K.faults K.settled output.old) (outlet K.written K.faults K.settled output.new) }
 {
-    let run = match begin(alloc, model, seed, starts, room) {
-        Ok(run) => run,
-        Err(error) => return refuse_start(alloc, error),
-    };
-    match tell_history::<K, Brand>(alloc, run, model, until, events, output, Blank::new(1)) {
-        Ok(end) => close(output, end),
-        Err(failure) => Err(failure),
+    match HeapPending::begin(alloc, model.vertices.len()) {
+        Ok(pending) => run_over(
+            alloc, model, pending, until, seed, events, starts, room, output,
+        ),
+        Err(_) => Err(Failure::NoMemory),
     }
 }

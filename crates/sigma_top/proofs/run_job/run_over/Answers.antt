@@ -8,7 +8,7 @@ use Rattle.sigma_top.specs.declared.status.Failure.{Failure}
 use Rattle.sigma_top.specs.Delivery.{Outlet, outlet}
 use Rattle.sigma_top.specs.Inner.RunSteps.{StreamsRun}
 use Rattle.sigma_top.proofs.RunLaws.{run_refused, run_failed, run_told}
-use Rattle.sigma_top.proofs.run_job.run_model.Goals as goal
+use Rattle.sigma_top.proofs.run_job.run_over.Goals as goal
 
 pub returns-in-Err : goal.returns-in-Err
 returns-in-Err g c =

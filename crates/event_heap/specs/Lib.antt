@@ -1,0 +1,2 @@
+pub mod BinaryLength
+pub mod Inner
