@@ -85,6 +85,7 @@ where
     P: Drop,
     requires one_model { run.model ≡ model.now }
     requires traced { tracer.now.model ≡ model.now }
+    requires one_seed { run.seed ≡ seed }
     requires goes_on { run.faulted ≡ None }
     ensures { IfOk result (λ snapshot. snapshot ≡ saved seed run.entry.turns (moment_of run.entry tracer.now)) }
 {
