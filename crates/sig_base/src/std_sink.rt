@@ -1,6 +1,9 @@
 //! Writing to one of std's writers.
 
-ghost use Rattle.std.specs.Prelude.{◌≡◌, false};
+ghost use Rattle.std.specs.Prelude.{◌≡◌, ◌+◌, ◌<◌, ◌≤◌, ℕ, length, min, take, true, false, IfOk, OnOk, OnErr};
+ghost use Rattle.sig_base.specs.Faults.{HasRisen, last_count};
+ghost use Rattle.sig_base.specs.Source.{Stays};
+ghost use Rattle.sig_base.specs.Sink.{GrowsBy};
 
 use crate::count::one_more;
 use crate::no_memory::Failed;
@@ -43,7 +46,19 @@ impl<W: Write> Sink for StdSink<W> {
 
     ghost settled = { λ s. s.settled };
 
-    fn write(&mut self, piece: &[u8]) -> Result<usize, Failed> {
+    fn write(&mut self, piece: &[u8]) -> Result<usize, Failed>
+        requires { 0 < length piece.now }
+        ensures some { IfOk result (λ n. 0 < n) }
+        ensures within { IfOk result (λ n. n ≤ length piece.now) }
+        ensures grows { IfOk result (λ n. GrowsBy (W.contents self.old.inner) (W.contents self.new.inner) (take n piece.now)) }
+        ensures stays { OnErr result (Stays (W.contents self.old.inner) (W.contents self.new.inner)) }
+        ensures unsettled { self.new.settled ≡ false }
+        ensures steady { OnOk result (self.new.faults ≡ self.old.faults) }
+        ensures failed { OnErr result (HasRisen self.old.faults self.new.faults) }
+
+        // One more at each failed call; at its last value the count stands still.
+        ensures counted { OnErr result (self.new.faults ≡ min (self.old.faults + 1) last_count) }
+    {
         self.settled = false;
         for _ in 0..TRIES {
             match self.inner.write(piece) {
@@ -57,7 +72,14 @@ impl<W: Write> Sink for StdSink<W> {
         Err(Failed)
     }
 
-    fn finish(&mut self) -> Result<(), Failed> {
+    fn finish(&mut self) -> Result<(), Failed>
+        ensures stays { Stays (W.contents self.old.inner) (W.contents self.new.inner) }
+        ensures settles { OnOk result (self.new.settled ≡ true) }
+        ensures unchanged { OnErr result (self.new.settled ≡ self.old.settled) }
+        ensures steady { OnOk result (self.new.faults ≡ self.old.faults) }
+        ensures failed { OnErr result (HasRisen self.old.faults self.new.faults) }
+        ensures counted { OnErr result (self.new.faults ≡ min (self.old.faults + 1) last_count) }
+    {
         for _ in 0..TRIES {
             match self.inner.flush() {
                 Ok(()) => {

@@ -1,6 +1,8 @@
 //! Reading from one of std's readers.
 
-ghost use Rattle.std.specs.Prelude.{◌≡◌};
+ghost use Rattle.std.specs.Prelude.{◌≡◌, ◌+◌, ◌<◌, ◌≤◌, ℕ, length, min, IfOk, OnOk, OnErr};
+ghost use Rattle.sig_base.specs.Faults.{HasRisen, last_count};
+ghost use Rattle.sig_base.specs.Source.{Stays, Takes, Shows, IsAtEnd};
 
 use crate::count::one_more;
 use crate::no_memory::Failed;
@@ -36,7 +38,19 @@ impl<R: Read> Source for StdSource<R> {
 
     ghost faults = { λ s. s.faults };
 
-    fn read(&mut self, into: &mut [u8]) -> Result<usize, Failed> {
+    fn read(&mut self, into: &mut [u8]) -> Result<usize, Failed>
+        requires { 0 < length into.old }
+        ensures within { IfOk result (λ n. n ≤ length into.new) }
+        ensures takes { IfOk result (λ n. Takes (R.remaining self.old.inner) (R.remaining self.new.inner) n) }
+        ensures shows { IfOk result (λ n. Shows (R.remaining self.old.inner) n into.new) }
+        ensures end { IfOk result (λ n. n ≡ 0 → IsAtEnd (R.remaining self.old.inner)) }
+        ensures stays { OnErr result (Stays (R.remaining self.old.inner) (R.remaining self.new.inner)) }
+        ensures steady { OnOk result (self.new.faults ≡ self.old.faults) }
+        ensures failed { OnErr result (HasRisen self.old.faults self.new.faults) }
+
+        // One more at each failed call; at its last value the count stands still.
+        ensures counted { OnErr result (self.new.faults ≡ min (self.old.faults + 1) last_count) }
+    {
         for _ in 0..TRIES {
             match self.inner.read(into) {
                 Ok(count) => return Ok(count),
