@@ -83,29 +83,29 @@ pub(crate) fn put_expression<P: Pen>(out: &mut P, model: &Model, expr: &Expr)
         }
         Expr::Neg(number) => put_behind(out, model, b"-", NEGATIVE_LEVEL, number),
         Expr::Not(truth) => put_behind(out, model, b"not ", NOT_LEVEL, truth),
-        Expr::Binary(op, operands) => {
+        Expr::Binary(op, left, right) => {
             if operator_level(*op) == CALL_LEVEL {
                 put_operator(out, *op);
                 out.put_bytes(b"(");
-                put_expression(out, model, &operands.left);
+                put_expression(out, model, left);
                 put_comma(out);
-                put_expression(out, model, &operands.right);
+                put_expression(out, model, right);
                 out.put_bytes(b")");
             } else {
-                put_operand(out, model, left_level(*op), &operands.left);
+                put_operand(out, model, left_level(*op), left);
                 out.put_bytes(b" ");
                 put_operator(out, *op);
                 out.put_bytes(b" ");
-                put_operand(out, model, right_level(*op), &operands.right);
+                put_operand(out, model, right_level(*op), right);
             }
         }
-        Expr::If(parts) => {
+        Expr::If(test, yes, no) => {
             out.put_bytes(b"if ");
-            put_expression(out, model, &parts.test);
+            put_expression(out, model, test);
             out.put_bytes(b" then ");
-            put_expression(out, model, &parts.yes);
+            put_expression(out, model, yes);
             out.put_bytes(b" else ");
-            put_expression(out, model, &parts.no);
+            put_expression(out, model, no);
         }
     }
 }

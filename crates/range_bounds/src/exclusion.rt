@@ -112,8 +112,8 @@ fn compare_apart(a: &Expr, b: &Expr) -> bool
     ensures { result ≡ compare_apart (comparison_of (expression_of a.now)) (comparison_of (expression_of b.now)) }
 {
     match (a, b) {
-        (Expr::Binary(p, x), Expr::Binary(q, y)) => {
-            operands_compare_apart(*p, &x.left, &x.right, *q, &y.left, &y.right)
+        (Expr::Binary(p, a, m), Expr::Binary(q, b, n)) => {
+            operands_compare_apart(*p, a, m, *q, b, n)
         }
         _ => false,
     }

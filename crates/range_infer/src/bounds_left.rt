@@ -96,22 +96,22 @@ pub(crate) fn bounds_left(
             let bounds = bounds_left(model, ranges, left, a)?;
             Ok(opposite(&bounds))
         }
-        Expr::Binary(op, operands) => {
-            let a = bounds_left(model, ranges, left, &operands.left)?;
+        Expr::Binary(op, x, y) => {
+            let a = bounds_left(model, ranges, left, x)?;
             let before = left.len();
-            refine_beside(model, ranges, left, *op, &operands.left)?;
-            let b = bounds_left(model, ranges, left, &operands.right)?;
+            refine_beside(model, ranges, left, *op, x)?;
+            let b = bounds_left(model, ranges, left, y)?;
             left.truncate(before);
             Ok(operator_bounds(*op, &a, &b))
         }
-        Expr::If(parts) => {
-            let c = bounds_left(model, ranges, left, &parts.test)?;
+        Expr::If(test, yes, no) => {
+            let c = bounds_left(model, ranges, left, test)?;
             let before = left.len();
-            refine(model, ranges, left, &parts.test, true)?;
-            let a = bounds_left(model, ranges, left, &parts.yes)?;
+            refine(model, ranges, left, test, true)?;
+            let a = bounds_left(model, ranges, left, yes)?;
             left.truncate(before);
-            refine(model, ranges, left, &parts.test, false)?;
-            let b = bounds_left(model, ranges, left, &parts.no)?;
+            refine(model, ranges, left, test, false)?;
+            let b = bounds_left(model, ranges, left, no)?;
             left.truncate(before);
             Ok(chosen_bounds(&c, &a, &b))
         }

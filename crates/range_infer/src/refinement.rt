@@ -11,7 +11,7 @@ ghost use Rattle.range_infer.specs.Inner.Overlaid.{overlaid, ranges_left};
 
 use crate::left_range::LeftRange;
 use crate::numbers_left::where_holds;
-use model_core::{Expr, Model, Op, Operands, VarRange};
+use model_core::{Expr, Model, Op, VarRange};
 use range_bounds::literal_number;
 use sig_base::NoMemory;
 
@@ -91,18 +91,19 @@ fn refine_by(
     ranges: &[VarRange],
     left: &mut Vec<LeftRange>,
     op: Op,
-    operands: &Operands,
+    first: &Expr,
+    second: &Expr,
     value: bool,
 ) -> Result<(), NoMemory>
     requires many { length ranges.now ≡ length model.now.vars }
     ensures left { OnOk result (ranges_left (graph_of model.now) ranges.now left.new.items
-        ≡ refined_by (operator_of op) (expression_of operands.now.left) (expression_of operands.now.right) value (ranges_left (graph_of model.now) ranges.now left.old.items)) }
+        ≡ refined_by (operator_of op) (expression_of first.now) (expression_of second.now) value (ranges_left (graph_of model.now) ranges.now left.old.items)) }
     ensures before { OnOk result (take (length left.old.items) left.new.items ≡ left.old.items) }
 {
-    let Expr::Scalar(var) = &operands.left else {
+    let Expr::Scalar(var) = first else {
         return Ok(());
     };
-    let Some(n) = literal_number(&operands.right) else {
+    let Some(n) = literal_number(second) else {
         return Ok(());
     };
     refine_scalar(model, ranges, left, comparison_where(op, value), *var, n)
@@ -123,16 +124,16 @@ pub(crate) fn refine(
 {
     match expr {
         Expr::Not(a) => refine(model, ranges, left, a, !value),
-        Expr::Binary(op, operands) => {
+        Expr::Binary(op, first, second) => {
             if tells_of_both(*op, value) {
-                refine(model, ranges, left, &operands.left, value)?;
-                refine(model, ranges, left, &operands.right, value)
+                refine(model, ranges, left, first, value)?;
+                refine(model, ranges, left, second, value)
             } else {
-                refine_by(model, ranges, left, *op, operands, value)
+                refine_by(model, ranges, left, *op, first, second, value)
             }
         }
         Expr::Int(_) | Expr::Truth(_) | Expr::Clk | Expr::Scalar(_) => Ok(()),
-        Expr::Cell(_, _) | Expr::Neg(_) | Expr::If(_) => Ok(()),
+        Expr::Cell(_, _) | Expr::Neg(_) | Expr::If(..) => Ok(()),
     }
 }
 

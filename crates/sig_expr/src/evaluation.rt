@@ -85,18 +85,18 @@ fn evaluate(model: &Model, expr: &Expr, state: &State, clk: u64) -> Result<i64, 
         Expr::Cell(var, index) => cell(model, *var, value(model, index, state, clk)?, state),
         Expr::Neg(a) => negative(value(model, a, state, clk)?),
         Expr::Not(a) => Ok(other_truth(value(model, a, state, clk)?)),
-        Expr::Binary(op, operands) => {
-            let a = value(model, &operands.left, state, clk)?;
+        Expr::Binary(op, left, right) => {
+            let a = value(model, left, state, clk)?;
             if is_decided(*op, a) {
                 return Ok(a);
             }
-            operate(*op, a, value(model, &operands.right, state, clk)?)
+            operate(*op, a, value(model, right, state, clk)?)
         }
-        Expr::If(parts) => {
-            if value(model, &parts.test, state, clk)? == 1 {
-                value(model, &parts.yes, state, clk)
+        Expr::If(test, yes, no) => {
+            if value(model, test, state, clk)? == 1 {
+                value(model, yes, state, clk)
             } else {
-                value(model, &parts.no, state, clk)
+                value(model, no, state, clk)
             }
         }
     }

@@ -22,14 +22,14 @@ pub fn add_variables(out: &mut Vec<usize>, expr: &Expr) -> Result<(), NoMemory>
             add_variables(out, index)?;
         }
         Expr::Neg(a) | Expr::Not(a) => add_variables(out, a)?,
-        Expr::Binary(_, operands) => {
-            add_variables(out, &operands.left)?;
-            add_variables(out, &operands.right)?;
+        Expr::Binary(_, left, right) => {
+            add_variables(out, left)?;
+            add_variables(out, right)?;
         }
-        Expr::If(parts) => {
-            add_variables(out, &parts.test)?;
-            add_variables(out, &parts.yes)?;
-            add_variables(out, &parts.no)?;
+        Expr::If(test, yes, no) => {
+            add_variables(out, test)?;
+            add_variables(out, yes)?;
+            add_variables(out, no)?;
         }
     }
     Ok(())

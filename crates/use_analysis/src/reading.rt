@@ -19,11 +19,9 @@ fn stands_in(expr: &Expr, var: usize) -> bool
         Expr::Scalar(v) => *v == var,
         Expr::Cell(v, index) => *v == var || stands_in(index, var),
         Expr::Neg(a) | Expr::Not(a) => stands_in(a, var),
-        Expr::Binary(_, operands) => {
-            stands_in(&operands.left, var) || stands_in(&operands.right, var)
-        }
-        Expr::If(parts) => {
-            stands_in(&parts.test, var) || stands_in(&parts.yes, var) || stands_in(&parts.no, var)
+        Expr::Binary(_, left, right) => { stands_in(left, var) || stands_in(right, var) }
+        Expr::If(test, yes, no) => {
+            stands_in(test, var) || stands_in(yes, var) || stands_in(no, var)
         }
     }
 }

@@ -39,15 +39,15 @@ fn expr_left(alloc: Global, staying: &Staying, expr: &Expr) -> Result<Expr, NoMe
         )),
         Expr::Neg(number) => Ok(Expr::Neg(boxed_left(alloc, staying, number)?)),
         Expr::Not(truth) => Ok(Expr::Not(boxed_left(alloc, staying, truth)?)),
-        Expr::Binary(op, operands) => {
-            let left = expr_left(alloc, staying, &operands.left)?;
-            let right = expr_left(alloc, staying, &operands.right)?;
+        Expr::Binary(op, left, right) => {
+            let left = expr_left(alloc, staying, left)?;
+            let right = expr_left(alloc, staying, right)?;
             Expr::binary(alloc, *op, left, right)
         }
-        Expr::If(parts) => {
-            let test = expr_left(alloc, staying, &parts.test)?;
-            let yes = expr_left(alloc, staying, &parts.yes)?;
-            let no = expr_left(alloc, staying, &parts.no)?;
+        Expr::If(test, yes, no) => {
+            let test = expr_left(alloc, staying, test)?;
+            let yes = expr_left(alloc, staying, yes)?;
+            let no = expr_left(alloc, staying, no)?;
             Expr::conditional(alloc, test, yes, no)
         }
     }
