@@ -3,11 +3,13 @@
 #![tactic(auto)]
 
 mod entailing;
+mod law;
 mod marks;
 mod places_behind;
 mod staying;
 
 pub use entailing::entailed;
+pub use law::marks_are_of_entailed_places;
 pub use marks::{is_marked, unmarked};
 pub use places_behind::PlacesBehind;
 pub use staying::Staying;
