@@ -23,6 +23,7 @@ pub use number_rows::negative_bounds;
 pub use parts::{quiet_change, quiet_edge, quiet_set, quiet_store};
 pub use soundness::{
     exclusive_conditions_are_never_both_true, quiet_parts_have_no_fault, values_lie_in_bounds,
+    values_lie_in_bounds_under_any_guard,
 };
 pub use truth_rows::opposite;
 pub use urgency::{plain_urgent, single_urgent};

@@ -8,7 +8,8 @@ use Rattle.model_core.specs.Run.Value.{number_of, value_of}
 use Rattle.model_core.specs.Static.HasKind.{HasKind}
 use Rattle.model_core.specs.Rules.BoundsOf.{bounds_under}
 use Rattle.model_core.specs.Rules.BoundsHold.{NumberIn, TruthIn}
-use Rattle.model_core.proofs.Soundness.Promise.{LikeDeclared, LiesWithin, TruthsAreDeclared, GuardHolds, BoundsHold}
+use Rattle.model_core.specs.Rules.RangesHold.{LikeDeclared, LiesWithin, TruthsAreDeclared, GuardHolds}
+use Rattle.model_core.proofs.Soundness.Promise.{BoundsHold}
 use Rattle.model_core.proofs.Soundness.BoundedExpressions.{sound}
 use Rattle.model_core.proofs.Soundness.DeclaredRanges.{declared_hold, declared_alike, declared_sound}
 use Rattle.model_core.proofs.Soundness.TruthEnds.{within_ends}

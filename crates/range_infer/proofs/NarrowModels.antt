@@ -14,7 +14,7 @@ use Rattle.model_core.proofs.Among.{Among, first_true, second_true, among-any}
 use Rattle.model_core.proofs.EachOne.{every-front, every-behind, every-flat_map, every-both}
 use Rattle.model_core.proofs.InRange.{starts_in_range}
 use Rattle.model_core.proofs.Soundness.Ends.{of_le}
-use Rattle.model_core.proofs.Soundness.Promise.{ZeroToOne, TruthsAreDeclared}
+use Rattle.model_core.specs.Rules.RangesHold.{ZeroToOne, TruthsAreDeclared}
 use Rattle.model_core.specs.declared.incoming.Incoming.{Incoming}
 use Rattle.model_core.specs.declared.var_range.VarRange.{VarRange}
 use Rattle.model_core.specs.Ranges.OtherRanges.{LiesIn, declared_range, with_range, with_ranges, model_with_ranges, no_range, range_at}

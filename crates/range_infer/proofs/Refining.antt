@@ -14,7 +14,7 @@ use Rattle.model_core.specs.Rules.BoundsOfParts.{is_truth_kind}
 use Rattle.model_core.specs.Rules.Exclusive.{literal_number}
 use Rattle.model_core.proofs.Results.{bind_ok}
 use Rattle.model_core.proofs.InRange.{and_first, and_second}
-use Rattle.model_core.proofs.Soundness.Promise.{LikeDeclared, ZeroToOne, LiesWithin, GuardHolds}
+use Rattle.model_core.specs.Rules.RangesHold.{LikeDeclared, ZeroToOne, LiesWithin, GuardHolds}
 use Rattle.model_core.specs.declared.var_range.VarRange.{VarRange}
 use Rattle.model_core.specs.Ranges.OtherRanges.{LiesIn, declared_range, with_range}
 use Rattle.model_core.specs.Ranges.Refined.{numbers_left, opposite_comparison, is_number_scalar, unless_empty, where_holds, refined_by, tells_of_both, refined}

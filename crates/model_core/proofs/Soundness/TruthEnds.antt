@@ -9,7 +9,8 @@ use Rattle.model_core.specs.EventGraph.{Variable}
 use Rattle.model_core.specs.Run.Value.{OrFault, number_of}
 use Rattle.model_core.specs.Static.OwnRules.{FitsKind, KeepsVariable}
 use Rattle.model_core.specs.Rules.BoundsHold.{NumberIn, TruthIn}
-use Rattle.model_core.proofs.Soundness.Promise.{TruthShape, BoundsHold, ZeroToOne, TruthsAreDeclared}
+use Rattle.model_core.specs.Rules.RangesHold.{ZeroToOne, TruthsAreDeclared}
+use Rattle.model_core.proofs.Soundness.Promise.{TruthShape, BoundsHold}
 
 truth_declared : (v : Variable) (k : Kind) → v.kind ≡ k → FitsKind k v → k ≡ kinds.Truth → ZeroToOne v
 truth_declared v kinds.Truth same fits e = record { low = fits.least; high = fits.greatest }
