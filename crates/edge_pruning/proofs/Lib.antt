@@ -10,3 +10,4 @@ pub mod Renumbered
 pub mod DropSame
 pub mod ValidDropped
 pub mod AllReached
+pub mod RulesOfEdges

@@ -5,8 +5,8 @@ ghost use Rattle.model_core.specs.EventGraph.{EventGraph};
 ghost use Rattle.model_core.specs.Run.Same.{Same};
 ghost use Rattle.model_core.specs.Static.Reading.{IsValid};
 ghost use Rattle.model_core.specs.Rules.Conditions.{first_failed};
-ghost use Rattle.model_core.specs.Rules.Prune.{prune_conditions, pruned};
-ghost use Rattle.model_core.specs.Rules.Settle.{settle_conditions, settled};
+ghost use Rattle.model_core.specs.Rules.Prune.{prune_conditions, pruned, first_prune};
+ghost use Rattle.model_core.specs.Rules.Settle.{settle_conditions, settled, first_settle};
 ghost use Rattle.model_core.specs.Rules.MarkedPlaces.{is_marked};
 ghost use Rattle.model_core.specs.Rules.Reached.{Reachable, reached_marks, unreached};
 ghost use Rattle.model_core.specs.Rules.Drop.{drop_conditions, dropped};
@@ -60,4 +60,25 @@ pub fn dropping_keeps_the_meaning()
 pub fn marks_are_of_reachable_vertices()
     ensures { (g : EventGraph) (vertex : ℕ) → vertex < length g.vertices
         → (is_marked (reached_marks g) vertex ≡ true) ↔ Reachable g vertex }
+{}
+
+/// Where no edge can be pruned none can be after a prune, and where none can be settled none can be after it: it leaves the
+/// other edges and all ranges.
+pub fn pruning_brings_no_rule_of_edges()
+    ensures prune { (g : EventGraph) (vertex edge : ℕ) → first_prune g ≡ None → first_prune (pruned g vertex edge) ≡ None }
+    ensures settle { (g : EventGraph) (vertex edge : ℕ) → first_settle g ≡ None → first_settle (pruned g vertex edge) ≡ None }
+{}
+
+/// Where no edge can be pruned none can be after a settle, and where none can be settled none can be after it: the literal
+/// `true` is neither refuted nor settled again.
+pub fn settling_brings_no_rule_of_edges()
+    ensures prune { (g : EventGraph) (vertex edge : ℕ) → first_prune g ≡ None → first_prune (settled g vertex edge) ≡ None }
+    ensures settle { (g : EventGraph) (vertex edge : ℕ) → first_settle g ≡ None → first_settle (settled g vertex edge) ≡ None }
+{}
+
+/// Where no edge can be pruned none can be after a drop, and where none can be settled none can be after it: it leaves the
+/// conditions of edges that stay, and all ranges.
+pub fn dropping_brings_no_rule_of_edges()
+    ensures prune { (g : EventGraph) (vertices : List ℕ) → first_prune g ≡ None → first_prune (dropped g vertices) ≡ None }
+    ensures settle { (g : EventGraph) (vertices : List ℕ) → first_settle g ≡ None → first_settle (dropped g vertices) ≡ None }
 {}

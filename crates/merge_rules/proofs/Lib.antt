@@ -21,3 +21,4 @@ pub mod ValidMerged
 pub mod MergedLength
 pub mod LimitsTold
 pub mod PairsFound
+pub mod RulesOfEdges

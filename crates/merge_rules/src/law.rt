@@ -8,6 +8,8 @@ ghost use Rattle.model_core.specs.Run.History.{start};
 ghost use Rattle.model_core.specs.Run.Same.{Same};
 ghost use Rattle.model_core.specs.Static.Reading.{IsValid};
 ghost use Rattle.model_core.specs.Rules.Conditions.{first_failed};
+ghost use Rattle.model_core.specs.Rules.Prune.{first_prune};
+ghost use Rattle.model_core.specs.Rules.Settle.{first_settle};
 ghost use Rattle.model_core.specs.Rules.UrgentEdges.{single_urgent};
 ghost use Rattle.model_core.specs.Rules.Merge.{merge_conditions, merged};
 ghost use Rattle.merge_rules.specs.BetweenSteps.{IsSettled};
@@ -41,3 +43,10 @@ pub fn merging_keeps_the_meaning()
     exclusive_conditions_are_never_both_true();
     quiet_parts_have_no_fault();
 }
+
+/// Where no edge can be pruned none can be after a merge, and where none can be settled none can be after it: it leaves the
+/// conditions of the edges that it joins, and all ranges.
+pub fn merging_brings_no_rule_of_edges()
+    ensures prune { (g : EventGraph) (first second : ℕ) → first_prune g ≡ None → first_prune (merged g first second) ≡ None }
+    ensures settle { (g : EventGraph) (first second : ℕ) → first_settle g ≡ None → first_settle (merged g first second) ≡ None }
+{}

@@ -9,5 +9,7 @@ mod taking_over;
 mod within_limits;
 
 pub use first_pair::{first_merge, first_merge_measured};
-pub use law::{at_most_one_event_is_urgent, merging_keeps_the_meaning};
+pub use law::{
+    at_most_one_event_is_urgent, merging_brings_no_rule_of_edges, merging_keeps_the_meaning,
+};
 pub use merging::{merge, merge_measured};

@@ -11,8 +11,7 @@ use Rattle.model_core.specs.Static.Reading.{IsValid}
 use Rattle.model_core.specs.Run.Step.{vertex_at}
 use Rattle.model_core.specs.Rules.Conditions.{first_failed}
 use Rattle.model_core.specs.Rules.MarkedPlaces.{unmarked_places, is_marked}
-use Rattle.model_core.specs.Rules.Prune.{has_refuted_condition}
-use Rattle.model_core.specs.Rules.Settle.{can_be_settled, first_settle}
+use Rattle.model_core.specs.Rules.Settle.{first_settle}
 use Rattle.model_core.specs.Rules.Reached.{reached_marks, unreached}
 use Rattle.model_core.specs.Rules.Drop.{lists_exactly, drop_conditions, dropped}
 use Rattle.model_core.specs.Rules.UrgentEdges.{plain_urgent_edge}
@@ -24,7 +23,6 @@ use Rattle.model_core.proofs.EntailedMarks.{entailed_marks-long}
 use Rattle.edge_pruning.proofs.ReachedMarks.{reached_marks-long}
 use Rattle.merge_rules.proofs.MergeHolds.{conditions_hold}
 use Rattle.reducer.specs.Inner.LaterRules.{NoEdgeRule, Made}
-use Rattle.reducer.proofs.FirstEdge.{first_edge-none}
 use Rattle.reducer.proofs.PlacesByName.{variables_distinct, vertices_distinct, place_of_its_name, places_of_their_names}
 
 -- ---- the first rule where no rule of edges is applicable
@@ -34,8 +32,8 @@ later_rule g = first_given (drop_of g (unreached g) ∷ merge_of g (first_merge 
 
 pub later_is_first : (g : EventGraph) → NoEdgeRule g → first_rule g ≡ later_rule g
 later_is_first g none =
-    ap (λ (o : Option (ℕ × ℕ)). option_or (at_edge g Prune o) (option_or (at_edge g Settle (first_settle g)) (later_rule g))) (first_edge-none (has_refuted_condition g) 0 g.vertices none.refuted)
-    ∙ ap (λ (o : Option (ℕ × ℕ)). option_or (at_edge g Settle o) (later_rule g)) (first_edge-none (can_be_settled g) 0 g.vertices none.settled)
+    ap (λ (o : Option (ℕ × ℕ)). option_or (at_edge g Prune o) (option_or (at_edge g Settle (first_settle g)) (later_rule g))) none.refuted
+    ∙ ap (λ (o : Option (ℕ × ℕ)). option_or (at_edge g Settle o) (later_rule g)) none.settled
 
 -- what is made where the first rule is to be made
 later_made : (g h : EventGraph) (before after : List RuleApplication) (made : Bool) → NoEdgeRule g → Made (later_rule g) made g h before after → Made (first_rule g) made g h before after

@@ -14,13 +14,13 @@ use Rattle.model_core.specs.Rules.Settle.{is_conditional, has_proved_condition, 
 use Rattle.model_core.specs.Rules.Reduction.{RuleApplication, Prune, Settle, place_of_vertex, from_zero, edge_named, unless_failed, applied, at_edge, first_rule}
 use Rattle.model_core.proofs.EdgesAlike.{with_vertices}
 use Rattle.model_core.proofs.EachOne.{every-joined, every-front, every-behind}
+use Rattle.model_core.proofs.NoEdgePasses.{NoneOf, NoneIn, first_edge-none}
 use Rattle.edge_pruning.specs.declared.finding.EdgeRule.{EdgeRule}
 use Rattle.edge_pruning.specs.declared.finding.EdgeRule.TheVariants as rules
 use Rattle.edge_pruning.specs.EdgeRules.{test_of}
 use Rattle.reducer.specs.Inner.Sweep.{application_by, instead, width, left_by_sweep, swept_vertex, applied_or_not, applied_behind, applied_to_all}
-use Rattle.reducer.specs.Inner.LaterRules.{NoneOf, NoneIn}
 use Rattle.reducer.proofs.PlacesByName.{same_bytes-refl}
-use Rattle.reducer.proofs.FirstEdge.{first_edge-none, first_edge-behind}
+use Rattle.reducer.proofs.FirstEdge.{first_edge-behind}
 use Rattle.reducer.proofs.FirstRules.{AreFirst, are_first-append}
 use Rattle.reducer.proofs.FirstLaterRule.{later_rule}
 

@@ -3,8 +3,11 @@ use Rattle.std.proofs.Common.{◌≡◌, ◌∙◌, List, [], ◌∷◌, ◌++�
 use Rattle.std.specs.List.{AllByRecursion}
 use Rattle.model_core.specs.EventGraph.{EventGraph, EventVertex, EventEdge}
 use Rattle.model_core.specs.Static.Reading.{IsValid}
+use Rattle.model_core.specs.Rules.Prune.{has_refuted_condition}
+use Rattle.model_core.specs.Rules.Settle.{can_be_settled}
 use Rattle.model_core.specs.Rules.Reduction.{RuleApplication, applied, Chain, Strategy}
 use Rattle.model_core.proofs.EdgesAlike.{with_vertices}
+use Rattle.model_core.proofs.NoEdgePasses.{first_edge-none}
 use Rattle.edge_pruning.specs.declared.finding.EdgeRule.TheVariants as rules
 use Rattle.reducer.specs.Inner.Sweep.{swept_vertex, applied_to_all}
 use Rattle.reducer.specs.Inner.LaterRules.{NoEdgeRule, Finished}
@@ -62,7 +65,10 @@ module _ (keep : ChainsKeep) (g : EventGraph) (valid : IsValid g) where
   settled_valid = keep pruned settles settled pruned_valid (are_first-chain settles pruned settled second)
 
   pub none_left : NoEdgeRule settled
-  none_left = record { refuted = swept-ready rules.Settle pruned pruned.vertices ready; settled = swept-none rules.Settle pruned pruned.vertices }
+  none_left = record {
+    refuted = first_edge-none (has_refuted_condition settled) 0 settled.vertices (swept-ready rules.Settle pruned pruned.vertices ready);
+    settled = first_edge-none (can_be_settled settled) 0 settled.vertices (swept-none rules.Settle pruned pruned.vertices);
+  }
 
   pub with_sweeps : (later : List RuleApplication) (h : EventGraph) → Strategy settled later h → Strategy g (prunes ++ (settles ++ later)) h
   with_sweeps later h strategy = are_first-strategy prunes (settles ++ later) g pruned h first (are_first-strategy settles later pruned settled h second strategy)

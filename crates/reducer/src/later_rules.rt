@@ -11,8 +11,8 @@ ghost use Rattle.merge_rules.specs.Measured.{IsMeasured};
 ghost use Rattle.reducer.specs.Inner.LaterRules.{NoEdgeRule, Made, Finished};
 
 use crate::naming::{Declared, name_at, names_at};
-use edge_pruning::{drop_vertices, unreached};
-use merge_rules::{first_merge_measured, merge_measured};
+use edge_pruning::{drop_vertices, dropping_brings_no_rule_of_edges, unreached};
+use merge_rules::{first_merge_measured, merge_measured, merging_brings_no_rule_of_edges};
 use model_core::{Application, Model, RuleError, was_made};
 use reduction_cert::chains_keep_the_meaning;
 use sig_base::{List, NoMemory};
@@ -31,6 +31,8 @@ pub(crate) fn apply_later_rules(
         (map application_of applications.old.items) (map application_of applications.new.items)) }
 {
     chains_keep_the_meaning();
+    dropping_brings_no_rule_of_edges();
+    merging_brings_no_rule_of_edges();
     slicing_leaves_the_rules_of_edges();
     let mut bytes = None;
     while apply_one(alloc, model, &mut bytes, applications)? {}

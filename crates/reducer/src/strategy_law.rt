@@ -6,6 +6,8 @@ ghost use Rattle.model_core.specs.Run.Same.{Same};
 ghost use Rattle.model_core.specs.Static.Reading.{IsValid};
 ghost use Rattle.model_core.specs.Rules.Reduction.{RuleApplication, Chain, Strategy};
 
+use edge_pruning::dropping_brings_no_rule_of_edges;
+use merge_rules::merging_brings_no_rule_of_edges;
 use reduction_cert::chains_keep_the_meaning;
 use var_slicing::slicing_leaves_the_rules_of_edges;
 
@@ -34,5 +36,7 @@ pub fn strategies_end()
     ensures { (g : EventGraph) → IsValid g → (applications : List RuleApplication) × (h : EventGraph) × Strategy g applications h }
 {
     chains_keep_the_meaning();
+    dropping_brings_no_rule_of_edges();
+    merging_brings_no_rule_of_edges();
     slicing_leaves_the_rules_of_edges();
 }

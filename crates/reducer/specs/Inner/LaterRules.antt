@@ -1,10 +1,9 @@
 -- The rules behind those of edges, one application at a time: what the code makes of a model, and what it notes of that.
 use Rattle.std.specs.Prelude.{◌≡◌, ℕ, Bool, true, false, List, [], ◌∷◌, ◌++◌, Option, Some, None}
-use Rattle.std.specs.List.{AllByRecursion}
-use Rattle.model_core.specs.EventGraph.{EventEdge, EventVertex, EventGraph}
+use Rattle.model_core.specs.EventGraph.{EventGraph}
 use Rattle.model_core.specs.Text.Canonical.{variable_name, vertex_name}
-use Rattle.model_core.specs.Rules.Prune.{has_refuted_condition}
-use Rattle.model_core.specs.Rules.Settle.{can_be_settled}
+use Rattle.model_core.specs.Rules.Prune.{first_prune}
+use Rattle.model_core.specs.Rules.Settle.{first_settle}
 use Rattle.model_core.specs.Rules.Reduction.{RuleApplication, applied, Strategy}
 use Rattle.reducer.specs.declared.naming.Declared.{Declared}
 use Rattle.reducer.specs.declared.naming.Declared.TheVariants as declarations
@@ -14,18 +13,10 @@ abbrev pub name_at_place : Declared → EventGraph → ℕ → List ℕ
 name_at_place declarations.Variables g k = variable_name g k
 name_at_place declarations.Vertices g k = vertex_name g k
 
--- no edge of these passes
-abbrev pub NoneOf : (EventEdge → Bool) → List EventEdge → Type 0
-NoneOf test es = AllByRecursion (λ e. test e ≡ false) es
-
--- no edge of these vertices passes
-abbrev pub NoneIn : (EventEdge → Bool) → List EventVertex → Type 0
-NoneIn test vs = AllByRecursion (λ (v : EventVertex). NoneOf test v.edges) vs
-
 -- no edge can be pruned or settled
 pub record NoEdgeRule (g : EventGraph) : Type 0 where
-  pub refuted : NoneIn (has_refuted_condition g) g.vertices
-  pub settled : NoneIn (can_be_settled g) g.vertices
+  pub refuted : first_prune g ≡ None
+  pub settled : first_settle g ≡ None
 
 -- The application is made and noted, if there is one: whether it was, the graphs before and after it, and the applications
 -- that were noted before and after it.

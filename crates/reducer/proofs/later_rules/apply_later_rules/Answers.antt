@@ -1,4 +1,5 @@
 -- Each turn leaves less, and leads on by the first rule.
+use Rattle.reducer.proofs.NoEdgeRuleAnew.{LeavesEdges}
 use Rattle.reducer.proofs.RuleByRule.{led_on, leaves_less, led_to_the_end}
 use Rattle.reducer.proofs.later_rules.apply_later_rules.Goals as goal
 
@@ -6,10 +7,19 @@ pub loop-smaller : goal.loop-smaller
 loop-smaller c = leaves_less _ _ _ _ _ c.if-branch.true c.loop.invariant.led.none c.in_ok-apply_one.ensures.made
 
 pub loop-preserved : goal.loop-preserved
-loop-preserved c = record {
-  led = led_on (record { prune = c.slicing_leaves_the_rules_of_edges.ensures.prune; settle = c.slicing_leaves_the_rules_of_edges.ensures.settle }) c.chains_keep_the_meaning.ensures.one_valid _ _ _ _ _ _ _ c.if-branch.true c.loop.invariant.led c.in_ok-apply_one.ensures.made;
-  measured = c.in_ok-apply_one.ensures.measured;
-}
+loop-preserved c =
+    let leaves : LeavesEdges = record {
+      prune_dropped = c.dropping_brings_no_rule_of_edges.ensures.prune;
+      settle_dropped = c.dropping_brings_no_rule_of_edges.ensures.settle;
+      prune_merged = c.merging_brings_no_rule_of_edges.ensures.prune;
+      settle_merged = c.merging_brings_no_rule_of_edges.ensures.settle;
+      prune_sliced = c.slicing_leaves_the_rules_of_edges.ensures.prune;
+      settle_sliced = c.slicing_leaves_the_rules_of_edges.ensures.settle;
+    } in
+    record {
+      led = led_on leaves c.chains_keep_the_meaning.ensures.one_valid _ _ _ _ _ _ _ c.if-branch.true c.loop.invariant.led c.in_ok-apply_one.ensures.made;
+      measured = c.in_ok-apply_one.ensures.measured;
+    }
 
 pub returns : goal.returns
 returns c = led_to_the_end _ _ _ _ _ _ _ c.if-branch.false c.loop.invariant.led c.in_ok-apply_one.ensures.made
