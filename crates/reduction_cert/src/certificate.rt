@@ -1,13 +1,23 @@
 //! The text of a certificate.
 
-ghost use Rattle.std.specs.Prelude.{◌≡◌, ◌++◌, List, ℕ, map, codes, decimal, OnOk};
+ghost use Rattle.std.specs.Prelude.{◌≡◌, ◌++◌, List, ℕ, map, codes, decimal, OnOk, IfOk};
 ghost use Rattle.std.specs.List.{flat_map};
 ghost use Rattle.model_core.specs.Code.Views.{application_of};
 ghost use Rattle.model_core.specs.Rules.Reduction.{Merge};
 ghost use Rattle.model_core.specs.Rules.Certificate.{application_line, certificate};
 
 use model_core::Application;
-use sig_base::{Name, NoMemory, put_bytes, put_number};
+use sig_base::{List, Name, NoMemory, Text, put_bytes, put_number};
+use std::alloc::Global;
+
+/// The certificate: a line for each application, in order.
+pub fn print_certificate(alloc: Global, applications: &List<Application>) -> Result<Text, NoMemory>
+    ensures { IfOk result (λ text. text ≡ certificate (map application_of applications.now)) }
+{
+    let mut out = Vec::new(alloc);
+    put_certificate(&mut out, applications.as_slice())?;
+    Ok(Text::from_vec(out))
+}
 
 /// Adds the certificate: a line for each application, in order.
 pub fn put_certificate(out: &mut Vec<u8>, applications: &[Application]) -> Result<(), NoMemory>
