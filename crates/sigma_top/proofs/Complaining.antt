@@ -15,18 +15,7 @@ use Rattle.model_core.specs.Static.Reading.{Reads}
 use Rattle.sigma_top.specs.declared.complaint.Complaint.{Complaint}
 use Rattle.sigma_top.specs.declared.complaint.Complaint.TheVariants as complaints
 use Rattle.sigma_top.specs.Complaints.{IsComplaint}
-
--- what the layers below say of texts
-pub record TextLaws : Type 0 where
-  pub one_model : (text : List ℕ) (m n : WrittenModel) → SpellsText text m → SpellsText text n → m ≡ n
-  pub spelled_or_not : (text : List ℕ) (tokens : List Lexeme) → ((m : WrittenModel) × IsText tokens m) ⊎ ((at : ℕ) × IsUnexpectedAt text tokens at)
-  pub one_place : (text : List ℕ) (tokens : List Lexeme) (i j : ℕ) → IsUnexpectedAt text tokens i → IsUnexpectedAt text tokens j → i ≡ j
-  pub none_deep : (tokens : List Lexeme) → too_deep_at OPENINGS_MAX tokens ≡ None → HasFewOpenings OPENINGS_MAX tokens
-  pub few_openings : (tokens : List Lexeme) → HasFewOpenings OPENINGS_MAX tokens → too_deep_at OPENINGS_MAX tokens ≡ None
-  pub told : (m : WrittenModel) (f : StaticFault) → told_fault m ≡ Some f → IsTold m f.kind f.at
-  pub told_back : (m : WrittenModel) (f : StaticFault) → IsTold m f.kind f.at → told_fault m ≡ Some f
-  pub accepted : (m : WrittenModel) → told_fault m ≡ None → (g : EventGraph) × Accepted m g
-  pub unaccepted : (m : WrittenModel) → ((g : EventGraph) × Accepted m g) → told_fault m ≡ None
+use Rattle.sigma_top.specs.Inner.TextLaws.{TextLaws}
 
 -- a text has one list of tokens
 same_tokens : (text : List ℕ) (a b : List Lexeme) → tokens_of text ≡ Ok a → tokens_of text ≡ Ok b → a ≡ b

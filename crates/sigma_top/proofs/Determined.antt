@@ -13,7 +13,8 @@ use Rattle.sigma_top.specs.Complaints.{message_of, byte_line}
 use Rattle.sigma_top.specs.Answer.{done, refused, Reduces, IsDone, AnswersModel, IsRefused, AnswersText, AnswersJob, IsWithin, IsOver, Answers}
 use Rattle.sigma_top.specs.CertifyAnswer.{answer_of_verdict, AnswersDocument}
 use Rattle.sigma_top.specs.Jobs.{limit_of}
-use Rattle.sigma_top.proofs.Complaining.{TextLaws, one_complaint, no_complaint}
+use Rattle.sigma_top.specs.Inner.TextLaws.{TextLaws}
+use Rattle.sigma_top.proofs.Complaining.{one_complaint, no_complaint}
 use Rattle.sigma_top.proofs.DocumentOutcome.{one_document_complaint, no_document_complaint, one_document}
 
 -- the strategy makes one list of applications of a model, and reaches one model

@@ -25,7 +25,7 @@ use Rattle.model_read.proofs.WholeText.{front-unexpected}
 use Rattle.sigma_top.specs.declared.complaint.Complaint.{Complaint}
 use Rattle.sigma_top.specs.declared.complaint.Complaint.TheVariants as complaints
 use Rattle.sigma_top.specs.DocumentComplaints.{IsFrontComplaint, IsCertificateComplaint, IsGrammarComplaint, in_first, in_second, in_certificate, IsDocumentComplaint, of_bytes, of_tokens, of_first, of_second}
-use Rattle.sigma_top.proofs.Complaining.{TextLaws}
+use Rattle.sigma_top.specs.Inner.TextLaws.{TextLaws}
 
 -- a value, or what there is to complain of and where
 abbrev Computed : Type 0 → Type 0

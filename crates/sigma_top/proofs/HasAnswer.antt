@@ -12,7 +12,8 @@ use Rattle.sigma_top.specs.Complaints.{message_of, byte_line}
 use Rattle.sigma_top.specs.Answer.{done, refused, too_long, Reduces, AnswersModel, AnswersText, AnswersJob, IsWithin, IsOver, Answers}
 use Rattle.sigma_top.specs.CertifyAnswer.{AnswersDocument}
 use Rattle.sigma_top.specs.Jobs.{limit_of, reads_document}
-use Rattle.sigma_top.proofs.Complaining.{TextLaws, ToComplain, complaint_or_model}
+use Rattle.sigma_top.specs.Inner.TextLaws.{TextLaws}
+use Rattle.sigma_top.proofs.Complaining.{ToComplain, complaint_or_model}
 use Rattle.sigma_top.proofs.DocumentOutcome.{ReadDocument, DocumentFault, document_or_complaint}
 use Rattle.sigma_top.proofs.Performing.{answers_text, answers_document, document_within, text_within}
 

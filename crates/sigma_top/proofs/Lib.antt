@@ -7,6 +7,7 @@ pub mod Complaining
 pub mod DocumentOutcome
 pub mod Determined
 pub mod HasAnswer
+pub mod WhatIsRefused
 pub mod RunLaws
 mod PassedOn
 mod ToldErrors

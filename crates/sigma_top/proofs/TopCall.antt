@@ -111,6 +111,16 @@ grows_by_nothing (Some bytes) = ap (λ b. Some b) (sym (append-nil bytes))
 unwritten : {K : Type 0} {o p : Outlet K} → p ≡ o → GrowsBy o.written p.written []
 unwritten {K} {o} {p} same = subst (λ (q : Outlet K). GrowsBy o.written q.written []) (sym same) (grows_by_nothing o.written)
 
+-- what reads as a model is reduced, or memory is short
+abbrev pub ReducesWhatReads : Type 0
+ReducesWhatReads = (text : List ℕ) (g : EventGraph) (a : Answer) → Reads text g → Answers jobs.Reduce text a → status_of_answer a ≡ statuses.Done
+
+pub always_reduced : ReducesWhatReads → (status : Status) (left : Option (List ℕ)) (Grows : List ℕ → Type 0) → (status ≡ statuses.NoMemory) ⊎ IsComplete jobs.Reduce status left Grows
+    → IfSome left (λ text. (g : EventGraph) → Reads text g → (status ≡ statuses.Done) ⊎ (status ≡ statuses.NoMemory))
+always_reduced law status None Grows h = tt
+always_reduced law status (Some text) Grows (inl short) = λ g reads. inr short
+always_reduced law status (Some text) Grows (inr (a, answers, is, grows)) = λ g reads. inl (is ∙ law text g a reads answers)
+
 -- ---- from the job to the call
 
 module _ {S K : Type 0} (words : List (List ℕ)) (i j : Inlet S) (o p : Outlet K) where

@@ -4,3 +4,4 @@ pub mod Asking
 pub mod Frame
 pub mod Refusals
 pub mod RunSteps
+pub mod TextLaws

@@ -18,8 +18,8 @@ command_of word =
     if same_bytes word (codes "check") then Some commands.Check
     else (if same_bytes word (codes "print") then Some commands.Print
     else (if same_bytes word (codes "reduce") then Some commands.Reduce
-    else (if same_bytes word (codes "uses") then Some commands.Uses
     else (if same_bytes word (codes "certify") then Some commands.Certify
+    else (if same_bytes word (codes "uses") then Some commands.Uses
     else (if same_bytes word (codes "run") then Some commands.Run else None)))))
 
 -- the options that a command takes
@@ -27,8 +27,8 @@ abbrev pub options_of : Command → List (List ℕ)
 options_of commands.Check = []
 options_of commands.Print = []
 options_of commands.Reduce = []
-options_of commands.Uses = []
 options_of commands.Certify = []
+options_of commands.Uses = []
 options_of commands.Run = codes "until" ∷ codes "seed" ∷ codes "events" ∷ codes "start" ∷ codes "room" ∷ []
 
 -- ---- the job of a command and its options
@@ -52,8 +52,8 @@ abbrev pub job_with : Command → List PlainArgument → Option Job
 job_with commands.Check given = Some jobs.Check
 job_with commands.Print given = Some jobs.Print
 job_with commands.Reduce given = Some jobs.Reduce
-job_with commands.Uses given = Some jobs.Uses
 job_with commands.Certify given = Some jobs.Certify
+job_with commands.Uses given = Some jobs.Uses
 job_with commands.Run given = run_of given
 
 -- there is one command, and no option but those that it takes
@@ -77,8 +77,8 @@ abbrev pub limit_of : Job → Option ℕ
 limit_of jobs.Check = Some TEXT_MAX
 limit_of jobs.Print = Some TEXT_MAX
 limit_of jobs.Reduce = Some TEXT_MAX
-limit_of jobs.Uses = Some TEXT_MAX
 limit_of jobs.Certify = Some DOCUMENT_MAX
+limit_of jobs.Uses = Some TEXT_MAX
 limit_of (jobs.Run until seed events starts room) = Some TEXT_MAX
 
 -- whether the job reads a document, and no single model text

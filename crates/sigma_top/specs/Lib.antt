@@ -8,4 +8,5 @@ pub mod DocumentComplaints
 pub mod CertifyAnswer
 pub mod Answer
 pub mod Delivery
+pub mod Unreadable
 pub mod Inner

@@ -9,8 +9,8 @@ pub(crate) enum Command {
     Check,
     Print,
     Reduce,
-    Uses,
     Certify,
+    Uses,
     Run,
 }
 
@@ -25,10 +25,10 @@ impl Command {
             Some(Command::Print)
         } else if word == b"reduce".as_slice() {
             Some(Command::Reduce)
-        } else if word == b"uses".as_slice() {
-            Some(Command::Uses)
         } else if word == b"certify".as_slice() {
             Some(Command::Certify)
+        } else if word == b"uses".as_slice() {
+            Some(Command::Uses)
         } else if word == b"run".as_slice() {
             Some(Command::Run)
         } else {
@@ -41,7 +41,7 @@ impl Command {
         ensures { map (λ name. name.now) result.now ≡ options_of self }
     {
         match self {
-            Command::Check | Command::Print | Command::Reduce | Command::Uses | Command::Certify =>
+            Command::Check | Command::Print | Command::Reduce | Command::Certify | Command::Uses =>
                 &[],
             Command::Run => &[b"until", b"seed", b"events", b"start", b"room"],
         }

@@ -20,6 +20,7 @@ ghost use Rattle.sigma_top.specs.declared.answer.Answer.{Answer};
 ghost use Rattle.sigma_top.specs.declared.job.Job.{Job};
 
 use crate::answer::{acceptance, complain, printed, reduced, too_long, uses};
+use crate::answer_law::readable_models_are_reduced;
 use crate::certifying::{certified, sound_documents_mean_the_same};
 use crate::command_line;
 use crate::delivering::{Said, deliver};
@@ -53,8 +54,8 @@ fn respond_to_model<K: Sink>(
         Job::Check => deliver(output, acceptance(alloc, &model)),
         Job::Print => deliver(output, printed(alloc, &model)),
         Job::Reduce => return deliver(output, reduced(alloc, model)),
-        Job::Uses => deliver(output, uses(alloc, &model)),
         Job::Certify => unreachable!(),
+        Job::Uses => deliver(output, uses(alloc, &model)),
         Job::Run {
             until,
             seed,
@@ -193,6 +194,11 @@ pub fn sigma<S: Source, K: Sink, E: Sink>(
         → (result ≡ Status.NoMemory) ⊎ IfSome (text_of (limit_of job) (S.left input.old)) (λ text. (a : Answer) × Answers job text a
         × (result ≡ status_of_answer a) × GrowsBy (K.written output.old) (K.written output.new) (bytes_of_answer a)) }
 
+    // A text that reads as a model is reduced, unless memory, the input or the output fails.
+    ensures always_reduced { job_of (map string_bytes words.now) ≡ Some Job.Reduce
+        → (HasRisen (S.faults input.old) (S.faults input.new) → ⊥) → (HasRisen (K.faults output.old) (K.faults output.new) → ⊥)
+        → IfSome (S.left input.old) (λ text. (g : EventGraph) → Reads text g → (result ≡ Status.Done) ⊎ (result ≡ Status.NoMemory)) }
+
     // Where `run` lacks memory nothing is written, if the run fits the room that it was given.
     ensures within_room { (until seed events : ℕ) (starts : List ℤ) (room : ℕ) → job_of (map string_bytes words.now) ≡ Some (Job.Run until seed events starts room)
         → result ≡ Status.NoMemory → IfSome (S.left input.old) (λ text. ((g : EventGraph) → Reads text g → RunFitsRoom g until seed events starts room)
@@ -207,5 +213,6 @@ pub fn sigma<S: Source, K: Sink, E: Sink>(
 {
     written_models_mean_the_same();
     sound_documents_mean_the_same();
+    readable_models_are_reduced();
     work(alloc, words, input, output, errors)
 }

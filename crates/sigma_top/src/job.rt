@@ -20,10 +20,10 @@ pub enum Job {
     Print,
     /// The model made smaller, and the certificate of that.
     Reduce,
-    /// Who reads and who writes each variable of the model, and whether it is watched.
-    Uses,
     /// Whether a document's certificate holds between its two models.
     Certify,
+    /// Who reads and who writes each variable of the model, and whether it is watched.
+    Uses,
     /// The watched history of a run of the model, as it happens.
     Run {
         /// The stop time, in ticks.

@@ -22,7 +22,9 @@ mod status;
 mod sure_devices;
 mod words_error;
 
-pub use answer_law::answers_are_determined;
+pub use answer_law::{
+    answers_are_determined, readable_models_are_reduced, unreadable_texts_are_refused,
+};
 pub use command_line::words;
 pub use frame::sigma;
 pub use job::Job;
