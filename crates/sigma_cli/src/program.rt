@@ -1,12 +1,17 @@
 //! The program over any input and outputs: from the words, or the error for which they can't be had, to the
 //! exit status.
 
-ghost use Rattle.std.specs.Prelude.{◌≡◌, ◌≢◌, map, vec_items, IfOk, IfErr, OnErr};
+ghost use Rattle.std.specs.Prelude.{◌≡◌, ◌≢◌, ℕ, List, Some, map, vec_items, IfSome, IfOk, IfErr, OnErr};
 ghost use Rattle.std.specs.IoError.{error_kind};
 ghost use Rattle.std.specs.Process.{exit_status};
 ghost use Rattle.std.specs.String.{string_bytes};
+ghost use Rattle.sig_base.specs.Sink.{GrowsBy};
+ghost use Rattle.sigma_top.specs.Answer.{KeepsMeaning};
+ghost use Rattle.sigma_top.specs.CertifyAnswer.{Certifies};
 ghost use Rattle.sigma_top.specs.Delivery.{inlet, outlet, Told, Ends};
 ghost use Rattle.sigma_top.specs.Ending.{exit_status_of, failure_line};
+ghost use Rattle.sigma_top.specs.Jobs.{job_of};
+ghost use Rattle.sigma_top.specs.declared.job.Job.TheVariants as jobs;
 ghost use Rattle.sigma_top.specs.declared.status.Failure.TheVariants as failures;
 
 use sig_base::{Sink, Source, put};
@@ -44,6 +49,10 @@ fn work<S: Source, K: Sink, E: Sink>(
         (inlet S.left S.faults input.old) (inlet S.left S.faults input.new)
         (outlet K.written K.faults K.settled output.old) (outlet K.written K.faults K.settled output.new)
         (outlet E.written E.faults E.settled errors.old) (outlet E.written E.faults E.settled errors.new)) }
+    ensures reduced { IfOk words (λ words. job_of (map string_bytes (vec_items words)) ≡ Some jobs.Reduce → result ≡ Status.Done
+        → IfSome (S.left input.old) (λ text. (out : List ℕ) × KeepsMeaning text out × GrowsBy (K.written output.old) (K.written output.new) out)) }
+    ensures certified { IfOk words (λ words. job_of (map string_bytes (vec_items words)) ≡ Some jobs.Certify → result ≡ Status.Done
+        → IfSome (S.left input.old) Certifies) }
 
     ensures untouched { OnErr words ((input.new ≡ input.old) × (output.new ≡ output.old)) }
     ensures without_memory { IfErr words (λ error. error_kind error ≡ ErrorKind.OutOfMemory
@@ -77,6 +86,14 @@ pub fn program<S: Source, K: Sink, E: Sink>(
         (inlet S.left S.faults input.old) (inlet S.left S.faults input.new)
         (outlet K.written K.faults K.settled output.old) (outlet K.written K.faults K.settled output.new)
         (outlet E.written E.faults E.settled errors.old) (outlet E.written E.faults E.settled errors.new)) }
+
+    // At the exit status 0 what `reduce` writes means the same as what it read.
+    ensures reduced { IfOk words (λ words. job_of (map string_bytes (vec_items words)) ≡ Some jobs.Reduce → exit_status result ≡ 0
+        → IfSome (S.left input.old) (λ text. (out : List ℕ) × KeepsMeaning text out × GrowsBy (K.written output.old) (K.written output.new) out)) }
+
+    // At the exit status 0 the two models of the document that `certify` read mean the same.
+    ensures certified { IfOk words (λ words. job_of (map string_bytes (vec_items words)) ≡ Some jobs.Certify → exit_status result ≡ 0
+        → IfSome (S.left input.old) Certifies) }
 
     // Without words nothing is read, and nothing but the line is written.
     ensures untouched { OnErr words ((input.new ≡ input.old) × (output.new ≡ output.old)) }

@@ -1,0 +1,30 @@
+-- The exit status 0 is that of one status alone.
+use Rattle.std.proofs.Common.{◌≡◌, ℕ, Result, Ok, Err, refl, sym, ◌∙◌}
+use Rattle.std.specs.Prelude.{IfOk}
+use Rattle.sigma_top.specs.declared.status.Status.{Status}
+use Rattle.sigma_top.specs.declared.status.Status.TheVariants as statuses
+use Rattle.sigma_top.specs.Ending.{exit_status_of}
+use Rattle.sigma_cli.proofs.program.program.Goals as goal
+
+is_done : (status : Status) → exit_status_of status ≡ 0 → status ≡ statuses.Done
+is_done statuses.Done e = refl
+is_done statuses.Refused e = cc
+is_done statuses.Usage e = cc
+is_done statuses.ReadFault e = cc
+is_done statuses.WriteFault e = cc
+is_done statuses.NoMemory e = cc
+is_done statuses.ModelFault e = cc
+is_done statuses.Budget e = cc
+is_done statuses.Rejected e = cc
+is_done statuses.BadStart e = cc
+
+-- what holds of words where the status is this one holds where the exit status is 0
+at_zero : {A E : Type 0} (words : Result A E) (Asked Holds : A → Type 0) (exit number : ℕ) (status : Status) → exit ≡ number → number ≡ exit_status_of status → IfOk words (λ w. Asked w → status ≡ statuses.Done → Holds w) → IfOk words (λ w. Asked w → exit ≡ 0 → Holds w)
+at_zero (Ok w) Asked Holds exit number status is known h = λ asked zero. h asked (is_done status (sym known ∙ sym is ∙ zero))
+at_zero (Err e) Asked Holds exit number status is known h = tt
+
+pub returns-clause-reduced : goal.returns-clause-reduced
+returns-clause-reduced g c = at_zero c.args.words _ _ _ _ c.work-status.result c.from.ensures c.number.ensures c.work-status.ensures.reduced
+
+pub returns-clause-certified : goal.returns-clause-certified
+returns-clause-certified g c = at_zero c.args.words _ _ _ _ c.work-status.result c.from.ensures c.number.ensures c.work-status.ensures.certified
