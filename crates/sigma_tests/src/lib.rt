@@ -1,4 +1,4 @@
-//! Tests of what no clause says of the program, through its top call.
+//! Tests of what no clause says of the program, through its top call, and its table of statuses on examples.
 #![tactic(auto)]
 
 #[cfg(test)]
@@ -9,9 +9,12 @@ mod calls;
 mod command_lines;
 #[cfg(test)]
 mod documents;
+mod endings;
 #[cfg(test)]
 mod histories;
 #[cfg(test)]
 mod models;
 #[cfg(test)]
 mod reductions;
+
+pub use endings::{calls_end_so, calls_never_end_so};

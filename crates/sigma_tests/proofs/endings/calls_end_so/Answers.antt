@@ -1,0 +1,181 @@
+use Rattle.std.proofs.Common.{◌≡◌, ◌⊎◌, inl, inr, ℕ, ◌+◌, ◌≤◌, pos, List, [], ◌∷◌, ◌++◌, length, drop, lit≤, refl, sym, ap, ◌∙◌, arith}
+use Rattle.std.specs.Prelude.{Option, Some, codes}
+use Rattle.std.proofs.lemmas.List.{length-append, drop_all}
+use Rattle.sig_base.specs.declared.limits.TheConstants.{TEXT_MAX}
+use Rattle.model_core.specs.EventGraph.{EventGraph}
+use Rattle.model_core.specs.Static.Reading.{Reads}
+use Rattle.model_core.specs.Run.History.{look}
+use Rattle.model_core.specs.Text.Canonical.{canonical}
+use Rattle.sigma_top.specs.declared.answer.Answer.{Answer}
+use Rattle.sigma_top.specs.declared.answer.Answer.TheVariants.{Given, Refused}
+use Rattle.sigma_top.specs.declared.complaint.Complaint.TheVariants as complaints
+use Rattle.sigma_top.specs.declared.job.Job.TheVariants as jobs
+use Rattle.sigma_top.specs.declared.job.TheConstants.{ROOM_USUAL}
+use Rattle.sigma_top.specs.declared.status.End.{End}
+use Rattle.sigma_top.specs.declared.status.End.TheVariants as ends
+use Rattle.sigma_top.specs.RunAnswer.{run_answer, refused_or, told_of}
+use Rattle.sigma_top.specs.CertifyAnswer.{answer_of_verdict}
+use Rattle.sigma_tests.proofs.endings.calls_end_so.Goals as goal
+
+no_shorter : (front later : List ℕ) → length front ≤ length (front ++ later)
+no_shorter front later = omega (arith, length-append front later)
+
+-- a text within a limit has nothing one byte past it
+nothing_past : (limit : ℕ) (text : List ℕ) → length text ≤ limit → ◌≡◌ {A = Option (List ℕ)} (Some []) (Some (drop (limit + 1) text))
+nothing_past limit text short = ap (λ bytes. Some bytes) (sym (drop_all (limit + 1) text (omega (arith, short))))
+
+pub returns-clause-done : goal.returns-clause-done
+returns-clause-done c = λ text g reads. (
+  (
+    jobs.Print,
+    refl,
+    record {
+      bytes = canonical g;
+      answer = record { text = text; told = refl; answers = inr (reads.fits, inr (g, reads, refl)) };
+      input_read = refl;
+      input_steady = refl;
+      output_grown = refl;
+      output_settled = refl;
+      output_steady = refl;
+    },
+  ),
+  refl,
+)
+
+pub returns-clause-refused : goal.returns-clause-refused
+returns-clause-refused c = (
+  codes "sigma: byte 0: bad byte\n",
+  (
+    jobs.Check,
+    refl,
+    record {
+      answer = record { text = codes "?"; told = refl; answers = inr (lit≤ tt, inl (record { what = complaints.BadByte; at = 0; complaint = refl; told = refl })) };
+      input_read = refl;
+      input_steady = refl;
+      output_untouched = refl;
+    },
+  ),
+  inr refl,
+)
+
+pub returns-clause-usage : goal.returns-clause-usage
+returns-clause-usage c = (refl, refl, refl, inr refl)
+
+pub returns-clause-read_fault : goal.returns-clause-read_fault
+returns-clause-read_fault c = (
+  (
+    jobs.Check,
+    refl,
+    record {
+      reads_text = tt;
+      input_read = (3, lit≤ tt, refl);
+      input_failed = inl (omega arith);
+      output_untouched = refl;
+    },
+  ),
+  inr refl,
+)
+
+pub returns-clause-write_fault : goal.returns-clause-write_fault
+returns-clause-write_fault c = λ text g reads. (
+  (
+    jobs.Print,
+    refl,
+    record {
+      end = ends.Done;
+      bytes = canonical g;
+      answer = record { text = text; told = refl; answers = inr (reads.fits, inr (g, reads, refl)) };
+      input_read = refl;
+      input_steady = refl;
+      output_grown = (3, no_shorter (codes "mod") _, refl);
+      output_unsettled = inr refl;
+      output_failed = inl (omega arith);
+    },
+  ),
+  inr refl,
+)
+
+pub returns-clause-no_memory : goal.returns-clause-no_memory
+returns-clause-no_memory c = (
+  inr (
+    jobs.Print,
+    refl,
+    record {
+      input_read = (3, lit≤ tt, refl);
+      input_steady = refl;
+      output_grown = inl refl;
+      output_steady = refl;
+    },
+  ),
+  inr refl,
+)
+
+pub returns-clause-model_fault : goal.returns-clause-model_fault
+returns-clause-model_fault c = λ text bytes g reads is. (
+  (
+    jobs.Run 10 0 5 [] ROOM_USUAL,
+    refl,
+    record {
+      bytes = bytes;
+      answer = record { text = text; told = refl; answers = inr (reads.fits, inr (g, reads, sym is)) };
+      input_read = refl;
+      input_steady = refl;
+      output_grown = refl;
+      output_settled = refl;
+      output_steady = refl;
+    },
+  ),
+  refl,
+)
+
+pub returns-clause-budget : goal.returns-clause-budget
+returns-clause-budget c = λ text bytes g reads is. (
+  (
+    jobs.Run 10 0 5 [] ROOM_USUAL,
+    refl,
+    record {
+      bytes = bytes;
+      answer = record { text = text; told = refl; answers = inr (reads.fits, inr (g, reads, sym is)) };
+      input_read = refl;
+      input_steady = refl;
+      output_grown = refl;
+      output_settled = refl;
+      output_steady = refl;
+    },
+  ),
+  refl,
+)
+
+pub returns-clause-rejected : goal.returns-clause-rejected
+returns-clause-rejected c = λ text g h applications reads differs. (
+  (
+    jobs.Certify,
+    refl,
+    record {
+      bytes = codes "differs\n";
+      answer = record { text = text; told = refl; answers = inr (reads.fits, inr (record { original = g; applications = applications; reduced = h; reads = reads; told = sym (ap answer_of_verdict differs) })) };
+      input_read = refl;
+      input_steady = refl;
+      output_grown = refl;
+      output_settled = refl;
+      output_steady = refl;
+    },
+  ),
+  refl,
+)
+
+pub returns-clause-bad_start : goal.returns-clause-bad_start
+returns-clause-bad_start c = λ text line g reads is. (
+  line,
+  (
+    jobs.Run 10 0 5 (pos 7 ∷ []) ROOM_USUAL,
+    refl,
+    record {
+      answer = record { text = text; told = refl; answers = inr (reads.fits, inr (g, reads, sym (ap (λ o. refused_or o (told_of g 10 5 (look g 0 (pos 7 ∷ []) 10 5))) is))) };
+      input_read = nothing_past TEXT_MAX text reads.fits;
+      input_steady = refl;
+      output_untouched = refl;
+    },
+  ),
+  inr refl,
+)
