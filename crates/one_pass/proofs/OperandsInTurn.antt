@@ -3,7 +3,7 @@ use Rattle.std.proofs.Common.{◌≡◌, ℕ, ◌≤◌, Bool, true, false, if�
 use Rattle.std.specs.Prelude.{Result, Ok, Err, IfOk}
 use Rattle.model_core.specs.declared.model.Kind.{Kind}
 use Rattle.model_core.specs.Code.Views.{expression_of}
-use Rattle.model_read.specs.declared.stop.Stop.{Stop}
+use Rattle.one_pass.specs.declared.not_read.NotRead.{NotRead}
 use Rattle.one_pass.specs.declared.expressions.Operand.{Operand}
 use Rattle.model_core.specs.EventGraph as graph
 use Rattle.model_core.specs.Text.Lexing.{Lexeme}
@@ -34,13 +34,13 @@ first_comes under tokens false least few comes absent is = rw is (from-unary und
 
 module _ (means : List ℕ → Option Meaning) where
   -- a level reads as its format does
-  pub by_level : (l : Level) (tokens after : List Lexeme) (r : Result Operand Stop) → IfOk r (λ e. ReadOperand means (language_reader (level_format l) tokens) after (expression_of e.expr) e.kind e.at)
+  pub by_level : (l : Level) (tokens after : List Lexeme) (r : Result Operand NotRead) → IfOk r (λ e. ReadOperand means (language_reader (level_format l) tokens) after (expression_of e.expr) e.kind e.at)
       → IfOk r (λ e. ReadOperand means (language_reader (ByRule l) tokens) after (expression_of e.expr) e.kind e.at)
   by_level l tokens after (Ok e) r = record { written = r.written; is_read = rule-is level_lookahead level_format levels-fine l tokens ∙ r.is_read; operand = r.operand }
   by_level l tokens after (Err e) r = tt
 
   -- the first operand, and then what stands behind it
-  pub behind_first : (others : WrittenExpression → Parser WrittenExpression) (whole first : Parse WrittenExpression) (between after : List Lexeme) (r : Result Operand Stop) (x : graph.Expression) (kind : Option Kind) (at : ℕ)
+  pub behind_first : (others : WrittenExpression → Parser WrittenExpression) (whole first : Parse WrittenExpression) (between after : List Lexeme) (r : Result Operand NotRead) (x : graph.Expression) (kind : Option Kind) (at : ℕ)
       → whole ≡ and_next others first → ReadOperand means first between x kind at
       → IfOk r (λ e. (w : WrittenExpression) → IsOperand means w x kind at → ReadOperand means (others w between) after (expression_of e.expr) e.kind e.at)
       → IfOk r (λ e. ReadOperand means whole after (expression_of e.expr) e.kind e.at)

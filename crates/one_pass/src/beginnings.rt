@@ -6,8 +6,9 @@ ghost use Rattle.model_core.specs.Code.WrittenViews.{written_name, written_verte
 ghost use Rattle.model_read.specs.InText.{AreInText};
 ghost use Rattle.one_pass.specs.Inner.ReadParts.{BeginAlike};
 
+use crate::not_read::NotRead;
 use model_core::{RawName, RawVertex, Token, TokenKind, Word};
-use model_read::{Cursor, Stop, begun_vertex};
+use model_read::{Cursor, begun_vertex};
 use sig_base::List;
 use sig_types::items;
 use std::alloc::Global;
@@ -17,7 +18,7 @@ pub(crate) fn beginnings(
     alloc: Global,
     text: &[u8],
     tokens: &[Token],
-) -> Result<List<RawVertex>, Stop>
+) -> Result<List<RawVertex>, NotRead>
     requires { AreInText text.now tokens.now }
 {
     let mut begun = List::new(alloc);

@@ -11,9 +11,10 @@ ghost use Rattle.one_pass.specs.Inner.ReadParts.{ReadSure};
 ghost use Rattle.one_pass.specs.Inner.ReadValues.{fitting_faults};
 ghost use Rattle.one_pass.specs.Inner.ReadCarried.{ReadGiven, IsVertex, ReadCarried};
 
+use crate::not_read::NotRead;
 use crate::values::values;
 use model_core::{Expr, Kind, Symbol};
-use model_read::{Cursor, Spelling, Stop};
+use model_read::{Cursor, Spelling};
 use sig_base::List;
 use sig_types::{Names, Told, spelled_vertex};
 use std::alloc::Global;
@@ -24,7 +25,7 @@ fn enclosed(
     cursor: &mut Cursor<'_>,
     names: &Names,
     kinds: &[Option<Kind>],
-) -> Result<List<Expr>, Stop>
+) -> Result<List<Expr>, NotRead>
     ensures { IfOk result (λ es. ReadSure values_format (meaning_of names.now) (fitting_faults (meaning_of names.now) kinds.now) (λ d. each_numbered (numbering.expression d)) cursor.old cursor.new (map expression_of es)) }
 {
     cursor.symbol(Symbol::OpenParenthesis)?;
@@ -39,37 +40,37 @@ fn given(
     cursor: &mut Cursor<'_>,
     names: &Names,
     kinds: &[Option<Kind>],
-) -> Result<List<Expr>, Stop>
+) -> Result<List<Expr>, NotRead>
     ensures { IfOk result (λ es. ReadGiven (meaning_of names.now) kinds.now cursor.old cursor.new (map expression_of es)) }
 {
     if cursor.begins_symbol(Symbol::OpenParenthesis) {
         return enclosed(alloc, cursor, names, kinds);
     }
     if kinds.len() != 0 {
-        return Err(Stop::Unexpected);
+        return Err(NotRead::Broken);
     }
     Ok(List::new(alloc))
 }
 
 /// The place of the vertex of this name.
-fn target(names: &Names, name: Spelling<'_>) -> Result<usize, Stop>
+fn target(names: &Names, name: Spelling<'_>) -> Result<usize, NotRead>
     ensures { IfOk result (λ k. IsVertex (meaning_of names.now) (spelled_name name.entry) k) }
 {
     let mut told = Told::new();
     let place = spelled_vertex(names, name.bytes, name.at, &mut told);
     match (told.fault(), place) {
         (None, Some(place)) => Ok(place),
-        _ => Err(Stop::Unexpected),
+        _ => Err(NotRead::Broken),
     }
 }
 
 /// What the vertex at a place takes.
-fn taken_at(taken: &[List<Option<Kind>>], place: usize) -> Result<&[Option<Kind>], Stop>
+fn taken_at(taken: &[List<Option<Kind>>], place: usize) -> Result<&[Option<Kind>], NotRead>
     ensures { IfOk result (λ kinds. slice_get taken.now place ≡ Some kinds.now) }
 {
     match taken.get(place) {
         Some(kinds) => Ok(kinds.as_slice()),
-        None => Err(Stop::Unexpected),
+        None => Err(NotRead::Broken),
     }
 }
 
@@ -86,7 +87,7 @@ pub(crate) fn carried(
     cursor: &mut Cursor<'_>,
     names: &Names,
     taken: &[List<Option<Kind>>],
-) -> Result<Destination, Stop>
+) -> Result<Destination, NotRead>
     ensures { IfOk result (λ c. ReadCarried (meaning_of names.now) taken.now cursor.old cursor.new c.target (map expression_of c.values)) }
 {
     let name = cursor.spelling()?;

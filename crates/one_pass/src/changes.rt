@@ -15,17 +15,18 @@ ghost use Rattle.one_pass.specs.Inner.ReadRows.{ReadRow};
 ghost use Rattle.one_pass.specs.Inner.ReadTargets.{IsTarget, ReadTarget};
 
 use crate::expressions::{bracketed, known};
+use crate::not_read::NotRead;
 use crate::refusing::refuse_told;
 use crate::values::values;
 use arrayvec::ArrayVec;
 use model_core::{Change, Kind, RawChange, Symbol, Target, Word};
-use model_read::{Cursor, Phrase, Stop, packed};
+use model_read::{Cursor, Phrase, packed};
 use sig_base::{List, TARGETS_MAX};
 use sig_types::{Names, Told, Typed};
 use std::alloc::Global;
 
 /// Reads a variable or a cell that takes a value.
-fn target(alloc: Global, cursor: &mut Cursor<'_>, names: &Names) -> Result<Typed<Target>, Stop>
+fn target(alloc: Global, cursor: &mut Cursor<'_>, names: &Names) -> Result<Typed<Target>, NotRead>
     ensures reads { IfOk result (λ t. ReadTarget (meaning_of names.now) (language_reader target_format cursor.old) cursor.new (location_of t.part) t.kind) }
     ensures shorter { IfOk result (λ t. length cursor.new + 1 ≤ length cursor.old) }
 {
@@ -54,7 +55,7 @@ struct TypedTargets {
 }
 
 /// Reads targets, separated by commas: no more than a change may have.
-fn targets(alloc: Global, cursor: &mut Cursor<'_>, names: &Names) -> Result<TypedTargets, Stop>
+fn targets(alloc: Global, cursor: &mut Cursor<'_>, names: &Names) -> Result<TypedTargets, NotRead>
     ensures { IfOk result (λ t. ReadRow (separated target_format) (IsTarget (meaning_of names.now)) cursor.old cursor.new (map location_of t.targets) t.kinds.items) }
 {
     let first = target(alloc, cursor, names)?;
@@ -64,7 +65,7 @@ fn targets(alloc: Global, cursor: &mut Cursor<'_>, names: &Names) -> Result<Type
     while cursor.begins_symbol(Symbol::Comma) {
         cursor.symbol(Symbol::Comma)?;
         if kinds.is_full() {
-            return Err(Stop::Unexpected);
+            return Err(NotRead::Broken);
         }
         let next = target(alloc, cursor, names)?;
         targets.push(next.part)?;
@@ -77,7 +78,7 @@ fn targets(alloc: Global, cursor: &mut Cursor<'_>, names: &Names) -> Result<Type
 }
 
 /// Reads a change that computes values.
-fn set(alloc: Global, cursor: &mut Cursor<'_>, names: &Names) -> Result<Change, Stop>
+fn set(alloc: Global, cursor: &mut Cursor<'_>, names: &Names) -> Result<Change, NotRead>
     ensures { IfOk result (λ c. ReadSure change_format (meaning_of names.now) (change_faults (meaning_of names.now)) numbering.change cursor.old cursor.new (change_of c)) }
 {
     cursor.word(Word::Set)?;
@@ -89,7 +90,7 @@ fn set(alloc: Global, cursor: &mut Cursor<'_>, names: &Names) -> Result<Change, 
 }
 
 /// The change that is written, where it breaks no static rule.
-fn checked(alloc: Global, names: &Names, raw: &RawChange) -> Result<Change, Stop>
+fn checked(alloc: Global, names: &Names, raw: &RawChange) -> Result<Change, NotRead>
     ensures unbroken { OnOk result (change_faults (meaning_of names.now) (written_change raw.now) ≡ []) }
     ensures numbers { IfOk result (λ c. NumberedAs (meaning_of names.now) (λ d. numbering.change d (written_change raw.now)) (change_of c)) }
 {
@@ -100,7 +101,7 @@ fn checked(alloc: Global, names: &Names, raw: &RawChange) -> Result<Change, Stop
 }
 
 /// Reads a change as it is written, and checks it then.
-fn written_first(alloc: Global, cursor: &mut Cursor<'_>, names: &Names) -> Result<Change, Stop>
+fn written_first(alloc: Global, cursor: &mut Cursor<'_>, names: &Names) -> Result<Change, NotRead>
     ensures { IfOk result (λ c. ReadSure change_format (meaning_of names.now) (change_faults (meaning_of names.now)) numbering.change cursor.old cursor.new (change_of c)) }
 {
     let raw = RawChange::read(alloc, cursor)?;
@@ -108,7 +109,11 @@ fn written_first(alloc: Global, cursor: &mut Cursor<'_>, names: &Names) -> Resul
 }
 
 /// Reads a change. One that draws a value is rare.
-pub(crate) fn change(alloc: Global, cursor: &mut Cursor<'_>, names: &Names) -> Result<Change, Stop>
+pub(crate) fn change(
+    alloc: Global,
+    cursor: &mut Cursor<'_>,
+    names: &Names,
+) -> Result<Change, NotRead>
     ensures { IfOk result (λ c. ReadSure change_format (meaning_of names.now) (change_faults (meaning_of names.now)) numbering.change cursor.old cursor.new (change_of c)) }
 {
     if cursor.begins_word(Word::Set) {

@@ -17,16 +17,17 @@ ghost use Rattle.sig_types.specs.Inner.Checked.{NumberedAs};
 ghost use Rattle.one_pass.specs.Inner.ReadParts.{ReadSure};
 
 use crate::carried::carried;
+use crate::not_read::NotRead;
 use crate::refusing::refuse_told;
 use crate::values::value;
 use model_core::{Edge, EdgeForm, Expr, Kind, RawEdge, RawNumber, StaticKind, Symbol, Word};
-use model_read::{Cursor, Phrase, Stop};
+use model_read::{Cursor, Phrase};
 use sig_base::List;
 use sig_types::{Names, Told, bounded};
 use std::alloc::Global;
 
 /// Reads the delay of an edge: 0 where none is written.
-fn delay(alloc: Global, cursor: &mut Cursor<'_>, names: &Names) -> Result<Expr, Stop>
+fn delay(alloc: Global, cursor: &mut Cursor<'_>, names: &Names) -> Result<Expr, NotRead>
     ensures { IfOk result (λ e. ReadSure (maybe (reserved After *> expression_format)) (meaning_of names.now) (if_written (operand_faults (meaning_of names.now) (Some kinds.Range))) (λ d. written_or (numbering.expression d) (Number (pos 0))) cursor.old cursor.new (expression_of e)) }
 {
     if !cursor.begins_word(Word::After) {
@@ -38,7 +39,7 @@ fn delay(alloc: Global, cursor: &mut Cursor<'_>, names: &Names) -> Result<Expr, 
 }
 
 /// A priority within its limits.
-fn within(raw: &RawNumber) -> Result<u8, Stop>
+fn within(raw: &RawNumber) -> Result<u8, NotRead>
     ensures unbroken { OnOk result (priority_faults (written_number raw.now) ≡ []) }
     ensures numbers { IfOk result (λ p. natural (written_number raw.now) ≡ Some p) }
 {
@@ -49,7 +50,7 @@ fn within(raw: &RawNumber) -> Result<u8, Stop>
 }
 
 /// Reads the priority of an edge: 5 where none is written.
-fn priority(cursor: &mut Cursor<'_>) -> Result<u8, Stop>
+fn priority(cursor: &mut Cursor<'_>) -> Result<u8, NotRead>
     ensures { (means : List ℕ → Option Meaning) → IfOk result (λ p. ReadSure (maybe (reserved Priority *> any_number)) means (if_written priority_faults) (λ d. written_or natural 5) cursor.old cursor.new p) }
 {
     if !cursor.begins_word(Word::Priority) {
@@ -62,7 +63,7 @@ fn priority(cursor: &mut Cursor<'_>) -> Result<u8, Stop>
 }
 
 /// Reads the condition of an edge: true where none is written.
-fn condition(alloc: Global, cursor: &mut Cursor<'_>, names: &Names) -> Result<Expr, Stop>
+fn condition(alloc: Global, cursor: &mut Cursor<'_>, names: &Names) -> Result<Expr, NotRead>
     ensures { IfOk result (λ e. ReadSure (maybe when_format) (meaning_of names.now) (if_written (operand_faults (meaning_of names.now) (Some kinds.Truth))) (λ d. written_or (numbering.expression d) (Truth true)) cursor.old cursor.new (expression_of e)) }
 {
     if !cursor.begins_word(Word::When) {
@@ -79,7 +80,7 @@ fn schedule(
     cursor: &mut Cursor<'_>,
     names: &Names,
     taken: &[List<Option<Kind>>],
-) -> Result<Edge, Stop>
+) -> Result<Edge, NotRead>
     ensures { IfOk result (λ e. ReadSure schedule_format (meaning_of names.now) (edge_faults (meaning_of names.now) taken.now) numbering.edge cursor.old cursor.new (edge_of e)) }
 {
     cursor.word(Word::Schedule)?;
@@ -102,7 +103,7 @@ fn urgent(
     cursor: &mut Cursor<'_>,
     names: &Names,
     taken: &[List<Option<Kind>>],
-) -> Result<Edge, Stop>
+) -> Result<Edge, NotRead>
     ensures { IfOk result (λ e. ReadSure urgent_format (meaning_of names.now) (edge_faults (meaning_of names.now) taken.now) numbering.edge cursor.old cursor.new (edge_of e)) }
 {
     cursor.word(Word::Urgent)?;
@@ -123,7 +124,7 @@ fn checked(
     names: &Names,
     taken: &[List<Option<Kind>>],
     raw: &RawEdge,
-) -> Result<Edge, Stop>
+) -> Result<Edge, NotRead>
     ensures unbroken { OnOk result (edge_faults (meaning_of names.now) taken.now (written_edge raw.now) ≡ []) }
     ensures numbers { IfOk result (λ e. NumberedAs (meaning_of names.now) (λ d. numbering.edge d (written_edge raw.now)) (edge_of e)) }
 {
@@ -139,7 +140,7 @@ fn written_first(
     cursor: &mut Cursor<'_>,
     names: &Names,
     taken: &[List<Option<Kind>>],
-) -> Result<Edge, Stop>
+) -> Result<Edge, NotRead>
     ensures { IfOk result (λ e. ReadSure edge_format (meaning_of names.now) (edge_faults (meaning_of names.now) taken.now) numbering.edge cursor.old cursor.new (edge_of e)) }
 {
     let raw = RawEdge::read(alloc, cursor)?;
@@ -152,7 +153,7 @@ pub(crate) fn edge(
     cursor: &mut Cursor<'_>,
     names: &Names,
     taken: &[List<Option<Kind>>],
-) -> Result<Edge, Stop>
+) -> Result<Edge, NotRead>
     ensures { IfOk result (λ e. ReadSure edge_format (meaning_of names.now) (edge_faults (meaning_of names.now) taken.now) numbering.edge cursor.old cursor.new (edge_of e)) }
 {
     if cursor.begins_word(Word::Schedule) {

@@ -21,9 +21,10 @@ ghost use Rattle.sig_types.specs.Inner.Checked.{NumberedAs};
 ghost use Rattle.sig_types.specs.Inner.Seen.{variable_role};
 ghost use Rattle.one_pass.specs.Inner.ReadOperands.{first_operand, ReadOperand, ClimbsFrom};
 
+use crate::not_read::NotRead;
 use crate::refusing::refuse_told;
 use model_core::{Expr, Kind, Op, Symbol, Word};
-use model_read::{CONJUNCTIONS, Cursor, LEVELS, Spelling, Stop, next_level};
+use model_read::{CONJUNCTIONS, Cursor, LEVELS, Spelling, next_level};
 use sig_types::{
     Names, Told, Typed, kinds_differ, known_or, operand_kind, result_kind, right_kind,
     spelled_variable,
@@ -39,17 +40,21 @@ pub(crate) struct Operand {
 }
 
 /// Refuses an expression of another kind, where both kinds are known.
-pub(crate) fn expect(wanted: Option<Kind>, operand: &Operand) -> Result<(), Stop>
+pub(crate) fn expect(wanted: Option<Kind>, operand: &Operand) -> Result<(), NotRead>
     ensures { OnOk result (kind_mismatch wanted operand.now.kind operand.now.at ≡ []) }
 {
     if kinds_differ(wanted, operand.kind) {
-        return Err(Stop::Unexpected);
+        return Err(NotRead::Broken);
     }
     Ok(())
 }
 
 /// The place and the kind of the scalar or the array of this name.
-pub(crate) fn known(names: &Names, is_array: bool, name: Spelling<'_>) -> Result<Typed<usize>, Stop>
+pub(crate) fn known(
+    names: &Names,
+    is_array: bool,
+    name: Spelling<'_>,
+) -> Result<Typed<usize>, NotRead>
     ensures unbroken { OnOk result (use_faults (meaning_of names.now) (variable_role is_array) (spelled_name name.entry) ≡ []) }
     ensures numbers { IfOk result (λ v. NumberedAs (meaning_of names.now) (λ d. declared_place name.entry.bytes.now d.variables) v.part) }
     ensures kind { IfOk result (λ v. v.kind ≡ kind_in_role (variable_role is_array) (meaning_of names.now name.entry.bytes.now)) }
@@ -66,7 +71,7 @@ pub(crate) fn expression(
     alloc: Global,
     cursor: &mut Cursor<'_>,
     names: &Names,
-) -> Result<Operand, Stop>
+) -> Result<Operand, NotRead>
     ensures reads { IfOk result (λ e. ReadOperand (meaning_of names.now) (language_reader expression_format cursor.old) cursor.new (expression_of e.expr) e.kind e.at) }
     ensures shorter { IfOk result (λ e. length cursor.new + 1 ≤ length cursor.old) }
 {
@@ -75,7 +80,7 @@ pub(crate) fn expression(
 
 /// Reads `if` with its parts, or else operands of `or`.
 #[cycle(expressions)]
-fn conditional(alloc: Global, cursor: &mut Cursor<'_>, names: &Names) -> Result<Operand, Stop>
+fn conditional(alloc: Global, cursor: &mut Cursor<'_>, names: &Names) -> Result<Operand, NotRead>
     ensures reads { IfOk result (λ e. ReadOperand (meaning_of names.now) (language_reader whole_format cursor.old) cursor.new (expression_of e.expr) e.kind e.at) }
     ensures shorter { IfOk result (λ e. length cursor.new + 1 ≤ length cursor.old) }
 {
@@ -90,7 +95,7 @@ fn conditional(alloc: Global, cursor: &mut Cursor<'_>, names: &Names) -> Result<
 // Not inlined, as others below: so the frame of the recursion that every expression goes through stays small.
 #[inline(never)]
 #[cycle(expressions)]
-fn branches(alloc: Global, cursor: &mut Cursor<'_>, names: &Names) -> Result<Operand, Stop>
+fn branches(alloc: Global, cursor: &mut Cursor<'_>, names: &Names) -> Result<Operand, NotRead>
     ensures reads { IfOk result (λ e. ReadOperand (meaning_of names.now) (language_reader if_format cursor.old) cursor.new (expression_of e.expr) e.kind e.at) }
     ensures shorter { IfOk result (λ e. length cursor.new + 1 ≤ length cursor.old) }
 {
@@ -117,7 +122,7 @@ fn operand_under(
     cursor: &mut Cursor<'_>,
     names: &Names,
     under: usize,
-) -> Result<Operand, Stop>
+) -> Result<Operand, NotRead>
     requires { under ≤ 5 }
     ensures reads { IfOk result (λ e. ReadOperand (meaning_of names.now) (language_reader (ByRule (operand_level under)) cursor.old) cursor.new (expression_of e.expr) e.kind e.at) }
     ensures shorter { IfOk result (λ e. length cursor.new + 1 ≤ length cursor.old) }
@@ -135,7 +140,7 @@ fn first_operand(
     cursor: &mut Cursor<'_>,
     names: &Names,
     is_negated: bool,
-) -> Result<Operand, Stop>
+) -> Result<Operand, NotRead>
     ensures reads { IfOk result (λ e. ReadOperand (meaning_of names.now) (first_operand is_negated cursor.old) cursor.new (expression_of e.expr) e.kind e.at) }
     ensures shorter { IfOk result (λ e. length cursor.new + 1 ≤ length cursor.old) }
 {
@@ -156,7 +161,7 @@ fn others(
     first: Operand,
     least: usize,
     under: usize,
-) -> Result<Operand, Stop>
+) -> Result<Operand, NotRead>
     requires { under ≤ 5 }
     ensures reads { IfOk result (λ e. ClimbsFrom (meaning_of names.now) under least cursor.old cursor.new (expression_of first.expr) first.kind first.at (expression_of e.expr) e.kind e.at) }
     ensures shorter { IfOk result (λ e. length cursor.new ≤ length cursor.old) }
@@ -181,7 +186,7 @@ fn least_behind(is_negated: bool) -> usize
 }
 
 /// Two operands with an operator between them.
-fn joined(alloc: Global, left: Operand, op: Op, right: Operand) -> Result<Operand, Stop>
+fn joined(alloc: Global, left: Operand, op: Op, right: Operand) -> Result<Operand, NotRead>
     ensures expr { IfOk result (λ e. expression_of e.expr ≡ Binary (operator_of op) (expression_of left.expr) (expression_of right.expr)) }
     ensures kind { IfOk result (λ e. e.kind ≡ Some (kinds.result_kind (operator_of op))) }
     ensures at { IfOk result (λ e. e.at ≡ left.at) }
@@ -197,7 +202,7 @@ fn joined(alloc: Global, left: Operand, op: Op, right: Operand) -> Result<Operan
 /// Reads `not` and its operand.
 #[inline(never)]
 #[cycle(expressions)]
-fn negated(alloc: Global, cursor: &mut Cursor<'_>, names: &Names) -> Result<Operand, Stop>
+fn negated(alloc: Global, cursor: &mut Cursor<'_>, names: &Names) -> Result<Operand, NotRead>
     ensures reads { IfOk result (λ e. ReadOperand (meaning_of names.now) (language_reader not_format cursor.old) cursor.new (expression_of e.expr) e.kind e.at) }
     ensures shorter { IfOk result (λ e. length cursor.new + 1 ≤ length cursor.old) }
 {
@@ -213,7 +218,7 @@ fn negated(alloc: Global, cursor: &mut Cursor<'_>, names: &Names) -> Result<Oper
 
 /// Reads an operand of `*`.
 #[cycle(expressions)]
-fn unary(alloc: Global, cursor: &mut Cursor<'_>, names: &Names) -> Result<Operand, Stop>
+fn unary(alloc: Global, cursor: &mut Cursor<'_>, names: &Names) -> Result<Operand, NotRead>
     ensures reads { IfOk result (λ e. ReadOperand (meaning_of names.now) (language_reader (ByRule Unary) cursor.old) cursor.new (expression_of e.expr) e.kind e.at) }
     ensures shorter { IfOk result (λ e. length cursor.new + 1 ≤ length cursor.old) }
 {
@@ -222,7 +227,7 @@ fn unary(alloc: Global, cursor: &mut Cursor<'_>, names: &Names) -> Result<Operan
 
 /// Reads `-` and its operand, or else a part that no operator divides.
 #[cycle(expressions)]
-fn signed(alloc: Global, cursor: &mut Cursor<'_>, names: &Names) -> Result<Operand, Stop>
+fn signed(alloc: Global, cursor: &mut Cursor<'_>, names: &Names) -> Result<Operand, NotRead>
     ensures reads { IfOk result (λ e. ReadOperand (meaning_of names.now) (language_reader unary_format cursor.old) cursor.new (expression_of e.expr) e.kind e.at) }
     ensures shorter { IfOk result (λ e. length cursor.new + 1 ≤ length cursor.old) }
 {
@@ -236,7 +241,7 @@ fn signed(alloc: Global, cursor: &mut Cursor<'_>, names: &Names) -> Result<Opera
 /// Reads `-` and its operand.
 #[inline(never)]
 #[cycle(expressions)]
-fn negative(alloc: Global, cursor: &mut Cursor<'_>, names: &Names) -> Result<Operand, Stop>
+fn negative(alloc: Global, cursor: &mut Cursor<'_>, names: &Names) -> Result<Operand, NotRead>
     ensures reads { IfOk result (λ e. ReadOperand (meaning_of names.now) (language_reader negative_format cursor.old) cursor.new (expression_of e.expr) e.kind e.at) }
     ensures shorter { IfOk result (λ e. length cursor.new + 1 ≤ length cursor.old) }
 {
@@ -256,7 +261,7 @@ pub(crate) fn bracketed(
     alloc: Global,
     cursor: &mut Cursor<'_>,
     names: &Names,
-) -> Result<Operand, Stop>
+) -> Result<Operand, NotRead>
     ensures reads { IfOk result (λ e. ReadOperand (meaning_of names.now) (language_reader index_format cursor.old) cursor.new (expression_of e.expr) e.kind e.at) }
     ensures ranged { IfOk result (λ e. kind_mismatch (Some Range) e.kind e.at ≡ []) }
     ensures shorter { IfOk result (λ e. length cursor.new + 1 ≤ length cursor.old) }
@@ -277,7 +282,7 @@ fn called(
     names: &Names,
     word: Word,
     op: Op,
-) -> Result<Operand, Stop>
+) -> Result<Operand, NotRead>
     ensures reads { IfOk result (λ e. ReadOperand (meaning_of names.now) (language_reader (call_format word (operator_of op)) cursor.old) cursor.new (expression_of e.expr) e.kind e.at) }
     ensures shorter { IfOk result (λ e. length cursor.new + 1 ≤ length cursor.old) }
 {
@@ -300,7 +305,7 @@ fn called(
 /// Reads a variable or a cell.
 #[inline(never)]
 #[cycle(expressions)]
-fn named(alloc: Global, cursor: &mut Cursor<'_>, names: &Names) -> Result<Operand, Stop>
+fn named(alloc: Global, cursor: &mut Cursor<'_>, names: &Names) -> Result<Operand, NotRead>
     ensures reads { IfOk result (λ e. ReadOperand (meaning_of names.now) (language_reader named_format cursor.old) cursor.new (expression_of e.expr) e.kind e.at) }
     ensures shorter { IfOk result (λ e. length cursor.new + 1 ≤ length cursor.old) }
 {
@@ -325,7 +330,7 @@ fn named(alloc: Global, cursor: &mut Cursor<'_>, names: &Names) -> Result<Operan
 /// Reads an expression in parentheses, whose place is that of the first.
 #[inline(never)]
 #[cycle(expressions)]
-fn enclosed(alloc: Global, cursor: &mut Cursor<'_>, names: &Names) -> Result<Operand, Stop>
+fn enclosed(alloc: Global, cursor: &mut Cursor<'_>, names: &Names) -> Result<Operand, NotRead>
     ensures reads { IfOk result (λ e. ReadOperand (meaning_of names.now) (language_reader in_parentheses_format cursor.old) cursor.new (expression_of e.expr) e.kind e.at) }
     ensures shorter { IfOk result (λ e. length cursor.new + 1 ≤ length cursor.old) }
 {
@@ -341,7 +346,7 @@ fn enclosed(alloc: Global, cursor: &mut Cursor<'_>, names: &Names) -> Result<Ope
 
 /// Reads what no operator divides.
 #[cycle(expressions)]
-fn primary(alloc: Global, cursor: &mut Cursor<'_>, names: &Names) -> Result<Operand, Stop>
+fn primary(alloc: Global, cursor: &mut Cursor<'_>, names: &Names) -> Result<Operand, NotRead>
     ensures reads { IfOk result (λ e. ReadOperand (meaning_of names.now) (language_reader (ByRule Primary) cursor.old) cursor.new (expression_of e.expr) e.kind e.at) }
     ensures shorter { IfOk result (λ e. length cursor.new + 1 ≤ length cursor.old) }
 {
@@ -350,7 +355,7 @@ fn primary(alloc: Global, cursor: &mut Cursor<'_>, names: &Names) -> Result<Oper
 
 /// Reads a number, a word, a variable, or what stands in parentheses.
 #[cycle(expressions)]
-fn undivided(alloc: Global, cursor: &mut Cursor<'_>, names: &Names) -> Result<Operand, Stop>
+fn undivided(alloc: Global, cursor: &mut Cursor<'_>, names: &Names) -> Result<Operand, NotRead>
     ensures reads { IfOk result (λ e. ReadOperand (meaning_of names.now) (language_reader primary_format cursor.old) cursor.new (expression_of e.expr) e.kind e.at) }
     ensures shorter { IfOk result (λ e. length cursor.new + 1 ≤ length cursor.old) }
 {
@@ -360,7 +365,7 @@ fn undivided(alloc: Global, cursor: &mut Cursor<'_>, names: &Names) -> Result<Op
     if cursor.begins_number() {
         let number = cursor.number()?;
         return match number.value {
-            None => Err(Stop::Unexpected),
+            None => Err(NotRead::Broken),
             Some(value) => Ok(Operand {
                 expr: Expr::Int(value),
                 kind: Some(Kind::Range),

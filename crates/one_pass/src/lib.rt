@@ -7,10 +7,12 @@ mod carried;
 mod changes;
 mod edges;
 mod expressions;
+mod not_read;
 mod parts;
 mod refusing;
 mod text;
 mod values;
 mod vertices;
 
+pub use not_read::NotRead;
 pub use text::read_model;

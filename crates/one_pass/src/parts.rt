@@ -19,8 +19,9 @@ ghost use Rattle.one_pass.specs.Inner.ReadParts.{ReadSure, ReadParts};
 
 use crate::changes::change;
 use crate::edges::edge;
+use crate::not_read::NotRead;
 use model_core::{Change, Edge, Kind, RawChange, RawEdge};
-use model_read::{Cursor, Repeated, Stop, packed};
+use model_read::{Cursor, Repeated, packed};
 use sig_base::List;
 use sig_types::Names;
 use std::alloc::Global;
@@ -54,7 +55,7 @@ pub(crate) trait Part: Drop {
         cursor: &mut Cursor<'_>,
         names: &Names,
         taken: &[List<Option<Kind>>],
-    ) -> Result<Self, Stop>
+    ) -> Result<Self, NotRead>
         ensures { IfOk result (λ part. ReadSure format (meaning_of names.now) (faults (meaning_of names.now) taken.now) number cursor.old cursor.new (plain part)) };
 
     // It has a token at least.
@@ -67,7 +68,7 @@ pub(crate) fn take_all<T: Part>(
     cursor: &mut Cursor<'_>,
     names: &Names,
     taken: &[List<Option<Kind>>],
-) -> Result<List<T>, Stop>
+) -> Result<List<T>, NotRead>
     ensures { IfOk result (λ parts. ReadParts T.format (meaning_of names.now) (T.faults (meaning_of names.now) taken.now) T.number cursor.old cursor.new (map T.plain parts)) }
 {
     let mut parts = List::new(alloc);
@@ -99,7 +100,7 @@ impl Part for Change {
         cursor: &mut Cursor<'_>,
         names: &Names,
         _taken: &[List<Option<Kind>>],
-    ) -> Result<Change, Stop> {
+    ) -> Result<Change, NotRead> {
         change(alloc, cursor, names)
     }
 
@@ -128,7 +129,7 @@ impl Part for Edge {
         cursor: &mut Cursor<'_>,
         names: &Names,
         taken: &[List<Option<Kind>>],
-    ) -> Result<Edge, Stop> {
+    ) -> Result<Edge, NotRead> {
         edge(alloc, cursor, names, taken)
     }
 

@@ -2,16 +2,16 @@
 
 ghost use Rattle.std.specs.Prelude.{◌≡◌, ◌≢◌, None, OnOk, OnErr};
 
-use model_read::Stop;
+use crate::not_read::NotRead;
 use sig_types::Told;
 
 /// Gives up where a fault is told.
-pub(crate) fn refuse_told(told: &Told) -> Result<(), Stop>
+pub(crate) fn refuse_told(told: &Told) -> Result<(), NotRead>
     ensures untold { OnOk result (told.now ≡ None) }
     ensures told { OnErr result (told.now ≢ None) }
 {
     match told.fault() {
         None => Ok(()),
-        Some(_) => Err(Stop::Unexpected),
+        Some(_) => Err(NotRead::Broken),
     }
 }

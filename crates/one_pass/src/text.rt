@@ -1,7 +1,6 @@
 //! A whole model text.
 
 ghost use Rattle.std.specs.Prelude.{◌≡◌, None, IfOk};
-ghost use Rattle.std.specs.Option.{IfSome};
 ghost use Rattle.model_core.specs.Code.Views.{graph_of};
 ghost use Rattle.model_core.specs.Code.WrittenViews.{written_model};
 ghost use Rattle.model_lex.specs.Lexemes.{lexemes};
@@ -9,10 +8,12 @@ ghost use Rattle.one_pass.specs.ReadModel.{AreAccepted};
 ghost use Rattle.one_pass.specs.Inner.ReadParts.{ReadBehind, ReadText};
 
 use crate::beginnings::beginnings;
+use crate::not_read::NotRead;
+use crate::refusing::refuse_told;
 use crate::vertices::vertices;
 use model_core::{Model, RawModel, RawVertex, Word};
 use model_lex::{Tokens, tokens_stand_in_order};
-use model_read::{Cursor, Stop, begun_model, first_too_deep};
+use model_read::{Cursor, begun_model, first_too_deep};
 use sig_base::{List, OPENINGS_MAX};
 use sig_types::{
     Told, check_tables, check_variables, declared, items, taken, tell_too_long, watch_list,
@@ -25,7 +26,7 @@ fn behind(
     cursor: &mut Cursor<'_>,
     begun: RawModel,
     told: &mut Told,
-) -> Result<Model, Stop>
+) -> Result<Model, NotRead>
     ensures { IfOk result (λ model. ReadBehind (written_model begun) cursor.old cursor.new told.old told.new (graph_of model)) }
 {
     let names = declared(alloc, &begun, told)?;
@@ -56,7 +57,7 @@ fn text(
     cursor: &mut Cursor<'_>,
     expected: List<RawVertex>,
     told: &mut Told,
-) -> Result<Model, Stop>
+) -> Result<Model, NotRead>
     requires { told.old ≡ None }
     ensures { IfOk result (λ model. ReadText cursor.old told.new (graph_of model)) }
 {
@@ -72,33 +73,20 @@ fn text(
     Ok(model)
 }
 
-/// The model that all of the tokens spell, or none where a fault is told or a part has too many openings. At any other fault
-/// the reading stops.
-fn found(alloc: Global, tokens: &Tokens<'_>) -> Result<Option<Model>, Stop>
-    ensures { IfOk result (λ found. IfSome found (λ model. AreAccepted (lexemes tokens.now) (graph_of model))) }
+/// The model that all of the tokens spell, where it keeps every static rule. Where none is given, it isn't known that there
+/// is none: `model_read` with `sig_types` tells what is wrong.
+pub fn read_model(alloc: Global, tokens: &Tokens<'_>) -> Result<Model, NotRead>
+    ensures { IfOk result (λ model. AreAccepted (lexemes tokens.now) (graph_of model)) }
 {
     tokens_stand_in_order();
     let list = tokens.list.as_slice();
     if let Some(_) = first_too_deep(list, OPENINGS_MAX) {
-        return Ok(None);
+        return Err(NotRead::Unexpected);
     }
     let expected = beginnings(alloc, tokens.text, list)?;
     let mut cursor = Cursor::new(tokens.text, list);
     let mut told = Told::new();
     let model = text(alloc, &mut cursor, expected, &mut told)?;
-    match told.fault() {
-        None => Ok(Some(model)),
-        Some(_) => Ok(None),
-    }
-}
-
-/// The model that all of the tokens spell, where it keeps every static rule. There may be none: then nothing is known, and
-/// `model_read` with `sig_types` tells what is wrong.
-pub fn read_model(alloc: Global, tokens: &Tokens<'_>) -> Option<Model>
-    ensures { IfSome result (λ model. AreAccepted (lexemes tokens.now) (graph_of model)) }
-{
-    match found(alloc, tokens) {
-        Ok(found) => found,
-        Err(_) => None,
-    }
+    refuse_told(&told)?;
+    Ok(model)
 }

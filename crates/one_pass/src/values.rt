@@ -14,8 +14,9 @@ ghost use Rattle.one_pass.specs.Inner.ReadParts.{ReadSure};
 ghost use Rattle.one_pass.specs.Inner.ReadValues.{fitting_faults};
 
 use crate::expressions::{expect, expression};
+use crate::not_read::NotRead;
 use model_core::{Expr, Kind, Symbol};
-use model_read::{Cursor, Stop, packed};
+use model_read::{Cursor, packed};
 use sig_base::List;
 use sig_types::{Names, wanted_at};
 use std::alloc::Global;
@@ -26,7 +27,7 @@ pub(crate) fn value(
     cursor: &mut Cursor<'_>,
     names: &Names,
     wanted: Option<Kind>,
-) -> Result<Expr, Stop>
+) -> Result<Expr, NotRead>
     ensures { IfOk result (λ e. ReadSure expression_format (meaning_of names.now) (operand_faults (meaning_of names.now) wanted) numbering.expression cursor.old cursor.new (expression_of e)) }
 {
     let operand = expression(alloc, cursor, names)?;
@@ -40,7 +41,7 @@ fn next(
     cursor: &mut Cursor<'_>,
     names: &Names,
     wanted: Option<Kind>,
-) -> Result<Expr, Stop>
+) -> Result<Expr, NotRead>
     ensures { IfOk result (λ e. ReadSure (mark Comma *> expression_format) (meaning_of names.now) (operand_faults (meaning_of names.now) wanted) numbering.expression cursor.old cursor.new (expression_of e)) }
 {
     cursor.symbol(Symbol::Comma)?;
@@ -54,7 +55,7 @@ pub(crate) fn values(
     cursor: &mut Cursor<'_>,
     names: &Names,
     kinds: &[Option<Kind>],
-) -> Result<List<Expr>, Stop>
+) -> Result<List<Expr>, NotRead>
     ensures { IfOk result (λ es. ReadSure (separated expression_format) (meaning_of names.now) (fitting_faults (meaning_of names.now) kinds.now) (λ d. each_numbered (numbering.expression d)) cursor.old cursor.new (map expression_of es)) }
 {
     let mut all = List::from_vec(Vec::with_capacity(alloc, kinds.len())?);
@@ -64,7 +65,7 @@ pub(crate) fn values(
         all.push(next(alloc, cursor, names, wanted)?)?;
     }
     if all.len() != kinds.len() {
-        return Err(Stop::Unexpected);
+        return Err(NotRead::Broken);
     }
     Ok(packed(all))
 }

@@ -11,16 +11,17 @@ ghost use Rattle.sig_types.specs.Inner.Checked.{NumberedAs};
 ghost use Rattle.one_pass.specs.Inner.ReadParts.{ReadVertex, ReadVertices};
 
 use crate::beginnings::begin_alike;
+use crate::not_read::NotRead;
 use crate::parts::take_all;
 use crate::refusing::refuse_told;
 use model_core::{Kind, RawVertex, StaticKind, Symbol, Vertex};
-use model_read::{Cursor, Repeated, Stop, begun_vertex};
+use model_read::{Cursor, Repeated, begun_vertex};
 use sig_base::{CHANGES_MAX, EDGES_MAX, List, NAME_MAX};
 use sig_types::{Names, Told, items, parameters};
 use std::alloc::Global;
 
 /// The parameters of a vertex that breaks no static rule up to its changes.
-fn known_parameters(alloc: Global, names: &Names, begun: &RawVertex) -> Result<List<usize>, Stop>
+fn known_parameters(alloc: Global, names: &Names, begun: &RawVertex) -> Result<List<usize>, NotRead>
     ensures named { OnOk result (name_too_long (written_vertex begun.now).name ≡ []) }
     ensures unbroken { OnOk result (parameters_faults (meaning_of names.now) [] (written_items (written_vertex begun.now).parameters) ≡ []) }
     ensures numbers { IfOk result (λ ps. NumberedAs (meaning_of names.now) (λ d. each_numbered (numbered_parameter d) (written_items (written_vertex begun.now).parameters)) ps) }
@@ -40,19 +41,19 @@ fn vertex(
     names: &Names,
     taken: &[List<Option<Kind>>],
     expected: &RawVertex,
-) -> Result<Vertex, Stop>
+) -> Result<Vertex, NotRead>
     ensures { IfOk result (λ v. ReadVertex (meaning_of names.now) taken.now (written_vertex expected.now) cursor.old cursor.new (vertex_of v)) }
 {
     let begun = begun_vertex(alloc, cursor)?;
     if !begin_alike(&begun, expected) {
-        return Err(Stop::Unexpected);
+        return Err(NotRead::Unexpected);
     }
     let params = known_parameters(alloc, names, &begun)?;
     let changes = take_all(alloc, cursor, names, taken)?;
     let edges = take_all(alloc, cursor, names, taken)?;
     cursor.symbol(Symbol::CloseBrace)?;
     if changes.len() > CHANGES_MAX || edges.len() > EDGES_MAX {
-        return Err(Stop::Unexpected);
+        return Err(NotRead::Broken);
     }
     Ok(Vertex {
         name: begun.name.name,
@@ -69,19 +70,19 @@ pub(crate) fn vertices(
     names: &Names,
     taken: &[List<Option<Kind>>],
     expected: &[RawVertex],
-) -> Result<List<Vertex>, Stop>
+) -> Result<List<Vertex>, NotRead>
     ensures { IfOk result (λ vs. ReadVertices (meaning_of names.now) taken.now (map written_vertex expected.now) cursor.old cursor.new (map vertex_of vs)) }
 {
     let mut vertices = Vec::with_capacity(alloc, expected.len())?;
     for begun in expected {
         if !RawVertex::begins(cursor) {
-            return Err(Stop::Unexpected);
+            return Err(NotRead::Unexpected);
         }
         vertices.push(vertex(alloc, cursor, names, taken, begun)?)?;
     }
     let vertices = List::from_vec(vertices);
     if RawVertex::begins(cursor) || vertices.len() == 0 {
-        return Err(Stop::Unexpected);
+        return Err(NotRead::Unexpected);
     }
     Ok(vertices)
 }

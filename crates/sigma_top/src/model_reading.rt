@@ -10,7 +10,7 @@ use crate::reading_error::ReadingError;
 use model_core::Model;
 use model_lex::{Tokens, tokens};
 use model_read::parse;
-use one_pass::read_model;
+use one_pass::{NotRead, read_model};
 use sig_base::TEXT_MAX;
 use sig_types::check;
 use std::alloc::Global;
@@ -33,8 +33,9 @@ pub fn model_of(alloc: Global, text: &[u8]) -> Result<Model, ReadingError>
     ensures complaint { (what : Complained) (at : ℕ) → result ≡ Err (ReadingError.At what at) → IsComplaint text.now what at }
 {
     let tokens = tokens(alloc, text)?;
-    if let Some(model) = read_model(alloc, &tokens) {
-        return Ok(model);
+    match read_model(alloc, &tokens) {
+        Ok(model) => Ok(model),
+        Err(NotRead::NoMemory) => Err(ReadingError::NoMemory),
+        Err(NotRead::Unexpected | NotRead::Broken) => read_twice(alloc, &tokens),
     }
-    read_twice(alloc, &tokens)
 }

@@ -58,8 +58,8 @@ fn valid_model(alloc: Global, text: &[u8]) -> Result<Model, NoMemory>
 {
     let tokens = tokens(alloc, text).map_err(|_| NoMemory)?;
     match read_model(alloc, &tokens) {
-        Some(model) => Ok(model),
-        None => Err(NoMemory),
+        Ok(model) => Ok(model),
+        Err(_) => Err(NoMemory),
     }
 }
 

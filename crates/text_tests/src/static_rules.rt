@@ -25,7 +25,7 @@ pub fn checked(alloc: Global, text: &[u8]) -> Result<Model, StaticError> {
 /// The model that is read of a text in one pass.
 fn read_at_once(alloc: Global, text: &[u8]) -> Option<Model> {
     let tokens = tokens(alloc, text).ok()?;
-    read_model(alloc, &tokens)
+    read_model(alloc, &tokens).ok()
 }
 
 /// The fault that is told of a text.

@@ -1,15 +1,14 @@
 -- Nothing was told of the model, so it is accepted.
 use Rattle.std.proofs.Common.{◌≡◌, [], map, sym, ap, ◌∙◌}
-use Rattle.std.specs.Option.{option_map}
 use Rattle.sig_base.specs.declared.limits.TheConstants.{OPENINGS_MAX}
 use Rattle.model_core.specs.Code.TokenViews.{lexeme_of}
 use Rattle.model_core.proofs.Formats.TextLaws.{whole-is_spelled}
 use Rattle.model_core.proofs.OpeningLaws.{none-is_few}
 use Rattle.model_lex.specs.Lexemes.{lexemes}
-use Rattle.one_pass.proofs.text.found.Goals as goal
+use Rattle.one_pass.proofs.text.read_model.Goals as goal
 
-pub returns-in-None : goal.returns-in-None
-returns-in-None c =
+pub returns : goal.returns
+returns c =
     let text = c.args.tokens.now.text.now in
     let ls = lexemes c.args.tokens.now in
     let are : c.new-cursor.result ≡ ls = c.new-cursor.ensures ∙ ap (map (lexeme_of text)) c.as_slice-list.ensures in
@@ -18,5 +17,5 @@ returns-in-None c =
       written = read.written;
       spelled = whole-is_spelled ls read.written [] read.read;
       few = none-is_few OPENINGS_MAX ls (sym (rw c.as_slice-list.ensures at (c.first_too_deep.ensures text)) ∙ c.in_default.is);
-      accepted = read.accepted (c.fault.ensures ∙ ap (option_map _) c.in-None.is);
+      accepted = read.accepted c.in_ok-refuse_told.ensures.untold;
     }
