@@ -1,8 +1,8 @@
-//! The verdict on a list of applications between two small models.
+//! The certificate of a list of applications, and the verdict on it between two small models.
 
 use crate::static_rules::checked;
 use model_core::Application;
-use reduction_cert::{Verdict, check_chain};
+use reduction_cert::{Verdict, check_chain, print_certificate};
 use sig_base::{List, Name, NoMemory};
 use std::alloc::Global;
 use std::test::*;
@@ -15,6 +15,10 @@ const WHOLE: &[u8] = b"model M; var X : 1..3 = 1; var Y : 0..9 = 0; watch X;
 /// What they make of it.
 const REDUCED: &[u8] = b"model M; var X : 1..3 = 1; watch X;
     vertex RUN { schedule A after 2; } vertex A { set X := 2; } end";
+
+/// The certificate of what leads there.
+const CERTIFICATE: &[u8] =
+    b"certificate\nprune RUN 1\nsettle RUN 1\ndrop B\nmerge A C\ndrop C\nslice Y\nend\n";
 
 fn name(alloc: Global, bytes: &[u8]) -> Result<Name, NoMemory> {
     Ok(Name::from_vec(Vec::from_slice(alloc, bytes)?))
@@ -67,6 +71,16 @@ fn verdict(
     let original = checked(alloc, original).map_err(|_| NoMemory)?;
     let reduced = checked(alloc, reduced).map_err(|_| NoMemory)?;
     check_chain(alloc, &original, applications, &reduced)
+}
+
+#[test]
+fn a_certificate_has_a_line_for_each_rule(rt: HostRuntime) -> Result<(), Fail> {
+    let applications = all_rules(rt.alloc())?;
+    assert_eq!(rt;
+        print_certificate(rt.alloc(), &applications)?.as_slice(),
+        CERTIFICATE
+    );
+    Ok(())
 }
 
 #[test]
