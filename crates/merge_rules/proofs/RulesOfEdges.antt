@@ -4,7 +4,7 @@ use Rattle.std.specs.Prelude.{slice_index_or}
 use Rattle.std.specs.List.{remove}
 use Rattle.std.specs.Option.{option_map_or}
 use Rattle.model_core.specs.EventGraph.{EventEdge, EventVertex, EventGraph}
-use Rattle.model_core.specs.Run.Step.{no_vertex, vertex_at}
+use Rattle.model_core.specs.Run.Step.{no_vertex}
 use Rattle.model_core.specs.Rules.PlacedEdges.{with_place, first_edge}
 use Rattle.model_core.specs.Rules.Prune.{has_refuted_condition, first_prune}
 use Rattle.model_core.specs.Rules.Settle.{can_be_settled, first_settle}

@@ -7,10 +7,10 @@ use Rattle.model_core.specs.Text.Lexing.{Lexeme, tokens_of}
 use Rattle.model_core.specs.Text.Written.{WrittenModel}
 use Rattle.model_core.specs.Text.Language.{IsText}
 use Rattle.model_core.specs.Text.FirstWrong.{IsUnexpectedAt}
-use Rattle.model_core.specs.Text.Openings.{too_deep_at, HasFewOpenings}
+use Rattle.model_core.specs.Text.Openings.{too_deep_at}
 use Rattle.model_core.specs.Text.ModelText.{SpellsText}
 use Rattle.model_core.specs.Static.FaultOrder.{StaticFault}
-use Rattle.model_core.specs.Static.ModelFaults.{IsTold, told_fault, Accepted}
+use Rattle.model_core.specs.Static.ModelFaults.{IsTold, told_fault}
 use Rattle.model_core.specs.Static.Reading.{Reads}
 use Rattle.sigma_top.specs.declared.complaint.Complaint.{Complaint}
 use Rattle.sigma_top.specs.declared.complaint.Complaint.TheVariants as complaints

@@ -1,19 +1,14 @@
-use Rattle.std.proofs.Common.{◌≡◌, ◌⊎◌, inl, inr, ℕ, ◌+◌, ◌≤◌, pos, List, [], ◌∷◌, ◌++◌, length, drop, lit≤, refl, sym, ap, ◌∙◌, arith}
+use Rattle.std.proofs.Common.{◌≡◌, inl, inr, ℕ, ◌+◌, ◌≤◌, pos, List, [], ◌∷◌, ◌++◌, length, drop, lit≤, refl, sym, ap, arith}
 use Rattle.std.specs.Prelude.{Option, Some, codes}
 use Rattle.std.proofs.lemmas.List.{length-append, drop_all}
 use Rattle.sig_base.specs.declared.limits.TheConstants.{TEXT_MAX}
-use Rattle.model_core.specs.EventGraph.{EventGraph}
-use Rattle.model_core.specs.Static.Reading.{Reads}
 use Rattle.model_core.specs.Run.History.{look}
 use Rattle.model_core.specs.Text.Canonical.{canonical}
-use Rattle.sigma_top.specs.declared.answer.Answer.{Answer}
-use Rattle.sigma_top.specs.declared.answer.Answer.TheVariants.{Given, Refused}
 use Rattle.sigma_top.specs.declared.complaint.Complaint.TheVariants as complaints
 use Rattle.sigma_top.specs.declared.job.Job.TheVariants as jobs
 use Rattle.sigma_top.specs.declared.job.TheConstants.{ROOM_USUAL}
-use Rattle.sigma_top.specs.declared.status.End.{End}
 use Rattle.sigma_top.specs.declared.status.End.TheVariants as ends
-use Rattle.sigma_top.specs.RunAnswer.{run_answer, refused_or, told_of}
+use Rattle.sigma_top.specs.RunAnswer.{refused_or, told_of}
 use Rattle.sigma_top.specs.CertifyAnswer.{answer_of_verdict}
 use Rattle.sigma_tests.proofs.endings.calls_end_so.Goals as goal
 
