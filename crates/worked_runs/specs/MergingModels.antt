@@ -51,14 +51,18 @@ below_five = Binary Below (Scalar 0) (whole 5)
 
 -- ---- RUN, B at once and C
 
--- RUN schedules B at once, which takes X as 1, and has these edges besides
-abbrev pub with_others : List Watched → List EventEdge → EventGraph
-with_others watch others =
+-- RUN schedules B at once, which takes X as this value, and has these edges besides
+abbrev pub giving : Expression → List Watched → List EventEdge → EventGraph
+giving value watch others =
     of_one (ranged (codes "X") 0 9 0) watch
-    (event (codes "RUN") [] (plain_edge Urgent 1 (whole 1 ∷ []) ∷ others) ∷
+    (event (codes "RUN") [] (plain_edge Urgent 1 (value ∷ []) ∷ others) ∷
     takes (0 ∷ []) (event (codes "B") [] []) ∷
     event (codes "C") [] [] ∷
     [])
+
+-- B takes X as 1
+abbrev pub with_others : List Watched → List EventEdge → EventGraph
+with_others watch others = giving (whole 1) watch others
 
 abbrev pub cancels_next : ℕ → EventEdge
 cancels_next target = plain_edge CancelNext target []
@@ -81,12 +85,17 @@ counting_down watch =
     event (codes "B") (set 0 (minus_one 0) ∷ []) [] ∷
     [])
 
--- ---- at the limit
+-- ---- RUN, and B at once, which sets X
 
--- RUN has so many changes, and B one
-abbrev pub of_so_many_changes : ℕ → EventGraph
-of_so_many_changes count =
+-- RUN has so many changes, and these edges besides
+abbrev pub then_set : ℕ → List EventEdge → EventGraph
+then_set count others =
     of_one (ranged (codes "X") 0 9 0) x_watched
-    (event (codes "RUN") (replicate count (set 0 (whole 1))) (urgent 1 ∷ []) ∷
+    (event (codes "RUN") (replicate count (set 0 (whole 1))) (urgent 1 ∷ others) ∷
     event (codes "B") (set 0 (whole 1) ∷ []) [] ∷
     [])
+
+-- ---- the chain under a name of so many bytes
+
+abbrev pub long_named : ℕ → EventGraph
+long_named bytes = record three_at_once { name = replicate bytes 78 }

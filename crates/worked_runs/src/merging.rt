@@ -6,9 +6,9 @@ ghost use Rattle.model_core.specs.EventGraph.{WatchedVariable, WatchedVertex, Sc
 ghost use Rattle.model_core.specs.Rules.Conditions.{first_failed};
 ghost use Rattle.model_core.specs.Rules.UrgentEdges.{plain_urgent};
 ghost use Rattle.model_core.specs.Rules.Merge.{merge_conditions, merged, first_merge};
-ghost use Rattle.worked_runs.specs.Building.{whole, schedule, urgent, only_if, event, positive, x_watched};
+ghost use Rattle.worked_runs.specs.Building.{whole, schedule, urgent, only_if, event, positive, one_over_zero, x_watched};
 ghost use Rattle.worked_runs.specs.Models.{bank, loop};
-ghost use Rattle.worked_runs.specs.MergingModels.{three_at_once, chain_merged, bank_merged, choosing, not_positive, is_zero, below_five, with_others, cancels_next, with_others_merged, counting_down, of_so_many_changes};
+ghost use Rattle.worked_runs.specs.MergingModels.{three_at_once, chain_merged, bank_merged, choosing, not_positive, is_zero, below_five, giving, with_others, cancels_next, with_others_merged, counting_down, then_set, long_named};
 
 /// A vertex has a plain urgent edge where it has one urgent edge, without a condition.
 pub fn plain_edges_are_alone()
@@ -37,11 +37,17 @@ pub fn merge_has_conditions()
     ensures cancelled { first_failed (merge_conditions (with_others x_watched (cancels_next 1 ∷ [])) 0 1) ≡ Some 5 }
     ensures another_cancelled { first_failed (merge_conditions (with_others x_watched (cancels_next 2 ∷ [])) 0 1) ≡ None }
     ensures reads_what_is_given { first_failed (merge_conditions (with_others x_watched (schedule 2 (Scalar 0) ∷ [])) 0 1) ≡ Some 6 }
+    ensures reads_what_is_set { first_failed (merge_conditions (then_set 0 (schedule 0 (Scalar 0) ∷ [])) 0 1) ≡ Some 6 }
+    ensures another_may_fault { first_failed (merge_conditions (with_others x_watched (schedule 2 one_over_zero ∷ [])) 0 1) ≡ Some 6 }
     ensures may_fault { first_failed (merge_conditions (counting_down (WatchedVertex 0 ∷ [])) 0 1) ≡ Some 7 }
     ensures unseen_fault { first_failed (merge_conditions (counting_down []) 0 1) ≡ None }
     ensures writes_what_is_watched { first_failed (merge_conditions (with_others (WatchedVertex 0 ∷ WatchedVariable 0 ∷ []) []) 0 1) ≡ Some 7 }
+    ensures given_beyond_the_range { first_failed (merge_conditions (giving (whole 10) (WatchedVertex 0 ∷ []) []) 0 1) ≡ Some 7 }
     ensures writes_unseen { first_failed (merge_conditions (with_others (WatchedVertex 0 ∷ []) []) 0 1) ≡ None }
-    ensures too_many_changes { first_failed (merge_conditions (of_so_many_changes 1000) 0 1) ≡ Some 8 }
+    ensures too_many_changes { first_failed (merge_conditions (then_set 1000 []) 0 1) ≡ Some 8 }
+    ensures as_many_changes { first_failed (merge_conditions (then_set 999 []) 0 1) ≡ None }
+    ensures too_many_bytes { first_failed (merge_conditions (long_named 4194171) 1 2) ≡ Some 8 }
+    ensures as_many_bytes { first_failed (merge_conditions (long_named 4194170) 1 2) ≡ None }
 {}
 
 /// The changes of the other come behind those of the one and a `set` of its parameters, and its edges behind the others.

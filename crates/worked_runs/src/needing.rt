@@ -5,7 +5,7 @@ ghost use Rattle.std.specs.Prelude.{◌≡◌, pos, true, false, [], ◌∷◌, 
 ghost use Rattle.model_core.specs.EventGraph.{Scalar, Set, Draw, Uniform, Urgent};
 ghost use Rattle.model_core.specs.Rules.Conditions.{first_failed};
 ghost use Rattle.model_core.specs.Rules.Uses.{vertex_reads, vertex_writes, use_table};
-ghost use Rattle.model_core.specs.Rules.Needed.{needed_marks, unneeded};
+ghost use Rattle.model_core.specs.Rules.Needed.{Needed, needed_marks, unneeded};
 ghost use Rattle.model_core.specs.Rules.Slice.{slice_conditions, sliced};
 ghost use Rattle.worked_runs.specs.Building.{whole, at_cell, set, draw, schedule, schedule_with, urgent, only_if, positive, plus_one, minus_one, one_over_zero, plain_edge, x_watched};
 ghost use Rattle.worked_runs.specs.Models.{bank, bank_enter, cancel_three, two_draws};
@@ -53,6 +53,14 @@ pub fn faults_are_needed()
     ensures drawn_index { unneeded (with_cells [] (Draw (at_cell 0 (plus_one 1)) 54 (Uniform (pos 1) (pos 6)) ∷ [])) ≡ [] }
     ensures carried_store { unneeded (strict [] (schedule_with 1 10 5 ∷ [])) ≡ 1 ∷ [] }
     ensures carried_value { unneeded (unfaulting [] [] [] (plain_edge Urgent 1 (one_over_zero ∷ []) ∷ [])) ≡ 1 ∷ [] }
+{}
+
+/// The needed variables are those that are needed at once or for a needed one, and no others.
+pub fn the_least_are_needed()
+    ensures at_once { Needed growing 0 }
+    ensures for_another { Needed (unfaulting x_watched [] (set 0 (plus_one 1) ∷ []) []) 1 }
+    ensures not_for_itself { Needed growing 1 → ⊥ }
+    ensures no_other { Needed growing 2 → ⊥ }
 {}
 
 /// The variables drawn from one stream are needed together.

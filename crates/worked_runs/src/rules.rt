@@ -5,6 +5,7 @@ ghost use Rattle.model_core.specs.Rules.Prune.{pruned, prune_conditions, first_p
 ghost use Rattle.model_core.specs.Rules.Conditions.{first_failed};
 ghost use Rattle.model_core.specs.Rules.Reduction.{Prune, failed_condition, applied, first_bad, first_rule, Strategy};
 ghost use Rattle.model_core.specs.Rules.Certificate.{certificate};
+ghost use Rattle.model_core.specs.Rules.Verdict.{verdict, Sound, Rejected, Differs};
 ghost use Rattle.worked_runs.specs.Reductions.{idle, once_pruned, twice_pruned};
 
 /// Condition 1 of prune is that its vertex and edge exist, and condition 2 that the edge's condition is
@@ -39,7 +40,17 @@ pub fn the_first_rule_is_taken()
     ensures text { certificate (Prune (codes "A") 1 ∷ Prune (codes "A") 2 ∷ []) ≡ codes "certificate\nprune A 1\nprune A 2\nend\n" }
 {}
 
-/// The whole reduction.
+/// The whole reduction. It doesn't stop where a rule is left.
 pub fn the_strategy_ends()
-    ensures { Strategy idle (Prune (codes "A") 1 ∷ Prune (codes "A") 2 ∷ []) twice_pruned }
+    ensures whole { Strategy idle (Prune (codes "A") 1 ∷ Prune (codes "A") 2 ∷ []) twice_pruned }
+    ensures not_before_its_end { Strategy idle (Prune (codes "A") 1 ∷ []) once_pruned → ⊥ }
+{}
+
+/// A reduction is sound where its applications lead to the other model. Else the first bad one is told, and where none is
+/// bad, that they lead elsewhere.
+pub fn reductions_are_judged()
+    ensures sound { verdict idle (Prune (codes "A") 1 ∷ Prune (codes "A") 2 ∷ []) twice_pruned ≡ Sound }
+    ensures in_part { verdict idle (Prune (codes "A") 3 ∷ []) (pruned idle 1 2) ≡ Sound }
+    ensures rejected { verdict idle (Prune (codes "A") 1 ∷ Prune (codes "A") 1 ∷ []) once_pruned ≡ Rejected 2 }
+    ensures differs { verdict idle (Prune (codes "A") 1 ∷ []) twice_pruned ≡ Differs }
 {}
