@@ -18,7 +18,7 @@ pub enum Job {
     Check,
     /// The model in its canonical form.
     Print,
-    /// The model made smaller, and the certificate of that.
+    /// The model without what it doesn't need, and the certificate of that.
     Reduce,
     /// Whether a document's certificate holds between its two models.
     Certify,
