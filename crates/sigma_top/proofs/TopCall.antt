@@ -115,7 +115,7 @@ unwritten {K} {o} {p} same = subst (λ (q : Outlet K). GrowsBy o.written q.writt
 abbrev pub ReducesWhatReads : Type 0
 ReducesWhatReads = (text : List ℕ) (g : EventGraph) (a : Answer) → Reads text g → Answers jobs.Reduce text a → status_of_answer a ≡ statuses.Done
 
-pub always_reduced : ReducesWhatReads → (status : Status) (left : Option (List ℕ)) (Grows : List ℕ → Type 0) → (status ≡ statuses.NoMemory) ⊎ IsComplete jobs.Reduce status left Grows
+always_reduced : ReducesWhatReads → (status : Status) (left : Option (List ℕ)) (Grows : List ℕ → Type 0) → (status ≡ statuses.NoMemory) ⊎ IsComplete jobs.Reduce status left Grows
     → IfSome left (λ text. (g : EventGraph) → Reads text g → (status ≡ statuses.Done) ⊎ (status ≡ statuses.NoMemory))
 always_reduced law status None Grows h = tt
 always_reduced law status (Some text) Grows (inl short) = λ g reads. inr short
@@ -209,3 +209,8 @@ module _ {S K E : Type 0} (words : List (List ℕ)) (i j : Inlet S) (o p : Outle
       complete statuses.Budget h = inr (given ends.Budget h.0)
       complete statuses.Rejected h = inr (given ends.Rejected h.0)
       complete statuses.BadStart h = inr (refusal refusals.BadStart h.0 h.1)
+
+    -- a text that reads as a model is reduced, or memory is short
+    pub reduces_what_reads : ReducesWhatReads → job_of words ≡ Some jobs.Reduce → (HasRisen i.faults j.faults → ⊥) → (HasRisen o.faults p.faults → ⊥) → (status : Status) → Ends status words i j o p e f
+        → IfSome i.left (λ text. (g : EventGraph) → Reads text g → (status ≡ statuses.Done) ⊎ (status ≡ statuses.NoMemory))
+    reduces_what_reads law asked read wrote status h = always_reduced law status i.left (GrowsBy o.written p.written) (complete jobs.Reduce asked read wrote status h)

@@ -1,8 +1,7 @@
 use Rattle.std.specs.Prelude.{map}
 use Rattle.std.specs.String.{string_bytes}
 use Rattle.sigma_top.specs.Delivery.{inlet, outlet}
-use Rattle.sigma_top.specs.declared.job.Job.TheVariants as jobs
-use Rattle.sigma_top.proofs.TopCall.{within_room, reduced_means, certified_means, complete, always_reduced}
+use Rattle.sigma_top.proofs.TopCall.{within_room, reduced_means, certified_means, complete, reduces_what_reads}
 use Rattle.sigma_top.proofs.frame.sigma.Goals as goal
 
 pub returns-clause-complete : goal.returns-clause-complete
@@ -15,12 +14,11 @@ returns-clause-complete g c = λ job asked read wrote.
 
 pub returns-clause-always_reduced : goal.returns-clause-always_reduced
 returns-clause-always_reduced g c = λ asked read wrote.
-    always_reduced c.readable_models_are_reduced.ensures c.work.result (g.S.Source.left c.args.input.now) _
-    (complete (map string_bytes c.args.words.now)
+    reduces_what_reads (map string_bytes c.args.words.now)
     (inlet g.S.Source.left g.S.Source.faults c.args.input.now) (inlet g.S.Source.left g.S.Source.faults c.work.new.input)
     (outlet g.K.Sink.written g.K.Sink.faults g.K.Sink.settled c.args.output.now) (outlet g.K.Sink.written g.K.Sink.faults g.K.Sink.settled c.work.new.output)
     (outlet g.E.Sink.written g.E.Sink.faults g.E.Sink.settled c.args.errors.now) (outlet g.E.Sink.written g.E.Sink.faults g.E.Sink.settled c.work.new.errors)
-    jobs.Reduce asked read wrote c.work.result c.work.ensures)
+    c.readable_models_are_reduced.ensures asked read wrote c.work.result c.work.ensures
 
 pub returns-clause-within_room : goal.returns-clause-within_room
 returns-clause-within_room g c = λ until seed events starts room asked is_short.
