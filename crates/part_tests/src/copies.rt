@@ -42,7 +42,7 @@ fn cancelling(alloc: Global, limit: i64) -> Result<Edge, NoMemory> {
 }
 
 /// A vertex `RUN` with a parameter, a draw and an edge that cancels.
-pub fn drawing_vertex(alloc: Global, limit: i64) -> Result<Vertex, NoMemory> {
+fn drawing_vertex(alloc: Global, limit: i64) -> Result<Vertex, NoMemory> {
     Ok(Vertex {
         name: name(alloc, b"RUN")?,
         params: List::of_one(alloc, 0)?,

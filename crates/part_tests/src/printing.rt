@@ -1,8 +1,8 @@
-//! Canonical texts with ample memory, and their lengths.
+//! Canonical texts with ample memory.
 
-use crate::copies::{drawing_model, drawing_vertex, limited};
+use crate::copies::{drawing_model, limited};
 use model_core::{Expr, Op};
-use model_print::{change_length, edge_length, expr_length, print, print_expr, printed_length};
+use model_print::{print, print_expr};
 use sig_base::NoMemory;
 use std::alloc::Global;
 use std::test::*;
@@ -22,24 +22,6 @@ end
 fn a_model_is_printed(rt: HostRuntime) -> Result<(), Fail> {
     let model = drawing_model(rt.alloc(), 5)?;
     assert_eq!(rt; print(rt.alloc(), &model)?.as_slice(), MODEL);
-    assert_eq!(rt; printed_length(&model), MODEL.len() as u64);
-    Ok(())
-}
-
-#[test]
-fn lines_have_their_lengths(rt: HostRuntime) -> Result<(), Fail> {
-    let model = drawing_model(rt.alloc(), 5)?;
-    let vertex = drawing_vertex(rt.alloc(), 5)?;
-    assert_eq!(rt;
-        vertex.changes.as_slice().len() + vertex.edges.as_slice().len(),
-        2
-    );
-    for change in vertex.changes.as_slice() {
-        assert_eq!(rt; change_length(change, &model), 22);
-    }
-    for edge in vertex.edges.as_slice() {
-        assert_eq!(rt; edge_length(edge, &model), 39);
-    }
     Ok(())
 }
 
@@ -48,11 +30,11 @@ fn before(alloc: Global, op: Op, right: Expr) -> Result<Expr, NoMemory> {
     Expr::binary(alloc, op, Expr::Scalar(0), right)
 }
 
-/// Whether the expression is printed so, in a model whose variable is `N`, and has that length.
+/// Whether the expression is printed so, in a model whose variable is `N`.
 fn is_printed(alloc: Global, expr: &Expr, text: &[u8]) -> Result<bool, NoMemory> {
     let model = drawing_model(alloc, 5)?;
     let printed = print_expr(alloc, expr, &model)?;
-    Ok(printed.as_slice() == text && expr_length(expr, &model) == text.len() as u64)
+    Ok(printed.as_slice() == text)
 }
 
 #[test]

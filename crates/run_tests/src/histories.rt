@@ -8,7 +8,7 @@ use crate::small_models::{CLOCK, Refused, model_of};
 use event_list::PlainPending;
 use model_core::Model;
 use run_control::{Run, kept_models_can_be_run};
-use sig_base::{FaultKind, List, MemorySink, Sink, Steps};
+use sig_base::{List, MemorySink, Sink, Steps};
 use std::alloc::Global;
 use std::marker::Brand;
 use std::sync::ledger::{Blank, Ledger};
@@ -55,29 +55,6 @@ fn followed<K: Sink, L: Ledger>(
     }
 }
 
-const BOUNDED_CLOCK: &[u8] = b"model CLOCK;
-var N : 0..3 = 0;
-watch N;
-vertex RUN {
-  set N := N + 1;
-  schedule RUN after 5;
-}
-end
-";
-
-const CUT: &[u8] = b"model CUT;
-var X : 0..9 = 0;
-watch X, B;
-vertex RUN {
-  schedule B(3) after 5;
-  schedule B(4) after 5;
-  schedule B(3) after 6;
-  cancel B(3);
-}
-vertex B(X) { }
-end
-";
-
 /// What following a run of a model for so many events comes to, and then on, with the sink behind it.
 fn history(
     alloc: Global,
@@ -100,51 +77,6 @@ fn history(
         Blank::new(1),
     )?;
     Ok((outcomes, sink))
-}
-
-/// A model's text and the stop time of a run of up to 1,000 events, what following it comes to, and what is written of it.
-struct Told {
-    text: &'static [u8],
-    until: u16,
-    outcome: Outcome,
-    written: &'static [u8],
-}
-
-/// A run for each outcome but those of `a_run_is_followed_on_from_its_budget` and `no_call_is_made_after_one_that_failed`.
-const TOLD: [Told; 3] = [
-    Told {
-        text: CLOCK,
-        until: 12,
-        outcome: Outcome::Stopped,
-        written: b"at 0 N=1\nat 5 N=2\nat 10 N=3\nstopped 12\n",
-    },
-    Told {
-        text: BOUNDED_CLOCK,
-        until: 1000,
-        outcome: Outcome::Faulted {
-            time: 15,
-            kind: FaultKind::RangeOutside,
-        },
-        written: b"at 0 N=1\nat 5 N=2\nat 10 N=3\nfault 15 range\n",
-    },
-    Told {
-        text: CUT,
-        until: 100,
-        outcome: Outcome::Ended { time: 6 },
-        written: b"at 0 X=0\non 5 B X=4\nat 5 X=4\non 6 B X=3\nat 6 X=3\nended 6\n",
-    },
-];
-
-#[test]
-fn histories_are_written_whole(rt: HostRuntime) -> Result<(), Fail> {
-    let alloc = rt.alloc();
-    for told in &TOLD {
-        let sink = MemorySink::begin(alloc, 1000, 1000, List::new(alloc))?;
-        let (outcomes, sink) = history(alloc, told.text, told.until, 1000, sink)?;
-        assert_eq!(rt; outcomes.0, told.outcome);
-        assert_eq!(rt; sink.written(), told.written);
-    }
-    Ok(())
 }
 
 #[test]

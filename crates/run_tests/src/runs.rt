@@ -13,7 +13,6 @@ use std::alloc::Global;
 use std::marker::Brand;
 use std::sync::ledger::{Blank, Ledger};
 use std::test::*;
-use watch_trace::Tracer;
 
 fn no_name(alloc: Global) -> Name
     ensures { result ≡ [] }
@@ -170,14 +169,5 @@ fn a_clock_takes_no_starting_values(rt: HostRuntime) -> Result<(), Fail> {
             given: 1
         })
     );
-    Ok(())
-}
-
-#[test]
-fn a_tracer_begins(rt: HostRuntime) -> Result<(), Fail> {
-    let alloc = rt.alloc();
-    let model = clock(alloc)?;
-    let tracer = Tracer::begin(alloc, &model)?;
-    assert_eq!(rt; tracer.completed(&Turn::Stopped), None);
     Ok(())
 }

@@ -1,6 +1,6 @@
 //! The top call over memory: worked texts, words, limits, and devices that fail at one call.
 
-use crate::calls::{Answer, Failing, SOUND, Seen, done, run, told, words};
+use crate::calls::{Answer, Failing, SOUND, Seen, called, done, told};
 use crate::models::{BANK, ONE};
 use sig_base::{NoMemory, TEXT_MAX};
 use sigma_top::Status;
@@ -126,19 +126,6 @@ const BANK_USES: &[u8] =
 
 const TOO_LONG: &[u8] = b"sigma: text too long\n";
 
-/// What is seen of a command, which is one word, with this text.
-fn commanded(
-    alloc: Global,
-    word: &str,
-    text: &[u8],
-    failing: Failing,
-    wanted: Answer<'_>,
-) -> Result<Seen, NoMemory> {
-    let command = String::from_str(alloc, word)?;
-    let text = Vec::from_slice(alloc, text)?;
-    run(alloc, &[command], text, failing, wanted)
-}
-
 /// What is seen of `reduce` with this text.
 fn reduced(
     alloc: Global,
@@ -146,13 +133,12 @@ fn reduced(
     failing: Failing,
     wanted: Answer<'_>,
 ) -> Result<Seen, NoMemory> {
-    commanded(alloc, "reduce", text, failing, wanted)
+    called(alloc, "reduce", text, failing, wanted)
 }
 
 #[test]
 fn models_are_reduced(rt: HostRuntime) -> Result<(), Fail> {
     for (text, written) in [
-        (ONE, ONE_WRITTEN),
         (TWO, TWO_WRITTEN),
         (LASTING, LASTING_WRITTEN),
         (WIDEST, WIDEST_WRITTEN),
@@ -171,7 +157,7 @@ fn models_are_checked_and_printed(rt: HostRuntime) -> Result<(), Fail> {
         ("print", ONE, ONE),
         ("print", LOOSE, LOOSE_WRITTEN),
     ] {
-        assert!(rt; commanded(rt.alloc(), word, text, SOUND, done(written))?.is_wanted);
+        assert!(rt; called(rt.alloc(), word, text, SOUND, done(written))?.is_wanted);
     }
     Ok(())
 }
@@ -183,7 +169,7 @@ fn users_of_variables_are_told(rt: HostRuntime) -> Result<(), Fail> {
         (ONE, b"N readers - writers RUN watched yes\n".as_slice()),
         (LOOSE, b""),
     ] {
-        assert!(rt; commanded(rt.alloc(), "uses", text, SOUND, done(written))?.is_wanted);
+        assert!(rt; called(rt.alloc(), "uses", text, SOUND, done(written))?.is_wanted);
     }
     Ok(())
 }
@@ -192,7 +178,7 @@ fn users_of_variables_are_told(rt: HostRuntime) -> Result<(), Fail> {
 fn finishing_may_fail_where_there_is_nothing_to_write(rt: HostRuntime) -> Result<(), Fail> {
     let failing = Failing { write: 1, ..SOUND };
     let wanted = told(Status::WriteFault, b"sigma: cannot write\n");
-    assert!(rt; commanded(rt.alloc(), "uses", LOOSE, failing, wanted)?.is_wanted);
+    assert!(rt; called(rt.alloc(), "uses", LOOSE, failing, wanted)?.is_wanted);
     Ok(())
 }
 
@@ -201,7 +187,7 @@ fn other_texts_are_refused(rt: HostRuntime) -> Result<(), Fail> {
     for (text, line) in REFUSED {
         for word in ["check", "print", "reduce", "uses"] {
             let refused = told(Status::Refused, line);
-            assert!(rt; commanded(rt.alloc(), word, text, SOUND, refused)?.is_wanted);
+            assert!(rt; called(rt.alloc(), word, text, SOUND, refused)?.is_wanted);
         }
     }
     Ok(())
@@ -211,14 +197,13 @@ fn other_texts_are_refused(rt: HostRuntime) -> Result<(), Fail> {
 fn other_words_are_usage(rt: HostRuntime) -> Result<(), Fail> {
     let usage = told(Status::Usage, b"sigma: bad command line\n");
     for line in ["", "grow", "--", "reduce reduce", "reduce --seed 1"] {
-        let words = words(rt.alloc(), line)?;
-        let text = Vec::from_slice(rt.alloc(), ONE)?;
         let untouched = Seen {
             is_wanted: true,
             reads: 0,
             writes: 0,
+            tells: 1,
         };
-        assert_eq!(rt; run(rt.alloc(), &words, text, SOUND, usage)?, untouched);
+        assert_eq!(rt; called(rt.alloc(), line, ONE, SOUND, usage)?, untouched);
     }
     Ok(())
 }
@@ -251,6 +236,7 @@ fn a_failed_read_is_the_last(rt: HostRuntime) -> Result<(), Fail> {
             is_wanted: true,
             reads: read,
             writes: 0,
+            tells: 1,
         };
         assert_eq!(rt; reduced(rt.alloc(), ONE, failing, wanted)?, last);
     }
@@ -282,13 +268,5 @@ fn a_failed_write_is_the_last(rt: HostRuntime) -> Result<(), Fail> {
     assert_eq!(rt; (answer.is_wanted, answer.writes), (true, finish));
     let answer = reduced(rt.alloc(), ONE, SOUND, done(ONE_WRITTEN))?;
     assert_eq!(rt; answer.writes, finish);
-    Ok(())
-}
-
-#[test]
-fn a_failing_error_output_changes_no_status(rt: HostRuntime) -> Result<(), Fail> {
-    let failing = Failing { error: 1, ..SOUND };
-    let refused = told(Status::Refused, b"");
-    assert!(rt; reduced(rt.alloc(), b"", failing, refused)?.is_wanted);
     Ok(())
 }

@@ -45,15 +45,18 @@ pub fn done(output: &[u8]) -> Answer<'_> {
     }
 }
 
-/// What was seen of a call: whether it gave the wanted answer, and how often it read and wrote.
+/// What was seen of a call: whether it gave the wanted answer, and how often it called the input, the output and the error
+/// output.
 #[derive(Clone, Copy, Debug, PartialEq, Eq)]
 pub struct Seen {
     pub is_wanted: bool,
     pub reads: u64,
     pub writes: u64,
+    pub tells: u64,
 }
 
-/// What is seen of the program with these words and this text, which is handed out in pieces of 7 bytes.
+/// What is seen of the program with these words and this text, which is handed out in pieces of 7 bytes. The output takes
+/// one byte at a write, and the error output a line.
 pub fn run(
     alloc: Global,
     words: &[String],
@@ -62,7 +65,7 @@ pub fn run(
     wanted: Answer<'_>,
 ) -> Result<Seen, NoMemory> {
     let mut input = MemorySource::new(Text::from_vec(text), 7, List::of_one(alloc, failing.read)?);
-    let mut output = MemorySink::begin(alloc, 1_000, 1, List::of_one(alloc, failing.write)?)?;
+    let mut output = MemorySink::begin(alloc, 100_000, 1, List::of_one(alloc, failing.write)?)?;
     let mut errors = MemorySink::begin(alloc, 1_000, 1_000, List::of_one(alloc, failing.error)?)?;
     let status = sigma(alloc, words, &mut input, &mut output, &mut errors);
     Ok(Seen {
@@ -71,6 +74,7 @@ pub fn run(
             && errors.written() == wanted.errors,
         reads: input.calls(),
         writes: output.calls(),
+        tells: errors.calls(),
     })
 }
 
@@ -81,4 +85,17 @@ pub fn words(alloc: Global, line: &str) -> Result<Vec<String>, AllocError> {
         words.push(word.to_string(alloc)?)?;
     }
     Ok(words)
+}
+
+/// What is seen of the program with the words of this line and this text.
+pub fn called(
+    alloc: Global,
+    line: &str,
+    text: &[u8],
+    failing: Failing,
+    wanted: Answer<'_>,
+) -> Result<Seen, NoMemory> {
+    let words = words(alloc, line)?;
+    let text = Vec::from_slice(alloc, text)?;
+    run(alloc, &words, text, failing, wanted)
 }

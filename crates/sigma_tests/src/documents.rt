@@ -1,14 +1,11 @@
 //! Documents and their certificates: which hold, which are rejected and at which line, and which texts are no document.
 
-use crate::calls::{Answer, SOUND, run, words};
+use crate::calls::{Answer, SOUND, called};
 use crate::models::{CHAIN, CHAIN_REDUCED, ONE};
 use sig_base::NoMemory;
 use sigma_top::Status;
 use std::alloc::Global;
 use std::test::*;
-
-const ONE_REDUCED: &[u8] =
-    b"model ONE;\nvar N : 0..9 = 0;\nwatch N;\nvertex RUN {\n  set N := 4;\n}\nend\n";
 
 /// A model that uses a name which isn't declared.
 const UNKNOWN: &[u8] = b"model M; vertex A { set X := 1; } end ";
@@ -23,7 +20,7 @@ type Case = (
     &'static [u8],
 );
 
-const JUDGED: [Case; 9] = [
+const JUDGED: [Case; 8] = [
     (
         CHAIN,
         CHAIN_REDUCED,
@@ -59,15 +56,7 @@ const JUDGED: [Case; 9] = [
     ),
     (
         ONE,
-        ONE_REDUCED,
-        b"certificate\nprune RUN 1\nend\n",
-        Status::Done,
-        b"sound\n",
-        b"",
-    ),
-    (
         ONE,
-        ONE_REDUCED,
         b"certificate\nprune RUN 2\nend\n",
         Status::Rejected,
         b"rejected 1\n",
@@ -75,7 +64,7 @@ const JUDGED: [Case; 9] = [
     ),
     (
         ONE,
-        ONE_REDUCED,
+        ONE,
         b"certificate\nprune RUN 0\nend\n",
         Status::Rejected,
         b"rejected 1\n",
@@ -83,7 +72,7 @@ const JUDGED: [Case; 9] = [
     ),
     (
         ONE,
-        ONE_REDUCED,
+        ONE,
         b"certificate\nprune RUN 18446744073709551617\nend\n",
         Status::Rejected,
         b"rejected 1\n",
@@ -103,36 +92,36 @@ const JUDGED: [Case; 9] = [
 const REFUSED: [Case; 8] = [
     (
         ONE,
-        ONE_REDUCED,
+        ONE,
         b"certificate\nprune RUN 1\n",
         Status::Refused,
         b"",
-        b"sigma: byte 201: unexpected\n",
+        b"sigma: byte 236: unexpected\n",
     ),
     (
         ONE,
-        ONE_REDUCED,
+        ONE,
         b"certificate\nend\nend\n",
         Status::Refused,
         b"",
-        b"sigma: byte 193: unexpected\n",
+        b"sigma: byte 228: unexpected\n",
     ),
     (
         ONE,
-        ONE_REDUCED,
+        ONE,
         b"",
         Status::Refused,
         b"",
-        b"sigma: byte 177: unexpected\n",
+        b"sigma: byte 212: unexpected\n",
     ),
     // the grammar of the whole before the static rules, and those of the first model before those of the second
     (
         UNKNOWN,
-        ONE_REDUCED,
+        ONE,
         b"certificate drop end",
         Status::Refused,
         b"",
-        b"sigma: byte 126: unexpected\n",
+        b"sigma: byte 161: unexpected\n",
     ),
     (
         UNKNOWN,
@@ -152,11 +141,11 @@ const REFUSED: [Case; 8] = [
     ),
     (
         ONE,
-        ONE_REDUCED,
+        ONE,
         b"certificate $ end",
         Status::Refused,
         b"",
-        b"sigma: byte 189: bad byte\n",
+        b"sigma: byte 224: bad byte\n",
     ),
     (
         b"",
@@ -179,7 +168,7 @@ fn is_answered(alloc: Global, case: &Case) -> Result<bool, NoMemory> {
         output,
         errors,
     };
-    Ok(run(alloc, &words(alloc, "certify")?, text, SOUND, wanted)?.is_wanted)
+    Ok(called(alloc, "certify", text.as_slice(), SOUND, wanted)?.is_wanted)
 }
 
 #[test]

@@ -1,10 +1,8 @@
 //! `run` over memory: worked histories, starting values, and a write that fails midway.
 
-use crate::calls::{Answer, Failing, SOUND, Seen, run, told, words};
+use crate::calls::{Answer, Failing, SOUND, called, told};
 use crate::models::{BANK, DRAWN, DRAWN_APART, LOOP};
-use sig_base::NoMemory;
 use sigma_top::Status;
-use std::alloc::Global;
 use std::test::*;
 
 const CLOCK: &[u8] =
@@ -185,19 +183,6 @@ const BAD_STARTS: [(&str, &[u8]); 4] = [
         b"sigma: starting value 1 outside: -9223372036854775808\n",
     ),
 ];
-
-/// What is seen of the program with the words of this line and this text.
-fn called(
-    alloc: Global,
-    line: &str,
-    text: &[u8],
-    failing: Failing,
-    wanted: Answer<'_>,
-) -> Result<Seen, NoMemory> {
-    let words = words(alloc, line)?;
-    let text = Vec::from_slice(alloc, text)?;
-    run(alloc, &words, text, failing, wanted)
-}
 
 #[test]
 fn histories_are_told(rt: HostRuntime) -> Result<(), Fail> {

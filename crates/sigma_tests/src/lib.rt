@@ -11,7 +11,11 @@ mod command_lines;
 mod documents;
 mod endings;
 #[cfg(test)]
+mod error_output;
+#[cfg(test)]
 mod histories;
+#[cfg(test)]
+mod large_inputs;
 #[cfg(test)]
 mod models;
 #[cfg(test)]

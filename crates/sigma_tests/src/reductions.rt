@@ -1,6 +1,6 @@
 //! Models to which each rule applies, or doesn't: what they are reduced to, and the same history of both.
 
-use crate::calls::{Answer, SOUND, run, words};
+use crate::calls::{Answer, SOUND, called};
 use crate::models::{BANK, CHAIN, CHAIN_REDUCED, DRAWN, DRAWN_APART, LOOP};
 use sig_base::NoMemory;
 use sigma_top::Status;
@@ -108,14 +108,12 @@ fn answers(
     status: Status,
     output: &[u8],
 ) -> Result<bool, NoMemory> {
-    let words = words(alloc, line)?;
-    let text = Vec::from_slice(alloc, text)?;
     let wanted = Answer {
         status,
         output,
         errors: b"",
     };
-    Ok(run(alloc, &words, text, SOUND, wanted)?.is_wanted)
+    Ok(called(alloc, line, text, SOUND, wanted)?.is_wanted)
 }
 
 /// A text and another one behind it.

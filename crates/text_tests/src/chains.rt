@@ -124,10 +124,17 @@ fn names_and_numbers_that_name_nothing_are_rejected(rt: HostRuntime) {
     assert_eq!(rt; behind_a_prune(alloc, slice_one(alloc, b"A")), SECOND);
 }
 
+fn drop_none(alloc: Global) -> Application {
+    Application::Drop {
+        vertices: List::new(alloc),
+    }
+}
+
 #[test]
 fn what_meets_no_conditions_is_rejected(rt: HostRuntime) {
     let alloc = rt.alloc();
     assert_eq!(rt; behind_a_prune(alloc, prune(alloc, b"RUN", 1)), SECOND);
+    assert_eq!(rt; behind_a_prune(alloc, Ok(drop_none(alloc))), SECOND);
     assert_eq!(rt; behind_a_prune(alloc, drop_one(alloc, b"C")), SECOND);
     assert_eq!(rt; behind_a_prune(alloc, merge(alloc, b"A", b"A")), SECOND);
     assert_eq!(rt; behind_a_prune(alloc, slice_one(alloc, b"X")), SECOND);

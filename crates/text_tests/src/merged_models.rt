@@ -1,7 +1,7 @@
-//! Which vertices of a model may be merged, why others may not, and the text of a merged model.
+//! Why vertices of a model may not be merged, and the text of a merged model.
 
 use crate::static_rules::checked;
-use merge_rules::{first_merge, merge, merge_measured};
+use merge_rules::{merge, merge_measured};
 use model_core::{Model, RuleError};
 use model_print::{print, printed_length};
 use sig_base::NoMemory;
@@ -19,23 +19,11 @@ fn merged(alloc: Global, text: &[u8], vertex: usize, target: usize) -> Result<()
     merge(alloc, &mut model, vertex, target)
 }
 
-/// The first two vertices that may be merged in the model that a text reads as.
-fn first_pair(alloc: Global, text: &[u8]) -> Result<Option<(usize, usize)>, NoMemory> {
-    let model = model_of_text(alloc, text)?;
-    Ok(first_merge(&model))
-}
-
 const CHAIN: &[u8] =
     b"model CHAIN; var N : 0..9 = 0; watch N; vertex RUN { urgent A; } vertex A { set N := 1; urgent B; } vertex B { set N := 2; } end";
 
 const LOOP: &[u8] =
     b"model LOOP; vertex RUN { urgent A; } vertex A { urgent B; } vertex B { urgent A; } end";
-
-const NEGATED: &[u8] =
-    b"model M; var X : 0..9 = 3; watch X; vertex RUN { urgent P; } vertex P { urgent A when X > 0; urgent B when not X > 0; } vertex A { } vertex B { } end";
-
-const APART: &[u8] =
-    b"model M; var X : 0..9 = 3; watch X; vertex RUN { urgent P; } vertex P { urgent A when X > 0; urgent B when X = 0; } vertex A { } vertex B { } end";
 
 const TOGETHER: &[u8] =
     b"model M; var X : 0..9 = 3; watch X; vertex RUN { urgent P; } vertex P { urgent A when X > 0; urgent B when X < 5; } vertex A { } vertex B { } end";
@@ -45,9 +33,6 @@ const READING: &[u8] =
 
 const WATCHED: &[u8] =
     b"model M; var S : 0..2 = 2; watch RUN; vertex RUN { urgent B; } vertex B { set S := S - 1; } end";
-
-const UNWATCHED: &[u8] =
-    b"model M; var S : 0..2 = 2; vertex RUN { urgent B; } vertex B { set S := S - 1; } end";
 
 #[test]
 fn each_condition_is_told(rt: HostRuntime) {
@@ -78,23 +63,6 @@ fn each_condition_is_told(rt: HostRuntime) {
             Err(RuleError::Refused { condition })
         );
     }
-}
-
-#[test]
-fn the_first_pair_is_found(rt: HostRuntime) -> Result<(), Fail> {
-    for (text, pair) in [
-        (CHAIN, Some((1, 2))),
-        (LOOP, None),
-        (NEGATED, Some((0, 1))),
-        (APART, Some((0, 1))),
-        (TOGETHER, None),
-        (READING, None),
-        (WATCHED, None),
-        (UNWATCHED, Some((0, 1))),
-    ] {
-        assert_eq!(rt; first_pair(rt.alloc(), text)?, pair);
-    }
-    Ok(())
 }
 
 /// A model whose first vertex makes so many changes, and the second one more.
