@@ -4,7 +4,6 @@ use Rattle.model_core.specs.Text.Lexing.{same_bytes}
 use Rattle.sig_base.specs.declared.limits.TheConstants.{TEXT_MAX, DOCUMENT_MAX, STOP_MAX, EVENTS_MAX}
 use Rattle.sigma_top.specs.declared.command.Command.{Command}
 use Rattle.sigma_top.specs.declared.command.Command.TheVariants as commands
-use Rattle.sigma_top.specs.declared.job.TheConstants.{ROOM_MAX, ROOM_USUAL}
 use Rattle.sigma_top.specs.declared.job.Job.{Job}
 use Rattle.sigma_top.specs.declared.job.Job.TheVariants as jobs
 use Rattle.sigma_top.specs.Arguments.{PlainArgument, arguments_of, command_words, values_of, has_only_options}
@@ -38,6 +37,14 @@ abbrev pub run_with : Option ℕ → Option ℕ → Option ℕ → Option (List 
 run_with (Some until) (Some seed) (Some events) (Some starts) (Some room) = Some (jobs.Run until seed events starts room)
 run_with until seed events starts room = None
 
+-- the most pending events for which a run can be asked to have room from its beginning
+abbrev pub greatest_room : ℕ
+greatest_room = 4194304
+
+-- the pending events for which a run has room where none is asked for
+abbrev pub usual_room : ℕ
+usual_room = 4096
+
 -- `run` needs its stop time, seed and event budget, and may have starting values and room
 abbrev pub run_of : List PlainArgument → Option Job
 run_of given = run_with
@@ -45,7 +52,7 @@ run_of given = run_with
     (needed (number_within 0 (2 ^ 64 - 1)) (values_of (codes "seed") given))
     (needed (number_within 1 EVENTS_MAX) (values_of (codes "events") given))
     (besides [] starting_values (values_of (codes "start") given))
-    (besides ROOM_USUAL (number_within 0 ROOM_MAX) (values_of (codes "room") given))
+    (besides usual_room (number_within 0 greatest_room) (values_of (codes "room") given))
 
 -- the job of a command with these options
 abbrev pub job_with : Command → List PlainArgument → Option Job

@@ -9,7 +9,7 @@ ghost use Rattle.sigma_top.specs.Arguments.{command_words, values_of, has_only_o
 ghost use Rattle.sigma_top.specs.ArgumentValues.{number_within, starting_values, needed, besides};
 ghost use Rattle.sigma_top.specs.Inner.ArgumentViews.{plain_argument, AreValues};
 ghost use Rattle.sigma_top.specs.Inner.Asking.{Asked};
-ghost use Rattle.sigma_top.specs.Jobs.{only_command, run_of, job_with, job_of};
+ghost use Rattle.sigma_top.specs.Jobs.{usual_room, greatest_room, only_command, run_of, job_with, job_of};
 
 use crate::argument_values::{number_within, starting_values};
 use crate::arguments::{Argument, arguments};
@@ -107,7 +107,7 @@ fn needed_number(
 
 /// The room of a run, in pending events.
 fn room_of(given: &[Argument<'_>]) -> Result<usize, WordsError>
-    ensures { Asked (besides ROOM_USUAL (number_within 0 ROOM_MAX) (values_of (codes "room") (map plain_argument given.now))) result }
+    ensures { Asked (besides usual_room (number_within 0 greatest_room) (values_of (codes "room") (map plain_argument given.now))) result }
 {
     match values_of(given, b"room") {
         Values::None => Ok(ROOM_USUAL),
