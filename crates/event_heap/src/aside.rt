@@ -30,7 +30,7 @@ fn carries(nodes: &[Node], place: usize, values: &Carried) -> bool
     requires event { IsSome (item_at nodes.now place) }
     ensures { (x : Event) → item_at nodes.now place ≡ Some x → result ≡ same_values x.entry.values values.now.items }
 {
-    let item = nodes[place].item.as_ref().unwrap();
+    let item = nodes[place].item.held();
     same(&item.entry.values, values)
 }
 

@@ -7,6 +7,7 @@ ghost use Rattle.event_heap.specs.Inner.Tree.{key_of, precedes};
 ghost use Rattle.event_heap.specs.Inner.Stands.{item_at};
 ghost use Rattle.event_heap.specs.Inner.Seated.{CanCompare};
 
+use crate::slot::Slot;
 use event_list::{Entry, First, Key};
 use sig_base::Steps;
 use std::sync::ledger::Ledger;
@@ -26,7 +27,7 @@ pub struct Node {
     pub right: Option<usize>,
     pub rank: u32,
     pub left_rank: u32,
-    pub item: Option<Item>,
+    pub item: Slot,
 }
 
 impl Item {
@@ -63,7 +64,7 @@ pub fn comes_first<L: Ledger>(nodes: &[Node], i: usize, j: usize, steps: &mut St
         → result ≡ precedes x y }
     ensures ticks { steps.new ≡ steps.old + 1 }
 {
-    let one = nodes[i].item.as_ref().unwrap();
-    let other = nodes[j].item.as_ref().unwrap();
+    let one = nodes[i].item.held();
+    let other = nodes[j].item.held();
     one.key().before(&other.key(), steps)
 }

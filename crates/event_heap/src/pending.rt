@@ -1,14 +1,14 @@
 //! The pending list of a run in heaps.
 
 ghost use Rattle.std.specs.Prelude.{◌≡◌, ◌≢◌, ℕ, ◌+◌, ◌*◌, ◌^◌, ◌<◌, ◌≤◌, length, [], ◌∷◌, ◌++◌, None, true, IfOk, slice_index_or};
-ghost use Rattle.std.specs.Option.{option_map};
+ghost use Rattle.std.specs.Option.{option_copied, option_map};
 ghost use Rattle.model_core.specs.Run.Pending.{next_entry, without_next, is_of};
 ghost use Rattle.event_heap.specs.Inner.Tree.{key_of};
 ghost use Rattle.event_heap.specs.Inner.Held.{top_of};
 ghost use Rattle.event_heap.specs.Inner.Kept.{IsNextVertex};
 ghost use Rattle.event_heap.specs.BinaryLength.{digits};
 
-use crate::heaps::{Heaps, number_of};
+use crate::heaps::Heaps;
 use crate::node::Item;
 use event_list::{Entry, First, Pending};
 use sig_base::{Carried, NoMemory, Steps};
@@ -129,14 +129,9 @@ impl Pending for HeapPending {
         ensures vertices { self.new.vertices ≡ self.old.vertices }
         ensures ticks { steps.new ≤ steps.old + (3 * (digits (length self.old.entries) + 1) + digits self.old.vertices) }
     {
-        let item = Item {
-            number: self.numbered,
-            entry: entry.again(),
-        };
-        let vertex = item.vertex();
-        self.heaps.add(item, steps);
+        self.heaps.add(self.numbered, entry, steps);
         self.numbered += 1;
-        replay(&self.heaps, &mut self.tournament, vertex, steps);
+        replay(&self.heaps, &mut self.tournament, entry.vertex, steps);
     }
 
     fn first(&self) -> Option<First> {
@@ -162,9 +157,10 @@ impl Pending for HeapPending {
         let Some(vertex) = next_vertex(&self.heaps, &self.tournament) else {
             return None;
         };
-        let taken = self.heaps.take(vertex, steps);
+        let first = entry_of(self.heaps.first(vertex));
+        self.heaps.take(vertex, steps);
         replay(&self.heaps, &mut self.tournament, vertex, steps);
-        entry_of(taken)
+        first
     }
 
     /// Deletes the next event of a vertex, by few comparisons of keys, and answers how many were deleted.
@@ -179,7 +175,7 @@ impl Pending for HeapPending {
     {
         let gone = self.heaps.take(vertex, steps);
         replay(&self.heaps, &mut self.tournament, vertex, steps);
-        number_of(&gone)
+        gone
     }
 
     fn cancel_equal<L: Ledger>(
@@ -188,9 +184,9 @@ impl Pending for HeapPending {
         values: &Carried,
         steps: &mut Steps<L>,
     ) -> usize {
-        let taken = self.heaps.take_equal(vertex, values, steps);
+        let gone = self.heaps.take_equal(vertex, values, steps);
         replay(&self.heaps, &mut self.tournament, vertex, steps);
-        number_of(&taken)
+        gone
     }
 
     fn cancel_all<L: Ledger>(&mut self, vertex: usize, steps: &mut Steps<L>) -> usize {
@@ -200,12 +196,12 @@ impl Pending for HeapPending {
     }
 }
 
-/// The entry of an event.
-fn entry_of(taken: Option<Item>) -> Option<Entry>
-    ensures { result ≡ option_map (λ x. x.entry) taken }
+/// The entry of an event, once more.
+fn entry_of(item: Option<&Item>) -> Option<Entry>
+    ensures { result ≡ option_map (λ x. x.entry) (option_copied item.entry) }
 {
-    match taken {
-        Some(Item { number: _, entry }) => Some(entry),
+    match item {
+        Some(item) => Some(item.entry.again()),
         None => None,
     }
 }

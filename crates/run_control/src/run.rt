@@ -258,9 +258,8 @@ impl<'m, P: Pending> Run<'m, P> {
         let model = self.model;
         let happening = vertex_at(model, vertex);
         make_room(&mut self.pending, happening.edges.as_slice())?;
-        let Some(entry) = self.pending.take_first(steps) else {
-            unreachable!()
-        };
+        let taken = self.pending.take_first(steps);
+        let Some(entry) = &taken else { unreachable!() };
         self.clock = time;
         self.turns += 1;
         let state = &mut self.state;
@@ -268,7 +267,7 @@ impl<'m, P: Pending> Run<'m, P> {
         match occur(
             model,
             happening,
-            &entry,
+            entry,
             state,
             streams,
             &mut self.pending,

@@ -40,7 +40,29 @@ fn set_one(
     store_at(model, place, value, state)
 }
 
-/// Makes a `set`: all right sides, then all indexes, then the stores.
+/// Makes a `set` of at most eight targets: all right sides, then all indexes, then the stores.
+fn set_several(
+    model: &Model,
+    targets: &[Target],
+    rights: &[Expr],
+    state: &mut State,
+    clk: u64,
+) -> Result<(), FaultKind>
+    requires possible { PossibleSet (graph_of model.now) (map location_of targets.now) (map expression_of rights.now) }
+    requires inside { IsTrue (in_range (graph_of model.now) state.old) }
+    requires soon { clk ≤ 2 ^ 48 }
+    ensures sets { with_ok state.new result ≡ set_all (graph_of model.now) clk (map location_of targets.now) (map expression_of rights.now) state.old }
+    ensures left { state.new ≡ left_by_set (graph_of model.now) clk (map location_of targets.now) (map expression_of rights.now) state.old }
+    ensures stays { IsTrue (in_range (graph_of model.now) state.new) }
+{
+    let mut values = Carried::new();
+    put_values(model, rights, state, clk, &mut values)?;
+    let mut places = ArrayVec::new();
+    put_places(model, targets, state, clk, &mut places)?;
+    store_all(model, places.as_slice(), values.as_slice(), state)
+}
+
+/// Makes a `set`. Most have one target, and need no lists of values and places.
 fn set(
     model: &Model,
     targets: &[Target],
@@ -58,11 +80,7 @@ fn set(
     if let ([target], [right]) = (targets, rights) {
         return set_one(model, target, right, state, clk);
     }
-    let mut values = Carried::new();
-    put_values(model, rights, state, clk, &mut values)?;
-    let mut places = ArrayVec::new();
-    put_places(model, targets, state, clk, &mut places)?;
-    store_all(model, places.as_slice(), values.as_slice(), state)
+    set_several(model, targets, rights, state, clk)
 }
 
 /// Draws a value by the next word of a stream.

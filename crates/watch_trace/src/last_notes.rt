@@ -82,7 +82,9 @@ impl<'m> LastNotes<'m> {
         self.model
     }
 
-    /// Whether the watched values of a state aren't those noted last.
+    /// Whether the watched values of a state aren't those noted last. Not inlined, so that a step at which the clock doesn't
+    /// move has no part in it.
+    #[inline(never)]
     pub fn is_new(&self, state: &State) -> bool
         requires { IsTrue (in_range (graph_of self.now.model) state.now) }
         ensures { result ≡ is_new (watched_values (map watched_of self.now.model.watch) state.now) self.now.noted }

@@ -1,6 +1,6 @@
 //! The values of all watched cells, in one list that takes no memory once it is made.
 
-ghost use Rattle.std.specs.Prelude.{◌≡◌, ◌+◌, ◌≤◌, map, length, vec_capacity, IfOk, OnOk};
+ghost use Rattle.std.specs.Prelude.{◌≡◌, ◌+◌, ◌≤◌, ◌++◌, map, length, vec_len, vec_capacity, IfOk, OnOk};
 ghost use Rattle.std.specs.List.{flat_map, sum_by};
 ghost use Rattle.model_core.specs.Run.Pending.{same_values};
 ghost use Rattle.model_core.specs.Code.Views.{graph_of, watched_of};
@@ -81,6 +81,17 @@ pub fn put_values(values: &mut Vec<i64>, others: &[i64])
     values.extend_from_slice(others).unwrap();
 }
 
+/// Adds values for which there is room, one by one: most things that are watched have one.
+fn add_values(values: &mut Vec<i64>, others: &[i64])
+    requires { vec_len values.old + length others.now ≤ vec_capacity values.old }
+    ensures items { values.new.items ≡ values.old.items ++ others.now }
+    ensures capacity { vec_capacity values.old ≤ vec_capacity values.new }
+{
+    for value in others {
+        values.push(*value).unwrap();
+    }
+}
+
 /// Takes the watched values of a state in place of those before.
 pub fn take_values(values: &mut Vec<i64>, watch: &[Watch], state: &State)
     requires { length (flat_map (values_watched state.now) (map watched_of watch.now)) ≤ vec_capacity values.old }
@@ -88,8 +99,6 @@ pub fn take_values(values: &mut Vec<i64>, watch: &[Watch], state: &State)
 {
     values.clear();
     for watched in watch {
-        values
-            .extend_from_slice(values_watched(state, *watched))
-            .unwrap();
+        add_values(values, values_watched(state, *watched));
     }
 }

@@ -5,7 +5,7 @@ use Rattle.watch_trace.specs.Inner.KeptNotes.{values_watched}
 use Rattle.watch_trace.proofs.ValuesAlong.{values-fit}
 use Rattle.watch_trace.proofs.watched_cells.take_values.Goals as goal
 
-pub unwrap-requires : goal.unwrap-requires
-unwrap-requires c =
+pub add_values-requires : goal.add_values-requires
+add_values-requires c =
     let fits = values-fit (values_watched c.args.state.now) watched_of c.args.watch.now c.loop-watched.watched-index (things.Variable 0) c.loop-watched-test.true in
-    c.extend_from_slice.ensures.succeeds (omega (arith, fits, ap length c.values_watched.ensures, ap length c.loop-watched.invariant.0, c.loop-watched.invariant.1, c.loop-watched.values.ok.0))
+    omega (arith, fits, ap length c.values_watched.ensures, ap length c.loop-watched.invariant.0, c.loop-watched.invariant.1, c.loop-watched.values.ok.0)
