@@ -1,7 +1,7 @@
 //! The pending list of a run in heaps.
 
 ghost use Rattle.std.specs.Prelude.{◌≡◌, ◌≢◌, ℕ, ◌+◌, ◌*◌, ◌^◌, ◌<◌, ◌≤◌, length, [], ◌∷◌, ◌++◌, None, true, IfOk, slice_index_or};
-ghost use Rattle.std.specs.Option.{option_copied, option_map};
+ghost use Rattle.std.specs.Option.{option_map};
 ghost use Rattle.model_core.specs.Run.Pending.{next_entry, without_next, is_of};
 ghost use Rattle.event_heap.specs.Inner.Tree.{key_of};
 ghost use Rattle.event_heap.specs.Inner.Held.{top_of};
@@ -9,7 +9,6 @@ ghost use Rattle.event_heap.specs.Inner.Kept.{IsNextVertex};
 ghost use Rattle.event_heap.specs.BinaryLength.{digits};
 
 use crate::heaps::Heaps;
-use crate::node::Item;
 use event_list::{Entry, First, Pending};
 use sig_base::{Carried, NoMemory, Steps};
 use std::alloc::Global;
@@ -157,10 +156,10 @@ impl Pending for HeapPending {
         let Some(vertex) = next_vertex(&self.heaps, &self.tournament) else {
             return None;
         };
-        let first = entry_of(self.heaps.first(vertex));
+        let entry = self.heaps.first_entry(vertex);
         self.heaps.take(vertex, steps);
         replay(&self.heaps, &mut self.tournament, vertex, steps);
-        first
+        Some(entry)
     }
 
     /// Deletes the next event of a vertex, by few comparisons of keys, and answers how many were deleted.
@@ -193,15 +192,5 @@ impl Pending for HeapPending {
         let gone = self.heaps.take_all(vertex, steps);
         replay(&self.heaps, &mut self.tournament, vertex, steps);
         gone
-    }
-}
-
-/// The entry of an event, once more.
-fn entry_of(item: Option<&Item>) -> Option<Entry>
-    ensures { result ≡ option_map (λ x. x.entry) (option_copied item.entry) }
-{
-    match item {
-        Some(item) => Some(item.entry.again()),
-        None => None,
     }
 }

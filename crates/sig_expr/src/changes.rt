@@ -40,6 +40,34 @@ fn set_one(
     store_at(model, place, value, state)
 }
 
+/// Makes a `set` of two targets.
+fn set_two(
+    model: &Model,
+    first: &Target,
+    second: &Target,
+    left: &Expr,
+    right: &Expr,
+    state: &mut State,
+    clk: u64,
+) -> Result<(), FaultKind>
+    requires first { PossibleLocation (graph_of model.now) (location_of first.now) }
+    requires second { PossibleLocation (graph_of model.now) (location_of second.now) }
+    requires left { PossibleExpression (graph_of model.now) (expression_of left.now) }
+    requires right { PossibleExpression (graph_of model.now) (expression_of right.now) }
+    requires inside { IsTrue (in_range (graph_of model.now) state.old) }
+    requires soon { clk ≤ 2 ^ 48 }
+    ensures sets { with_ok state.new result ≡ set_all (graph_of model.now) clk (location_of first.now ∷ location_of second.now ∷ []) (expression_of left.now ∷ expression_of right.now ∷ []) state.old }
+    ensures left { state.new ≡ left_by_set (graph_of model.now) clk (location_of first.now ∷ location_of second.now ∷ []) (expression_of left.now ∷ expression_of right.now ∷ []) state.old }
+    ensures stays { IsTrue (in_range (graph_of model.now) state.new) }
+{
+    let one = value(model, left, state, clk)?;
+    let other = value(model, right, state, clk)?;
+    let here = place(model, first, state, clk)?;
+    let there = place(model, second, state, clk)?;
+    store_at(model, here, one, state)?;
+    store_at(model, there, other, state)
+}
+
 /// Makes a `set` of at most eight targets: all right sides, then all indexes, then the stores.
 fn set_several(
     model: &Model,
@@ -62,7 +90,7 @@ fn set_several(
     store_all(model, places.as_slice(), values.as_slice(), state)
 }
 
-/// Makes a `set`. Most have one target, and need no lists of values and places.
+/// Makes a `set`. Most have one target or two, and need no lists of values and places.
 fn set(
     model: &Model,
     targets: &[Target],
@@ -79,6 +107,9 @@ fn set(
 {
     if let ([target], [right]) = (targets, rights) {
         return set_one(model, target, right, state, clk);
+    }
+    if let ([first, second], [left, right]) = (targets, rights) {
+        return set_two(model, first, second, left, right, state, clk);
     }
     set_several(model, targets, rights, state, clk)
 }
