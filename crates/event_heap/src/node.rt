@@ -31,13 +31,6 @@ pub struct Node {
 }
 
 impl Item {
-    /// The vertex of the event.
-    pub fn vertex(&self) -> usize
-        ensures { result ≡ self.now.entry.vertex }
-    {
-        self.entry.vertex
-    }
-
     /// What is told of the event.
     pub fn told(&self) -> First
         ensures { result ≡ first_of self.now.entry }

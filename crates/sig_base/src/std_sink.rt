@@ -1,6 +1,6 @@
 //! Writing to one of std's writers.
 
-ghost use Rattle.std.specs.Prelude.{◌≡◌, ◌+◌, ◌<◌, ◌≤◌, ℕ, length, min, take, true, false, IfOk, OnOk, OnErr};
+ghost use Rattle.std.specs.Prelude.{◌≡◌, ◌+◌, ◌<◌, ◌≤◌, length, min, take, true, false, IfOk, OnOk, OnErr};
 ghost use Rattle.sig_base.specs.Faults.{HasRisen, last_count};
 ghost use Rattle.sig_base.specs.Source.{Stays};
 ghost use Rattle.sig_base.specs.Sink.{GrowsBy};

@@ -1,6 +1,6 @@
 //! Reading from one of std's readers.
 
-ghost use Rattle.std.specs.Prelude.{◌≡◌, ◌+◌, ◌<◌, ◌≤◌, ℕ, length, min, IfOk, OnOk, OnErr};
+ghost use Rattle.std.specs.Prelude.{◌≡◌, ◌+◌, ◌<◌, ◌≤◌, length, min, IfOk, OnOk, OnErr};
 ghost use Rattle.sig_base.specs.Faults.{HasRisen, last_count};
 ghost use Rattle.sig_base.specs.Source.{Stays, Takes, Shows, IsAtEnd};
 
