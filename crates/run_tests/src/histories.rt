@@ -4,7 +4,7 @@ ghost use Rattle.std.specs.Prelude.{◌≡◌, ◌<◌, ◌≤◌, ◌^◌, None
 ghost use Rattle.model_core.specs.Code.Views.{graph_of};
 ghost use Rattle.run_control.specs.PossibleModel.{PossibleModel};
 
-use crate::small_models::{CLOCK, Refused, model_of};
+use crate::small_models::{CLOCK, CUT, Refused, model_of};
 use event_list::PlainPending;
 use model_core::Model;
 use run_control::{Run, kept_models_can_be_run};
@@ -26,7 +26,8 @@ fn begun<'m>(alloc: Global, model: &'m Model) -> Result<Run<'m, PlainPending>, R
     Ok(Run::begin(alloc, model, pending, 42, &List::new(alloc), 2)?)
 }
 
-/// What following a run from its beginning comes to, and then, where it has spent its budget, for a hundred events more.
+/// What following a run from its beginning comes to, and then, where it has spent its budget, for a hundred events more;
+/// and how many steps were made.
 fn followed<K: Sink, L: Ledger>(
     alloc: Global,
     model: &Model,
@@ -34,7 +35,7 @@ fn followed<K: Sink, L: Ledger>(
     events: u64,
     sink: &mut K,
     blank: Blank,
-) -> Result<(Outcome, Outcome), Refused>
+) -> Result<(Outcome, Outcome, u64), Refused>
     requires possible { PossibleModel (graph_of model.now) }
     requires soon { until ≤ 2 ^ 48 }
     requires few { events ≤ 1000 }
@@ -50,19 +51,20 @@ fn followed<K: Sink, L: Ledger>(
         Outcome::Budget => Ok((
             first,
             follow(&mut tracer, &mut run, until, 100, sink, &mut steps),
+            run.turns(),
         )),
-        other => Ok((first, other)),
+        other => Ok((first, other, run.turns())),
     }
 }
 
-/// What following a run of a model for so many events comes to, and then on, with the sink behind it.
+/// What following a run of a model for so many events comes to, and then on, with the steps made and the sink behind it.
 fn history(
     alloc: Global,
     text: &[u8],
     until: u16,
     events: u64,
     sink: MemorySink,
-) -> Result<((Outcome, Outcome), MemorySink), Refused>
+) -> Result<((Outcome, Outcome, u64), MemorySink), Refused>
     requires { events ≤ 1000 }
 {
     let mut sink = sink;
@@ -81,9 +83,13 @@ fn history(
 
 #[test]
 fn each_line_is_one_call(rt: HostRuntime) -> Result<(), Fail> {
-    let sink = MemorySink::begin(rt.alloc(), 1000, 1000, List::new(rt.alloc()))?;
-    let (_, sink) = history(rt.alloc(), CLOCK, 12, 1000, sink)?;
+    let alloc = rt.alloc();
+    let sink = MemorySink::begin(alloc, 1000, 1000, List::new(alloc))?;
+    let (_, sink) = history(alloc, CLOCK, 12, 1000, sink)?;
     assert_eq!(rt; sink.calls(), 4);
+    let sink = MemorySink::begin(alloc, 1000, 1000, List::new(alloc))?;
+    let (_, sink) = history(alloc, CUT, 100, 1000, sink)?;
+    assert_eq!(rt; sink.calls(), 6);
     Ok(())
 }
 
@@ -91,7 +97,7 @@ fn each_line_is_one_call(rt: HostRuntime) -> Result<(), Fail> {
 fn a_run_is_followed_on_from_its_budget(rt: HostRuntime) -> Result<(), Fail> {
     let sink = MemorySink::begin(rt.alloc(), 1000, 1000, List::new(rt.alloc()))?;
     let (outcomes, sink) = history(rt.alloc(), CLOCK, 12, 2, sink)?;
-    assert_eq!(rt; outcomes, (Outcome::Budget, Outcome::Stopped));
+    assert_eq!(rt; outcomes, (Outcome::Budget, Outcome::Stopped, 3));
     assert_eq!(rt;
         sink.written(),
         b"at 0 N=1\nbudget 2\nat 5 N=2\nat 10 N=3\nstopped 12\n".as_slice()
@@ -100,7 +106,8 @@ fn a_run_is_followed_on_from_its_budget(rt: HostRuntime) -> Result<(), Fail> {
 }
 
 /// The history of the clock up to 12 takes 39 calls of one byte each. Where a call fails, what the calls before it
-/// took stands, and no call is made after it.
+/// took stands, and no call is made after it, nor any step but the one of its move: the note of time 0, the first nine
+/// bytes, is written in the move of the second step.
 #[test]
 fn no_call_is_made_after_one_that_failed(rt: HostRuntime) -> Result<(), Fail> {
     let alloc = rt.alloc();
@@ -109,6 +116,7 @@ fn no_call_is_made_after_one_that_failed(rt: HostRuntime) -> Result<(), Fail> {
         let sink = MemorySink::begin(alloc, 1000, 1, List::of_one(alloc, failing)?)?;
         let (outcomes, sink) = history(alloc, CLOCK, 12, 1000, sink)?;
         assert_eq!(rt; outcomes.0, Outcome::WriteFault);
+        assert_eq!(rt; outcomes.2, if failing < 10 { 2 } else { 3 });
         assert_eq!(rt; sink.calls(), failing);
         assert_eq!(rt; sink.written(), &whole[..failing as usize - 1]);
     }

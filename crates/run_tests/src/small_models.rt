@@ -87,3 +87,16 @@ vertex RUN {
 }
 end
 ";
+
+pub(crate) const CUT: &[u8] = b"model CUT;
+var X : 0..9 = 0;
+watch X, B;
+vertex RUN {
+  schedule B(3) after 5;
+  schedule B(4) after 5;
+  schedule B(3) after 6;
+  cancel B(3);
+}
+vertex B(X) { }
+end
+";
