@@ -13,7 +13,7 @@ use Rattle.sigma_top.specs.declared.job.Job.TheVariants as jobs
 use Rattle.sigma_top.specs.declared.status.End.{End}
 use Rattle.sigma_top.specs.declared.status.End.TheVariants as ends
 use Rattle.sigma_top.specs.declared.status.Status.TheVariants as statuses
-use Rattle.sigma_top.specs.Answer.{done, refused, too_long, AnswersModel, AnswersText, AnswersJob, IsOver, Answers}
+use Rattle.sigma_top.specs.Answer.{refused, too_long, AnswersModel, AnswersText, AnswersJob, IsOver, Answers}
 use Rattle.sigma_top.specs.RunAnswer.{start_refusal, end_of, told_of, refused_or}
 use Rattle.sigma_top.specs.CertifyAnswer.{answer_of_verdict, AnswersDocument}
 use Rattle.sigma_top.specs.Ending.{status_of_end, status_of_answer}
