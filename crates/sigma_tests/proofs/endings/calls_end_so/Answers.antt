@@ -1,5 +1,6 @@
 use Rattle.std.proofs.Common.{◌≡◌, inl, inr, ℕ, ◌+◌, ◌≤◌, pos, List, [], ◌∷◌, ◌++◌, length, drop, lit≤, refl, sym, ap, arith}
 use Rattle.std.specs.Prelude.{Option, Some, codes}
+use Rattle.std.specs.Fmt.{digits}
 use Rattle.std.proofs.lemmas.List.{length-append, drop_all}
 use Rattle.sig_base.specs.declared.limits.TheConstants.{TEXT_MAX}
 use Rattle.model_core.specs.Run.History.{look}
@@ -38,6 +39,7 @@ returns-clause-done c = λ text g reads. (
 )
 
 pub returns-clause-refused : goal.returns-clause-refused
+unfolding digits
 returns-clause-refused c = (
   codes "sigma: byte 0: bad byte\n",
   (
@@ -82,7 +84,7 @@ returns-clause-write_fault c = λ text g reads. (
       answer = record { text = text; told = refl; answers = inr (reads.fits, inr (g, reads, refl)) };
       input_read = refl;
       input_steady = refl;
-      output_grown = (3, no_shorter (codes "mod") _, refl);
+      output_grown = (3, no_shorter (codes "mod") (drop 3 (canonical g)), refl);
       output_unsettled = inr refl;
       output_failed = inl (omega arith);
     },
