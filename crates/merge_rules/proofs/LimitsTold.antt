@@ -1,5 +1,5 @@
 -- What the first seven conditions of a merge say of the code's two vertices, and how long its result is.
-use Rattle.std.proofs.Common.{◌≡◌, ◌∙◌, ◌==◌, ℕ, zero, suc, ◌+◌, ◌<◌, nat_lt, nat_le, Bool, true, ◌&&◌, not, List, [], ◌∷◌, ◌++◌, map, take, length, min, get_or, slice_get, Some, None, sym, ap, ap₂, arith, length-append}
+use Rattle.std.proofs.Common.{◌≡◌, ◌∙◌, ◌==◌, ℕ, zero, suc, ◌+◌, ◌<◌, nat_lt, nat_le, Bool, true, ◌&&◌, not, List, [], ◌∷◌, ◌++◌, map, take, length, min, get_or, slice_get, Some, None, is_some, IsSome, sym, ap, ap₂, arith, length-append}
 use Rattle.std.specs.List.{flat_map, remove}
 use Rattle.std.specs.Option.{option_map_or}
 use Rattle.std.proofs.lemmas.Bool.Decides.{nat_tests}
@@ -137,6 +137,25 @@ module _ (m : Model) (first second : ℕ) (none : first_failed (take 7 (merge_co
 
   second_there : (b : Vertex) → b ≡ get_or seen second b → slice_get (map vertex_of m.vertices) second ≡ Some (vertex_of b)
   second_there b is = seen_there vertex_of m.vertices seen second b holds.target_exists is same
+
+  -- the places are among those of the code's list, and there is a plain urgent edge at the first
+  among : (k : ℕ) → k < length m.vertices → k < length seen
+  among k below = let long = ap length same in omega (arith, below, long)
+
+  pub first_among : first < length seen
+  first_among = among first (place_below vertex_of m.vertices first holds.exists)
+
+  pub second_among : second < length seen
+  second_among = among second (place_below vertex_of m.vertices second holds.target_exists)
+
+  first_is : (a : Vertex) → a ≡ get_or seen first a → vertex_at (graph_of m) first ≡ vertex_of a
+  first_is a is = read_at (graph_of m).vertices first no_vertex (vertex_of a) (first_there a is)
+
+  pub urgent_there : (a : Vertex) → a ≡ get_or seen first a → IsSome (plain_urgent (vertex_of a))
+  urgent_there a is = ap is_some (ap plain_urgent (sym (first_is a is)) ∙ holds.edge.is)
+
+  pub urgent_at : (a : Vertex) → a ≡ get_or seen first a → (place : ℕ) → plain_urgent (vertex_of a) ≡ Some place → plain_urgent (vertex_at (graph_of m) first) ≡ Some place
+  urgent_at a is place at = ap plain_urgent (first_is a is) ∙ at
 
   pub few_here : (a b : Vertex) (r : Bool) → a ≡ get_or seen first a → b ≡ get_or seen second b → ((place : ℕ) → plain_urgent (vertex_of a) ≡ Some place → r ≡ has_few_parts (merged_with (vertex_of b) (vertex_of a))) → r ≡ has_few_parts (vertex_at (merged (graph_of m) first second) first)
   few_here a b r is_a is_b told = few_told (graph_of m) first second holds (vertex_of a) (vertex_of b) r (first_there a is_a) (second_there b is_b) told

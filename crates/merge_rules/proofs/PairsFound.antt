@@ -1,5 +1,5 @@
 -- The last condition, the pair at a vertex, and the first pair of all, as the code finds them.
-use Rattle.std.proofs.Common.{◌≡◌, ◌∙◌, ℕ, suc, ◌+◌, ◌-◌, ◌<◌, ◌≤◌, nat_le, Bool, true, false, cond, List, [], ◌∷◌, ◌++◌, length, min, slice_get, Option, Some, None, option_map, sym, ap, arith}
+use Rattle.std.proofs.Common.{◌≡◌, ◌∙◌, ℕ, zero, suc, ◌+◌, ◌-◌, ◌<◌, ◌≤◌, nat_le, Bool, true, false, cond, List, [], ◌∷◌, ◌++◌, length, min, slice_get, Option, Some, None, option_map, take, refl, sym, ap, arith}
 use Rattle.std.proofs.lemmas.Bool.Decides.{nat_tests}
 use Rattle.std.specs.Prelude.{is_none, is_some, filter_map}
 use Rattle.std.specs.List.{range_with_len, cons_option}
@@ -19,6 +19,13 @@ pub last_fails : (before : List Bool) (last : Bool) → first_failed before ≡ 
 last_fails [] last none fails = ap (λ b. first_failed (b ∷ [])) (sym fails)
 last_fails (true ∷ before) last none fails = ap (option_map (λ n. suc n)) (last_fails before last (none_before (first_failed before) none) fails)
 last_fails (false ∷ before) last none fails = cc
+
+-- where no condition fails none of the first ones does
+pub front_holds : (n : ℕ) (conditions : List Bool) → first_failed conditions ≡ None → first_failed (take n conditions) ≡ None
+front_holds zero conditions none = refl
+front_holds (suc n) [] none = refl
+front_holds (suc n) (true ∷ conditions) none = ap (option_map (λ n. suc n)) (front_holds n conditions (none_before (first_failed conditions) none))
+front_holds (suc n) (false ∷ conditions) none = cc
 
 exact_within : (limit top whole seen : ℕ) → nat_le whole limit ≡ true → limit < top → seen ≡ min whole top → seen ≡ whole
 exact_within limit top whole seen within beyond is = grind (arith, nat_tests)

@@ -1,10 +1,11 @@
 //! The conditions of merge that can be told from the two vertices.
 
-ghost use Rattle.std.specs.Prelude.{◌≡◌, ◌≤◌, ◌&&◌, ◌||◌, not, false, map, take, drop, length};
+ghost use Rattle.std.specs.Prelude.{◌≡◌, ◌≤◌, ◌&&◌, ◌||◌, not, true, false, ◌∷◌, map, take, drop, length};
 ghost use lib.Pointwise.{pointwise};
 ghost use Rattle.std.specs.List.{list_any, list_all, flat_map, remove};
 ghost use Rattle.std.specs.Option.{option_map_or};
 ghost use Rattle.model_core.specs.EventGraph.{Location, scalar_location};
+ghost use Rattle.model_core.specs.Run.Step.{vertex_at};
 ghost use Rattle.model_core.specs.Rules.BoundsOfParts.{quiet_set, quiet_change, quiet_edge};
 ghost use Rattle.model_core.specs.Rules.Conditions.{first_failed};
 ghost use Rattle.model_core.specs.Rules.MarkedPlaces.{is_among};
@@ -13,6 +14,7 @@ ghost use Rattle.model_core.specs.Rules.UrgentEdges.{plain_urgent_edge, single_u
 ghost use Rattle.model_core.specs.Rules.Merge.{set_parameters, leads_to, is_watched_vertex, reads_none_of, is_unwatched, happens_unseen, values_at_once, other_edges, merge_conditions};
 ghost use Rattle.model_core.specs.Code.Views.{graph_of, expression_of, location_of, change_of, edge_of, vertex_of, watched_of};
 
+use crate::at_once::edge_at_once;
 use model_core::{Change, Edge, Expr, Model, Target, Vertex, Watch, is_watched, one_cancels};
 use range_bounds::{bounds, plain_urgent, quiet_change, quiet_edge, quiet_store};
 use use_analysis::{reads_of_edge, writes_of_vertex};
@@ -21,12 +23,9 @@ use use_analysis::{reads_of_edge, writes_of_vertex};
 fn leads_at_once(vertex: &Vertex, target: usize) -> bool
     ensures { result ≡ option_map_or (leads_to target) (plain_urgent_edge (vertex_of vertex.now)) false }
 {
-    match plain_urgent(vertex) {
+    match edge_at_once(vertex) {
+        Some(edge) => edge.target == target,
         None => false,
-        Some(place) => match vertex.edges.as_slice().get(place) {
-            Some(edge) => edge.target == target,
-            None => false,
-        },
     }
 }
 
@@ -183,10 +182,7 @@ fn happens_unseen(model: &Model, second: &Vertex, values: &[Expr]) -> bool
 fn second_happens_unseen(model: &Model, first: &Vertex, second: &Vertex) -> bool
     ensures { result ≡ happens_unseen (graph_of model.now) (vertex_of second.now) (values_at_once (vertex_of first.now)) }
 {
-    let Some(place) = plain_urgent(first) else {
-        return happens_unseen(model, second, &[]);
-    };
-    match first.edges.as_slice().get(place) {
+    match edge_at_once(first) {
         Some(edge) => happens_unseen(model, second, edge.values.as_slice()),
         None => happens_unseen(model, second, &[]),
     }
@@ -228,6 +224,28 @@ fn notes_stay(model: &Model, first: usize, a: &Vertex, b: &Vertex) -> bool
     !is_watched(model, first) || second_happens_unseen(model, a, b)
 }
 
+/// The first condition but that on the limits that fails, by its number from 1, where the first three hold. The two
+/// vertices are those at these places.
+fn failed_later(model: &Model, first: usize, second: usize, a: &Vertex, b: &Vertex) -> Option<u8>
+    requires first { vertex_of a.now ≡ vertex_at (graph_of model.now) first }
+    requires second { vertex_of b.now ≡ vertex_at (graph_of model.now) second }
+    ensures { result ≡ first_failed (true ∷ true ∷ true ∷ drop 3 (take 7 (merge_conditions (graph_of model.now) first second))) }
+{
+    if is_watched(model, second) {
+        return Some(4);
+    }
+    if one_cancels(second, a.edges.as_slice()) {
+        return Some(5);
+    }
+    if !others_stand_aside(model, a, b) {
+        return Some(6);
+    }
+    if !notes_stay(model, first, a, b) {
+        return Some(7);
+    }
+    None
+}
+
 /// The first condition but that on the limits that fails, by its number from 1, in a model of which it is known whether
 /// it is single urgent.
 pub(crate) fn failed_before_limits(
@@ -255,17 +273,5 @@ pub(crate) fn failed_before_limits(
     if !single {
         return Some(3);
     }
-    if is_watched(model, second) {
-        return Some(4);
-    }
-    if one_cancels(second, a.edges.as_slice()) {
-        return Some(5);
-    }
-    if !others_stand_aside(model, a, b) {
-        return Some(6);
-    }
-    if !notes_stay(model, first, a, b) {
-        return Some(7);
-    }
-    None
+    failed_later(model, first, second, a, b)
 }

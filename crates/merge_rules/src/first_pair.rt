@@ -9,20 +9,18 @@ ghost use Rattle.model_core.specs.Rules.Merge.{merge_at, first_merge};
 ghost use Rattle.model_core.specs.Code.Views.{graph_of, vertex_of};
 ghost use Rattle.merge_rules.specs.Measured.{IsMeasured};
 
+use crate::at_once::edge_at_once;
 use crate::merging::failed_merge;
 use model_core::{Model, Vertex};
-use range_bounds::{plain_urgent, single_urgent};
+use range_bounds::single_urgent;
 
 /// The place of the vertex to which the plain urgent edge leads, if there is one.
 fn target_at_once(vertex: &Vertex) -> Option<usize>
     ensures { result ≡ option_map (λ (e : EventEdge). e.target) (plain_urgent_edge (vertex_of vertex.now)) }
 {
-    match plain_urgent(vertex) {
+    match edge_at_once(vertex) {
+        Some(edge) => Some(edge.target),
         None => None,
-        Some(place) => match vertex.edges.as_slice().get(place) {
-            Some(edge) => Some(edge.target),
-            None => None,
-        },
     }
 }
 

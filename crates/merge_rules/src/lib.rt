@@ -1,6 +1,7 @@
 //! The rule merge: an event takes over what a second one does, which it always schedules at once.
 #![tactic(auto)]
 
+mod at_once;
 mod conditions;
 mod first_pair;
 mod law;

@@ -12,6 +12,7 @@ ghost use Rattle.model_read.specs.Inner.SomeTokens.{target-some, change-some};
 
 use crate::cursor::Cursor;
 use crate::expressions::{expression, index};
+use crate::held::Held;
 use crate::phrase::{Phrase, Repeated, separated};
 use crate::signed::signed;
 use crate::stop::Stop;
@@ -72,16 +73,16 @@ fn draw(alloc: Global, cursor: &mut Cursor<'_>) -> Result<RawChange, Stop>
     ensures { Returned written_change result cursor.new (language_reader draw_format cursor.old) }
 {
     let at = cursor.word(Word::Draw)?;
-    let target = target(alloc, cursor)?;
+    let target = Held::of(target(alloc, cursor)?);
     cursor.word(Word::From)?;
     let stream = cursor.number()?;
-    let choice = choice(alloc, cursor)?;
+    let choice = Held::of(choice(alloc, cursor)?);
     cursor.symbol(Symbol::Semicolon)?;
     Ok(RawChange::Draw {
         at,
-        target,
+        target: target.free(),
         stream,
-        choice,
+        choice: choice.free(),
     })
 }
 

@@ -15,6 +15,7 @@ ghost use Rattle.model_read.specs.Inner.SomeTokens.{edge-some};
 
 use crate::cursor::Cursor;
 use crate::expressions::expression;
+use crate::held::Held;
 use crate::phrase::{Phrase, Repeated, separated};
 use crate::stop::Stop;
 use model_core::{RawEdge, RawEdgeForm, RawExpr, RawName, RawNumber, Symbol, Word};
@@ -74,9 +75,12 @@ fn priority(cursor: &mut Cursor<'_>) -> Result<Option<RawNumber>, Stop>
 fn timing(alloc: Global, cursor: &mut Cursor<'_>) -> Result<RawEdgeForm, Stop>
     ensures { Returned written_edge_kind result cursor.new (language_reader timing_format cursor.old) }
 {
-    let delay = delay(alloc, cursor)?;
+    let delay = Held::of(delay(alloc, cursor)?);
     let priority = priority(cursor)?;
-    Ok(RawEdgeForm::Schedule { delay, priority })
+    Ok(RawEdgeForm::Schedule {
+        delay: delay.free(),
+        priority,
+    })
 }
 
 /// Reads an edge that schedules.
@@ -86,16 +90,16 @@ fn schedule(alloc: Global, cursor: &mut Cursor<'_>) -> Result<RawEdge, Stop>
 {
     let at = cursor.word(Word::Schedule)?;
     let target = cursor.name(alloc)?;
-    let values = values(alloc, cursor)?;
-    let form = timing(alloc, cursor)?;
-    let condition = condition(alloc, cursor)?;
+    let values = Held::of(values(alloc, cursor)?);
+    let form = Held::of(timing(alloc, cursor)?);
+    let condition = Held::of(condition(alloc, cursor)?);
     cursor.symbol(Symbol::Semicolon)?;
     Ok(RawEdge {
         at,
         target,
-        values,
-        condition,
-        form,
+        values: values.free(),
+        condition: condition.free(),
+        form: form.free(),
     })
 }
 
@@ -106,14 +110,14 @@ fn urgent(alloc: Global, cursor: &mut Cursor<'_>) -> Result<RawEdge, Stop>
 {
     let at = cursor.word(Word::Urgent)?;
     let target = cursor.name(alloc)?;
-    let values = values(alloc, cursor)?;
-    let condition = condition(alloc, cursor)?;
+    let values = Held::of(values(alloc, cursor)?);
+    let condition = Held::of(condition(alloc, cursor)?);
     cursor.symbol(Symbol::Semicolon)?;
     Ok(RawEdge {
         at,
         target,
-        values,
-        condition,
+        values: values.free(),
+        condition: condition.free(),
         form: RawEdgeForm::Urgent,
     })
 }
@@ -161,19 +165,19 @@ fn cancel(alloc: Global, cursor: &mut Cursor<'_>) -> Result<RawEdge, Stop>
     ensures { Returned written_edge result cursor.new (language_reader cancel_format cursor.old) }
 {
     let at = cursor.word(Word::Cancel)?;
-    let cancelled = cancelled(alloc, cursor)?;
-    let condition = condition(alloc, cursor)?;
+    let cancelled = Held::of(cancelled(alloc, cursor)?);
+    let condition = Held::of(condition(alloc, cursor)?);
     cursor.symbol(Symbol::Semicolon)?;
     let Cancellation {
         target,
         values,
         form,
-    } = cancelled;
+    } = cancelled.free();
     Ok(RawEdge {
         at,
         target,
         values,
-        condition,
+        condition: condition.free(),
         form,
     })
 }

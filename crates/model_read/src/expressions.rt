@@ -13,6 +13,7 @@ ghost use Rattle.model_read.specs.ReadCalls.{Returned};
 ghost use Rattle.model_read.specs.Inner.Ladder.{operand_level, climb, if_format, not_format, negative_format, named_format};
 
 use crate::cursor::Cursor;
+use crate::held::Held;
 use crate::operators::{CONJUNCTIONS, LEVELS, next_level};
 use crate::stop::Stop;
 use model_core::{Op, RawExpr, RawForm, RawName, Symbol, Word};
@@ -49,17 +50,15 @@ fn branches(alloc: Global, cursor: &mut Cursor<'_>) -> Result<RawExpr, Stop>
     ensures shorter { IfOk result (λ e. length cursor.new + 1 ≤ length cursor.old) }
 {
     let at = cursor.word(Word::If)?;
-    let test = expression(alloc, cursor)?;
+    let test = Box::new(alloc, expression(alloc, cursor)?)?;
     cursor.word(Word::Then)?;
-    let yes = expression(alloc, cursor)?;
+    let yes = Box::new(alloc, expression(alloc, cursor)?)?;
     cursor.word(Word::Else)?;
-    let no = expression(alloc, cursor)?;
-    let form = RawForm::If(
-        Box::new(alloc, test)?,
-        Box::new(alloc, yes)?,
-        Box::new(alloc, no)?,
-    );
-    Ok(RawExpr { at, form })
+    let no = Box::new(alloc, expression(alloc, cursor)?)?;
+    Ok(RawExpr {
+        at,
+        form: RawForm::If(test, yes, no),
+    })
 }
 
 /// Reads an operand of operators of the level `under`: one of unary operators, and operators of lower levels with their
@@ -110,8 +109,9 @@ fn others(
     let mut left = first;
     let mut least = least;
     while let Some(infix) = cursor.infix(least, under) {
+        let held = Held::of(left);
         let right = operand(alloc, cursor, infix.level)?;
-        left = joined(alloc, left, infix.op, right)?;
+        left = joined(alloc, held.free(), infix.op, right)?;
         least = next_level(infix.level);
     }
     Ok(left)
@@ -123,7 +123,8 @@ fn joined(alloc: Global, left: RawExpr, op: Op, right: RawExpr) -> Result<RawExp
     ensures memory { (e : Stop) → result ≡ Err e → e ≡ Stop.NoMemory }
 {
     let at = left.at;
-    let form = RawForm::Binary(op, Box::new(alloc, left)?, Box::new(alloc, right)?);
+    let right = Held::of(right);
+    let form = RawForm::Binary(op, Box::new(alloc, left)?, Box::new(alloc, right.free())?);
     Ok(RawExpr { at, form })
 }
 
@@ -185,9 +186,9 @@ fn bracketed(alloc: Global, cursor: &mut Cursor<'_>) -> Result<RawExpr, Stop>
     ensures shorter { IfOk result (λ e. length cursor.new + 1 ≤ length cursor.old) }
 {
     cursor.symbol(Symbol::OpenBracket)?;
-    let index = expression(alloc, cursor)?;
+    let index = Held::of(expression(alloc, cursor)?);
     cursor.symbol(Symbol::CloseBracket)?;
-    Ok(index)
+    Ok(index.free())
 }
 
 /// Reads the index of a cell, where one comes.
@@ -210,12 +211,14 @@ fn called(alloc: Global, cursor: &mut Cursor<'_>, word: Word, op: Op) -> Result<
 {
     let at = cursor.word(word)?;
     cursor.symbol(Symbol::OpenParenthesis)?;
-    let first = expression(alloc, cursor)?;
+    let first = Box::new(alloc, expression(alloc, cursor)?)?;
     cursor.symbol(Symbol::Comma)?;
-    let second = expression(alloc, cursor)?;
+    let second = Box::new(alloc, expression(alloc, cursor)?)?;
     cursor.symbol(Symbol::CloseParenthesis)?;
-    let form = RawForm::Binary(op, Box::new(alloc, first)?, Box::new(alloc, second)?);
-    Ok(RawExpr { at, form })
+    Ok(RawExpr {
+        at,
+        form: RawForm::Binary(op, first, second),
+    })
 }
 
 /// Reads a variable or a cell.
@@ -257,11 +260,11 @@ fn enclosed(alloc: Global, cursor: &mut Cursor<'_>) -> Result<RawExpr, Stop>
     ensures shorter { IfOk result (λ e. length cursor.new + 1 ≤ length cursor.old) }
 {
     let at = cursor.symbol(Symbol::OpenParenthesis)?;
-    let inner = expression(alloc, cursor)?;
+    let inner = Held::of(expression(alloc, cursor)?);
     cursor.symbol(Symbol::CloseParenthesis)?;
     Ok(RawExpr {
         at,
-        form: inner.form,
+        form: inner.free().form,
     })
 }
 

@@ -13,6 +13,7 @@ ghost use Rattle.model_read.specs.ReadCalls.{Returned};
 
 use crate::cursor::Cursor;
 use crate::declarations::watch;
+use crate::held::Held;
 use crate::openings::{first_too_deep, front_length};
 use crate::phrase::{at_least_one, many};
 use crate::stop::{Stop, placed};
@@ -48,13 +49,13 @@ pub fn begun_model(alloc: Global, cursor: &mut Cursor<'_>) -> Result<RawModel, S
 fn model(alloc: Global, cursor: &mut Cursor<'_>) -> Result<RawModel, Stop>
     ensures { Returned written_model result cursor.new (text_and_rest cursor.old) }
 {
-    let begun = begun_model(alloc, cursor)?;
+    let begun = Held::of(begun_model(alloc, cursor)?);
     let vertices = at_least_one(alloc, cursor)?;
     let end_at = cursor.word(Word::End)?;
     Ok(RawModel {
         vertices,
         end_at,
-        ..begun
+        ..begun.free()
     })
 }
 
@@ -62,9 +63,9 @@ fn model(alloc: Global, cursor: &mut Cursor<'_>) -> Result<RawModel, Stop>
 fn whole(alloc: Global, cursor: &mut Cursor<'_>) -> Result<RawModel, Stop>
     ensures { Returned written_model result cursor.new (text_read cursor.old) }
 {
-    let model = model(alloc, cursor)?;
+    let model = Held::of(model(alloc, cursor)?);
     cursor.end()?;
-    Ok(model)
+    Ok(model.free())
 }
 
 /// The model that all of the tokens spell, with its names, numbers and places as they are written.

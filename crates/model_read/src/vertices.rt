@@ -13,6 +13,7 @@ ghost use Rattle.model_read.specs.ReadCalls.{Returned};
 ghost use Rattle.model_read.specs.Inner.SomeTokens.{vertex-some};
 
 use crate::cursor::Cursor;
+use crate::held::Held;
 use crate::phrase::{Phrase, Repeated, many, separated};
 use crate::stop::Stop;
 use model_core::{RawName, RawVertex, Symbol, Word};
@@ -55,14 +56,14 @@ pub fn begun_vertex(alloc: Global, cursor: &mut Cursor<'_>) -> Result<RawVertex,
 fn vertex(alloc: Global, cursor: &mut Cursor<'_>) -> Result<RawVertex, Stop>
     ensures { Returned written_vertex result cursor.new (language_reader vertex_format cursor.old) }
 {
-    let begun = begun_vertex(alloc, cursor)?;
+    let begun = Held::of(begun_vertex(alloc, cursor)?);
     let changes = many(alloc, cursor)?;
     let edges = many(alloc, cursor)?;
     cursor.symbol(Symbol::CloseBrace)?;
     Ok(RawVertex {
         changes,
         edges,
-        ..begun
+        ..begun.free()
     })
 }
 

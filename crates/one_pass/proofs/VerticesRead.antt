@@ -5,12 +5,11 @@ use Rattle.std.proofs.lemmas.List.{length-map}
 use Rattle.std.proofs.lemmas.Option.{slice_get_past}
 use Rattle.sig_base.specs.declared.limits.TheConstants.{CHANGES_MAX, EDGES_MAX}
 use Rattle.model_core.specs.declared.model.Kind.{Kind}
-use Rattle.model_core.specs.declared.token.Symbol.TheVariants as symbols
 use Rattle.model_core.specs.EventGraph as graph
 use Rattle.model_core.specs.Text.Lexing.{Lexeme}
-use Rattle.model_core.specs.Text.Format.{Many, mark, at_least_one}
+use Rattle.model_core.specs.Text.Format.{Many, at_least_one}
 use Rattle.model_core.specs.Text.Written.{WrittenVertex}
-use Rattle.model_core.specs.Text.Language.{change_format, edge_format, vertex_format}
+use Rattle.model_core.specs.Text.Language.{vertex_format}
 use Rattle.model_core.specs.Text.Numbering as numbering
 use Rattle.model_core.specs.Text.Numbering.{each_numbered}
 use Rattle.model_core.specs.Static.FaultOrder.{StaticFault, earliest_fault}
@@ -26,7 +25,7 @@ use Rattle.model_core.proofs.EmptyLists.{left_empty, right_empty}
 use Rattle.model_core.proofs.ToldFaults.{none_told}
 use Rattle.sig_types.proofs.Checks.{told_both}
 use Rattle.sig_types.proofs.VertexParts.{vertex_checked}
-use Rattle.one_pass.specs.Inner.ReadParts.{ReadParts, ReadVertex, ReadVertices, BeginAlike, AllBeginAlike}
+use Rattle.one_pass.specs.Inner.ReadParts.{ReadParts, ReadBody, ReadVertex, ReadVertices, BeginAlike, AllBeginAlike}
 use Rattle.one_pass.proofs.Sure.{checked_surely}
 use Rattle.one_pass.proofs.WholeReads.{vertex-read, some-read}
 
@@ -52,28 +51,28 @@ module _ (means : List ℕ → Option Meaning) where
       (p.0, p.1, params.unbroken p.1)
 
 module _ (means : List ℕ → Option Meaning) (taken : List (List (Option Kind))) where
-  pub vertex_taken : (v expected : WrittenVertex) (at : ℕ) (before c1 c2 c3 after : List Lexeme) (ps : List ℕ) (xs : List graph.StateChange) (ys : List graph.EventEdge)
-      → language_reader vertex_beginning before ≡ took (with_body v) c1
+  pub vertex_taken : (v expected : WrittenVertex) (before between after : List Lexeme) (ps : List ℕ) (xs : List graph.StateChange) (ys : List graph.EventEdge)
+      → language_reader vertex_beginning before ≡ took (with_body v) between
       → BeginAlike v expected
       → name_too_long v.name ≡ []
       → parameters_faults means [] (written_items v.parameters) ≡ []
       → NumberedAs means (λ d. each_numbered (numbering.numbered_parameter d) (written_items v.parameters)) ps
-      → ReadParts change_format means (change_faults means) numbering.change c1 c2 xs → length xs ≤ CHANGES_MAX
-      → ReadParts edge_format means (edge_faults means taken) numbering.edge c2 c3 ys → length ys ≤ EDGES_MAX
-      → language_reader (mark symbols.CloseBrace) c3 ≡ took at after
+      → ReadBody means taken between after xs ys
       → ReadVertex means taken expected before after (record { name = v.name.name; parameters = ps; changes = xs; edges = ys })
-  vertex_taken v expected at before c1 c2 c3 after ps xs ys begun alike named unbroken numbers changes some edges few closed =
+  vertex_taken v expected before between after ps xs ys begun alike named unbroken numbers body =
+      let changes = body.changes in
+      let edges = body.edges in
       let whole = with_body v changes.written edges.written in
       let checked : CheckedPart means None None (vertex_faults means taken whole) (λ d. numbering.vertex d whole) (record { name = v.name.name; parameters = ps; changes = xs; edges = ys })
       = vertex_checked means taken None None None None None None None whole ps xs ys (rw named refl)
       (checked_surely means None (parameters_faults means [] (written_items v.parameters)) (λ d. each_numbered (numbering.numbered_parameter d) (written_items v.parameters)) ps unbroken numbers)
-      (few-told CHANGES_MAX change_place changes.written None (subst (λ n. n ≤ CHANGES_MAX) (sym changes.counted) some))
+      (few-told CHANGES_MAX change_place changes.written None (subst (λ n. n ≤ CHANGES_MAX) (sym changes.counted) body.some))
       (checked_surely means None (flat_map (change_faults means) changes.written) (λ d. each_numbered (numbering.change d) changes.written) xs changes.unbroken changes.numbers)
-      (few-told EDGES_MAX edge_place edges.written None (subst (λ n. n ≤ EDGES_MAX) (sym edges.counted) few))
+      (few-told EDGES_MAX edge_place edges.written None (subst (λ n. n ≤ EDGES_MAX) (sym edges.counted) body.few))
       (checked_surely means None (flat_map (edge_faults means taken) edges.written) (λ d. each_numbered (numbering.edge d) edges.written) ys edges.unbroken edges.numbers) in
       let none : vertex_faults means taken whole ≡ [] = none_told (vertex_faults means taken whole) (sym checked.told) in
       record {
-        part = record { written = whole; read = vertex-read v changes.written edges.written at before c1 c2 c3 after begun changes.read edges.read closed; unbroken = none; numbers = checked.unbroken none };
+        part = record { written = whole; read = vertex-read v changes.written edges.written body.end_at before between body.between body.last after begun changes.read edges.read body.closed; unbroken = none; numbers = checked.unbroken none };
         alike = record { at = alike.at; name = alike.name; parameters = alike.parameters };
       }
 

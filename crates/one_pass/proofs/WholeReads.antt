@@ -65,15 +65,14 @@ some-read {A} f some before after x xs e = go (begins_among (first_sorts level_l
         let whole : language_reader (Many f) before ≡ took [] before = rw (many, begun) refl in
         absurd (none-not-some before after x xs (sym whole ∙ e))
 
-left-none : {A : Type 0} (x : A) (left : List Lexeme) → whole_read x left ≡ took x left → left ≡ []
+pub left-none : {A : Type 0} (x : A) (left : List Lexeme) → whole_read x left ≡ took x left → left ≡ []
 left-none x [] e = refl
 left-none x (t ∷ left) e = cc
 
-pub text-read : (m : WrittenModel) (vertices : List WrittenVertex) (end_at : ℕ) {A : Type 0} (u : A) (t0 t1 t2 t3 : List Lexeme)
-    → language_reader model_beginning t0 ≡ took (with_vertices m) t1 → language_reader (at_least_one vertex_format) t1 ≡ took vertices t2 → language_reader (reserved words.End) t2 ≡ took end_at t3 → whole_read u t3 ≡ took u t3
+pub text-read : (m : WrittenModel) (vertices : List WrittenVertex) (end_at : ℕ) (t0 t1 t2 : List Lexeme)
+    → language_reader model_beginning t0 ≡ took (with_vertices m) t1 → language_reader (at_least_one vertex_format) t1 ≡ took vertices t2 → language_reader (reserved words.End) t2 ≡ took end_at []
     → text_read t0 ≡ took (with_vertices m vertices end_at) []
 unfolding text_format model_beginning
-text-read m vertices end_at u t0 t1 t2 t3 b v e n =
-    let all : text_and_rest t0 ≡ took (with_vertices m vertices end_at) t3 = applied (model_beginning <*> at_least_one vertex_format) (reserved words.End) t0 t2 t3 (with_vertices m vertices) end_at (applied model_beginning (at_least_one vertex_format) t0 t1 t2 (with_vertices m) vertices b v) e in
-    let none = left-none u t3 n in
-    rw (all, none) refl
+text-read m vertices end_at t0 t1 t2 b v e =
+    let all : text_and_rest t0 ≡ took (with_vertices m vertices end_at) [] = applied (model_beginning <*> at_least_one vertex_format) (reserved words.End) t0 t2 [] (with_vertices m vertices) end_at (applied model_beginning (at_least_one vertex_format) t0 t1 t2 (with_vertices m) vertices b v) e in
+    rw all refl

@@ -20,7 +20,7 @@ use crate::refusing::refuse_told;
 use crate::values::values;
 use arrayvec::ArrayVec;
 use model_core::{Change, Kind, RawChange, Symbol, Target, Word};
-use model_read::{Cursor, Phrase, packed};
+use model_read::{Cursor, Held, Phrase, packed};
 use sig_base::{List, TARGETS_MAX};
 use sig_types::{Names, Told, Typed};
 use std::alloc::Global;
@@ -34,7 +34,7 @@ fn target(alloc: Global, cursor: &mut Cursor<'_>, names: &Names) -> Result<Typed
     let is_array = cursor.begins_symbol(Symbol::OpenBracket);
     let var = known(names, is_array, name)?;
     let index = if is_array {
-        Some(bracketed(alloc, cursor, names)?.expr)
+        Some(bracketed(alloc, cursor, names)?.into_expr())
     } else {
         None
     };
@@ -95,9 +95,9 @@ fn checked(alloc: Global, names: &Names, raw: &RawChange) -> Result<Change, NotR
     ensures numbers { IfOk result (λ c. NumberedAs (meaning_of names.now) (λ d. numbering.change d (written_change raw.now)) (change_of c)) }
 {
     let mut told = Told::new();
-    let change = sig_types::change(alloc, names, raw, &mut told)?;
+    let change = Held::of(sig_types::change(alloc, names, raw, &mut told)?);
     refuse_told(&told)?;
-    Ok(change)
+    Ok(change.free())
 }
 
 /// Reads a change as it is written, and checks it then.

@@ -21,7 +21,7 @@ use crate::not_read::NotRead;
 use crate::refusing::refuse_told;
 use crate::values::value;
 use model_core::{Edge, EdgeForm, Expr, Kind, RawEdge, RawNumber, StaticKind, Symbol, Word};
-use model_read::{Cursor, Phrase};
+use model_read::{Cursor, Held, Phrase};
 use sig_base::List;
 use sig_types::{Names, Told, bounded};
 use std::alloc::Global;
@@ -85,15 +85,18 @@ fn schedule(
 {
     cursor.word(Word::Schedule)?;
     let carried = carried(alloc, cursor, names, taken)?;
-    let delay = delay(alloc, cursor, names)?;
+    let delay = Held::of(delay(alloc, cursor, names)?);
     let priority = priority(cursor)?;
-    let condition = condition(alloc, cursor, names)?;
+    let condition = Held::of(condition(alloc, cursor, names)?);
     cursor.symbol(Symbol::Semicolon)?;
     Ok(Edge {
         target: carried.target,
         values: carried.values,
-        condition,
-        form: EdgeForm::Schedule { delay, priority },
+        condition: condition.free(),
+        form: EdgeForm::Schedule {
+            delay: delay.free(),
+            priority,
+        },
     })
 }
 
@@ -108,12 +111,12 @@ fn urgent(
 {
     cursor.word(Word::Urgent)?;
     let carried = carried(alloc, cursor, names, taken)?;
-    let condition = condition(alloc, cursor, names)?;
+    let condition = Held::of(condition(alloc, cursor, names)?);
     cursor.symbol(Symbol::Semicolon)?;
     Ok(Edge {
         target: carried.target,
         values: carried.values,
-        condition,
+        condition: condition.free(),
         form: EdgeForm::Urgent,
     })
 }
@@ -129,9 +132,9 @@ fn checked(
     ensures numbers { IfOk result (λ e. NumberedAs (meaning_of names.now) (λ d. numbering.edge d (written_edge raw.now)) (edge_of e)) }
 {
     let mut told = Told::new();
-    let edge = sig_types::edge(alloc, names, taken, raw, &mut told)?;
+    let edge = Held::of(sig_types::edge(alloc, names, taken, raw, &mut told)?);
     refuse_told(&told)?;
-    Ok(edge)
+    Ok(edge.free())
 }
 
 /// Reads an edge as it is written, and checks it then.

@@ -32,11 +32,36 @@ use sig_types::{
 use std::alloc::Global;
 
 /// An expression, its kind where that is known, and the byte at which it begins.
-#[derive(Drop)]
 pub(crate) struct Operand {
     pub expr: Expr,
     pub kind: Option<Kind>,
     pub at: usize,
+}
+
+// Written out, so that a function that lets an operand go does so by one call.
+impl Drop for Operand {
+    fn drop(self) {
+        let Operand {
+            expr,
+            kind: _,
+            at: _,
+        } = self;
+        drop(expr);
+    }
+}
+
+impl Operand {
+    /// The expression alone.
+    pub(crate) fn into_expr(self) -> Expr
+        ensures { result ≡ self.expr }
+    {
+        let Operand {
+            expr,
+            kind: _,
+            at: _,
+        } = self;
+        expr
+    }
 }
 
 /// Refuses an expression of another kind, where both kinds are known.
@@ -109,7 +134,7 @@ fn branches(alloc: Global, cursor: &mut Cursor<'_>, names: &Names) -> Result<Ope
     expect(yes.kind, &no)?;
     let kind = known_or(yes.kind, no.kind);
     Ok(Operand {
-        expr: Expr::conditional(alloc, test.expr, yes.expr, no.expr)?,
+        expr: Expr::conditional(alloc, test.into_expr(), yes.into_expr(), no.into_expr())?,
         kind,
         at,
     })
@@ -193,7 +218,7 @@ fn joined(alloc: Global, left: Operand, op: Op, right: Operand) -> Result<Operan
 {
     let at = left.at;
     Ok(Operand {
-        expr: Expr::binary(alloc, op, left.expr, right.expr)?,
+        expr: Expr::binary(alloc, op, left.into_expr(), right.into_expr())?,
         kind: Some(result_kind(op)),
         at,
     })
@@ -210,7 +235,7 @@ fn negated(alloc: Global, cursor: &mut Cursor<'_>, names: &Names) -> Result<Oper
     let operand = operand_under(alloc, cursor, names, CONJUNCTIONS)?;
     expect(Some(Kind::Truth), &operand)?;
     Ok(Operand {
-        expr: Expr::Not(Box::new(alloc, operand.expr)?),
+        expr: Expr::Not(Box::new(alloc, operand.into_expr())?),
         kind: Some(Kind::Truth),
         at,
     })
@@ -249,7 +274,7 @@ fn negative(alloc: Global, cursor: &mut Cursor<'_>, names: &Names) -> Result<Ope
     let operand = unary(alloc, cursor, names)?;
     expect(Some(Kind::Range), &operand)?;
     Ok(Operand {
-        expr: Expr::Neg(Box::new(alloc, operand.expr)?),
+        expr: Expr::Neg(Box::new(alloc, operand.into_expr())?),
         kind: Some(Kind::Range),
         at,
     })
@@ -294,12 +319,9 @@ fn called(
     let second = expression(alloc, cursor, names)?;
     expect(right_kind(op, first.kind), &second)?;
     cursor.symbol(Symbol::CloseParenthesis)?;
-    let both = joined(alloc, first, op, second)?;
-    Ok(Operand {
-        expr: both.expr,
-        kind: both.kind,
-        at,
-    })
+    let mut both = joined(alloc, first, op, second)?;
+    both.at = at;
+    Ok(both)
 }
 
 /// Reads a variable or a cell.
@@ -321,7 +343,7 @@ fn named(alloc: Global, cursor: &mut Cursor<'_>, names: &Names) -> Result<Operan
     let var = known(names, true, name)?;
     let index = bracketed(alloc, cursor, names)?;
     Ok(Operand {
-        expr: Expr::Cell(var.part, Box::new(alloc, index.expr)?),
+        expr: Expr::Cell(var.part, Box::new(alloc, index.into_expr())?),
         kind: var.kind,
         at: name.at,
     })
@@ -335,13 +357,10 @@ fn enclosed(alloc: Global, cursor: &mut Cursor<'_>, names: &Names) -> Result<Ope
     ensures shorter { IfOk result (λ e. length cursor.new + 1 ≤ length cursor.old) }
 {
     let at = cursor.symbol(Symbol::OpenParenthesis)?;
-    let inner = expression(alloc, cursor, names)?;
+    let mut inner = expression(alloc, cursor, names)?;
     cursor.symbol(Symbol::CloseParenthesis)?;
-    Ok(Operand {
-        expr: inner.expr,
-        kind: inner.kind,
-        at,
-    })
+    inner.at = at;
+    Ok(inner)
 }
 
 /// Reads what no operator divides.

@@ -1,24 +1,114 @@
 //! A whole model text.
 
-ghost use Rattle.std.specs.Prelude.{◌≡◌, None, IfOk};
-ghost use Rattle.model_core.specs.Code.Views.{graph_of};
-ghost use Rattle.model_core.specs.Code.WrittenViews.{written_model};
+ghost use Rattle.std.specs.Prelude.{◌≡◌, ◌++◌, [], map, Option, None, IfOk};
+ghost use Rattle.std.specs.List.{flat_map};
+ghost use Rattle.model_core.specs.declared.token.Word.TheVariants.{End};
+ghost use Rattle.model_core.specs.Code.Views.{variable_of, table_of, watched_of, vertex_of, graph_of};
+ghost use Rattle.model_core.specs.Code.WrittenViews.{written_name, written_variable, written_table, written_vertex, written_model};
+ghost use Rattle.model_core.specs.Text.Format.{reserved};
+ghost use Rattle.model_core.specs.Text.Numbering as numbering;
+ghost use Rattle.model_core.specs.Text.Numbering.{each_numbered};
+ghost use Rattle.model_core.specs.Static.FaultOrder.{StaticFault, earliest_fault};
+ghost use Rattle.model_core.specs.Static.Meanings.{AsWatched, meaning_of};
+ghost use Rattle.model_core.specs.Static.PartFaults.{use_faults, repeated_names, kinds_taken};
+ghost use Rattle.model_core.specs.Static.ModelFaults.{model_meaning};
+ghost use Rattle.model_core.specs.Inner.FormatReader.{took};
+ghost use Rattle.model_core.specs.Inner.LanguageReader.{language_reader};
 ghost use Rattle.model_lex.specs.Lexemes.{lexemes};
+ghost use Rattle.model_read.specs.Beginnings.{with_vertices, model_beginning};
+ghost use Rattle.sig_types.specs.Inner.Checked.{CheckedPart};
+ghost use Rattle.sig_types.specs.Inner.Redeclared.{faults_of_declared};
 ghost use Rattle.one_pass.specs.ReadModel.{AreAccepted};
-ghost use Rattle.one_pass.specs.Inner.ReadParts.{ReadBehind, ReadText};
+ghost use Rattle.one_pass.specs.Inner.ReadParts.{CheckedInTurn, ReadVertices, ReadBehind, ReadText};
 
 use crate::beginnings::beginnings;
 use crate::not_read::NotRead;
 use crate::refusing::refuse_told;
 use crate::vertices::vertices;
-use model_core::{Model, RawModel, RawVertex, Word};
+use model_core::{Model, RawModel, RawName, RawTable, RawVar, RawVertex, Var, Vertex, Watch, Word};
 use model_lex::{Tokens, tokens_stand_in_order};
 use model_read::{Cursor, begun_model, first_too_deep};
-use sig_base::{List, OPENINGS_MAX};
+use sig_base::{List, OPENINGS_MAX, Table};
 use sig_types::{
-    Told, check_tables, check_variables, declared, items, taken, tell_too_long, watch_list,
+    Names, Told, check_tables, check_variables, declared, items, taken, tell_too_long, watch_list,
 };
 use std::alloc::Global;
+
+/// The variables and tables of a model.
+#[derive(Drop)]
+struct Lists {
+    vars: List<Var>,
+    tables: List<Table>,
+}
+
+/// Checks the variables of a model, and then its tables.
+fn declarations(
+    alloc: Global,
+    vars: List<RawVar>,
+    tables: List<RawTable>,
+    told: &mut Told,
+) -> Result<Lists, NotRead>
+    ensures { IfOk result (λ d. CheckedInTurn (map written_variable vars) (map written_table tables) told.old told.new (map variable_of d.vars) (map table_of d.tables)) }
+{
+    let vars = check_variables(alloc, vars, told)?;
+    let tables = check_tables(alloc, tables, told)?;
+    Ok(Lists { vars, tables })
+}
+
+/// The watch list and the vertices of a model.
+#[derive(Drop)]
+struct Rest {
+    watch: List<Watch>,
+    vertices: List<Vertex>,
+}
+
+/// Checks the names of the watch list, and reads the vertices, which must begin as expected.
+fn watch_and_vertices(
+    alloc: Global,
+    cursor: &mut Cursor<'_>,
+    names: &Names,
+    watch: &[RawName],
+    expected: &[RawVertex],
+    told: &mut Told,
+) -> Result<Rest, NotRead>
+    ensures watch { IfOk result (λ r. CheckedPart (meaning_of names.now) told.old told.new (flat_map (use_faults (meaning_of names.now) AsWatched) (map written_name watch.now) ++ repeated_names [] (map written_name watch.now)) (λ d. each_numbered (numbering.watched d) (map written_name watch.now)) (map watched_of r.watch)) }
+    ensures vertices { IfOk result (λ r. ReadVertices (meaning_of names.now) (map (kinds_taken (meaning_of names.now)) (map written_vertex expected.now)) (map written_vertex expected.now) cursor.old cursor.new (map vertex_of r.vertices)) }
+{
+    let taken = taken(alloc, names, expected)?;
+    let watch = watch_list(alloc, names, watch, told)?;
+    let vertices = vertices(alloc, cursor, names, taken.as_slice(), expected)?;
+    Ok(Rest { watch, vertices })
+}
+
+/// Reads the vertices of a model among these names.
+fn among_names(
+    alloc: Global,
+    cursor: &mut Cursor<'_>,
+    names: &Names,
+    begun: RawModel,
+    told: &mut Told,
+) -> Result<Model, NotRead>
+    ensures { IfOk result (λ model. meaning_of names.now ≡ model_meaning (written_model begun)
+        → (start : Option StaticFault) → told.old ≡ earliest_fault start (faults_of_declared (written_model begun))
+        → ReadBehind (written_model begun) cursor.old cursor.new start told.new (graph_of model)) }
+{
+    let declared = declarations(alloc, begun.vars, begun.tables, told)?;
+    let rest = watch_and_vertices(
+        alloc,
+        cursor,
+        names,
+        items(&begun.watch),
+        begun.vertices.as_slice(),
+        told,
+    )?;
+    Ok(Model {
+        name: begun.name.name,
+        vars: declared.vars,
+        tables: declared.tables,
+        watch: rest.watch,
+        vertices: rest.vertices,
+    })
+}
 
 /// Reads the vertices of a model of which what stands before them is read, and what each of them begins with.
 fn behind(
@@ -30,24 +120,31 @@ fn behind(
     ensures { IfOk result (λ model. ReadBehind (written_model begun) cursor.old cursor.new told.old told.new (graph_of model)) }
 {
     let names = declared(alloc, &begun, told)?;
-    let taken = taken(alloc, &names, begun.vertices.as_slice())?;
-    let vars = check_variables(alloc, begun.vars, told)?;
-    let tables = check_tables(alloc, begun.tables, told)?;
-    let watch = watch_list(alloc, &names, items(&begun.watch), told)?;
-    let vertices = vertices(
-        alloc,
-        cursor,
-        &names,
-        taken.as_slice(),
-        begun.vertices.as_slice(),
-    )?;
-    Ok(Model {
-        name: begun.name.name,
-        vars,
-        tables,
-        watch,
-        vertices,
+    among_names(alloc, cursor, &names, begun, told)
+}
+
+/// Reads what stands before the vertices of a model, which begin so.
+fn beginning(
+    alloc: Global,
+    cursor: &mut Cursor<'_>,
+    expected: List<RawVertex>,
+) -> Result<RawModel, NotRead>
+    ensures { IfOk result (λ m. language_reader model_beginning cursor.old ≡ took (with_vertices (written_model m)) cursor.new) }
+{
+    let begun = begun_model(alloc, cursor)?;
+    Ok(RawModel {
+        vertices: expected,
+        ..begun
     })
+}
+
+/// Reads the word `end`, and nothing behind it. Gives its place.
+fn ending(cursor: &mut Cursor<'_>) -> Result<usize, NotRead>
+    ensures { IfOk result (λ at. language_reader (reserved End) cursor.old ≡ took at []) }
+{
+    let at = cursor.word(Word::End)?;
+    cursor.end()?;
+    Ok(at)
 }
 
 /// Reads a model text whose vertices begin so, and nothing behind it. Faults of its declarations and of its length are
@@ -61,14 +158,9 @@ fn text(
     requires { told.old ≡ None }
     ensures { IfOk result (λ model. ReadText cursor.old told.new (graph_of model)) }
 {
-    let begun = begun_model(alloc, cursor)?;
-    let begun = RawModel {
-        vertices: expected,
-        ..begun
-    };
+    let begun = beginning(alloc, cursor, expected)?;
     let model = behind(alloc, cursor, begun, told)?;
-    let end_at = cursor.word(Word::End)?;
-    cursor.end()?;
+    let end_at = ending(cursor)?;
     tell_too_long(&model, end_at, told);
     Ok(model)
 }

@@ -32,7 +32,7 @@ pub(crate) fn value(
 {
     let operand = expression(alloc, cursor, names)?;
     expect(wanted, &operand)?;
-    Ok(operand.expr)
+    Ok(operand.into_expr())
 }
 
 /// Reads a comma and the value behind it.

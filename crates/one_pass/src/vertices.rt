@@ -1,37 +1,78 @@
 //! The vertices of a model.
 
 ghost use Rattle.std.specs.Prelude.{◌≡◌, [], map, IfOk, OnOk};
-ghost use Rattle.model_core.specs.Code.Views.{vertex_of};
+ghost use Rattle.model_core.specs.Code.Views.{change_of, edge_of, vertex_of};
 ghost use Rattle.model_core.specs.Code.WrittenViews.{written_vertex};
 ghost use Rattle.model_core.specs.Text.Numbering.{each_numbered, numbered_parameter};
 ghost use Rattle.model_core.specs.Static.Meanings.{meaning_of};
 ghost use Rattle.model_core.specs.Static.RuleTable.{name_too_long};
 ghost use Rattle.model_core.specs.Static.PartFaults.{written_items, parameters_faults};
 ghost use Rattle.sig_types.specs.Inner.Checked.{NumberedAs};
-ghost use Rattle.one_pass.specs.Inner.ReadParts.{ReadVertex, ReadVertices};
+ghost use Rattle.one_pass.specs.Inner.ReadParts.{BeginAlike, ReadBody, ReadVertex, ReadVertices};
 
 use crate::beginnings::begin_alike;
 use crate::not_read::NotRead;
 use crate::parts::take_all;
 use crate::refusing::refuse_told;
-use model_core::{Kind, RawVertex, StaticKind, Symbol, Vertex};
+use model_core::{Change, Edge, Kind, RawVertex, StaticKind, Symbol, Vertex};
 use model_read::{Cursor, Repeated, begun_vertex};
-use sig_base::{CHANGES_MAX, EDGES_MAX, List, NAME_MAX};
+use sig_base::{CHANGES_MAX, EDGES_MAX, List, NAME_MAX, Name};
 use sig_types::{Names, Told, items, parameters};
 use std::alloc::Global;
 
-/// The parameters of a vertex that breaks no static rule up to its changes.
-fn known_parameters(alloc: Global, names: &Names, begun: &RawVertex) -> Result<List<usize>, NotRead>
+/// The parameters of a vertex that begins as expected, and breaks no static rule up to its changes.
+fn known_parameters(
+    alloc: Global,
+    names: &Names,
+    begun: &RawVertex,
+    expected: &RawVertex,
+) -> Result<List<usize>, NotRead>
+    ensures alike { OnOk result (BeginAlike (written_vertex begun.now) (written_vertex expected.now)) }
     ensures named { OnOk result (name_too_long (written_vertex begun.now).name ≡ []) }
     ensures unbroken { OnOk result (parameters_faults (meaning_of names.now) [] (written_items (written_vertex begun.now).parameters) ≡ []) }
     ensures numbers { IfOk result (λ ps. NumberedAs (meaning_of names.now) (λ d. each_numbered (numbered_parameter d) (written_items (written_vertex begun.now).parameters)) ps) }
 {
+    if !begin_alike(begun, expected) {
+        return Err(NotRead::Unexpected);
+    }
     let mut told = Told::new();
     let long = begun.name.name.as_slice().len() > NAME_MAX;
     told.note(long, StaticKind::NameTooLong, begun.name.at);
     let params = parameters(alloc, names, items(&begun.params), &mut told)?;
     refuse_told(&told)?;
     Ok(params)
+}
+
+/// The changes and edges of a vertex.
+#[derive(Drop)]
+struct VertexBody {
+    changes: List<Change>,
+    edges: List<Edge>,
+}
+
+/// Reads the changes and edges of a vertex, and what ends it.
+fn body(
+    alloc: Global,
+    cursor: &mut Cursor<'_>,
+    names: &Names,
+    taken: &[List<Option<Kind>>],
+) -> Result<VertexBody, NotRead>
+    ensures { IfOk result (λ b. ReadBody (meaning_of names.now) taken.now cursor.old cursor.new (map change_of b.changes) (map edge_of b.edges)) }
+{
+    let changes = take_all(alloc, cursor, names, taken)?;
+    let edges = take_all(alloc, cursor, names, taken)?;
+    cursor.symbol(Symbol::CloseBrace)?;
+    if changes.len() > CHANGES_MAX || edges.len() > EDGES_MAX {
+        return Err(NotRead::Broken);
+    }
+    Ok(VertexBody { changes, edges })
+}
+
+/// The name of a vertex, of which the rest is let go.
+fn name_of(vertex: RawVertex) -> Name
+    ensures { result ≡ vertex.name.name }
+{
+    vertex.name.name
 }
 
 /// Reads a vertex, which must begin as expected.
@@ -45,21 +86,14 @@ fn vertex(
     ensures { IfOk result (λ v. ReadVertex (meaning_of names.now) taken.now (written_vertex expected.now) cursor.old cursor.new (vertex_of v)) }
 {
     let begun = begun_vertex(alloc, cursor)?;
-    if !begin_alike(&begun, expected) {
-        return Err(NotRead::Unexpected);
-    }
-    let params = known_parameters(alloc, names, &begun)?;
-    let changes = take_all(alloc, cursor, names, taken)?;
-    let edges = take_all(alloc, cursor, names, taken)?;
-    cursor.symbol(Symbol::CloseBrace)?;
-    if changes.len() > CHANGES_MAX || edges.len() > EDGES_MAX {
-        return Err(NotRead::Broken);
-    }
+    let params = known_parameters(alloc, names, &begun, expected)?;
+    let name = name_of(begun);
+    let body = body(alloc, cursor, names, taken)?;
     Ok(Vertex {
-        name: begun.name.name,
+        name,
         params,
-        changes,
-        edges,
+        changes: body.changes,
+        edges: body.edges,
     })
 }
 

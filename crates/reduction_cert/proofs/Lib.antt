@@ -3,3 +3,4 @@ pub mod Verdicts
 mod CertificateReads
 pub mod Tables
 pub mod NamesKept
+mod OneMore

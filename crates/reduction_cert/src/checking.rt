@@ -41,10 +41,22 @@ pub fn check_chain(
     ensures { IfOk result (λ v. verdict_of v ≡ verdict (graph_of original.now) (map application_of applications.now) (graph_of reduced.now)) }
 {
     let mut model = copy_model(alloc, original)?;
-    if let Some(line) = apply_all(alloc, &mut model, applications.as_slice())? {
+    led_to(alloc, &mut model, applications, reduced)
+}
+
+/// Makes the applications, in order, up to the first bad one, and says whether they lead to the reduced model.
+fn led_to(
+    alloc: Global,
+    model: &mut Model,
+    applications: &List<Application>,
+    reduced: &Model,
+) -> Result<Verdict, NoMemory>
+    ensures { IfOk result (λ v. verdict_of v ≡ verdict (graph_of model.old) (map application_of applications.now) (graph_of reduced.now)) }
+{
+    if let Some(line) = apply_all(alloc, model, applications.as_slice())? {
         return Ok(Verdict::Rejected { line });
     }
-    if same_model(&model, reduced) {
+    if same_model(model, reduced) {
         Ok(Verdict::Sound)
     } else {
         Ok(Verdict::Differs)

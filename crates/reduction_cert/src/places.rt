@@ -11,9 +11,16 @@ use std::alloc::Global;
 use std::marker::Model;
 
 /// Names with their first places, which contracts see as a list of both.
-#[derive(Drop)]
 pub(crate) struct Places {
     table: IndexMap<Vec<u8>, usize>,
+}
+
+// Written out, so that a function that lets a table go does so by one call.
+impl Drop for Places {
+    fn drop(self) {
+        let Places { table } = self;
+        drop(table);
+    }
 }
 
 impl Model for Places {

@@ -1,5 +1,5 @@
 -- The check of an expression from those of its operands.
-use Rattle.std.proofs.Common.{◌≡◌, ℕ, List, Option, Some, refl}
+use Rattle.std.proofs.Common.{◌≡◌, ℕ, List, Option, Some, None, refl, subst, append-nil}
 use Rattle.model_core.specs.declared.model.Kind.{Kind}
 use Rattle.model_core.specs.declared.model.Kind.TheVariants as kinds
 use Rattle.model_core.specs.declared.raw.RawForm.{RawForm}
@@ -48,9 +48,13 @@ module _ (means : List ℕ → Option Meaning) (at : ℕ) where
       let q2 : Operand t1 t2 (right_operand_kind op (expression_kind means a)) b y = rw (← kk, ← vv) q in
       made (λ h. two_numbered means (graph.Binary op) (λ d. expression d a) (λ d. expression d b) h.0 h.1) (both p2 q2)
 
+  -- an operand of any kind
+  of_any_kind : (t0 t1 : Option StaticFault) (e : WrittenExpression) (x : graph.Expression) → Operand t0 t1 None e x → Whole t0 t1 e x
+  of_any_kind t0 t1 e x p = subst (λ fs. CheckedPart means t0 t1 fs (λ d. expression d e) x) (append-nil (expression_faults means e)) p
+
   pub choice : (t0 t1 t2 t3 : Option StaticFault) (c a b : WrittenExpression) (x y z : graph.Expression) (k : Option Kind)
-      → k ≡ expression_kind means a → Operand t0 t1 (Some kinds.Truth) c x → Whole t1 t2 a y → Operand t2 t3 k b z
+      → k ≡ expression_kind means a → Operand t0 t1 (Some kinds.Truth) c x → Operand t1 t2 None a y → Operand t2 t3 k b z
       → Whole t0 t3 (written.If at c a b) (graph.If x y z)
   choice t0 t1 t2 t3 c a b x y z k kk p q r =
       let r2 : Operand t2 t3 (expression_kind means a) b z = rw (← kk) r in
-      made (λ h. three_numbered means graph.If (λ d. expression d c) (λ d. expression d a) (λ d. expression d b) h.0.0 h.0.1 h.1) (both (both p q) r2)
+      made (λ h. three_numbered means graph.If (λ d. expression d c) (λ d. expression d a) (λ d. expression d b) h.0.0 h.0.1 h.1) (both (both p (of_any_kind t1 t2 a y q)) r2)

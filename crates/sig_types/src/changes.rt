@@ -86,8 +86,8 @@ fn all_targets(
     let mut kinds = Vec::with_capacity(alloc, raws.len())?;
     for raw in raws {
         let typed = target(alloc, names, raw, told)?;
-        kinds.push(typed.kind)?;
         targets.push(typed.part)?;
+        kinds.push(typed.kind)?;
     }
     let targets = List::from_vec(targets);
     Ok(TypedTargets { targets, kinds })
@@ -132,8 +132,8 @@ fn set_one(
     ensures { IfOk result (λ c. CheckedPart (meaning_of names.now) told.old told.new (stored_faults (meaning_of names.now) (written_target raw.now ∷ []) (map written_expression raws.now)) (λ d. numbering.change d (written.Set 0 (written_target raw.now ∷ []) (map written_expression raws.now))) (change_of c)) }
 {
     let typed = target(alloc, names, raw, told)?;
-    let values = values(alloc, names, &[typed.kind], raws, told)?;
     let targets = List::of_one(alloc, typed.part)?;
+    let values = values(alloc, names, &[typed.kind], raws, told)?;
     Ok(Change::Set { targets, values })
 }
 

@@ -91,14 +91,27 @@ fn numbered_among(
     })
 }
 
+/// The model among these names, where the vertices take what it says.
+fn among_names(
+    alloc: Global,
+    names: &Names,
+    raw: RawModel,
+    told: &mut Told,
+) -> Result<Model, NoMemory>
+    ensures { IfOk result (λ model. meaning_of names.now ≡ model_meaning (written_model raw)
+        → (start : Option StaticFault) → told.old ≡ earliest_fault start (faults_of_declared (written_model raw))
+        → Checked start told.new (faults_of_parts (written_model raw)) (numbering.numbered (written_model raw) ≡ Some (graph_of model))) }
+{
+    let taken = taken(alloc, names, raw.vertices.as_slice())?;
+    numbered_among(alloc, names, taken.as_slice(), raw, told)
+}
+
 /// The model with numbers in place of names. Where it has a fault, nothing is said of what is given.
 fn numbered(alloc: Global, raw: RawModel, told: &mut Told) -> Result<Model, NoMemory>
     ensures { IfOk result (λ model. Checked told.old told.new (faults_of_parts (written_model raw)) (numbering.numbered (written_model raw) ≡ Some (graph_of model))) }
 {
     let names = declared(alloc, &raw, told)?;
-    let taken = taken(alloc, &names, raw.vertices.as_slice())?;
-    let model = numbered_among(alloc, &names, taken.as_slice(), raw, told)?;
-    Ok(model)
+    among_names(alloc, &names, raw, told)
 }
 
 /// Whether the canonical text of a model has too many bytes.

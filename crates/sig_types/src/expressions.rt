@@ -115,20 +115,20 @@ fn typed_expression(
         }
         RawForm::Binary(op, left, right) => {
             let wanted = operand_kind(*op);
-            let left = operand(alloc, names, wanted, left, told)?;
-            let right = operand(alloc, names, right_kind(*op, left.kind), right, told)?;
+            let left = boxed_operand(alloc, names, wanted, left, told)?;
+            let right = boxed_operand(alloc, names, right_kind(*op, left.kind), right, told)?;
             Ok(Typed {
-                part: Expr::binary(alloc, *op, left.part, right.part)?,
+                part: Expr::Binary(*op, left.part, right.part),
                 kind: Some(result_kind(*op)),
             })
         }
         RawForm::If(test, yes, no) => {
-            let test = operand(alloc, names, Some(Kind::Truth), test, told)?;
-            let yes = typed_expression(alloc, names, yes, told)?;
-            let no = operand(alloc, names, yes.kind, no, told)?;
+            let test = boxed_operand(alloc, names, Some(Kind::Truth), test, told)?;
+            let yes = boxed_operand(alloc, names, None, yes, told)?;
+            let no = boxed_operand(alloc, names, yes.kind, no, told)?;
             let kind = known_or(yes.kind, no.kind);
             Ok(Typed {
-                part: Expr::conditional(alloc, test.part, yes.part, no.part)?,
+                part: Expr::If(test.part, yes.part, no.part),
                 kind,
             })
         }

@@ -24,9 +24,16 @@ pub enum Meaning {
 }
 
 /// Names with their first declarations, which contracts see as a list of declarations, each at byte 0.
-#[derive(Drop)]
 pub struct Names {
     table: IndexMap<Vec<u8>, Meaning>,
+}
+
+// Written out, so that a function that lets names go does so by one call.
+impl Drop for Names {
+    fn drop(self) {
+        let Names { table } = self;
+        drop(table);
+    }
 }
 
 impl Model for Names {

@@ -3,7 +3,7 @@ use Rattle.std.proofs.Common.{◌≡◌, ◌∙◌, sym, ap}
 use Rattle.std.specs.Prelude.{Result, Err}
 use Rattle.sigma_top.specs.declared.reading_error.ReadingError.{ReadingError}
 
-one_error : {A : Type 0} (x y : ReadingError) → ◌≡◌ {A = Result A ReadingError} (Err x) (Err y) → x ≡ y
+pub one_error : {A : Type 0} (x y : ReadingError) → ◌≡◌ {A = Result A ReadingError} (Err x) (Err y) → x ≡ y
 one_error x y p = cc
 
 pub same_error : {A : Type 0} (r : Result A ReadingError) (x e y : ReadingError) → r ≡ Err x → x ≡ e → r ≡ Err y → e ≡ y

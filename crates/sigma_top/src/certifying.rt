@@ -18,6 +18,7 @@ use reduction_cert::{Verdict, check_chain, verdicts_tell_chains};
 use round_trip::documents_have_valid_models;
 use sig_base::{NoMemory, Text, put_bytes, put_number};
 use std::alloc::Global;
+use std::mem::forget;
 
 /// The line that rejects a certificate at this line of it.
 fn rejected(alloc: Global, line: usize) -> Result<Text, NoMemory>
@@ -63,13 +64,17 @@ fn judged(alloc: Global, document: &Document) -> Result<Answer, NoMemory>
     told(alloc, verdict)
 }
 
-/// `certify`: whether the certificate of the document holds.
+/// `certify`: whether the certificate of the document holds. The program ends behind it, so the document isn't taken apart.
 pub fn certified(alloc: Global, text: &[u8]) -> Result<Answer, NoMemory>
     requires { length text.now ≤ most_bytes }
     ensures { IfOk result (AnswersDocument text.now) }
 {
     match document_of(alloc, text) {
-        Ok(document) => judged(alloc, &document),
+        Ok(document) => {
+            let answer = judged(alloc, &document);
+            forget(document);
+            answer
+        }
         Err(ReadingError::At { what, at }) => complain(alloc, what, at),
         Err(ReadingError::NoMemory) => Err(NoMemory),
     }

@@ -16,6 +16,7 @@ use reduction_cert::read_certificate;
 use sig_base::{DOCUMENT_MAX, List};
 use sig_types::check;
 use std::alloc::Global;
+use std::mem::forget;
 
 /// Two models, and the applications that are to lead from the one to the other.
 #[derive(Drop)]
@@ -33,14 +34,28 @@ struct RawDocument {
     second: RawModel,
 }
 
-/// The parts that the tokens spell, one behind the other.
+/// The parts that the tokens spell, one behind the other. The program ends behind parts that aren't all spelled, so those
+/// that are read then aren't taken apart.
 fn parts(alloc: Global, tokens: &Tokens<'_>) -> Result<RawDocument, ReadingError>
     ensures ok { IfOk result (λ d. SpellsDocument tokens.now.text.now (written_model d.first) (map application_of d.applications) (written_model d.second)) }
     ensures complaint { (what : Complained) (at : ℕ) → result ≡ Err (ReadingError.At what at) → IsDocumentComplaint tokens.now.text.now what at }
 {
     let (first, behind_first) = parse_front(alloc, tokens, 0)?;
-    let (second, behind_second) = parse_front(alloc, tokens, behind_first)?;
-    let applications = read_certificate(alloc, tokens, behind_second)?;
+    let (second, behind_second) = match parse_front(alloc, tokens, behind_first) {
+        Ok(read) => read,
+        Err(error) => {
+            forget(first);
+            return Err(ReadingError::from(error));
+        }
+    };
+    let applications = match read_certificate(alloc, tokens, behind_second) {
+        Ok(read) => read,
+        Err(error) => {
+            forget(first);
+            forget(second);
+            return Err(ReadingError::from(error));
+        }
+    };
     Ok(RawDocument {
         first,
         applications,
@@ -57,7 +72,8 @@ fn spelled(alloc: Global, text: &[u8]) -> Result<RawDocument, ReadingError>
     parts(alloc, &tokens)
 }
 
-/// The two models that the document reads as, and the applications of its certificate.
+/// The two models that the document reads as, and the applications of its certificate. The program ends behind a model
+/// that isn't accepted, so what is left then isn't taken apart.
 pub fn document_of(alloc: Global, text: &[u8]) -> Result<Document, ReadingError>
     requires { length text.now ≤ DOCUMENT_MAX }
     ensures ok { IfOk result (λ d. ReadsDocument text.now (graph_of d.original) (map application_of d.applications) (graph_of d.reduced)) }
@@ -68,8 +84,22 @@ pub fn document_of(alloc: Global, text: &[u8]) -> Result<Document, ReadingError>
         applications,
         second,
     } = spelled(alloc, text)?;
-    let original = check(alloc, first)?;
-    let reduced = check(alloc, second)?;
+    let original = match check(alloc, first) {
+        Ok(original) => original,
+        Err(error) => {
+            forget(applications);
+            forget(second);
+            return Err(ReadingError::from(error));
+        }
+    };
+    let reduced = match check(alloc, second) {
+        Ok(reduced) => reduced,
+        Err(error) => {
+            forget(original);
+            forget(applications);
+            return Err(ReadingError::from(error));
+        }
+    };
     Ok(Document {
         original,
         applications,

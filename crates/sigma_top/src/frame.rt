@@ -1,7 +1,7 @@
 //! The top call: from the words, the input and the outputs to a status. It knows a job by its limit and by what
 //! `respond` says of it, and everything else is proved once for all jobs.
 
-ghost use Rattle.std.specs.Prelude.{◌≡◌, ◌⊎◌, ℕ, ℤ, false, List, Some, map, IfSome};
+ghost use Rattle.std.specs.Prelude.{◌≡◌, ◌≢◌, ◌⊎◌, ℕ, ℤ, false, List, Some, map, IfSome};
 ghost use Rattle.std.specs.String.{string_bytes};
 ghost use Rattle.sig_base.specs.Sink.{GrowsBy};
 ghost use Rattle.sig_base.specs.Faults.{HasRisen};
@@ -37,33 +37,53 @@ use sig_base::{Sink, Source, put};
 use std::alloc::Global;
 use std::mem::forget;
 
-/// Answers the model, and writes the answer. The program ends behind it, so the model isn't taken apart.
-fn respond_to_model<K: Sink>(
+/// Answers the model, which stays as it is, and writes the answer.
+fn respond_to_lent<K: Sink>(
     alloc: Global,
-    job: Job,
-    model: Model,
+    job: &Job,
+    model: &Model,
     output: &mut K,
 ) -> Result<Said, Failure>
-    requires valid { IsValid (graph_of model) }
-    requires limits { IsWithinLimits job }
-    requires of_model { reads_document job ≡ false }
-    ensures { Answering (AnswersModel job (graph_of model)) (MayFallShort job (graph_of model)) result
+    requires valid { IsValid (graph_of model.now) }
+    requires limits { IsWithinLimits job.now }
+    requires of_model { reads_document job.now ≡ false }
+    requires kept { job.now ≢ Job.Reduce }
+    ensures { Answering (AnswersModel job.now (graph_of model.now)) (MayFallShort job.now (graph_of model.now)) result
         (outlet K.written K.faults K.settled output.old) (outlet K.written K.faults K.settled output.new) }
 {
-    let said = match job {
-        Job::Check => deliver(output, acceptance(alloc, &model)),
-        Job::Print => deliver(output, printed(alloc, &model)),
-        Job::Reduce => return deliver(output, reduced(alloc, model)),
+    match job {
+        Job::Check => deliver(output, acceptance(alloc, model)),
+        Job::Print => deliver(output, printed(alloc, model)),
+        Job::Reduce => unreachable!(),
         Job::Certify => unreachable!(),
-        Job::Uses => deliver(output, uses(alloc, &model)),
+        Job::Uses => deliver(output, uses(alloc, model)),
         Job::Run {
             until,
             seed,
             events,
             starts,
             room,
-        } => run_model(alloc, &model, until, seed, events, &starts, room, output),
-    };
+        } => run_model(alloc, model, *until, *seed, *events, starts, *room, output),
+    }
+}
+
+/// Answers the model, and writes the answer. The program ends behind it, so the model isn't taken apart.
+fn respond_to_model<K: Sink>(
+    alloc: Global,
+    job: &Job,
+    model: Model,
+    output: &mut K,
+) -> Result<Said, Failure>
+    requires valid { IsValid (graph_of model) }
+    requires limits { IsWithinLimits job.now }
+    requires of_model { reads_document job.now ≡ false }
+    ensures { Answering (AnswersModel job.now (graph_of model)) (MayFallShort job.now (graph_of model)) result
+        (outlet K.written K.faults K.settled output.old) (outlet K.written K.faults K.settled output.new) }
+{
+    if let Job::Reduce = job {
+        return deliver(output, reduced(alloc, model));
+    }
+    let said = respond_to_lent(alloc, job, &model, output);
     forget(model);
     said
 }
@@ -71,14 +91,14 @@ fn respond_to_model<K: Sink>(
 /// Answers the text of a model, and writes the answer.
 fn respond_to_text<K: Sink>(
     alloc: Global,
-    job: Job,
+    job: &Job,
     text: &[u8],
     output: &mut K,
 ) -> Result<Said, Failure>
-    requires within { IsWithin (limit_of job) text.now }
-    requires limits { IsWithinLimits job }
-    requires of_model { reads_document job ≡ false }
-    ensures { Answering (AnswersText job text.now) (MayStopShort job text.now) result
+    requires within { IsWithin (limit_of job.now) text.now }
+    requires limits { IsWithinLimits job.now }
+    requires of_model { reads_document job.now ≡ false }
+    ensures { Answering (AnswersText job.now text.now) (MayStopShort job.now text.now) result
         (outlet K.written K.faults K.settled output.old) (outlet K.written K.faults K.settled output.new) }
 {
     match model_of(alloc, text) {
@@ -89,10 +109,10 @@ fn respond_to_text<K: Sink>(
 }
 
 /// Answers the text, and writes the answer.
-fn respond<K: Sink>(alloc: Global, job: Job, text: &[u8], output: &mut K) -> Result<Said, Failure>
-    requires within { IsWithin (limit_of job) text.now }
-    requires limits { IsWithinLimits job }
-    ensures { Answering (AnswersJob job text.now) (MayStopShort job text.now) result
+fn respond<K: Sink>(alloc: Global, job: &Job, text: &[u8], output: &mut K) -> Result<Said, Failure>
+    requires within { IsWithin (limit_of job.now) text.now }
+    requires limits { IsWithinLimits job.now }
+    ensures { Answering (AnswersJob job.now text.now) (MayStopShort job.now text.now) result
         (outlet K.written K.faults K.settled output.old) (outlet K.written K.faults K.settled output.new) }
 {
     if job.reads_document() {
@@ -105,12 +125,12 @@ fn respond<K: Sink>(alloc: Global, job: Job, text: &[u8], output: &mut K) -> Res
 /// Does the job: reads its text, and writes the answer to it.
 fn perform<S: Source, K: Sink>(
     alloc: Global,
-    job: Job,
+    job: &Job,
     input: &mut S,
     output: &mut K,
 ) -> Result<Said, Failure>
-    requires { IsWithinLimits job }
-    ensures { Performs job result (inlet S.left S.faults input.old) (inlet S.left S.faults input.new)
+    requires { IsWithinLimits job.now }
+    ensures { Performs job.now result (inlet S.left S.faults input.old) (inlet S.left S.faults input.new)
         (outlet K.written K.faults K.settled output.old) (outlet K.written K.faults K.settled output.new) }
 {
     match take_text(alloc, job.limit(), input) {
@@ -131,7 +151,7 @@ fn serve<S: Source, K: Sink>(
         (outlet K.written K.faults K.settled output.old) (outlet K.written K.faults K.settled output.new) }
 {
     match command_line::words(alloc, words) {
-        Ok(job) => perform(alloc, job, input, output),
+        Ok(job) => perform(alloc, &job, input, output),
         Err(WordsError::BadWords) => Err(Failure::Usage),
         Err(WordsError::NoMemory) => Err(Failure::NoMemory),
     }

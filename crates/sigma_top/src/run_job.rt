@@ -21,6 +21,7 @@ use run_control::{BeginError, Run, kept_models_can_be_run};
 use sig_base::{List, NoMemory, Sink, Steps, Text, put_bytes, put_number};
 use std::alloc::Global;
 use std::marker::Brand;
+use std::mem::forget;
 use std::sync::ledger::{Blank, Ledger};
 use watch_trace::{Outcome, Tracer, follow};
 
@@ -103,7 +104,8 @@ fn ending(outcome: Outcome) -> Result<End, Failure>
     }
 }
 
-/// Writes the history of a run that has begun, and answers how the job ends. Its steps are counted by nobody.
+/// Writes the history of a run that has begun, and answers how the job ends. Its steps are counted by nobody. The program
+/// ends behind it, so the run isn't taken apart.
 fn tell_history<'m, P: Pending + Drop, K: Sink, L: Ledger>(
     alloc: Global,
     run: Run<'m, P>,
@@ -126,10 +128,16 @@ fn tell_history<'m, P: Pending + Drop, K: Sink, L: Ledger>(
     let mut run = run;
     let mut tracer = match Tracer::begin(alloc, model) {
         Ok(tracer) => tracer,
-        Err(_) => return Err(Failure::NoMemory),
+        Err(_) => {
+            forget(run);
+            return Err(Failure::NoMemory);
+        }
     };
     let mut steps: Steps<L> = Steps::begin(blank);
-    ending(follow(&mut tracer, &mut run, until, events, output, &mut steps))
+    let outcome = follow(&mut tracer, &mut run, until, events, output, &mut steps);
+    forget(tracer);
+    forget(run);
+    ending(outcome)
 }
 
 /// The refusal of starting values that aren't allowed.

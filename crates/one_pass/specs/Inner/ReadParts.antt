@@ -1,24 +1,26 @@
 -- What was read and checked at once: what is written there, that it breaks no static rule, and what it is with numbers in place of names.
-use Rattle.std.specs.Prelude.{◌≡◌, ℕ, List, [], ◌∷◌, length, Option, Some, None}
+use Rattle.std.specs.Prelude.{◌≡◌, ◌≤◌, ℕ, List, [], ◌∷◌, length, Option, Some, None}
 use Rattle.std.specs.List.{flat_map}
+use Rattle.sig_base.specs.declared.limits.TheConstants.{CHANGES_MAX, EDGES_MAX}
 use Rattle.model_core.specs.declared.model.Kind.{Kind}
+use Rattle.model_core.specs.declared.token.Symbol.TheVariants as symbols
 use Rattle.model_core.specs.EventGraph as graph
 use Rattle.model_core.specs.EventGraph.{EventGraph}
 use Rattle.model_core.specs.Text.Lexing.{Lexeme}
-use Rattle.model_core.specs.Text.Format.{Many, at_least_one}
-use Rattle.model_core.specs.Text.Written.{WrittenVertex, WrittenModel}
+use Rattle.model_core.specs.Text.Format.{Many, mark, at_least_one}
+use Rattle.model_core.specs.Text.Written.{WrittenVariable, WrittenTable, WrittenVertex, WrittenModel}
 use Rattle.model_core.specs.Text.Expressions.{LanguageFormat}
-use Rattle.model_core.specs.Text.Language.{vertex_format}
+use Rattle.model_core.specs.Text.Language.{change_format, edge_format, vertex_format}
 use Rattle.model_core.specs.Text.Numbering as numbering
 use Rattle.model_core.specs.Text.Numbering.{Declared, each_numbered, numbered}
 use Rattle.model_core.specs.Static.FaultOrder.{StaticFault}
 use Rattle.model_core.specs.Static.Meanings.{Meaning}
-use Rattle.model_core.specs.Static.PartFaults.{written_items, vertex_faults}
+use Rattle.model_core.specs.Static.PartFaults.{written_items, variable_faults, table_faults, change_faults, edge_faults, vertex_faults}
 use Rattle.model_core.specs.Static.ModelFaults.{faults_of_parts, Accepted}
 use Rattle.model_core.specs.Inner.FormatReader.{took}
 use Rattle.model_core.specs.Inner.LanguageReader.{language_reader, text_read}
 use Rattle.model_read.specs.Beginnings.{with_vertices}
-use Rattle.sig_types.specs.Inner.Checked.{Checked, NumberedAs}
+use Rattle.sig_types.specs.Inner.Checked.{Checked, CheckedPlain, NumberedAs}
 
 -- between these tokens, where names mean this, stands a part without faults, which has this number
 pub record ReadSure {W B : Type 0} (f : LanguageFormat W) (means : List ℕ → Option Meaning) (faults : W → List StaticFault) (number : Declared → W → Option B) (before after : List Lexeme) (part : B) : Type 0 where
@@ -48,6 +50,17 @@ AllBeginAlike (v ∷ vs) (w ∷ ws) = BeginAlike v w × AllBeginAlike vs ws
 AllBeginAlike vs ws = ⊥
 
 module _ (means : List ℕ → Option Meaning) (taken : List (List (Option Kind))) where
+  -- the changes and edges of a vertex, no more than it may have, and what ends it
+  pub record ReadBody (before after : List Lexeme) (xs : List graph.StateChange) (ys : List graph.EventEdge) : Type 0 where
+    pub between : List Lexeme
+    pub last : List Lexeme
+    pub end_at : ℕ
+    pub changes : ReadParts change_format means (change_faults means) numbering.change before between xs
+    pub some : length xs ≤ CHANGES_MAX
+    pub edges : ReadParts edge_format means (edge_faults means taken) numbering.edge between last ys
+    pub few : length ys ≤ EDGES_MAX
+    pub closed : language_reader (mark symbols.CloseBrace) last ≡ took end_at after
+
   -- a vertex that begins as expected
   pub record ReadVertex (expected : WrittenVertex) (before after : List Lexeme) (v : graph.EventVertex) : Type 0 where
     pub part : ReadSure vertex_format means (vertex_faults means taken) numbering.vertex before after v
@@ -57,6 +70,12 @@ module _ (means : List ℕ → Option Meaning) (taken : List (List (Option Kind)
   pub record ReadVertices (expected : List WrittenVertex) (before after : List Lexeme) (vs : List graph.EventVertex) : Type 0 where
     pub parts : ReadSure (at_least_one vertex_format) means (flat_map (vertex_faults means taken)) (λ d. each_numbered (numbering.vertex d)) before after vs
     pub alike : AllBeginAlike parts.written expected
+
+-- variables and tables, which are checked one after another
+pub record CheckedInTurn (vs : List WrittenVariable) (ts : List WrittenTable) (before after : Option StaticFault) (xs : List graph.Variable) (ys : List graph.WeightTable) : Type 0 where
+  pub between : Option StaticFault
+  pub variables : CheckedPlain before between (flat_map variable_faults vs) (each_numbered numbering.variable vs) xs
+  pub tables : CheckedPlain between after (flat_map table_faults ts) (each_numbered numbering.table ts) ys
 
 -- the vertices of a model of which what stands before them is known
 pub record ReadBehind (m : WrittenModel) (before after : List Lexeme) (t0 t1 : Option StaticFault) (g : EventGraph) : Type 0 where

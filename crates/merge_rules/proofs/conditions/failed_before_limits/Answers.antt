@@ -1,55 +1,143 @@
-use Rattle.std.proofs.Common.{◌≡◌, sym, ◌∙◌, ap₂, arith, ◌&&◌, ◌||◌, not, false, length, nat_lt, ◌==◌}
-use Rattle.std.proofs.lemmas.Grind.{common_steps}
+use Rattle.std.proofs.Common.{◌≡◌, ◌≢◌, ◌∙◌, ◌==◌, ℕ, nat_lt, Bool, true, false, ◌&&◌, not, List, take, drop, length, get_or, Option, Some, None, is_some, refl, sym, ap, arith}
 use Rattle.std.specs.Prelude.{is_none}
-use Rattle.std.specs.List.{list_any, list_all}
 use Rattle.std.specs.Option.{option_map_or}
-use Rattle.model_core.specs.Run.Step.{vertex_at}
-use Rattle.model_core.specs.Rules.BoundsOfParts.{quiet_edge}
-use Rattle.model_core.specs.Rules.Uses.{vertex_writes}
+use Rattle.std.proofs.lemmas.Bool.Decides.{nat_tests}
+use Rattle.std.proofs.lemmas.List.{length-map, get_or-map}
+use Rattle.model_core.specs.declared.model.Model.{Model}
+use Rattle.model_core.specs.declared.vertex.Vertex.{Vertex}
+use Rattle.model_core.specs.EventGraph.{EventGraph, EventVertex}
+use Rattle.model_core.specs.Run.Step.{no_vertex, vertex_at}
 use Rattle.model_core.specs.Rules.UrgentEdges.{plain_urgent, plain_urgent_edge, single_urgent}
-use Rattle.model_core.specs.Rules.Merge.{leads_to, cancels, is_watched_vertex, reads_none_of, happens_unseen, values_at_once, other_edges}
+use Rattle.model_core.specs.Rules.Merge.{leads_to, merge_conditions}
 use Rattle.model_core.specs.Code.Views.{graph_of, vertex_of}
-use Rattle.merge_rules.proofs.FirstOfSeven.{seventh_fails, none_fails}
+use Rattle.merge_rules.proofs.MergeHolds.{is_below}
+use Rattle.merge_rules.proofs.FirstOfSeven.{first_fails, second_fails, third_fails, three_hold}
 use Rattle.merge_rules.proofs.conditions.failed_before_limits.Goals as goal
+use Rattle.merge_rules.proofs.conditions.failed_before_limits.Goals.{then-first-second-via-then-first-second, then-first-second-via-else-first-second+then-not-leads_at_once}
 
-pub returns-then-not-notes_stay : goal.returns-then-not-notes_stay
-returns-then-not-notes_stay c =
+-- ---- the code's list of vertices is the model's
+
+counted : (m : Model) (seen : List Vertex) (k : ℕ) (b : Bool) → seen ≡ m.vertices → b ≡ nat_lt k (length seen) → nat_lt k (length (graph_of m).vertices) ≡ b
+counted m seen k b same is = ap (nat_lt k) (length-map m.vertices vertex_of ∙ sym (ap length same)) ∙ sym is
+
+there : (m : Model) (seen : List Vertex) (k : ℕ) (v : Vertex) → seen ≡ m.vertices → true ≡ nat_lt k (length seen) → v ≡ get_or seen k v → vertex_of v ≡ vertex_at (graph_of m) k
+there m seen k v same below is =
+    ap vertex_of (is ∙ ap (λ xs. get_or xs k v) same)
+    ∙ sym (get_or-map vertex_of m.vertices k v no_vertex (is_below k (length m.vertices) (ap (λ xs. nat_lt k (length xs)) (sym same) ∙ sym below)))
+
+-- ---- the first condition
+
+abbrev leads : ℕ → EventVertex → Bool
+leads second a = option_map_or (leads_to second) (plain_urgent_edge a) false
+
+abbrev first_condition : EventGraph → ℕ → ℕ → Bool
+first_condition g first second = nat_lt first (length g.vertices) && nat_lt second (length g.vertices) && not (first == second) && leads second (vertex_at g first)
+
+no_first : (p q r s : Bool) → p ≡ false → p && q && r && s ≡ false
+no_first p q r s not_p = ap (λ p. p && q && r && s) not_p
+
+no_second : (p q r s : Bool) → p ≡ true → q ≡ false → p && q && r && s ≡ false
+no_second p q r s is_p not_q = λ i. is_p i && not_q i && r && s
+
+not_apart : (p q r s : Bool) → p ≡ true → q ≡ true → r ≡ false → p && q && r && s ≡ false
+not_apart p q r s is_p is_q not_r = λ i. is_p i && is_q i && not_r i && s
+
+no_edge : (p q r s : Bool) → p ≡ true → q ≡ true → r ≡ true → s ≡ false → p && q && r && s ≡ false
+no_edge p q r s is_p is_q is_r not_s = λ i. is_p i && is_q i && is_r i && not_s i
+
+all_four : (p q r s : Bool) → p ≡ true → q ≡ true → r ≡ true → s ≡ true → p && q && r && s ≡ true
+all_four p q r s is_p is_q is_r is_s = λ i. is_p i && is_q i && is_r i && is_s i
+
+same_place : (i k : ℕ) → i ≡ k → not (i == k) ≡ false
+same_place i k e = grind (arith, nat_tests)
+
+other_place : (i k : ℕ) → i ≢ k → not (i == k) ≡ true
+other_place i k e = grind (arith, nat_tests)
+
+module _ (m : Model) (first second : ℕ) (seen : List Vertex) (same : seen ≡ m.vertices) where
+  -- the first vertex isn't there
+  absent_first : false ≡ nat_lt first (length seen) → first_condition (graph_of m) first second ≡ false
+  absent_first past = no_first (nat_lt first (length (graph_of m).vertices)) (nat_lt second (length (graph_of m).vertices)) (not (first == second)) (leads second (vertex_at (graph_of m) first)) (counted m seen first false same past)
+
+  module _ (below : true ≡ nat_lt first (length seen)) where
+    -- the second isn't
+    absent_second : false ≡ nat_lt second (length seen) → first_condition (graph_of m) first second ≡ false
+    absent_second past = no_second (nat_lt first (length (graph_of m).vertices)) (nat_lt second (length (graph_of m).vertices)) (not (first == second)) (leads second (vertex_at (graph_of m) first))
+        (counted m seen first true same below) (counted m seen second false same past)
+
+    module _ (a : Vertex) (is : a ≡ get_or seen first a) (second_below : true ≡ nat_lt second (length seen)) where
+      -- they are one
+      one_alone : first ≡ second → first_condition (graph_of m) first second ≡ false
+      one_alone e = not_apart (nat_lt first (length (graph_of m).vertices)) (nat_lt second (length (graph_of m).vertices)) (not (first == second)) (leads second (vertex_at (graph_of m) first))
+          (counted m seen first true same below) (counted m seen second true same second_below) (same_place first second e)
+
+      -- no plain urgent edge leads from the first to the second, or one does
+      not_led : first ≢ second → false ≡ leads second (vertex_of a) → first_condition (graph_of m) first second ≡ false
+      not_led apart told = no_edge (nat_lt first (length (graph_of m).vertices)) (nat_lt second (length (graph_of m).vertices)) (not (first == second)) (leads second (vertex_at (graph_of m) first))
+          (counted m seen first true same below) (counted m seen second true same second_below) (other_place first second apart) (ap (leads second) (sym (there m seen first a same below is)) ∙ sym told)
+
+      led : first ≢ second → true ≡ leads second (vertex_of a) → first_condition (graph_of m) first second ≡ true
+      led apart told = all_four (nat_lt first (length (graph_of m).vertices)) (nat_lt second (length (graph_of m).vertices)) (not (first == second)) (leads second (vertex_at (graph_of m) first))
+          (counted m seen first true same below) (counted m seen second true same second_below) (other_place first second apart) (ap (leads second) (sym (there m seen first a same below is)) ∙ sym told)
+
+-- ---- the second condition
+
+none_or_some : (o : Option ℕ) → is_none o ≡ not (is_some o)
+none_or_some None = refl
+none_or_some (Some k) = refl
+
+second_condition : (v w : EventVertex) (o : Option ℕ) (b : Bool) → v ≡ w → o ≡ plain_urgent v → b ≡ is_some o → is_none (plain_urgent w) ≡ not b
+second_condition v w o b same is test = none_or_some (plain_urgent w) ∙ ap (λ x. not (is_some (plain_urgent x))) (sym same) ∙ ap (λ x. not (is_some x)) (sym is) ∙ ap not (sym test)
+
+-- ---- the exits
+
+pub returns-in_default : goal.returns-in_default
+returns-in_default c =
     let g = graph_of c.args.model.now in
-    let first = c.args.first in
-    let second = c.args.second in
-    let a = vertex_at g first in
-    let b = vertex_at g second in
-    let is_a : vertex_of c.in-Some.a.now ≡ a = grind (arith, common_steps) in
-    let is_b : vertex_of c.in-Some-get.b.now ≡ b = grind (arith, common_steps) in
-    seventh_fails
-    (nat_lt first (length g.vertices) && nat_lt second (length g.vertices) && not (first == second) && option_map_or (leads_to second) (plain_urgent_edge a) false)
-    (is_none (plain_urgent b))
-    (single_urgent g)
-    (not (is_watched_vertex g second))
-    (not (list_any (cancels second) a.edges))
-    (list_all (λ e. quiet_edge g e && reads_none_of (vertex_writes b) e) (other_edges a))
-    (not (is_watched_vertex g first) || happens_unseen g b (values_at_once a))
-    (grind (arith, common_steps)) (grind (arith, common_steps)) (grind (arith, common_steps)) (grind (arith, common_steps)) (grind (arith, common_steps))
-    (sym (ap₂ (λ a b. list_all (λ e. quiet_edge g e && reads_none_of (vertex_writes b) e) (other_edges a)) is_a is_b) ∙ (sym c.others_stand_aside.ensures ∙ c.if-not-others_stand_aside.false))
-    (sym (ap₂ (λ a b. not (is_watched_vertex g first) || happens_unseen g b (values_at_once a)) is_a is_b) ∙ (sym c.notes_stay.ensures ∙ c.if-not-notes_stay.true))
+    first_fails (first_condition g c.args.first c.args.second) (drop 1 (take 7 (merge_conditions g c.args.first c.args.second)))
+    (absent_first c.args.model.now c.args.first c.args.second c.as_slice-vertices.result.now c.as_slice-vertices.ensures c.in_default.ensures.lookup.0)
+
+pub returns-in_default-get : goal.returns-in_default-get
+returns-in_default-get c =
+    let g = graph_of c.args.model.now in
+    first_fails (first_condition g c.args.first c.args.second) (drop 1 (take 7 (merge_conditions g c.args.first c.args.second)))
+    (absent_second c.args.model.now c.args.first c.args.second c.as_slice-vertices.result.now c.as_slice-vertices.ensures c.in-Some.ensures.lookup.0 c.in_default-get.ensures.lookup.0)
+
+pub returns-then-first-second : goal.returns-then-first-second
+returns-then-first-second c =
+    let g = graph_of c.args.model.now in
+    first_fails (first_condition g c.args.first c.args.second) (drop 1 (take 7 (merge_conditions g c.args.first c.args.second)))
+    (elim c.then-first-second.branch [
+      | then-first-second-via-then-first-second w ↦ one_alone c.args.model.now c.args.first c.args.second c.as_slice-vertices.result.now c.as_slice-vertices.ensures c.in-Some.ensures.lookup.0 c.in-Some.a.now c.in-Some.ensures.lookup.1 c.in-Some-get.ensures.lookup.0 w.if-first-second.true
+      | then-first-second-via-else-first-second+then-not-leads_at_once w ↦ not_led c.args.model.now c.args.first c.args.second c.as_slice-vertices.result.now c.as_slice-vertices.ensures c.in-Some.ensures.lookup.0 c.in-Some.a.now c.in-Some.ensures.lookup.1 c.in-Some-get.ensures.lookup.0 w.if-first-second.false w.if-not-leads_at_once.ensures
+    ])
+
+pub returns-then-is_some : goal.returns-then-is_some
+returns-then-is_some c =
+    let g = graph_of c.args.model.now in
+    second_fails (first_condition g c.args.first c.args.second) (is_none (plain_urgent (vertex_at g c.args.second))) (drop 2 (take 7 (merge_conditions g c.args.first c.args.second)))
+    (led c.args.model.now c.args.first c.args.second c.as_slice-vertices.result.now c.as_slice-vertices.ensures c.in-Some.ensures.lookup.0 c.in-Some.a.now c.in-Some.ensures.lookup.1 c.in-Some-get.ensures.lookup.0 c.if-first-second.false c.if-not-leads_at_once.ensures)
+    (second_condition (vertex_of c.in-Some-get.b.now) (vertex_at g c.args.second) c.plain_urgent.result true (there c.args.model.now c.as_slice-vertices.result.now c.args.second c.in-Some-get.b.now c.as_slice-vertices.ensures c.in-Some-get.ensures.lookup.0 c.in-Some-get.ensures.lookup.1) c.plain_urgent.ensures c.if-is_some.ensures)
+
+pub returns-then-not-single : goal.returns-then-not-single
+returns-then-not-single c =
+    let g = graph_of c.args.model.now in
+    third_fails (first_condition g c.args.first c.args.second) (is_none (plain_urgent (vertex_at g c.args.second))) (single_urgent g) (drop 3 (take 7 (merge_conditions g c.args.first c.args.second)))
+    (led c.args.model.now c.args.first c.args.second c.as_slice-vertices.result.now c.as_slice-vertices.ensures c.in-Some.ensures.lookup.0 c.in-Some.a.now c.in-Some.ensures.lookup.1 c.in-Some-get.ensures.lookup.0 c.if-first-second.false c.if-not-leads_at_once.ensures)
+    (second_condition (vertex_of c.in-Some-get.b.now) (vertex_at g c.args.second) c.plain_urgent.result false (there c.args.model.now c.as_slice-vertices.result.now c.args.second c.in-Some-get.b.now c.as_slice-vertices.ensures c.in-Some-get.ensures.lookup.0 c.in-Some-get.ensures.lookup.1) c.plain_urgent.ensures c.if-is_some.ensures)
+    (sym c.requires ∙ c.if-not-single.true)
 
 pub returns : goal.returns
 returns c =
     let g = graph_of c.args.model.now in
-    let first = c.args.first in
-    let second = c.args.second in
-    let a = vertex_at g first in
-    let b = vertex_at g second in
-    let is_a : vertex_of c.in-Some.a.now ≡ a = grind (arith, common_steps) in
-    let is_b : vertex_of c.in-Some-get.b.now ≡ b = grind (arith, common_steps) in
-    none_fails
-    (nat_lt first (length g.vertices) && nat_lt second (length g.vertices) && not (first == second) && option_map_or (leads_to second) (plain_urgent_edge a) false)
-    (is_none (plain_urgent b))
-    (single_urgent g)
-    (not (is_watched_vertex g second))
-    (not (list_any (cancels second) a.edges))
-    (list_all (λ e. quiet_edge g e && reads_none_of (vertex_writes b) e) (other_edges a))
-    (not (is_watched_vertex g first) || happens_unseen g b (values_at_once a))
-    (grind (arith, common_steps)) (grind (arith, common_steps)) (grind (arith, common_steps)) (grind (arith, common_steps)) (grind (arith, common_steps))
-    (sym (ap₂ (λ a b. list_all (λ e. quiet_edge g e && reads_none_of (vertex_writes b) e) (other_edges a)) is_a is_b) ∙ (sym c.others_stand_aside.ensures ∙ c.if-not-others_stand_aside.false))
-    (sym (ap₂ (λ a b. not (is_watched_vertex g first) || happens_unseen g b (values_at_once a)) is_a is_b) ∙ (sym c.notes_stay.ensures ∙ c.if-not-notes_stay.false))
+    c.failed_later.ensures
+    ∙ three_hold (first_condition g c.args.first c.args.second) (is_none (plain_urgent (vertex_at g c.args.second))) (single_urgent g) (drop 3 (take 7 (merge_conditions g c.args.first c.args.second)))
+    (led c.args.model.now c.args.first c.args.second c.as_slice-vertices.result.now c.as_slice-vertices.ensures c.in-Some.ensures.lookup.0 c.in-Some.a.now c.in-Some.ensures.lookup.1 c.in-Some-get.ensures.lookup.0 c.if-first-second.false c.if-not-leads_at_once.ensures)
+    (second_condition (vertex_of c.in-Some-get.b.now) (vertex_at g c.args.second) c.plain_urgent.result false (there c.args.model.now c.as_slice-vertices.result.now c.args.second c.in-Some-get.b.now c.as_slice-vertices.ensures c.in-Some-get.ensures.lookup.0 c.in-Some-get.ensures.lookup.1) c.plain_urgent.ensures c.if-is_some.ensures)
+    (sym c.requires ∙ c.if-not-single.false)
+
+pub failed_later-requires-clause-first : goal.failed_later-requires-clause-first
+failed_later-requires-clause-first c = there c.args.model.now c.as_slice-vertices.result.now c.args.first c.in-Some.a.now c.as_slice-vertices.ensures c.in-Some.ensures.lookup.0 c.in-Some.ensures.lookup.1
+
+pub failed_later-requires-clause-second : goal.failed_later-requires-clause-second
+failed_later-requires-clause-second c = there c.args.model.now c.as_slice-vertices.result.now c.args.second c.in-Some-get.b.now c.as_slice-vertices.ensures c.in-Some-get.ensures.lookup.0 c.in-Some-get.ensures.lookup.1

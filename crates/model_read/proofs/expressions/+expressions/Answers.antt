@@ -48,7 +48,7 @@ others-loop-infix-preserved t c = record {
   few = let a = c.in-Some.ensures.shorter in let b = c.in_ok-right.ensures.shorter in let d = c.loop-infix.invariant.few in omega arith;
   reads =
       one-more c.args.under c.loop-infix.least c.next_level-least.result (written_expression c.loop-infix.left) (written_expression c.in_ok-right.right) (written_expression c.in_ok-left.left) c.loop-infix.cursor c.infix.new.self c.operand.new.cursor (infix_of c.in-Some.infix)
-      c.requires c.in-Some.ensures.takes c.infix.ensures.leaves c.in_ok-right.ensures.reads c.in_ok-left.ensures.ok c.next_level-least.ensures
+      c.requires c.in-Some.ensures.takes c.infix.ensures.leaves c.in_ok-right.ensures.reads (rw (c.free.ensures, c.of-held.ensures) at c.in_ok-left.ensures.ok) c.next_level-least.ensures
       ∙ c.loop-infix.invariant.reads;
 }
 
@@ -56,3 +56,11 @@ pub others-returns-clause-reads : goal.others-returns-clause-reads
 others-returns-clause-reads t c =
     sym c.loop-infix.invariant.reads
     ∙ not-taken-is c.args.under c.loop-infix.least (written_expression c.loop-infix.left) c.loop-infix.cursor c.infix.new.self c.requires c.in_default.ensures.takes c.infix.ensures.leaves
+
+pub branches-returns-clause-reads : goal.branches-returns-clause-reads
+branches-returns-clause-reads t c =
+    rw (c.in_ok-at.ensures.reads, c.in_ok-expression.ensures.reads, c.in_ok-word.ensures.reads, c.in_ok-expression-2.ensures.reads, c.in_ok-word-2.ensures.reads, c.in_ok-expression-3.ensures.reads, c.in_ok-test.ensures.ok, c.in_ok-yes.ensures.ok, c.in_ok-no.ensures.ok)
+
+pub called-returns-clause-reads : goal.called-returns-clause-reads
+called-returns-clause-reads t c =
+    rw (c.in_ok-at.ensures.reads, c.in_ok-symbol.ensures.reads, c.in_ok-expression.ensures.reads, c.in_ok-symbol-2.ensures.reads, c.in_ok-expression-2.ensures.reads, c.in_ok-symbol-3.ensures.reads, c.in_ok-first.ensures.ok, c.in_ok-second.ensures.ok)

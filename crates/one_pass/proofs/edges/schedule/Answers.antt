@@ -7,6 +7,7 @@ use Rattle.one_pass.proofs.edges.schedule.Goals as goal
 pub returns : goal.returns
 returns c =
     let m = meaning_of c.args.names.now in
-    schedule_read m c.args.taken.now c.in_ok-word.field-0 c.in_ok-symbol.field-0 c.args.cursor.now c.word.new.self c.carried.new.cursor c.delay.new.cursor c.priority.new.cursor c.condition.new.cursor c.symbol.new.self
-    c.in_ok-carried.carried.target c.in_ok-priority.priority (map expression_of c.in_ok-carried.carried.values) (expression_of c.in_ok-delay.delay) (expression_of c.in_ok-condition.condition)
-    c.in_ok-word.ensures.reads c.in_ok-carried.ensures c.in_ok-delay.ensures (c.in_ok-priority.ensures m) c.in_ok-condition.ensures c.in_ok-symbol.ensures.reads
+    rw (c.free.ensures, c.of-condition.ensures, c.free-2.ensures, c.of-delay.ensures)
+    (schedule_read m c.args.taken.now c.in_ok-word.field-0 c.in_ok-symbol.field-0 c.args.cursor.now c.word.new.self c.carried.new.cursor c.delay.new.cursor c.priority.new.cursor c.condition.new.cursor c.symbol.new.self
+    c.in_ok-carried.carried.target c.in_ok-priority.priority (map expression_of c.in_ok-carried.carried.values) (expression_of c.in_ok-delay.field-0) (expression_of c.in_ok-condition.field-0)
+    c.in_ok-word.ensures.reads c.in_ok-carried.ensures c.in_ok-delay.ensures (c.in_ok-priority.ensures m) c.in_ok-condition.ensures c.in_ok-symbol.ensures.reads)

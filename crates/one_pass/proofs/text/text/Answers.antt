@@ -12,6 +12,6 @@ returns c =
     let end_at = c.in_ok-end_at.end_at in
     record {
       written = with_vertices begun read.vertices end_at;
-      read = text-read begun read.vertices end_at c.in_ok-end.field-0 c.args.cursor.now c.begun_model.new.cursor c.behind.new.cursor c.word.new.self c.in_ok-begun.ensures read.read c.in_ok-end_at.ensures.reads c.in_ok-end.ensures;
+      read = text-read begun read.vertices end_at c.args.cursor.now c.beginning.new.cursor c.behind.new.cursor c.in_ok-begun.ensures read.read c.in_ok-end_at.ensures;
       accepted = model_accepted (with_vertices begun read.vertices end_at) (graph_of c.in_ok-model.model) c.behind.new.told c.tell_too_long.new.told (rw c.requires at (read.checked end_at)) c.tell_too_long.ensures.none c.tell_too_long.ensures.some;
     }

@@ -1,11 +1,9 @@
--- Where no application is bad, the test of sameness decides.
-use Rattle.std.proofs.Common.{rules, map, ap}
-use Rattle.model_core.specs.Code.Views.{application_of}
-use Rattle.reduction_cert.proofs.Verdicts.{told_at_end}
+-- What the applications make of the copy they make of the original.
+use Rattle.std.proofs.Common.{◌≡◌, IfOk, map, subst}
+use Rattle.model_core.specs.Code.Views.{graph_of, application_of}
+use Rattle.model_core.specs.Rules.Verdict.{verdict}
+use Rattle.reduction_cert.specs.VerdictView.{verdict_of}
 use Rattle.reduction_cert.proofs.checking.check_chain.Goals as goal
 
-pub returns-then-same_model : goal.returns-then-same_model
-returns-then-same_model c = told_at_end _ _ _ _ _ _ c.in_ok-line.field-0 _ _ c.in_ok-model.ensures (ap (map application_of) c.as_slice.ensures) c.in_default.is c.in_ok-line.ensures.bad (c.in_ok-line.ensures.reached (search rules)) c.same_model.ensures c.if-same_model.true
-
 pub returns : goal.returns
-returns c = told_at_end _ _ _ _ _ _ c.in_ok-line.field-0 _ _ c.in_ok-model.ensures (ap (map application_of) c.as_slice.ensures) c.in_default.is c.in_ok-line.ensures.bad (c.in_ok-line.ensures.reached (search rules)) c.same_model.ensures c.if-same_model.false
+returns c = subst (λ g. IfOk c.led_to.result (λ v. verdict_of v ≡ verdict g (map application_of c.args.applications.now) (graph_of c.args.reduced.now))) c.in_ok-model.ensures c.led_to.ensures

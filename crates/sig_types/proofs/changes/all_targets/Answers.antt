@@ -15,6 +15,6 @@ loop-raw-preserved c =
     let l = c.loop-raw in
     let x = c.raw-item.result in
     record {
-      checked = turn m (target_faults m) location written_target _ _ _ c.args.raws.now l.raw-index x (map location_of l.targets.items) _ (location_of c.in_ok-typed.typed.part) c.loop-raw-test.true c.raw-item.is (rw c.in_ok-push-2.ensures.items (map_push location_of l.targets.items c.in_ok-typed.typed.part)) l.invariant.checked c.in_ok-typed.ensures.checked;
-      kinds = c.in_ok-push.ensures.items ∙ rw (l.invariant.kinds, c.in_ok-typed.ensures.kind, seen_more written_target c.args.raws.now l.raw-index x c.loop-raw-test.true c.raw-item.is) (sym (map_push (target_kind m) (map written_target (take l.raw-index c.args.raws.now)) (written_target x)));
+      checked = turn m (target_faults m) location written_target _ _ _ c.args.raws.now l.raw-index x (map location_of l.targets.items) _ (location_of c.in_ok-typed.typed.part) c.loop-raw-test.true c.raw-item.is (rw c.in_ok-push.ensures.items (map_push location_of l.targets.items c.in_ok-typed.typed.part)) l.invariant.checked c.in_ok-typed.ensures.checked;
+      kinds = c.in_ok-push-2.ensures.items ∙ rw (l.invariant.kinds, c.in_ok-typed.ensures.kind, seen_more written_target c.args.raws.now l.raw-index x c.loop-raw-test.true c.raw-item.is) (sym (map_push (target_kind m) (map written_target (take l.raw-index c.args.raws.now)) (written_target x)));
     }

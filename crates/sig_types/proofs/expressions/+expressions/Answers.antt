@@ -20,14 +20,14 @@ typed_expression-returns-in_ok-index-in-Cell-clause-checked t c =
     rw (c.in-Cell.is, ← c.deref.ensures)
     (cell (meaning_of c.args.names.now) c.args.raw.now.at _ _ _ (written_name c.in-Cell.name) (written_expression c.deref.result.now) _ _ c.variable-var-in-Cell.ensures.checked c.in_ok-index-in-Cell.ensures.checked)
 
-pub typed_expression-returns-in_ok-binary-in-Binary-clause-checked : goal.typed_expression-returns-in_ok-binary-in-Binary-clause-checked
-typed_expression-returns-in_ok-binary-in-Binary-clause-checked t c =
-    rw (c.in_ok-binary-in-Binary.ensures, c.in-Binary.is, ← c.deref-in-Binary.ensures, ← c.deref-in-Binary-2.ensures)
+pub typed_expression-returns-in_ok-right-in-Binary-clause-checked : goal.typed_expression-returns-in_ok-right-in-Binary-clause-checked
+typed_expression-returns-in_ok-right-in-Binary-clause-checked t c =
+    rw (c.in-Binary.is, ← c.deref-in-Binary.ensures, ← c.deref-in-Binary-2.ensures)
     (binary (meaning_of c.args.names.now) c.args.raw.now.at _ _ _ (operator_of c.in-Binary.op) (written_expression c.deref-in-Binary.result.now) (written_expression c.deref-in-Binary-2.result.now) _ _ _ _ _
     c.operand_kind-wanted.ensures c.in_ok-left-in-Binary.ensures.kind c.right_kind.ensures c.in_ok-left-in-Binary.ensures.checked c.in_ok-right-in-Binary.ensures.checked)
 
-pub typed_expression-returns-in_ok-conditional-in-If-clause-checked : goal.typed_expression-returns-in_ok-conditional-in-If-clause-checked
-typed_expression-returns-in_ok-conditional-in-If-clause-checked t c =
-    rw (c.in_ok-conditional-in-If.ensures, c.in-If.is, ← c.deref-in-If.ensures, ← c.deref-in-If-2.ensures, ← c.deref-in-If-3.ensures)
+pub typed_expression-returns-in_ok-no-in-If-clause-checked : goal.typed_expression-returns-in_ok-no-in-If-clause-checked
+typed_expression-returns-in_ok-no-in-If-clause-checked t c =
+    rw (c.in-If.is, ← c.deref-in-If.ensures, ← c.deref-in-If-2.ensures, ← c.deref-in-If-3.ensures)
     (choice (meaning_of c.args.names.now) c.args.raw.now.at _ _ _ _ (written_expression c.deref-in-If.result.now) (written_expression c.deref-in-If-2.result.now) (written_expression c.deref-in-If-3.result.now) _ _ _ _
     c.in_ok-yes-in-If.ensures.kind c.in_ok-test-in-If.ensures.checked c.in_ok-yes-in-If.ensures.checked c.in_ok-no-in-If.ensures.checked)

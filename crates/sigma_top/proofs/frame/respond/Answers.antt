@@ -9,7 +9,7 @@ use Rattle.sigma_top.proofs.frame.respond.Goals as goal
 
 pub returns-else-reads_document : goal.returns-else-reads_document
 returns-else-reads_document g c =
-    let job = c.args.job in
+    let job = c.args.job.now in
     let text = c.args.text.now in
     let reads : reads_document job ≡ false = sym c.reads_document.ensures ∙ c.if-reads_document.false in
     as_answering (AnswersText job text) (AnswersJob job text) (MayStopShort job text) (MayStopShort job text)

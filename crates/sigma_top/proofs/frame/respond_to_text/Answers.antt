@@ -8,7 +8,7 @@ use Rattle.sigma_top.proofs.frame.respond_to_text.Goals as goal
 
 pub returns-in-Ok : goal.returns-in-Ok
 returns-in-Ok g c =
-    let job = c.args.job in
+    let job = c.args.job.now in
     let text = c.args.text.now in
     let model = graph_of c.in-Ok.model in
     as_answering (AnswersModel job model) (AnswersText job text) (MayFallShort job model) (MayStopShort job text)

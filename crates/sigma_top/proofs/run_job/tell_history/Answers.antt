@@ -9,6 +9,6 @@ use Rattle.sigma_top.proofs.run_job.tell_history.Goals as goal
 pub returns : goal.returns
 returns g c = λ starts room begun.
     let o = outlet g.K.Sink.written g.K.Sink.faults g.K.Sink.settled c.args.output.now in
-    let p = outlet g.K.Sink.written g.K.Sink.faults g.K.Sink.settled c.follow.new.sink in
+    let p = outlet g.K.Sink.written g.K.Sink.faults g.K.Sink.settled c.follow-outcome.new.sink in
     subst (λ r. StreamsRun (graph_of c.args.model.now) c.args.until c.args.run.seed c.args.events starts room r o p) (sym c.ending.ensures)
-    (run_streamed c.args.model.now c.args.until c.args.events room starts c.args.run c.follow.new.run c.in-Ok.tracer c.follow.new.tracer c.follow.result o p begun (ap (λ t. t.noted) c.in-Ok.ensures) c.follow.ensures.writes c.follow.ensures.stands)
+    (run_streamed c.args.model.now c.args.until c.args.events room starts c.args.run c.follow-outcome.new.run c.in-Ok.tracer c.follow-outcome.new.tracer c.follow-outcome.result o p begun (ap (λ t. t.noted) c.in-Ok.ensures) c.follow-outcome.ensures.writes c.follow-outcome.ensures.stands)

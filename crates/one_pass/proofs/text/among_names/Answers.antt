@@ -1,0 +1,17 @@
+use Rattle.std.proofs.Common.{map, refl}
+use Rattle.model_core.specs.Code.WrittenViews.{written_name, written_vertex, written_model}
+use Rattle.model_core.specs.Static.Meanings.{meaning_of}
+use Rattle.model_core.specs.Static.PartFaults.{kinds_taken}
+use Rattle.sig_types.proofs.LeftOut.{map-items}
+use Rattle.one_pass.proofs.TextRead.{model_taken}
+use Rattle.one_pass.proofs.text.among_names.Goals as goal
+
+pub returns : goal.returns
+returns c =
+    λ means start head.
+    let m = meaning_of c.args.names.now in
+    let declared = c.in_ok-declared.ensures in
+    let watch = rw (c.items.ensures, map-items written_name c.args.begun.watch) at c.in_ok-rest.ensures.watch in
+    let vertices = rw c.as_slice.ensures at c.in_ok-rest.ensures.vertices in
+    model_taken (written_model c.args.begun) m (map (kinds_taken m) (map written_vertex c.args.begun.vertices)) c.args.cursor.now c.watch_and_vertices.new.cursor
+    start c.args.told.now declared.between c.declarations.new.told c.watch_and_vertices.new.told _ _ _ _ means refl head declared.variables declared.tables watch vertices

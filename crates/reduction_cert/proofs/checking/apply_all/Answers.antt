@@ -1,0 +1,49 @@
+-- One application more is made, or is the first bad one.
+use Rattle.std.proofs.Common.{◌≡◌, ◌∙◌, ℕ, ◌+◌, cond, Option, Some, None, Result, Ok, map, drop, ap}
+use Rattle.sig_base.specs.declared.no_memory.NoMemory.{NoMemory}
+use Rattle.model_core.specs.Code.Views.{graph_of, application_of}
+use Rattle.reduction_cert.proofs.OneMore.{left_more, left_none, bad_later, reached_later, bad_here, none_bad, all_reached}
+use Rattle.reduction_cert.proofs.checking.apply_all.Goals as goal
+
+pub loop-place-preserved : goal.loop-place-preserved
+loop-place-preserved c =
+    let g = graph_of c.loop-place.model in
+    let next = graph_of c.apply.new.model in
+    let a = application_of c.index-applications-place.result in
+    let left = map application_of (drop c.loop-place.place c.args.applications.now) in
+    let later = map application_of (drop (c.loop-place.place + 1) c.args.applications.now) in
+    let is = left_more application_of c.args.applications.now c.loop-place.place c.index-applications-place.result c.loop-place-test.true c.index-applications-place.is in
+    let made = c.in_ok-apply.ensures.made ∙ ap (λ b. cond b (Some next) None) c.if-not-branch.false in
+    record {
+      listed = c.in_ok-list_anew.ensures g made c.loop-place.invariant.listed;
+      measured = c.in_ok-apply.ensures.measured;
+      bad = bad_later g a left later is next made _ c.loop-place.place c.loop-place.invariant.bad;
+      reached = reached_later g a left later is next made _ c.loop-place.invariant.reached;
+    }
+
+pub returns-then-not-branch-clause-bad : goal.returns-then-not-branch-clause-bad
+returns-then-not-branch-clause-bad c =
+    let g = graph_of c.loop-place.model in
+    let next = graph_of c.apply.new.model in
+    let a = application_of c.index-applications-place.result in
+    let left = map application_of (drop c.loop-place.place c.args.applications.now) in
+    let later = map application_of (drop (c.loop-place.place + 1) c.args.applications.now) in
+    let is = left_more application_of c.args.applications.now c.loop-place.place c.index-applications-place.result c.loop-place-test.true c.index-applications-place.is in
+    let refused = c.in_ok-apply.ensures.made ∙ ap (λ b. cond b (Some next) None) c.if-not-branch.true in
+    bad_here g a left later is refused _ c.loop-place.place c.loop-place.invariant.bad
+
+never_none : (n : ℕ) → ◌≡◌ {A = Result (Option ℕ) NoMemory} (Ok (Some n)) (Ok None) → ⊥
+never_none n e = cc
+
+pub returns-then-not-branch-clause-reached : goal.returns-then-not-branch-clause-reached
+returns-then-not-branch-clause-reached c = λ e. absurd (never_none (c.loop-place.place + 1) e)
+
+pub returns-clause-bad : goal.returns-clause-bad
+returns-clause-bad c =
+    none_bad (graph_of c.loop-place.model) (map application_of (drop c.loop-place.place c.args.applications.now)) (left_none application_of c.args.applications.now c.loop-place.place c.loop-place-test.false)
+    _ c.loop-place.place c.loop-place.invariant.bad
+
+pub returns-clause-reached : goal.returns-clause-reached
+returns-clause-reached c = λ _.
+    all_reached (graph_of c.loop-place.model) (map application_of (drop c.loop-place.place c.args.applications.now)) (left_none application_of c.args.applications.now c.loop-place.place c.loop-place-test.false)
+    _ c.loop-place.invariant.reached
