@@ -10,9 +10,9 @@ use Rattle.model_core.specs.Run.Step.{vertex_at}
 use Rattle.model_core.specs.Rules.Uses.{vertex_reads, vertex_writes, vertex_streams}
 use Rattle.model_core.proofs.EachOne.{every-map, every-behind}
 use Rattle.model_core.proofs.Among.{Among, of-among}
-use Rattle.model_core.proofs.Spared.SetPlaces.{sets, Spares, sets-sets, ChangedWithin}
-use Rattle.model_core.proofs.Spared.InTurn.{result_by}
-use Rattle.model_core.proofs.Spared.SparedChanges.{set_beside}
+use Rattle.run_laws.proofs.Spared.SetPlaces.{sets, Spares, sets-sets, ChangedWithin}
+use Rattle.run_laws.proofs.Spared.InTurn.{result_by}
+use Rattle.run_laws.proofs.Spared.SparedChanges.{set_beside}
 use Rattle.conflict_report.proofs.Deeds.{Outcome, outcome_of}
 use Rattle.conflict_report.proofs.Events.{EventWritten, outcome_beside, event-spared, event-written}
 use Rattle.conflict_report.proofs.NoConflict.{NoConflict, no-conflict-turned, spared-by, DeedsBy}

@@ -7,7 +7,7 @@ use Rattle.model_core.specs.Run.Changes.{Drawn, make_change}
 use Rattle.model_core.specs.Run.Pending.{Entry, TakenOff, is_of, is_with, without_next, without_all}
 use Rattle.model_core.specs.Run.Edges.{Planned, delay_of, carried_values, act, treat}
 use Rattle.model_core.specs.Run.Step.{Configuration, receive, occur}
-use Rattle.model_core.proofs.Spared.InTurn.{result_by, bind-after, bind-within}
+use Rattle.run_laws.proofs.Spared.InTurn.{result_by, bind-after, bind-within}
 
 -- one thing that an edge does to a pending list
 pub data Deed : Type 0 where

@@ -11,10 +11,10 @@ use Rattle.model_core.specs.Conflicts.Conflict.{named_vertices, edge_cancelled, 
 use Rattle.model_core.proofs.Results.{bind_ok}
 use Rattle.model_core.proofs.EachOne.{every-both, every-front, every-behind, every-flat_map}
 use Rattle.model_core.proofs.Among.{Among, each-among, among-back, among-map, among-flat_map}
-use Rattle.model_core.proofs.Spared.SetPlaces.{sets, Spares, ChangedWithin, written-then, written-more}
-use Rattle.model_core.proofs.Spared.InTurn.{result_by, bind-after, in_turn-leads, in_turn-written}
-use Rattle.model_core.proofs.Spared.SparedChanges.{set_beside, ChangeSpared, receive-spared, changes-spared}
-use Rattle.model_core.proofs.Spared.WrittenChanges.{parameters-written, changes-written}
+use Rattle.run_laws.proofs.Spared.SetPlaces.{sets, Spares, ChangedWithin, written-then, written-more}
+use Rattle.run_laws.proofs.Spared.InTurn.{result_by, bind-after, in_turn-leads, in_turn-written}
+use Rattle.run_laws.proofs.Spared.SparedChanges.{set_beside, ChangeSpared, receive-spared, changes-spared}
+use Rattle.run_laws.proofs.Spared.WrittenChanges.{parameters-written, changes-written}
 use Rattle.conflict_report.proofs.SparedEdges.{plan_beside, EdgeSpared, plans-spared}
 use Rattle.conflict_report.proofs.WrittenEdges.{DeedOn, EdgeWritten, plan-written, cancelling-cancelled}
 use Rattle.conflict_report.proofs.Deeds.{Plan, plan, Outcome, outcome_of}

@@ -13,8 +13,8 @@ use Rattle.model_core.specs.Run.Changes.{Drawn}
 use Rattle.model_core.proofs.EachOne.{either_false, every-fails, every-map}
 use Rattle.model_core.proofs.Among.{Among, any-among, among-any, of-among, each-among}
 use Rattle.model_core.proofs.PlacesChanged.{same_number, apart-turned}
-use Rattle.model_core.proofs.EntailedMarks.{among-place}
-use Rattle.model_core.proofs.Spared.SetPlaces.{Spares, ChangedWithin}
+use Rattle.mark_laws.proofs.EntailedMarks.{among-place}
+use Rattle.run_laws.proofs.Spared.SetPlaces.{Spares, ChangedWithin}
 use Rattle.conflict_report.proofs.Deeds.{Deed, AddsEvent, CutsNext, CutsEqual, CutsAll, deed_vertex, CutsOthers, Outcome}
 use Rattle.conflict_report.proofs.WrittenEdges.{DeedOn}
 use Rattle.conflict_report.proofs.Events.{VertexSpared, EventWritten}

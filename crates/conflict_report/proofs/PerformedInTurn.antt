@@ -12,7 +12,7 @@ use Rattle.model_core.specs.Rules.MarkedPlaces.{place_without}
 use Rattle.model_core.specs.Conflicts.Perform.{perform, place_then, performed_then, performed_both}
 use Rattle.model_core.specs.Conflicts.Orders.{StaysPending}
 use Rattle.model_core.proofs.PlacesChanged.{same_number, apart-turned}
-use Rattle.model_core.proofs.Spared.InTurn.{result_by}
+use Rattle.run_laws.proofs.Spared.InTurn.{result_by}
 use Rattle.model_core.proofs.PlacesTakenOff.{get-without, remove-turned}
 use Rattle.conflict_report.proofs.Deeds.{Deed, deeds_done, Outcome, stands_after, occur-event}
 use Rattle.conflict_report.proofs.Events.{event-written}

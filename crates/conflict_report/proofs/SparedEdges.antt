@@ -7,9 +7,9 @@ use Rattle.model_core.specs.Run.Value.{OrFault, ◌>>=◌, in_turn, value_of, is
 use Rattle.model_core.specs.Run.Edges.{Waiting, delay_ticks, delay_of, carried_values}
 use Rattle.model_core.specs.Rules.Uses.{variables_in, delay_reads, edge_reads, delay_streams, edge_streams}
 use Rattle.model_core.proofs.EachOne.{every-front, every-behind, every-flat_map}
-use Rattle.model_core.proofs.Spared.SetPlaces.{sets, Spares}
-use Rattle.model_core.proofs.Spared.InTurn.{result_by, bind-after, bind-within}
-use Rattle.model_core.proofs.Spared.SparedValues.{value-spared, values-spared}
+use Rattle.run_laws.proofs.Spared.SetPlaces.{sets, Spares}
+use Rattle.run_laws.proofs.Spared.InTurn.{result_by, bind-after, bind-within}
+use Rattle.run_laws.proofs.Spared.SparedValues.{value-spared, values-spared}
 use Rattle.conflict_report.proofs.Deeds.{AddsEvent, CutsEqual, Plan, and_deed, plan_act, plan}
 
 -- streams, set in what a delay and a plan leave of them

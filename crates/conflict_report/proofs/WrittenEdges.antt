@@ -11,7 +11,7 @@ use Rattle.model_core.specs.Conflicts.Conflict.{edge_cancelled}
 use Rattle.model_core.proofs.Results.{bind_ok}
 use Rattle.model_core.proofs.EachOne.{every-append}
 use Rattle.model_core.proofs.Among.{Among}
-use Rattle.model_core.proofs.Spared.SetPlaces.{ChangedWithin, written-none}
+use Rattle.run_laws.proofs.Spared.SetPlaces.{ChangedWithin, written-none}
 use Rattle.conflict_report.proofs.Deeds.{Deed, AddsEvent, CutsNext, CutsEqual, CutsAll, Plan, and_deed, plan_act, plan}
 
 -- a deed adds an event of one of the named vertices, or cancels events of one of the cancelled ones

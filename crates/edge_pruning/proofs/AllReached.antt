@@ -8,10 +8,10 @@ use Rattle.model_core.specs.Run.Step.{no_vertex, vertex_at}
 use Rattle.model_core.specs.Rules.MarkedPlaces.{rank, marked_of, is_marked, unmarked_places}
 use Rattle.model_core.specs.Rules.Reached.{Reachable, reach_first, reach_watched, reach_over, reached_marks, unreached}
 use Rattle.model_core.specs.Rules.Drop.{edge_renumbered, vertex_renumbered, watched_renumbered, only_marked}
-use Rattle.model_core.proofs.Marks.{Marked, marked-placed}
+use Rattle.mark_laws.proofs.Marks.{Marked, marked-placed}
 use Rattle.model_core.proofs.Among.{Among, among-contained, contained-among, among-map, of-among}
 use Rattle.edge_pruning.proofs.ReachedMarks.{has_edges, reachable-marked, reached_marks-hold, reached_marks-long, reached_marks-reachable}
-use Rattle.model_core.proofs.Ranks.{rank-none}
+use Rattle.mark_laws.proofs.Ranks.{rank-none}
 use Rattle.model_core.proofs.Images.{at-map}
 use Rattle.edge_pruning.proofs.DropSame.{NamesVertices}
 

@@ -1,7 +1,7 @@
 -- Marks of vertices that stay, and what is left of the vertices.
 use Rattle.std.proofs.Common.{◌≡◌, ℕ, zero, suc, ◌+◌, ◌<◌, ◌≤◌, Bool, true, false, cond, add-one, List, [], ◌∷◌, ◌++◌, map, drop, length, refl, sym, ap, arith, ◌∙◌, append_assoc, append-nil}
 use Rattle.model_core.specs.Rules.MarkedPlaces.{rank, marked_of, is_marked}
-use Rattle.model_core.proofs.LeastSets.{marked_count}
+use Rattle.mark_laws.proofs.LeastSets.{marked_count}
 
 -- ---- one mark after the other
 

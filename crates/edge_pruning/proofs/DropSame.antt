@@ -7,12 +7,12 @@ use Rattle.model_core.specs.Run.Same.{Same}
 use Rattle.model_core.specs.Rules.MarkedPlaces.{rank, marked_of}
 use Rattle.model_core.specs.Rules.Reached.{reached_marks}
 use Rattle.model_core.specs.Rules.Drop.{vertex_renumbered, only_marked}
-use Rattle.model_core.proofs.Marks.{Marked, rank-apart, marked-placed}
+use Rattle.mark_laws.proofs.Marks.{Marked, rank-apart, marked-placed}
 use Rattle.model_core.proofs.Among.{Among, each-among, of-among}
-use Rattle.model_core.proofs.Ranks.{rank-none}
+use Rattle.mark_laws.proofs.Ranks.{rank-none}
 use Rattle.edge_pruning.proofs.ReachedMarks.{first-begins, watched-begins, HoldReached, reached_marks-hold}
 use Rattle.model_core.proofs.Images.{at-map}
-use Rattle.model_core.proofs.MappedVertices.{WatchedTold}
+use Rattle.run_laws.proofs.MappedVertices.{WatchedTold}
 use Rattle.edge_pruning.proofs.Renumbered.{renumbered-Same}
 
 -- there is a first vertex, and edges and the watch list name vertices

@@ -12,7 +12,7 @@ use Rattle.model_core.specs.Rules.BoundsOf.{bounds_of, refuted, proved}
 use Rattle.model_core.specs.Rules.PlacedEdges.{edge_at, with_place}
 use Rattle.model_core.specs.Rules.Prune.{has_refuted_condition, prune_conditions}
 use Rattle.model_core.specs.Rules.Settle.{is_conditional, has_proved_condition, settle_conditions, unconditional}
-use Rattle.model_core.proofs.StaticTwins.DeclaredNames.{every_item}
+use Rattle.static_laws.proofs.StaticTwins.DeclaredNames.{every_item}
 use Rattle.model_core.proofs.PlacesChanged.{length_placed}
 use Rattle.edge_pruning.proofs.ListsChanged.{all_remove, length-remove-le, all_with_place}
 use Rattle.model_core.proofs.NoLongerTexts.{NoLonger, no_longer-behind, no_longer-before, no_longer-nothing, no_longer-same}

@@ -9,11 +9,11 @@ use Rattle.model_core.specs.Rules.MarkedPlaces.{marked_of, is_marked, is_among, 
 use Rattle.model_core.specs.Rules.Entailed.{Entailed, from_first, over_pair, is_entailed_by, one_pair_further, entailed_marks}
 use Rattle.model_core.specs.Rules.Reached.{Reachable, reach_first, reach_watched, reach_over, begins_reached, is_led_to, one_edge_further, reached_marks}
 use Rattle.marked_walks.specs.PlacePairs.{places_behind, pairs_from}
-use Rattle.model_core.proofs.Marks.{Marked}
+use Rattle.mark_laws.proofs.Marks.{Marked}
 use Rattle.model_core.proofs.PlacesChanged.{same_number, same_on_range}
-use Rattle.model_core.proofs.EntailedMarks.{same-place, among-place, entailed-by, by-entailed, HoldEntailed, entailed_marks-long, entailed_marks-entailed, entailed_marks-hold}
+use Rattle.mark_laws.proofs.EntailedMarks.{same-place, among-place, entailed-by, by-entailed, HoldEntailed, entailed_marks-long, entailed_marks-entailed, entailed_marks-hold}
 use Rattle.model_core.proofs.Among.{Among, among-contained, contained-among, among-map, among-of_map, second_true, any-among, among-any}
-use Rattle.model_core.proofs.MarksBelow.{among-marked, marked-among}
+use Rattle.mark_laws.proofs.MarksBelow.{among-marked, marked-among}
 use Rattle.marked_walks.proofs.FindingLaws.{behind-pairs, pairs-behind}
 use Rattle.edge_pruning.specs.Inner.Walk.{targets_of, targets_behind, watched_vertices}
 

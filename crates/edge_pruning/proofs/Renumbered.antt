@@ -6,7 +6,7 @@ use Rattle.model_core.specs.Run.Step.{no_vertex, vertex_at}
 use Rattle.model_core.specs.Run.Same.{Same}
 use Rattle.model_core.specs.Rules.Drop.{vertex_renumbered}
 use Rattle.model_core.proofs.EachOne.{every-map}
-use Rattle.model_core.proofs.MappedVertices.{with_mapped, DoesAs, WatchedTold, MayLead, mapped-Same}
+use Rattle.run_laws.proofs.MappedVertices.{with_mapped, DoesAs, WatchedTold, MayLead, mapped-Same}
 
 -- f tells live vertices apart, the vertices hold each live one at its new place, and live ones lead to live ones alone
 pub record Renumbering (g : EventGraph) (f : ℕ → ℕ) (vertices : List EventVertex) (Live : ℕ → Type 0) : Type 0 where

@@ -11,8 +11,8 @@ use Rattle.model_core.specs.Rules.PlacedEdges.{edge_at, with_place}
 use Rattle.model_core.specs.Rules.Prune.{without_edge, pruned}
 use Rattle.model_core.specs.Rules.Settle.{unconditional, with_settled, settled}
 use Rattle.model_core.proofs.Results.{in_turn-remove}
-use Rattle.model_core.proofs.EdgesAlike.{Alike, itself-alike, alike-Same}
-use Rattle.model_core.proofs.InRange.{in_range-kept}
+use Rattle.run_laws.proofs.EdgesAlike.{Alike, itself-alike, alike-Same}
+use Rattle.run_laws.proofs.InRange.{in_range-kept}
 use Rattle.edge_pruning.proofs.ListsChanged.{with_place-beside, in_turn-with_place}
 
 -- the edge's condition has this value in each state in range, at each clock up to the last stop time

@@ -15,12 +15,12 @@ use Rattle.model_core.specs.Text.Spellable.{HasOne, Extent, extent, SpellableEdg
 use Rattle.model_core.specs.Static.OwnRules.{KeepsChange, KeepsEdge, KeepsVertex, IsWatchable, parameters_of, KeepsParts, KeepsStaticRules}
 use Rattle.model_core.specs.Rules.MarkedPlaces.{rank, marked_of}
 use Rattle.model_core.specs.Rules.Drop.{edge_renumbered, vertex_renumbered, watched_renumbered, only_marked}
-use Rattle.model_core.proofs.Marks.{Marked, rank-apart}
+use Rattle.mark_laws.proofs.Marks.{Marked, rank-apart}
 use Rattle.round_trip.proofs.MadeAgain.{VertexFrom, EdgeFrom, ChangeFrom, made-spellable, same_change, same_edge}
 use Rattle.model_core.proofs.Among.{Among, contained-among, of-among, each-among, all-map, all-contained}
 use Rattle.model_core.proofs.Images.{shown-map, flat_map-map}
 use Rattle.model_core.proofs.WatchedApart.{WatchedItem, watch_apart}
-use Rattle.model_core.proofs.MarksBelow.{marked-among}
+use Rattle.mark_laws.proofs.MarksBelow.{marked-among}
 use Rattle.model_core.proofs.SomeOfAList.{some-marked_of, some-behind, some-distinct, some-few}
 use Rattle.edge_pruning.proofs.DropMarks.{marked_of-map}
 use Rattle.model_core.proofs.OtherTakes.{change_still, carries_still, timing_still}

@@ -3,10 +3,10 @@ use Rattle.std.proofs.Common.{◌≡◌, ◌⊎◌, inl, inr, ℕ, zero, suc, �
 use Rattle.std.proofs.lemmas.List.{length-append, length-set, length-replicate}
 use Rattle.model_core.specs.Rules.Entailed.{Entailed, from_first, over_pair, entailed_marks}
 use Rattle.model_core.specs.Rules.Needed.{each_beside}
-use Rattle.model_core.proofs.Marks.{Marked}
+use Rattle.mark_laws.proofs.Marks.{Marked}
 use Rattle.model_core.proofs.Among.{Among, among-contained, contained-among, among-map, among-of_map, among-front, among-back, among-either}
-use Rattle.model_core.proofs.MarksBelow.{marked-within}
-use Rattle.model_core.proofs.EntailedMarks.{closed-entailed_marks}
+use Rattle.mark_laws.proofs.MarksBelow.{marked-within}
+use Rattle.mark_laws.proofs.EntailedMarks.{closed-entailed_marks}
 use Rattle.marked_walks.specs.PlacePairs.{places_behind, pairs_from}
 use Rattle.marked_walks.specs.Inner.Finding.{Found, is_unfound, find_one, find_all, find_nth, IsFollowed, Going}
 

@@ -12,7 +12,7 @@ use Rattle.std.specs.List.{AllByRecursion}
 use Rattle.model_core.proofs.EachOne.{every-append}
 use Rattle.model_core.proofs.Alongside.{Alongside, both_go, bind-alongside-same, in_turn-alongside}
 use Rattle.merge_rules.proofs.InsertedEntry.{Inserted, inserted-append, DueBefore, without_next-inserted, without_all-inserted}
-use Rattle.model_core.proofs.MappedPending.{without_next-every, without_all-every}
+use Rattle.run_laws.proofs.MappedPending.{without_next-every, without_all-every}
 
 -- what an edge does is neither urgent nor takes an event of this vertex away
 abbrev pub Aside : ℕ → ℕ → EdgeKind → Type 0

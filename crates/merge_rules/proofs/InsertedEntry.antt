@@ -3,7 +3,7 @@ use Rattle.std.proofs.Common.{◌≡◌, ℕ, Bool, true, false, not, cond, ◌&
 use Rattle.std.proofs.lemmas.Bool.Decides.{nat_tests}
 use Rattle.model_core.specs.Run.Pending.{Entry, TakenOff, sooner, staying, or_behind, next_among, next_entry, without_next, without_all}
 use Rattle.std.specs.List.{AllByRecursion}
-use Rattle.model_core.proofs.MappedPending.{next_among-every}
+use Rattle.run_laws.proofs.MappedPending.{next_among-every}
 
 -- the second list is the first one with b put in somewhere
 pub data Inserted (b : Entry) : List Entry → List Entry → Type 0 where

@@ -16,7 +16,7 @@ use Rattle.model_core.specs.Rules.Prune.{pruned}
 use Rattle.model_core.specs.Rules.UrgentEdges.{plain_urgent}
 use Rattle.model_core.specs.Rules.Merge.{set_parameters, merged_vertex, merged_with, merged, values_at_once, has_few_parts, merge_conditions}
 use Rattle.model_core.specs.Code.Views.{graph_of, vertex_of, edge_of, change_of, expression_of}
-use Rattle.model_core.proofs.InRange.{and_first, and_second}
+use Rattle.model_core.proofs.BothTrue.{and_first, and_second}
 use Rattle.merge_rules.proofs.MergedModels.{place-here}
 use Rattle.merge_rules.proofs.MergeHolds.{every-holds, read_at, is_below}
 use Rattle.merge_rules.proofs.PlainEdges.{PlainEdge, plain_edge_of, plain_within}

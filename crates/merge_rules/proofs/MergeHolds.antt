@@ -15,9 +15,9 @@ use Rattle.model_core.specs.Rules.Conditions.{first_failed}
 use Rattle.model_core.specs.Rules.Uses.{vertex_writes}
 use Rattle.model_core.specs.Rules.UrgentEdges.{is_urgent_kind, single_urgent}
 use Rattle.model_core.specs.Rules.Merge.{merge_conditions, cancels, is_cancelling, is_watched_vertex, reads_none_of, happens_unseen, set_parameters, values_at_once, other_edges, is_within_limits, merged}
-use Rattle.model_core.proofs.InRange.{and_first, and_second}
-use Rattle.model_core.proofs.StaticTwins.DeclaredNames.{every_item}
-use Rattle.model_core.proofs.Soundness.NumberRows.{not_true}
+use Rattle.model_core.proofs.BothTrue.{and_first, and_second}
+use Rattle.static_laws.proofs.StaticTwins.DeclaredNames.{every_item}
+use Rattle.bound_laws.proofs.Soundness.NumberRows.{not_true}
 use Rattle.model_core.proofs.EachOne.{every-map, every-front, every-behind, every-joined, either_false}
 use Rattle.merge_rules.proofs.EdgesAside.{Aside, urgent_edge}
 use Rattle.merge_rules.proofs.UrgentEvents.{PriorityOk}

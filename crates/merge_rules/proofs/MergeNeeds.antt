@@ -19,10 +19,11 @@ use Rattle.model_core.specs.Rules.MarkedPlaces.{is_among}
 use Rattle.model_core.specs.Rules.Uses.{edge_reads, vertex_writes}
 use Rattle.model_core.specs.Rules.UrgentEdges.{is_urgent}
 use Rattle.model_core.specs.Rules.Merge.{cancels, is_watched_vertex, reads_none_of, is_unwatched, happens_unseen, set_parameters, values_at_once, other_edges}
-use Rattle.model_core.proofs.InRange.{and_first, and_second, in_range-kept}
+use Rattle.model_core.proofs.BothTrue.{and_first, and_second}
+use Rattle.run_laws.proofs.InRange.{in_range-kept}
 use Rattle.model_core.proofs.Results.{bind_ok}
-use Rattle.model_core.proofs.Keeping.{received}
-use Rattle.model_core.proofs.Soundness.NumberRows.{not_true}
+use Rattle.run_laws.proofs.Keeping.{received}
+use Rattle.bound_laws.proofs.Soundness.NumberRows.{not_true}
 use Rattle.model_core.proofs.EachOne.{every-map, every-front, every-behind, every-both, every-passes, every-fails, either_false}
 use Rattle.merge_rules.proofs.EdgesOnLists.{list_treat, with_words, treat_lists}
 use Rattle.merge_rules.proofs.EdgesAside.{Aside, Calm, urgent_edge}

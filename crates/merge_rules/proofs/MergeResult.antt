@@ -8,7 +8,7 @@ use Rattle.model_core.specs.Run.Same.{Same}
 use Rattle.model_core.specs.Static.OwnRules.{KeepsParts}
 use Rattle.model_core.specs.Rules.Conditions.{first_failed}
 use Rattle.model_core.specs.Rules.Merge.{merge_conditions, set_parameters, merged_vertex, merged_with, values_at_once, merged}
-use Rattle.model_core.proofs.BeginsInRange.{kept_models_begin_in_range}
+use Rattle.bound_laws.proofs.BeginsInRange.{kept_models_begin_in_range}
 use Rattle.merge_rules.proofs.PlacedElement.{same_placed}
 use Rattle.merge_rules.proofs.TwoInOne.{joined_vertex}
 use Rattle.merge_rules.proofs.MergedModels.{joined_at, merge_keeps}

@@ -15,12 +15,12 @@ use Rattle.model_core.specs.Run.Same.{Same, thing, parameter, VertexNamed}
 use Rattle.model_core.specs.Rules.PlacedEdges.{with_place}
 use Rattle.model_core.specs.Rules.Uses.{edge_reads}
 use Rattle.model_core.proofs.Results.{bind_ok}
-use Rattle.model_core.proofs.Keeping.{Kept, received, changed}
-use Rattle.model_core.proofs.EdgesAlike.{with_vertices}
+use Rattle.run_laws.proofs.Keeping.{Kept, received, changed}
+use Rattle.run_laws.proofs.EdgesAlike.{with_vertices}
 use Rattle.model_core.proofs.EachOne.{every-map}
-use Rattle.model_core.proofs.EntailedMarks.{same-place}
+use Rattle.mark_laws.proofs.EntailedMarks.{same-place}
 use Rattle.model_core.proofs.PlacesChanged.{suc-apart}
-use Rattle.model_core.proofs.Spared.HeldValues.{Holds}
+use Rattle.run_laws.proofs.Spared.HeldValues.{Holds}
 use Rattle.merge_rules.proofs.EdgesOnLists.{list_treat, list_occur, occur_lists}
 use Rattle.merge_rules.proofs.InsertedEntry.{DueBefore}
 use Rattle.merge_rules.proofs.EdgesAside.{Aside, Calm, Waits, waits-due, urgent_entry, urgent_edge}

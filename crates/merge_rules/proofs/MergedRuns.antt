@@ -10,8 +10,8 @@ use Rattle.model_core.specs.Run.Step.{Configuration, no_vertex, vertex_at, occur
 use Rattle.model_core.specs.Run.Machine.{Note, Ended, Stopped, Faulted, Move, Rests, Fails, Goes}
 use Rattle.model_core.specs.Run.History.{Moment, Noting, leave, leave_for, completed, stepped, comes, next_move, start, look}
 use Rattle.model_core.specs.Run.Same.{SameLooks}
-use Rattle.model_core.proofs.Simulation.{rests, fails, goes, Joined, one, two_fail, two_go, two_for_one}
-use Rattle.model_core.proofs.EdgesAlike.{with_vertices}
+use Rattle.run_laws.proofs.Simulation.{rests, fails, goes, Joined, one, two_fail, two_go, two_for_one}
+use Rattle.run_laws.proofs.EdgesAlike.{with_vertices}
 use Rattle.merge_rules.proofs.EdgesOnLists.{occur_lists}
 use Rattle.merge_rules.proofs.TwoInOne.{Split, faults, goes_on}
 

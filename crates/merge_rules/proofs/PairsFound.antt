@@ -10,7 +10,7 @@ use Rattle.model_core.specs.Run.Step.{vertex_at}
 use Rattle.model_core.specs.Text.Canonical.{canonical}
 use Rattle.model_core.specs.Rules.Conditions.{first_failed}
 use Rattle.model_core.specs.Rules.Merge.{merge_conditions, merged, has_few_parts}
-use Rattle.model_core.proofs.InRange.{and_second}
+use Rattle.model_core.proofs.BothTrue.{and_second}
 use Rattle.merge_rules.proofs.MergeHolds.{none_before, conditions_hold}
 
 -- ---- the last condition

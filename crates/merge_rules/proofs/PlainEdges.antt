@@ -8,9 +8,9 @@ use Rattle.model_core.specs.EventGraph.{EventVertex, EventEdge, EdgeKind, Urgent
 use Rattle.model_core.specs.Rules.Settle.{is_literal_true}
 use Rattle.model_core.specs.Rules.UrgentEdges.{is_urgent, is_urgent_kind, is_plain, plain_urgent, plain_urgent_edge}
 use Rattle.model_core.specs.Rules.Merge.{leads_to, values_at_once, other_edges}
-use Rattle.model_core.proofs.InRange.{and_first, and_second}
+use Rattle.model_core.proofs.BothTrue.{and_first, and_second}
 use Rattle.model_core.proofs.EachOne.{every-joined}
-use Rattle.model_core.proofs.EntailedMarks.{same-place}
+use Rattle.mark_laws.proofs.EntailedMarks.{same-place}
 use Rattle.merge_rules.proofs.EdgesAside.{urgent_edge}
 
 -- ---- the place of the first that passes a test

@@ -8,9 +8,9 @@ use Rattle.model_core.specs.Run.Step.{Configuration, vertex_at, occur, faulted_a
 use Rattle.model_core.specs.Run.History.{start}
 use Rattle.model_core.specs.Static.OwnRules.{KeepsParts}
 use Rattle.model_core.specs.Rules.UrgentEdges.{single_urgent}
-use Rattle.model_core.proofs.InRange.{in_range-kept}
-use Rattle.model_core.proofs.BeginsInRange.{kept_models_begin_in_range}
-use Rattle.model_core.proofs.Keeping.{received, changed, occur-keeps}
+use Rattle.run_laws.proofs.InRange.{in_range-kept}
+use Rattle.bound_laws.proofs.BeginsInRange.{kept_models_begin_in_range}
+use Rattle.run_laws.proofs.Keeping.{received, changed, occur-keeps}
 use Rattle.merge_rules.specs.BetweenSteps.{IsSettled}
 use Rattle.merge_rules.proofs.EdgesOnLists.{occur_lists}
 use Rattle.merge_rules.proofs.UrgentEvents.{Settled, occur-settled}

@@ -11,7 +11,7 @@ use Rattle.model_core.specs.Static.HasKind.{HasKind}
 use Rattle.model_core.specs.Static.OwnRules.{KeepsTiming, KeepsEdge, KeepsVertex, KeepsParts, parameters_of}
 use Rattle.model_core.specs.Rules.Exclusive.{exclusive}
 use Rattle.model_core.specs.Rules.UrgentEdges.{is_urgent, is_urgent_kind, each_pair, urgent_conditions, single_urgent}
-use Rattle.model_core.proofs.InRange.{and_first, and_second}
+use Rattle.model_core.proofs.BothTrue.{and_first, and_second}
 use Rattle.model_core.proofs.EachOne.{every-map}
 use Rattle.merge_rules.proofs.UrgentEvents.{Fires, Exclusive, PriorityOk}
 

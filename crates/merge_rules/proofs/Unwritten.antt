@@ -11,9 +11,9 @@ use Rattle.model_core.specs.Run.Step.{receive}
 use Rattle.model_core.specs.Rules.MarkedPlaces.{is_among}
 use Rattle.model_core.specs.Rules.Uses.{variables_in, vertex_writes, delay_reads, edge_reads}
 use Rattle.model_core.proofs.EachOne.{every-front, every-behind, every-flat_map, every-fails}
-use Rattle.model_core.proofs.Spared.HeldValues.{Holds, value-held, values-held}
-use Rattle.model_core.proofs.Spared.SetPlaces.{written-then, written-elsewhere}
-use Rattle.model_core.proofs.Spared.WrittenChanges.{parameters-written, changes-written}
+use Rattle.run_laws.proofs.Spared.HeldValues.{Holds, value-held, values-held}
+use Rattle.run_laws.proofs.Spared.SetPlaces.{written-then, written-elsewhere}
+use Rattle.run_laws.proofs.Spared.WrittenChanges.{parameters-written, changes-written}
 use Rattle.merge_rules.proofs.EdgesOnLists.{list_act, list_treat}
 
 -- ---- what is read

@@ -12,7 +12,7 @@ use Rattle.model_core.specs.Run.Step.{Configuration, receive}
 use Rattle.model_core.proofs.Results.{bind_ok}
 use Rattle.std.specs.List.{AllByRecursion}
 use Rattle.model_core.proofs.EachOne.{every-append, every-map, every-both}
-use Rattle.model_core.proofs.MappedPending.{next_among-every}
+use Rattle.run_laws.proofs.MappedPending.{next_among-every}
 use Rattle.merge_rules.proofs.InsertedEntry.{Inserted, front, behind, DueBefore, next_entry-inserted}
 use Rattle.merge_rules.proofs.EdgesAside.{Waits, waits-due}
 

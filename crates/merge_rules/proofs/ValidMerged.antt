@@ -14,8 +14,8 @@ use Rattle.model_core.specs.Static.HasKind.{IsVariable, HasKind}
 use Rattle.model_core.specs.Static.OwnRules.{TakeCarried, KeepsEdge, KeepsVertex, IsWatchable, parameters_of, KeepsParts, KeepsStaticRules}
 use Rattle.model_core.specs.Rules.UrgentEdges.{plain_urgent}
 use Rattle.model_core.specs.Rules.Merge.{set_parameters, merged_vertex, merged_with, values_at_once, merged, has_few_parts}
-use Rattle.model_core.proofs.InRange.{and_first, and_second}
-use Rattle.model_core.proofs.StaticTwins.DeclaredNames.{every_item}
+use Rattle.model_core.proofs.BothTrue.{and_first, and_second}
+use Rattle.static_laws.proofs.StaticTwins.DeclaredNames.{every_item}
 use Rattle.model_core.proofs.EachOne.{every-joined}
 use Rattle.merge_rules.proofs.EdgesAside.{urgent_edge}
 use Rattle.merge_rules.proofs.TwoInOne.{joined_vertex}

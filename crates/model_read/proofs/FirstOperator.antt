@@ -5,9 +5,9 @@ use Rattle.model_core.specs.declared.token.Word.TheVariants as words
 use Rattle.model_core.specs.declared.token.Symbol.TheVariants as symbols
 use Rattle.model_core.specs.EventGraph.{Operator}
 use Rattle.model_core.specs.Text.Lexing.{Lexeme, LexemeKind, NameOf, Reserved, NumberOf, Mark}
-use Rattle.model_core.specs.Inner.FirstTokens.{first_sorts, begins_among}
-use Rattle.model_core.specs.Inner.FormatReader.{Parse, took, stuck}
-use Rattle.model_core.specs.Inner.LanguageReader.{level_lookahead, language_reader}
+use Rattle.text_laws.specs.FirstTokens.{first_sorts, begins_among}
+use Rattle.text_laws.specs.FormatReader.{Parse, took, stuck}
+use Rattle.text_laws.specs.LanguageReader.{level_lookahead, language_reader}
 use Rattle.model_read.specs.Inner.Ladder.{infix_of_kind, operators_of}
 
 abbrev pub is_at : ℕ → Option (ℕ × Operator) → Bool

@@ -7,8 +7,8 @@ use Rattle.model_core.specs.declared.token.TokenKind.TheVariants as kinds
 use Rattle.model_core.specs.Text.Lexing.{Lexeme}
 use Rattle.model_core.specs.Text.Format.{any_name}
 use Rattle.model_core.specs.Code.TokenViews.{lexeme_of}
-use Rattle.model_core.specs.Inner.FormatReader.{took}
-use Rattle.model_core.specs.Inner.LanguageReader.{language_reader}
+use Rattle.text_laws.specs.FormatReader.{took}
+use Rattle.text_laws.specs.LanguageReader.{language_reader}
 use Rattle.model_read.specs.InText.{AreInText}
 use Rattle.model_read.specs.Inner.Ladder.{infix_of_kind, infix_at}
 

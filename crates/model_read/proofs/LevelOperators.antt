@@ -6,11 +6,11 @@ use Rattle.model_core.specs.Text.Lexing.{Lexeme}
 use Rattle.model_core.specs.Text.Written.{WrittenExpression}
 use Rattle.model_core.specs.Text.Format.{Many}
 use Rattle.model_core.specs.Text.Expressions.{Level, Conjunction, Negation, Sum, Product, Unary, LanguageFormat, joining, grouped, compared, comparing, right_side}
-use Rattle.model_core.specs.Inner.FirstTokens.{nullable, first_sorts, begins_among}
-use Rattle.model_core.specs.Inner.FormatReader.{Parse, Parser, took, and_next}
-use Rattle.model_core.specs.Inner.LanguageReader.{level_lookahead, language_reader}
-use Rattle.model_core.proofs.Formats.RuleLaws.{same_next}
-use Rattle.model_core.proofs.Formats.ManyLaws.{repeated-is, one_more, one_more-ok, one_more-err}
+use Rattle.text_laws.specs.FirstTokens.{nullable, first_sorts, begins_among}
+use Rattle.text_laws.specs.FormatReader.{Parse, Parser, took, and_next}
+use Rattle.text_laws.specs.LanguageReader.{level_lookahead, language_reader}
+use Rattle.text_laws.proofs.Formats.RuleLaws.{same_next}
+use Rattle.text_laws.proofs.Formats.ManyLaws.{repeated-is, one_more, one_more-ok, one_more-err}
 use Rattle.model_read.specs.Inner.Ladder.{infix_of_kind, operators_of, operand_level, next_level, rung, climb}
 use Rattle.model_read.proofs.ReadLoop.{shorter}
 use Rattle.model_read.proofs.FirstOperator.{AtFirst, at_each}

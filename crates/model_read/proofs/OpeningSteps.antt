@@ -6,7 +6,7 @@ use Rattle.model_core.specs.declared.token.Token.{Token}
 use Rattle.model_core.specs.Text.Lexing.{Lexeme, LexemeKind}
 use Rattle.model_core.specs.Text.Openings.{ends_part, is_opening}
 use Rattle.model_core.specs.Code.TokenViews.{lexeme_kind_of, lexeme_of}
-use Rattle.model_core.specs.Inner.OpeningCount.{deep_from}
+use Rattle.text_laws.specs.OpeningCount.{deep_from}
 
 ended : (limit room : ℕ) (t : Lexeme) (tokens : List Lexeme) → ends_part t.kind ≡ true → deep_from limit room (t ∷ tokens) ≡ deep_from limit limit tokens
 ended limit zero t tokens e = rw e refl

@@ -9,11 +9,11 @@ use Rattle.model_core.specs.Text.Lexing.{Lexeme}
 use Rattle.model_core.specs.Text.Written.{WrittenExpression}
 use Rattle.model_core.specs.Text.Format.{Many, ByRule, AWord, maybe}
 use Rattle.model_core.specs.Text.Expressions.{Level, Disjunction, Conjunction, Negation, Comparison, Sum, Product, Unary, grouped, compared, comparing, right_side, level_format}
-use Rattle.model_core.specs.Inner.FirstTokens.{begins_as}
-use Rattle.model_core.specs.Inner.FormatReader.{Parse, Parser, took, and_next}
-use Rattle.model_core.specs.Inner.LanguageReader.{level_lookahead, language_reader}
-use Rattle.model_core.proofs.Formats.RuleLaws.{same_next, rule-is}
-use Rattle.model_core.proofs.Formats.OneTokenDecides.{levels-fine}
+use Rattle.text_laws.specs.FirstTokens.{begins_as}
+use Rattle.text_laws.specs.FormatReader.{Parse, Parser, took, and_next}
+use Rattle.text_laws.specs.LanguageReader.{level_lookahead, language_reader}
+use Rattle.text_laws.proofs.Formats.RuleLaws.{same_next, rule-is}
+use Rattle.text_laws.proofs.Formats.OneTokenDecides.{levels-fine}
 use Rattle.model_read.specs.declared.stop.Stop.{Stop}
 use Rattle.model_read.specs.declared.stop.Stop.TheVariants as stops
 use Rattle.model_read.specs.ReadCalls.{Stops, Returned}

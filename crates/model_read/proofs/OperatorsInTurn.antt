@@ -8,11 +8,11 @@ use Rattle.model_core.specs.EventGraph.{Operator}
 use Rattle.model_core.specs.Text.Lexing.{Lexeme}
 use Rattle.model_core.specs.Text.Written.{WrittenExpression}
 use Rattle.model_core.specs.Text.Expressions.{joining}
-use Rattle.model_core.specs.Inner.FirstTokens.{first_sorts, begins_among}
-use Rattle.model_core.specs.Inner.FormatReader.{Parse, took, and_next}
-use Rattle.model_core.specs.Inner.LanguageReader.{level_lookahead}
-use Rattle.model_core.proofs.Formats.TokenSorts.{begins-none}
-use Rattle.model_core.proofs.Formats.RuleLaws.{same_next}
+use Rattle.text_laws.specs.FirstTokens.{first_sorts, begins_among}
+use Rattle.text_laws.specs.FormatReader.{Parse, took, and_next}
+use Rattle.text_laws.specs.LanguageReader.{level_lookahead}
+use Rattle.text_laws.proofs.Formats.TokenSorts.{begins-none}
+use Rattle.text_laws.proofs.Formats.RuleLaws.{same_next}
 use Rattle.model_read.specs.declared.stop.Stop.{Stop}
 use Rattle.model_read.specs.ReadCalls.{Returned}
 use Rattle.model_read.specs.Inner.Ladder.{infix_of_kind, infix_at, operators_of, operand_level, next_level, rung, climb, at_levels, behind}

@@ -3,7 +3,7 @@ use Rattle.std.proofs.Common.{◌≡◌, ℕ, List, refl, subst, sym}
 use Rattle.std.specs.Prelude.{Result, Ok, Err}
 use Rattle.model_core.specs.Text.Lexing.{Lexeme}
 use Rattle.model_core.specs.Text.FirstWrong.{told_place}
-use Rattle.model_core.specs.Inner.FormatReader.{Parse}
+use Rattle.text_laws.specs.FormatReader.{Parse}
 use Rattle.model_lex.specs.declared.parse_error.ParseError.{ParseError}
 use Rattle.model_read.specs.declared.stop.Stop.{Stop}
 use Rattle.model_read.specs.declared.stop.Stop.TheVariants as stops

@@ -5,13 +5,13 @@ use Rattle.std.proofs.lemmas.List.{append-nil, map-append}
 use Rattle.model_core.specs.Text.Lexing.{Lexeme}
 use Rattle.model_core.specs.Text.Format.{TokenSort, Many}
 use Rattle.model_core.specs.Text.Expressions.{LanguageFormat, level_format}
-use Rattle.model_core.specs.Inner.FirstTokens.{nullable, first_sorts, begins_as, begins_among}
-use Rattle.model_core.specs.Inner.FormatReader.{Parse, took, stuck, and_next, rule_at}
-use Rattle.model_core.specs.Inner.LanguageReader.{level_lookahead, language_reader}
-use Rattle.model_core.proofs.Formats.FormatLaws.{Shorter, reads-shorter}
-use Rattle.model_core.proofs.Formats.RuleLaws.{rule-shorter}
-use Rattle.model_core.proofs.Formats.ManyLaws.{repeated-is, one_more-ok, one_more-err}
-use Rattle.model_core.proofs.Formats.OneTokenDecides.{levels-fine}
+use Rattle.text_laws.specs.FirstTokens.{nullable, first_sorts, begins_as, begins_among}
+use Rattle.text_laws.specs.FormatReader.{Parse, took, stuck, and_next, rule_at}
+use Rattle.text_laws.specs.LanguageReader.{level_lookahead, language_reader}
+use Rattle.text_laws.proofs.Formats.FormatLaws.{Shorter, reads-shorter}
+use Rattle.text_laws.proofs.Formats.RuleLaws.{rule-shorter}
+use Rattle.text_laws.proofs.Formats.ManyLaws.{repeated-is, one_more-ok, one_more-err}
+use Rattle.text_laws.proofs.Formats.OneTokenDecides.{levels-fine}
 use Rattle.model_read.specs.declared.stop.Stop.{Stop}
 use Rattle.model_read.specs.declared.stop.Stop.TheVariants as stops
 use Rattle.model_read.specs.ReadCalls.{Stops, with_front}

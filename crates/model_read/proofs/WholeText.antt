@@ -12,11 +12,11 @@ use Rattle.model_core.specs.Text.FirstWrong.{told_place, IsUnexpectedAt}
 use Rattle.model_core.specs.Text.Openings.{is_end_word, front_to_end, too_deep_at, HasFewOpenings}
 use Rattle.model_core.specs.Code.WrittenViews.{written_model}
 use Rattle.model_core.specs.Code.TokenViews.{lexeme_of}
-use Rattle.model_core.specs.Inner.FormatReader.{took, stuck}
-use Rattle.model_core.specs.Inner.LanguageReader.{text_and_rest, text_read}
-use Rattle.model_core.proofs.Formats.TextLaws.{read-is_spelled, spelled-is_read, stuck-is_wrong, whole-is_spelled, refused-is_unexpected}
-use Rattle.model_core.proofs.Formats.EndWord.{front-is_text, text-is_front, wrong-in_front}
-use Rattle.model_core.proofs.Formats.OneTokenDecides.{text-fine}
+use Rattle.text_laws.specs.FormatReader.{took, stuck}
+use Rattle.text_laws.specs.LanguageReader.{text_and_rest, text_read}
+use Rattle.text_laws.proofs.Formats.TextLaws.{read-is_spelled, spelled-is_read, stuck-is_wrong, whole-is_spelled, refused-is_unexpected}
+use Rattle.text_laws.proofs.Formats.EndWord.{front-is_text, text-is_front, wrong-in_front}
+use Rattle.text_laws.proofs.Formats.OneTokenDecides.{text-fine}
 use Rattle.model_lex.specs.declared.parse_error.ParseError.{ParseError}
 use Rattle.model_lex.specs.declared.parse_error.ParseError.TheVariants as errors
 use Rattle.model_read.specs.ReadCalls.{Tells}

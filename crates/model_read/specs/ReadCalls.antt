@@ -1,7 +1,7 @@
 -- What a call that reads returns.
 use Rattle.std.specs.Prelude.{◌≡◌, ℕ, List, ◌++◌, Result, Ok, Err}
 use Rattle.model_core.specs.Text.Lexing.{Lexeme}
-use Rattle.model_core.specs.Inner.FormatReader.{Parse, took, stuck, and_next}
+use Rattle.text_laws.specs.FormatReader.{Parse, took, stuck, and_next}
 use Rattle.model_core.specs.Text.FirstWrong.{told_place}
 use Rattle.model_lex.specs.declared.parse_error.ParseError.{ParseError}
 use Rattle.model_lex.specs.declared.parse_error.ParseError.TheVariants as errors

@@ -5,18 +5,18 @@ ghost use Rattle.model_core.specs.Code.WrittenViews.{written_expression, written
 ghost use Rattle.model_core.specs.Text.Written.{WrittenExpression, WrittenTarget, WrittenChange};
 ghost use Rattle.model_core.specs.Text.Expressions.{expression_format};
 ghost use Rattle.model_core.specs.Text.Language.{target_format, choice_format, change_format};
-ghost use Rattle.model_core.specs.Inner.LanguageReader.{language_reader};
+ghost use Rattle.text_laws.specs.LanguageReader.{language_reader};
 ghost use Rattle.model_read.specs.ReadCalls.{Returned};
 ghost use Rattle.model_read.specs.Inner.LineFormats.{set_format, draw_format};
 ghost use Rattle.model_read.specs.Inner.SomeTokens.{target-some, change-some};
 
 use crate::cursor::Cursor;
 use crate::expressions::{expression, index};
-use crate::held::Held;
 use crate::phrase::{Phrase, Repeated, separated};
 use crate::signed::signed;
 use crate::stop::Stop;
 use model_core::{RawChange, RawChoice, RawExpr, RawTarget, Symbol, Word};
+use sig_base::Held;
 use std::alloc::Global;
 
 /// Reads a variable or a cell that takes a value.

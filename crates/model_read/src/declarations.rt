@@ -7,7 +7,7 @@ ghost use Rattle.model_core.specs.Code.WrittenViews.{written_name, written_numbe
 ghost use Rattle.model_core.specs.Text.Written.{WrittenName, WrittenVariable, WrittenRow, WrittenTable};
 ghost use Rattle.model_core.specs.Text.Format.{mark, any_name, any_number, ◌*>◌, ◌<*◌, maybe};
 ghost use Rattle.model_core.specs.Text.Language.{variable_format, row_format, table_format, watch_format};
-ghost use Rattle.model_core.specs.Inner.LanguageReader.{language_reader};
+ghost use Rattle.text_laws.specs.LanguageReader.{language_reader};
 ghost use Rattle.model_read.specs.ReadCalls.{Returned};
 ghost use Rattle.model_read.specs.Inner.SomeTokens.{variable-some, row-some, table-some};
 

@@ -8,18 +8,17 @@ ghost use Rattle.model_core.specs.Text.Written.{WrittenEdge};
 ghost use Rattle.model_core.specs.Text.Format.{reserved, any_number, ◌*>◌, maybe};
 ghost use Rattle.model_core.specs.Text.Expressions.{expression_format};
 ghost use Rattle.model_core.specs.Text.Language.{values_format, when_format, timing_format, schedule_format, urgent_format, cancelled_format, cancel_format, edge_format};
-ghost use Rattle.model_core.specs.Inner.LanguageReader.{language_reader};
+ghost use Rattle.text_laws.specs.LanguageReader.{language_reader};
 ghost use Rattle.model_read.specs.ReadCalls.{Returned};
 ghost use Rattle.model_read.specs.Inner.Cancels.{written_cancel};
 ghost use Rattle.model_read.specs.Inner.SomeTokens.{edge-some};
 
 use crate::cursor::Cursor;
 use crate::expressions::expression;
-use crate::held::Held;
 use crate::phrase::{Phrase, Repeated, separated};
 use crate::stop::Stop;
 use model_core::{RawEdge, RawEdgeForm, RawExpr, RawName, RawNumber, Symbol, Word};
-use sig_base::List;
+use sig_base::{Held, List};
 use std::alloc::Global;
 
 /// Reads the values that an edge carries, where they are written.

@@ -7,16 +7,16 @@ ghost use Rattle.model_core.specs.Code.WrittenViews.{written_name, written_expre
 ghost use Rattle.model_core.specs.declared.token.Word.TheVariants.{Not};
 ghost use Rattle.model_core.specs.Text.Format.{ByRule, maybe};
 ghost use Rattle.model_core.specs.Text.Expressions.{Unary, Primary, joining, whole_format, unary_format, primary_format, index_format, of_name, in_parentheses_format, call_format, expression_format};
-ghost use Rattle.model_core.specs.Inner.FormatReader.{took, and_next};
-ghost use Rattle.model_core.specs.Inner.LanguageReader.{language_reader};
+ghost use Rattle.text_laws.specs.FormatReader.{took, and_next};
+ghost use Rattle.text_laws.specs.LanguageReader.{language_reader};
 ghost use Rattle.model_read.specs.ReadCalls.{Returned};
 ghost use Rattle.model_read.specs.Inner.Ladder.{operand_level, climb, if_format, not_format, negative_format, named_format};
 
 use crate::cursor::Cursor;
-use crate::held::Held;
 use crate::operators::{CONJUNCTIONS, LEVELS, next_level};
 use crate::stop::Stop;
 use model_core::{Op, RawExpr, RawForm, RawName, Symbol, Word};
+use sig_base::Held;
 use std::alloc::Global;
 
 /// Reads an expression.

@@ -6,7 +6,6 @@ mod cursor;
 mod declarations;
 mod edges;
 mod expressions;
-mod held;
 mod openings;
 mod operators;
 mod phrase;
@@ -16,7 +15,6 @@ mod text;
 mod vertices;
 
 pub use cursor::{Cursor, Spelling};
-pub use held::Held;
 pub use openings::first_too_deep;
 pub use operators::{CONJUNCTIONS, Infix, LEVELS, next_level};
 pub use phrase::{Phrase, Repeated, packed};

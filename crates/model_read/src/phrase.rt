@@ -4,8 +4,8 @@ ghost use Rattle.std.specs.Prelude.{◌≡◌, false, map};
 ghost use Rattle.model_core.specs.declared.token.Symbol.TheVariants.{Comma};
 ghost use Rattle.model_core.specs.Text.Format.{Many, mark, ◌*>◌, at_least_one, separated};
 ghost use Rattle.model_core.specs.Text.Expressions.{LanguageFormat};
-ghost use Rattle.model_core.specs.Inner.FirstTokens.{nullable, first_sorts, begins_among};
-ghost use Rattle.model_core.specs.Inner.LanguageReader.{level_lookahead, language_reader};
+ghost use Rattle.text_laws.specs.FirstTokens.{nullable, first_sorts, begins_among};
+ghost use Rattle.text_laws.specs.LanguageReader.{level_lookahead, language_reader};
 ghost use Rattle.model_read.specs.ReadCalls.{Returned, with_front};
 
 use crate::cursor::Cursor;

@@ -4,7 +4,7 @@ ghost use Rattle.model_core.specs.declared.token.Word.TheVariants.{Clip};
 ghost use Rattle.model_core.specs.Code.WrittenViews.{written_signed, written_kind, written_literal};
 ghost use Rattle.model_core.specs.Text.Format.{reserved, maybe};
 ghost use Rattle.model_core.specs.Text.Language.{signed_format, kind_format, literal_format};
-ghost use Rattle.model_core.specs.Inner.LanguageReader.{language_reader};
+ghost use Rattle.text_laws.specs.LanguageReader.{language_reader};
 ghost use Rattle.model_read.specs.ReadCalls.{Returned};
 
 use crate::cursor::Cursor;

@@ -6,20 +6,19 @@ ghost use Rattle.model_core.specs.Code.WrittenViews.{written_model};
 ghost use Rattle.model_core.specs.Text.Language.{IsText, BeginsWithText};
 ghost use Rattle.model_core.specs.Text.FirstWrong.{IsUnexpectedAt};
 ghost use Rattle.model_core.specs.Text.Openings.{front_to_end, too_deep_at, HasFewOpenings};
-ghost use Rattle.model_core.specs.Inner.LanguageReader.{language_reader, text_and_rest, text_read};
+ghost use Rattle.text_laws.specs.LanguageReader.{language_reader, text_and_rest, text_read};
 ghost use Rattle.model_lex.specs.Lexemes.{lexemes};
 ghost use Rattle.model_read.specs.Beginnings.{with_vertices, model_beginning};
 ghost use Rattle.model_read.specs.ReadCalls.{Returned};
 
 use crate::cursor::Cursor;
 use crate::declarations::watch;
-use crate::held::Held;
 use crate::openings::{first_too_deep, front_length};
 use crate::phrase::{at_least_one, many};
 use crate::stop::{Stop, placed};
 use model_core::{RawModel, Symbol, Word};
 use model_lex::{ParseError, Tokens, tokens_stand_in_order};
-use sig_base::{List, OPENINGS_MAX};
+use sig_base::{Held, List, OPENINGS_MAX};
 use std::alloc::Global;
 
 /// Reads what stands before the vertices of a model. The model that it gives has no vertices, and ends at byte 0.

@@ -7,17 +7,16 @@ ghost use Rattle.model_core.specs.Code.WrittenViews.{written_name, written_verte
 ghost use Rattle.model_core.specs.Text.Written.{WrittenVertex};
 ghost use Rattle.model_core.specs.Text.Format.{mark, any_name, ◌*>◌, ◌<*◌, maybe, separated};
 ghost use Rattle.model_core.specs.Text.Language.{vertex_format};
-ghost use Rattle.model_core.specs.Inner.LanguageReader.{language_reader};
+ghost use Rattle.text_laws.specs.LanguageReader.{language_reader};
 ghost use Rattle.model_read.specs.Beginnings.{with_body, vertex_beginning};
 ghost use Rattle.model_read.specs.ReadCalls.{Returned};
 ghost use Rattle.model_read.specs.Inner.SomeTokens.{vertex-some};
 
 use crate::cursor::Cursor;
-use crate::held::Held;
 use crate::phrase::{Phrase, Repeated, many, separated};
 use crate::stop::Stop;
 use model_core::{RawName, RawVertex, Symbol, Word};
-use sig_base::List;
+use sig_base::{Held, List};
 use std::alloc::Global;
 
 /// Reads the parameters of a vertex, where they are written.

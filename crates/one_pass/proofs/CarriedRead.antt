@@ -10,9 +10,9 @@ use Rattle.model_core.specs.Text.Numbering.{each_numbered, expression}
 use Rattle.model_core.specs.Static.Meanings.{Meaning}
 use Rattle.model_core.specs.Static.RuleTable.{value_count}
 use Rattle.model_core.specs.Static.PartFaults.{values_faults}
-use Rattle.model_core.specs.Inner.FirstTokens.{begins_as}
-use Rattle.model_core.proofs.StaticTwins.RowTwins.{same_count}
-use Rattle.model_core.proofs.StaticTwins.Twins.{both_empty}
+use Rattle.text_laws.specs.FirstTokens.{begins_as}
+use Rattle.static_laws.proofs.StaticTwins.RowTwins.{same_count}
+use Rattle.static_laws.proofs.StaticTwins.Twins.{both_empty}
 use Rattle.model_read.proofs.ReadLoop.{begins-one}
 use Rattle.one_pass.specs.Inner.ReadParts.{ReadSure}
 use Rattle.one_pass.specs.Inner.ReadValues.{fitting_faults}

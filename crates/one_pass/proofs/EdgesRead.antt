@@ -19,11 +19,11 @@ use Rattle.model_core.specs.Static.FaultOrder.{fault_where}
 use Rattle.model_core.specs.Static.Meanings.{Meaning, AsVertex}
 use Rattle.model_core.specs.Static.RuleTable.{value_count}
 use Rattle.model_core.specs.Static.PartFaults.{if_written, written_items, use_faults, operand_faults, values_faults, count_faults, priority_faults, carried_faults, schedule_faults, target_takes, edge_faults}
-use Rattle.model_core.specs.Inner.FirstTokens.{begins_as}
-use Rattle.model_core.specs.Inner.FormatReader.{took}
-use Rattle.model_core.specs.Inner.LanguageReader.{language_reader}
+use Rattle.text_laws.specs.FirstTokens.{begins_as}
+use Rattle.text_laws.specs.FormatReader.{took}
+use Rattle.text_laws.specs.LanguageReader.{language_reader}
 use Rattle.model_core.proofs.EmptyLists.{left_empty, right_empty}
-use Rattle.model_core.proofs.StaticTwins.Twins.{both_empty}
+use Rattle.static_laws.proofs.StaticTwins.Twins.{both_empty}
 use Rattle.sig_types.specs.Inner.Checked.{NumberedAs}
 use Rattle.sig_types.proofs.Checks.{two_numbered, four_numbered}
 use Rattle.one_pass.specs.Inner.ReadParts.{ReadSure}

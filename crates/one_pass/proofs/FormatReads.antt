@@ -8,9 +8,9 @@ use Rattle.model_core.specs.Text.Numbering.{Declared, written_or}
 use Rattle.model_core.specs.Static.FaultOrder.{StaticFault}
 use Rattle.model_core.specs.Static.Meanings.{Meaning}
 use Rattle.model_core.specs.Static.PartFaults.{if_written}
-use Rattle.model_core.specs.Inner.FirstTokens.{first_sorts, begins_among}
-use Rattle.model_core.specs.Inner.FormatReader.{took}
-use Rattle.model_core.specs.Inner.LanguageReader.{level_lookahead, language_reader}
+use Rattle.text_laws.specs.FirstTokens.{first_sorts, begins_among}
+use Rattle.text_laws.specs.FormatReader.{took}
+use Rattle.text_laws.specs.LanguageReader.{level_lookahead, language_reader}
 use Rattle.one_pass.specs.Inner.ReadParts.{ReadSure}
 
 -- what holds of a call's result, from something else that holds of it

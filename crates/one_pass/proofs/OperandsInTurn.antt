@@ -12,11 +12,11 @@ use Rattle.model_core.specs.declared.token.Word.TheVariants as words
 use Rattle.model_core.specs.Text.Format.{AWord, ByRule}
 use Rattle.model_core.specs.Text.Expressions.{Level, level_format}
 use Rattle.model_core.specs.Static.Meanings.{Meaning}
-use Rattle.model_core.specs.Inner.FormatReader.{Parse, Parser, and_next}
-use Rattle.model_core.specs.Inner.LanguageReader.{level_lookahead, language_reader}
-use Rattle.model_core.proofs.Formats.RuleLaws.{rule-is}
-use Rattle.model_core.proofs.Formats.OneTokenDecides.{levels-fine}
-use Rattle.model_core.specs.Inner.FirstTokens.{begins_as}
+use Rattle.text_laws.specs.FormatReader.{Parse, Parser, and_next}
+use Rattle.text_laws.specs.LanguageReader.{level_lookahead, language_reader}
+use Rattle.text_laws.proofs.Formats.RuleLaws.{rule-is}
+use Rattle.text_laws.proofs.Formats.OneTokenDecides.{levels-fine}
+use Rattle.text_laws.specs.FirstTokens.{begins_as}
 use Rattle.model_read.specs.Inner.Ladder.{operand_level, climb}
 use Rattle.model_read.proofs.OperandLevels.{from-not, from-unary}
 use Rattle.one_pass.specs.Inner.ReadOperands.{first_operand, IsOperand, ReadOperand}

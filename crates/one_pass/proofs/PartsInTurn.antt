@@ -8,10 +8,10 @@ use Rattle.model_core.specs.Text.Expressions.{LanguageFormat}
 use Rattle.model_core.specs.Text.Numbering.{Declared, each_numbered}
 use Rattle.model_core.specs.Static.FaultOrder.{StaticFault}
 use Rattle.model_core.specs.Static.Meanings.{Meaning}
-use Rattle.model_core.specs.Inner.FirstTokens.{nullable, first_sorts, begins_among}
-use Rattle.model_core.specs.Inner.FormatReader.{took}
-use Rattle.model_core.specs.Inner.LanguageReader.{level_lookahead, language_reader}
-use Rattle.model_core.proofs.StaticTwins.Twins.{both_empty}
+use Rattle.text_laws.specs.FirstTokens.{nullable, first_sorts, begins_among}
+use Rattle.text_laws.specs.FormatReader.{took}
+use Rattle.text_laws.specs.LanguageReader.{level_lookahead, language_reader}
+use Rattle.static_laws.proofs.StaticTwins.Twins.{both_empty}
 use Rattle.model_read.specs.ReadCalls.{with_front}
 use Rattle.model_read.proofs.ReadLoop.{goes_on, is_done, front-none}
 use Rattle.sig_types.specs.Inner.Checked.{NumberedAs}

@@ -5,9 +5,9 @@ use Rattle.model_core.specs.declared.token.Symbol.TheVariants as symbols
 use Rattle.model_core.specs.Text.Lexing.{Lexeme}
 use Rattle.model_core.specs.Text.Format.{TokenSort, ASymbol, Single, Many, mark, ◌*>◌, separated}
 use Rattle.model_core.specs.Text.Expressions.{LanguageFormat}
-use Rattle.model_core.specs.Inner.FirstTokens.{begins_as}
-use Rattle.model_core.specs.Inner.FormatReader.{took}
-use Rattle.model_core.specs.Inner.LanguageReader.{language_reader}
+use Rattle.text_laws.specs.FirstTokens.{begins_as}
+use Rattle.text_laws.specs.FormatReader.{took}
+use Rattle.text_laws.specs.LanguageReader.{language_reader}
 use Rattle.model_read.specs.ReadCalls.{with_front}
 use Rattle.model_read.proofs.ReadLoop.{begins-one, goes_on, is_done}
 use Rattle.one_pass.specs.Inner.ReadRows.{AllAre, ReadRow}

@@ -18,11 +18,11 @@ use Rattle.model_core.specs.Text.Numbering.{each_numbered, location}
 use Rattle.model_core.specs.Static.Meanings.{Meaning}
 use Rattle.model_core.specs.Static.RuleTable.{value_count, too_many}
 use Rattle.model_core.specs.Static.PartFaults.{target_place, target_kind, target_faults, values_faults, change_faults}
-use Rattle.model_core.specs.Inner.FormatReader.{took}
-use Rattle.model_core.specs.Inner.LanguageReader.{language_reader}
+use Rattle.text_laws.specs.FormatReader.{took}
+use Rattle.text_laws.specs.LanguageReader.{language_reader}
 use Rattle.model_core.proofs.EmptyLists.{left_empty, right_empty}
-use Rattle.model_core.proofs.StaticTwins.RowTwins.{same_count, few}
-use Rattle.model_core.proofs.StaticTwins.Twins.{both_empty}
+use Rattle.static_laws.proofs.StaticTwins.RowTwins.{same_count, few}
+use Rattle.static_laws.proofs.StaticTwins.Twins.{both_empty}
 use Rattle.sig_types.specs.Inner.Checked.{NumberedAs}
 use Rattle.one_pass.specs.Inner.ReadParts.{ReadSure}
 use Rattle.one_pass.specs.Inner.ReadRows.{AllAre, ReadRow}

@@ -9,7 +9,7 @@ use Rattle.model_core.specs.Static.Meanings.{Meaning}
 use Rattle.model_core.specs.Static.Kinds.{operand_kind, result_kind, right_operand_kind, expression_kind}
 use Rattle.model_core.specs.Static.RuleTable.{kind_mismatch}
 use Rattle.model_core.specs.Static.PartFaults.{expression_faults, kind_faults}
-use Rattle.model_core.proofs.StaticTwins.Twins.{both_empty}
+use Rattle.static_laws.proofs.StaticTwins.Twins.{both_empty}
 use Rattle.one_pass.specs.Inner.ReadOperands.{IsOperand}
 
 module _ (means : List ℕ → Option Meaning) where

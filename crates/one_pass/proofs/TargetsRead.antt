@@ -14,10 +14,10 @@ use Rattle.model_core.specs.Static.Meanings.{Meaning}
 use Rattle.model_core.specs.Static.Kinds.{kind_in_role}
 use Rattle.model_core.specs.Static.RuleTable.{kind_mismatch}
 use Rattle.model_core.specs.Static.PartFaults.{use_faults, operand_faults}
-use Rattle.model_core.specs.Inner.FirstTokens.{begins_as}
-use Rattle.model_core.specs.Inner.FormatReader.{took}
-use Rattle.model_core.specs.Inner.LanguageReader.{language_reader}
-use Rattle.model_core.proofs.StaticTwins.Twins.{both_empty}
+use Rattle.text_laws.specs.FirstTokens.{begins_as}
+use Rattle.text_laws.specs.FormatReader.{took}
+use Rattle.text_laws.specs.LanguageReader.{language_reader}
+use Rattle.static_laws.proofs.StaticTwins.Twins.{both_empty}
 use Rattle.sig_types.specs.Inner.Checked.{NumberedAs}
 use Rattle.sig_types.specs.Inner.Seen.{variable_role}
 use Rattle.one_pass.specs.Inner.ReadOperands.{ReadOperand}

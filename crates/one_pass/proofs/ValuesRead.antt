@@ -12,12 +12,12 @@ use Rattle.model_core.specs.Text.Numbering.{each_numbered, expression}
 use Rattle.model_core.specs.Static.Meanings.{Meaning}
 use Rattle.model_core.specs.Static.RuleTable.{value_count}
 use Rattle.model_core.specs.Static.PartFaults.{expression_faults, kind_faults, operand_faults, values_faults}
-use Rattle.model_core.specs.Inner.FirstTokens.{begins_as}
-use Rattle.model_core.specs.Inner.FormatReader.{took}
-use Rattle.model_core.specs.Inner.LanguageReader.{language_reader}
+use Rattle.text_laws.specs.FirstTokens.{begins_as}
+use Rattle.text_laws.specs.FormatReader.{took}
+use Rattle.text_laws.specs.LanguageReader.{language_reader}
 use Rattle.model_core.proofs.EmptyLists.{left_empty, right_empty}
-use Rattle.model_core.proofs.StaticTwins.RowTwins.{same_count}
-use Rattle.model_core.proofs.StaticTwins.Twins.{both_empty}
+use Rattle.static_laws.proofs.StaticTwins.RowTwins.{same_count}
+use Rattle.static_laws.proofs.StaticTwins.Twins.{both_empty}
 use Rattle.model_read.specs.ReadCalls.{with_front}
 use Rattle.model_read.proofs.ReadLoop.{begins-one, goes_on, is_done, front-none}
 use Rattle.sig_types.specs.Inner.Checked.{NumberedAs}

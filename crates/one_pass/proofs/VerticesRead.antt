@@ -16,13 +16,13 @@ use Rattle.model_core.specs.Static.FaultOrder.{StaticFault, earliest_fault}
 use Rattle.model_core.specs.Static.Meanings.{Meaning}
 use Rattle.model_core.specs.Static.RuleTable.{name_too_long, too_many}
 use Rattle.model_core.specs.Static.PartFaults.{written_items, change_place, edge_place, change_faults, edge_faults, parameters_faults, vertex_faults}
-use Rattle.model_core.specs.Inner.FormatReader.{took}
-use Rattle.model_core.specs.Inner.LanguageReader.{language_reader}
+use Rattle.text_laws.specs.FormatReader.{took}
+use Rattle.text_laws.specs.LanguageReader.{language_reader}
 use Rattle.model_read.specs.Beginnings.{with_body, vertex_beginning}
 use Rattle.model_read.specs.Inner.SomeTokens.{vertex-some}
 use Rattle.sig_types.specs.Inner.Checked.{NumberedAs, CheckedPart}
 use Rattle.model_core.proofs.EmptyLists.{left_empty, right_empty}
-use Rattle.model_core.proofs.ToldFaults.{none_told}
+use Rattle.static_laws.proofs.ToldFaults.{none_told}
 use Rattle.sig_types.proofs.Checks.{told_both}
 use Rattle.sig_types.proofs.VertexParts.{vertex_checked}
 use Rattle.one_pass.specs.Inner.ReadParts.{ReadParts, ReadBody, ReadVertex, ReadVertices, BeginAlike, AllBeginAlike}

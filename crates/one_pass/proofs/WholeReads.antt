@@ -8,10 +8,10 @@ use Rattle.model_core.specs.Text.Written.{WrittenChange, WrittenEdge, WrittenVer
 use Rattle.model_core.specs.Text.Format.{TokenSort, Many, reserved, mark, at_least_one, ◌<*>◌, ◌<*◌}
 use Rattle.model_core.specs.Text.Expressions.{LanguageFormat}
 use Rattle.model_core.specs.Text.Language.{change_format, edge_format, vertex_format, text_format}
-use Rattle.model_core.specs.Inner.FirstTokens.{nullable, first_sorts, begins_among}
-use Rattle.model_core.specs.Inner.FormatReader.{Parse, took, stuck, and_next, whole_read}
-use Rattle.model_core.specs.Inner.LanguageReader.{level_lookahead, language_reader, text_and_rest, text_read}
-use Rattle.model_core.proofs.Formats.ManyLaws.{repeated-is, one_more, one_more-ok, one_more-err}
+use Rattle.text_laws.specs.FirstTokens.{nullable, first_sorts, begins_among}
+use Rattle.text_laws.specs.FormatReader.{Parse, took, stuck, and_next, whole_read}
+use Rattle.text_laws.specs.LanguageReader.{level_lookahead, language_reader, text_and_rest, text_read}
+use Rattle.text_laws.proofs.Formats.ManyLaws.{repeated-is, one_more, one_more-ok, one_more-err}
 use Rattle.model_read.specs.Beginnings.{with_body, with_vertices, vertex_beginning, model_beginning}
 use Rattle.model_read.proofs.ReadLoop.{shorter}
 

@@ -21,8 +21,8 @@ use crate::not_read::NotRead;
 use crate::refusing::refuse_told;
 use crate::values::value;
 use model_core::{Edge, EdgeForm, Expr, Kind, RawEdge, RawNumber, StaticKind, Symbol, Word};
-use model_read::{Cursor, Held, Phrase};
-use sig_base::List;
+use model_read::{Cursor, Phrase};
+use sig_base::{Held, List};
 use sig_types::{Names, Told, bounded};
 use std::alloc::Global;
 

@@ -14,7 +14,7 @@ ghost use Rattle.model_core.specs.Static.Kinds.{kind_in_role};
 ghost use Rattle.model_core.specs.Static.Kinds as kinds;
 ghost use Rattle.model_core.specs.Static.RuleTable.{kind_mismatch};
 ghost use Rattle.model_core.specs.Static.PartFaults.{use_faults};
-ghost use Rattle.model_core.specs.Inner.LanguageReader.{language_reader};
+ghost use Rattle.text_laws.specs.LanguageReader.{language_reader};
 ghost use Rattle.model_read.specs.Inner.Ladder.{operand_level, if_format, not_format, negative_format, named_format};
 ghost use Rattle.model_read.specs.Inner.Spelled.{spelled_name};
 ghost use Rattle.sig_types.specs.Inner.Checked.{NumberedAs};

@@ -12,8 +12,8 @@ ghost use Rattle.model_core.specs.Text.Numbering as numbering;
 ghost use Rattle.model_core.specs.Static.FaultOrder.{StaticFault};
 ghost use Rattle.model_core.specs.Static.Meanings.{Meaning, meaning_of};
 ghost use Rattle.model_core.specs.Static.PartFaults.{change_faults, edge_faults};
-ghost use Rattle.model_core.specs.Inner.FirstTokens.{nullable, first_sorts, begins_among};
-ghost use Rattle.model_core.specs.Inner.LanguageReader.{level_lookahead};
+ghost use Rattle.text_laws.specs.FirstTokens.{nullable, first_sorts, begins_among};
+ghost use Rattle.text_laws.specs.LanguageReader.{level_lookahead};
 ghost use Rattle.model_read.specs.Inner.SomeTokens.{change-some, edge-some};
 ghost use Rattle.one_pass.specs.Inner.ReadParts.{ReadSure, ReadParts};
 

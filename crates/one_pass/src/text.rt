@@ -12,8 +12,8 @@ ghost use Rattle.model_core.specs.Static.FaultOrder.{StaticFault, earliest_fault
 ghost use Rattle.model_core.specs.Static.Meanings.{AsWatched, meaning_of};
 ghost use Rattle.model_core.specs.Static.PartFaults.{use_faults, repeated_names, kinds_taken};
 ghost use Rattle.model_core.specs.Static.ModelFaults.{model_meaning};
-ghost use Rattle.model_core.specs.Inner.FormatReader.{took};
-ghost use Rattle.model_core.specs.Inner.LanguageReader.{language_reader};
+ghost use Rattle.text_laws.specs.FormatReader.{took};
+ghost use Rattle.text_laws.specs.LanguageReader.{language_reader};
 ghost use Rattle.model_lex.specs.Lexemes.{lexemes};
 ghost use Rattle.model_read.specs.Beginnings.{with_vertices, model_beginning};
 ghost use Rattle.sig_types.specs.Inner.Checked.{CheckedPart};

@@ -195,8 +195,8 @@ fn through_reader(alloc: Global, bytes: &[u8]) -> Result<Text, TakeError>
 
 /// The bytes, through a writer of std.
 fn through_writer(sink: &mut StdSink<Vec<u8>>, bytes: &[u8]) -> Result<(), Failed>
-    ensures { OnOk result (⟦<StdSink<Vec<u8>> as Sink>⟧.written sink.old ≡ Some []
-        → ⟦<StdSink<Vec<u8>> as Sink>⟧.written sink.new ≡ Some bytes.now) }
+    ensures { OnOk result ((⟦<StdSink<Vec<u8>> as Sink>⟧.seen sink.old).written ≡ Some []
+        → (⟦<StdSink<Vec<u8>> as Sink>⟧.seen sink.new).written ≡ Some bytes.now) }
 {
     put(sink, bytes)
 }

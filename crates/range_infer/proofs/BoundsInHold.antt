@@ -9,10 +9,10 @@ use Rattle.model_core.specs.Static.HasKind.{HasKind}
 use Rattle.model_core.specs.Rules.BoundsOf.{bounds_under}
 use Rattle.model_core.specs.Rules.BoundsHold.{NumberIn, TruthIn}
 use Rattle.model_core.specs.Rules.RangesHold.{LikeDeclared, LiesWithin, TruthsAreDeclared, GuardHolds}
-use Rattle.model_core.proofs.Soundness.Promise.{BoundsHold}
-use Rattle.model_core.proofs.Soundness.BoundedExpressions.{sound}
-use Rattle.model_core.proofs.Soundness.DeclaredRanges.{declared_hold, declared_alike, declared_sound}
-use Rattle.model_core.proofs.Soundness.TruthEnds.{within_ends}
+use Rattle.bound_laws.proofs.Soundness.Promise.{BoundsHold}
+use Rattle.bound_laws.proofs.Soundness.BoundedExpressions.{sound}
+use Rattle.bound_laws.proofs.Soundness.DeclaredRanges.{declared_hold, declared_alike, declared_sound}
+use Rattle.bound_laws.proofs.Soundness.TruthEnds.{within_ends}
 use Rattle.model_core.specs.Ranges.Refined.{refined}
 use Rattle.range_infer.proofs.Refining.{refined-guard}
 

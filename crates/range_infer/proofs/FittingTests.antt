@@ -8,8 +8,8 @@ use Rattle.model_core.specs.declared.model.Var.{Var}
 use Rattle.model_core.specs.EventGraph.{EventGraph, Variable}
 use Rattle.model_core.specs.Run.State.{no_variable, variable_at}
 use Rattle.model_core.specs.Code.Views.{variable_of}
-use Rattle.model_core.proofs.InRange.{and_first, and_second}
-use Rattle.model_core.proofs.Soundness.Ends.{le_of, of_le}
+use Rattle.model_core.proofs.BothTrue.{and_first, and_second}
+use Rattle.bound_laws.proofs.Soundness.Ends.{le_of, of_le}
 use Rattle.model_core.specs.declared.var_range.VarRange.{VarRange}
 use Rattle.model_core.specs.Ranges.OtherRanges.{declared_range}
 use Rattle.model_core.specs.Ranges.Inductive.{is_fixed, Encloses, FitsVariable}

@@ -6,7 +6,7 @@ use Rattle.std.proofs.lemmas.Int.{ints, clamps}
 use Rattle.model_core.specs.EventGraph.{Operator, Equal, NotEqual, Below, AtMost, Above, AtLeast}
 use Rattle.model_core.specs.Run.Value.{number_of}
 use Rattle.model_core.specs.Rules.Exclusive.{compares, is_comparison}
-use Rattle.model_core.proofs.Soundness.Ends.{of_le, of_lt}
+use Rattle.bound_laws.proofs.Soundness.Ends.{of_le, of_lt}
 use Rattle.model_core.specs.declared.var_range.VarRange.{VarRange}
 use Rattle.model_core.specs.Ranges.OtherRanges.{LiesIn}
 use Rattle.model_core.specs.Ranges.Refined.{numbers_left}

@@ -12,8 +12,8 @@ use Rattle.model_core.specs.Static.OwnRules.{KeepsVariable, KeepsChange, KeepsEd
 use Rattle.model_core.specs.Rules.BoundsOfParts.{is_truth_kind}
 use Rattle.model_core.proofs.Among.{Among, first_true, second_true, among-any}
 use Rattle.model_core.proofs.EachOne.{every-front, every-behind, every-flat_map, every-both}
-use Rattle.model_core.proofs.InRange.{starts_in_range}
-use Rattle.model_core.proofs.Soundness.Ends.{of_le}
+use Rattle.run_laws.proofs.InRange.{starts_in_range}
+use Rattle.bound_laws.proofs.Soundness.Ends.{of_le}
 use Rattle.model_core.specs.Rules.RangesHold.{ZeroToOne, TruthsAreDeclared}
 use Rattle.model_core.specs.declared.incoming.Incoming.{Incoming}
 use Rattle.model_core.specs.declared.var_range.VarRange.{VarRange}
@@ -21,7 +21,7 @@ use Rattle.model_core.specs.Ranges.OtherRanges.{LiesIn, declared_range, with_ran
 use Rattle.model_core.specs.Ranges.Incoming.{into_change, into_edge, into_vertex}
 use Rattle.model_core.specs.Ranges.Inductive.{is_fixed, Encloses, FitsVariable, Fitting, HoldsIncoming, Inductive}
 use Rattle.range_infer.proofs.ModelWithRanges.{range_given}
-use Rattle.model_core.proofs.Soundness.TruthEnds.{truths_declared}
+use Rattle.bound_laws.proofs.Soundness.TruthEnds.{truths_declared}
 
 -- ---- variables
 

@@ -15,11 +15,11 @@ use Rattle.model_core.specs.Run.Same.{Same, thing, VariableNamed, Parameter, par
 use Rattle.model_core.specs.Static.OwnRules.{KeepsParts}
 use Rattle.model_core.proofs.Alongside.{Alongside, both_go, both_fail, alongside-equal, alongside-known, bind-alongside, in_turn-alongside}
 use Rattle.model_core.proofs.Among.{Among}
-use Rattle.model_core.proofs.InRange.{in_range-kept}
-use Rattle.model_core.proofs.Keeping.{received}
-use Rattle.model_core.proofs.MappedPending.{taken_off_mapped, next_among-every}
-use Rattle.model_core.proofs.EdgesAlike.{unchanged, taken_off-unchanged, configuration-unchanged}
-use Rattle.model_core.proofs.LockStep.{configuration_mapped, Follows, follows-looks}
+use Rattle.run_laws.proofs.InRange.{in_range-kept}
+use Rattle.run_laws.proofs.Keeping.{received}
+use Rattle.run_laws.proofs.MappedPending.{taken_off_mapped, next_among-every}
+use Rattle.run_laws.proofs.EdgesAlike.{unchanged, taken_off-unchanged, configuration-unchanged}
+use Rattle.run_laws.proofs.LockStep.{configuration_mapped, Follows, follows-looks}
 use Rattle.model_core.specs.declared.var_range.VarRange.{VarRange}
 use Rattle.model_core.specs.Ranges.OtherRanges.{with_range, model_with_ranges}
 use Rattle.model_core.specs.Ranges.Inductive.{is_fixed, Fitting, Inductive}

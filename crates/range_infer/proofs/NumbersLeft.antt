@@ -7,7 +7,7 @@ use Rattle.model_core.specs.EventGraph.{EventGraph, Expression, Number, Negative
 use Rattle.model_core.specs.Run.State.{State, within}
 use Rattle.model_core.specs.Run.Value.{number_of, exact, operate, value_of}
 use Rattle.model_core.specs.Rules.Exclusive.{number_literal, literal_number}
-use Rattle.model_core.proofs.Soundness.Ends.{le_of, lt_of, of_not_lt, of_not_le}
+use Rattle.bound_laws.proofs.Soundness.Ends.{le_of, lt_of, of_not_lt, of_not_le}
 use Rattle.model_core.specs.declared.var_range.VarRange.{VarRange}
 use Rattle.model_core.specs.Ranges.OtherRanges.{LiesIn}
 use Rattle.model_core.specs.Ranges.Refined.{numbers_left, opposite_comparison}

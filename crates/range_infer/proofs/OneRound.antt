@@ -13,7 +13,7 @@ use Rattle.model_core.specs.Run.State.{no_variable, variable_at}
 use Rattle.model_core.specs.Static.OwnRules.{KeepsVariable}
 use Rattle.sig_base.proofs.Lists.{every-always}
 use Rattle.model_core.proofs.EachOne.{every-map}
-use Rattle.model_core.proofs.Soundness.Ends.{of_not_lt}
+use Rattle.bound_laws.proofs.Soundness.Ends.{of_not_lt}
 use Rattle.model_core.specs.declared.incoming.Incoming.{Incoming}
 use Rattle.model_core.specs.declared.var_range.VarRange.{VarRange}
 use Rattle.model_core.specs.Ranges.OtherRanges.{LiesIn, declared_range, no_range, range_at}

@@ -4,7 +4,7 @@ use Rattle.std.specs.Ordering.{int_eq}
 use Rattle.std.proofs.lemmas.Int.{ints}
 use Rattle.model_core.specs.EventGraph.{EventGraph, Variable}
 use Rattle.model_core.specs.Run.State.{no_variable, variable_at}
-use Rattle.model_core.proofs.Soundness.Ends.{of_not_lt}
+use Rattle.bound_laws.proofs.Soundness.Ends.{of_not_lt}
 use Rattle.model_core.specs.declared.incoming.Incoming.{Incoming}
 use Rattle.model_core.specs.declared.var_range.VarRange.{VarRange}
 use Rattle.model_core.specs.Ranges.OtherRanges.{declared_range, range_at}

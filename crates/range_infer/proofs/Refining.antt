@@ -13,7 +13,7 @@ use Rattle.model_core.specs.Rules.BoundsOf.{ranged_at}
 use Rattle.model_core.specs.Rules.BoundsOfParts.{is_truth_kind}
 use Rattle.model_core.specs.Rules.Exclusive.{literal_number}
 use Rattle.model_core.proofs.Results.{bind_ok}
-use Rattle.model_core.proofs.InRange.{and_first, and_second}
+use Rattle.model_core.proofs.BothTrue.{and_first, and_second}
 use Rattle.model_core.specs.Rules.RangesHold.{LikeDeclared, ZeroToOne, LiesWithin, GuardHolds}
 use Rattle.model_core.specs.declared.var_range.VarRange.{VarRange}
 use Rattle.model_core.specs.Ranges.OtherRanges.{LiesIn, declared_range, with_range}

@@ -13,15 +13,15 @@ use Rattle.model_core.specs.Rules.BoundsOf.{bounds_under}
 use Rattle.model_core.specs.Rules.BoundsOfParts.{choice_bounds}
 use Rattle.model_core.specs.Rules.BoundsHold.{NumberIn}
 use Rattle.model_core.proofs.Results.{bind_ok, bind_same}
-use Rattle.model_core.proofs.PlaceVariables.{place-variable}
-use Rattle.model_core.proofs.Soundness.DrawnValues.{word_small, choice_in}
+use Rattle.run_laws.proofs.PlaceVariables.{place-variable}
+use Rattle.bound_laws.proofs.Soundness.DrawnValues.{word_small, choice_in}
 use Rattle.model_core.specs.declared.var_range.VarRange.{VarRange}
 use Rattle.model_core.specs.Ranges.OtherRanges.{model_with_ranges}
 use Rattle.model_core.specs.Ranges.Refined.{refined}
 use Rattle.model_core.specs.Ranges.Incoming.{assigned, into_change}
 use Rattle.model_core.specs.Ranges.Inductive.{Fitting, HoldsIncoming}
 use Rattle.range_infer.proofs.ModelWithRanges.{has_kind, same_value, same_place}
-use Rattle.model_core.proofs.Soundness.DeclaredRanges.{declared_alike, declared_hold}
+use Rattle.bound_laws.proofs.Soundness.DeclaredRanges.{declared_alike, declared_hold}
 use Rattle.range_infer.proofs.BoundsInHold.{between}
 use Rattle.range_infer.proofs.NarrowModels.{truths_redeclared, ChangeKnown}
 use Rattle.range_infer.proofs.SameStores.{StoreFits, same_store, same_stores, in_bounds_fits, values_fit}

@@ -16,7 +16,7 @@ use Rattle.model_core.specs.Rules.BoundsOf.{bounds_under}
 use Rattle.model_core.specs.Rules.BoundsHold.{NumberIn}
 use Rattle.model_core.proofs.Results.{bind_ok}
 use Rattle.model_core.proofs.EachOne.{every-append}
-use Rattle.model_core.proofs.MappedPending.{without_next-every, without_all-every}
+use Rattle.run_laws.proofs.MappedPending.{without_next-every, without_all-every}
 use Rattle.model_core.specs.Rules.RangesHold.{TruthsAreDeclared}
 use Rattle.model_core.specs.declared.var_range.VarRange.{VarRange}
 use Rattle.model_core.specs.Ranges.OtherRanges.{model_with_ranges}

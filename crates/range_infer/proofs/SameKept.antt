@@ -10,7 +10,7 @@ use Rattle.model_core.specs.Run.State.{within}
 use Rattle.model_core.specs.Run.Value.{OrFault}
 use Rattle.model_core.specs.Run.Changes.{kept}
 use Rattle.model_core.specs.Rules.BoundsHold.{NumberIn}
-use Rattle.model_core.proofs.Soundness.Ends.{le_of, lt_of, of_not_lt, of_not_le}
+use Rattle.bound_laws.proofs.Soundness.Ends.{le_of, lt_of, of_not_lt, of_not_le}
 use Rattle.model_core.specs.declared.var_range.VarRange.{VarRange}
 use Rattle.model_core.specs.Ranges.OtherRanges.{LiesIn, declared_range, with_range}
 use Rattle.model_core.specs.Ranges.Incoming.{nearest_declared, overlap, kept_range}

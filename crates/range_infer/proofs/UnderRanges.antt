@@ -7,13 +7,13 @@ use Rattle.model_core.specs.Run.State.{State, in_range}
 use Rattle.model_core.specs.Run.Value.{value_of}
 use Rattle.model_core.specs.Static.HasKind.{HasKind}
 use Rattle.model_core.specs.Static.OwnRules.{KeepsVariable}
-use Rattle.model_core.proofs.Soundness.Promise.{BoundsHold}
+use Rattle.bound_laws.proofs.Soundness.Promise.{BoundsHold}
 use Rattle.model_core.specs.declared.var_range.VarRange.{VarRange}
 use Rattle.model_core.specs.Ranges.OtherRanges.{model_with_ranges}
 use Rattle.model_core.specs.Ranges.BoundsIn.{bounds_in}
 use Rattle.model_core.specs.Ranges.Inductive.{Fitting}
 use Rattle.range_infer.proofs.ModelWithRanges.{has_kind, same_value}
-use Rattle.model_core.proofs.Soundness.DeclaredRanges.{declared_alike, declared_hold}
+use Rattle.bound_laws.proofs.Soundness.DeclaredRanges.{declared_alike, declared_hold}
 use Rattle.range_infer.proofs.BoundsInHold.{guarded_sound}
 use Rattle.range_infer.proofs.NarrowModels.{truths_redeclared}
 

@@ -19,7 +19,7 @@ use Rattle.model_core.specs.Rules.Merge.{merge_conditions, merged, merge_at, fir
 use Rattle.model_core.specs.Rules.Needed.{needed_at_once, needed_beside, needed_marks, unneeded}
 use Rattle.model_core.specs.Rules.Slice.{slice_conditions, sliced}
 use Rattle.model_core.specs.Rules.Reduction.{RuleApplication, Prune, Settle, Drop, Merge, Slice, place_of_vertex, vertices_named, two_vertices_named, variables_named, unless_failed, applied, at_edge, drop_of, merge_of, slice_of, first_given, first_rule}
-use Rattle.model_core.proofs.EntailedMarks.{entailed_marks-long}
+use Rattle.mark_laws.proofs.EntailedMarks.{entailed_marks-long}
 use Rattle.edge_pruning.proofs.ReachedMarks.{reached_marks-long}
 use Rattle.merge_rules.proofs.MergeHolds.{conditions_hold}
 use Rattle.reducer.specs.Inner.LaterRules.{NoEdgeRule, Made}

@@ -7,7 +7,7 @@ use Rattle.model_core.specs.EventGraph.{EventGraph, EventVertex, Variable, Weigh
 use Rattle.model_core.specs.Text.Lexing.{same_bytes}
 use Rattle.model_core.specs.Text.Numbering.{declared_place, each_numbered}
 use Rattle.model_core.specs.Static.Reading.{IsValid}
-use Rattle.model_core.proofs.StaticTwins.ModelTwin.{accepted_by_itself}
+use Rattle.static_laws.proofs.StaticTwins.ModelTwin.{accepted_by_itself}
 
 -- ---- names of their own
 

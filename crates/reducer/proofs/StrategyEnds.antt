@@ -19,8 +19,8 @@ use Rattle.model_core.specs.Rules.Merge.{merge_conditions, merged_with, merged, 
 use Rattle.model_core.specs.Rules.Needed.{needed_at_once, needed_beside, needed_marks, unneeded}
 use Rattle.model_core.specs.Rules.Slice.{slice_conditions, expression_renumbered, kind_left, edge_left, vertex_left, sliced}
 use Rattle.model_core.specs.Rules.Reduction.{RuleApplication, applied, drop_of, merge_of, first_rule, Strategy}
-use Rattle.model_core.proofs.EntailedMarks.{entailed_marks-long}
-use Rattle.model_core.proofs.StayingMarks.{staying-unmarked, exactly-equal}
+use Rattle.mark_laws.proofs.EntailedMarks.{entailed_marks-long}
+use Rattle.mark_laws.proofs.StayingMarks.{staying-unmarked, exactly-equal}
 use Rattle.edge_pruning.proofs.ReachedMarks.{reached_marks-long}
 use Rattle.merge_rules.proofs.MergeHolds.{every-holds, conditions_hold}
 use Rattle.merge_rules.proofs.MergeResult.{joined_is}

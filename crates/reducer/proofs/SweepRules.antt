@@ -12,7 +12,7 @@ use Rattle.model_core.specs.Rules.PlacedEdges.{edge_at, with_place, first_edge}
 use Rattle.model_core.specs.Rules.Prune.{has_refuted_condition, prune_conditions, without_edge, pruned}
 use Rattle.model_core.specs.Rules.Settle.{is_conditional, has_proved_condition, settle_conditions, unconditional, with_settled, settled, can_be_settled, first_settle}
 use Rattle.model_core.specs.Rules.Reduction.{RuleApplication, Prune, Settle, place_of_vertex, from_zero, edge_named, unless_failed, applied, at_edge, first_rule}
-use Rattle.model_core.proofs.EdgesAlike.{with_vertices}
+use Rattle.run_laws.proofs.EdgesAlike.{with_vertices}
 use Rattle.model_core.proofs.EachOne.{every-joined, every-front, every-behind}
 use Rattle.model_core.proofs.NoEdgePasses.{NoneOf, NoneIn, first_edge-none}
 use Rattle.edge_pruning.specs.declared.finding.EdgeRule.{EdgeRule}

@@ -6,7 +6,7 @@ use Rattle.model_core.specs.Static.Reading.{IsValid}
 use Rattle.model_core.specs.Rules.Prune.{has_refuted_condition}
 use Rattle.model_core.specs.Rules.Settle.{can_be_settled}
 use Rattle.model_core.specs.Rules.Reduction.{RuleApplication, applied, Chain, Strategy}
-use Rattle.model_core.proofs.EdgesAlike.{with_vertices}
+use Rattle.run_laws.proofs.EdgesAlike.{with_vertices}
 use Rattle.model_core.proofs.NoEdgePasses.{first_edge-none}
 use Rattle.edge_pruning.specs.declared.finding.EdgeRule.TheVariants as rules
 use Rattle.reducer.specs.Inner.Sweep.{swept_vertex, applied_to_all}

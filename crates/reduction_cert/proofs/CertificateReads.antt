@@ -7,11 +7,11 @@ use Rattle.model_core.specs.Text.Lexing.{Lexeme}
 use Rattle.model_core.specs.Text.Format.{AName, Many}
 use Rattle.model_core.specs.Text.CertificateText.{plain_name_format, prune_format, settle_format, drop_format, merge_format, slice_format, application_format, certificate_format, IsCertificate, IsNoCertificateAt}
 use Rattle.model_core.specs.Code.Views.{application_of}
-use Rattle.model_core.specs.Inner.FirstTokens.{nullable, first_sorts, begins_as, begins_among}
-use Rattle.model_core.specs.Inner.FormatReader.{Parse, took, and_next, whole_read}
-use Rattle.model_core.specs.Inner.LanguageReader.{level_lookahead, language_reader}
-use Rattle.model_core.proofs.Formats.OneTokenDecides.{certificate-fine}
-use Rattle.model_core.proofs.Formats.TextLaws.{all-is_spelled, all-is_wrong}
+use Rattle.text_laws.specs.FirstTokens.{nullable, first_sorts, begins_as, begins_among}
+use Rattle.text_laws.specs.FormatReader.{Parse, took, and_next, whole_read}
+use Rattle.text_laws.specs.LanguageReader.{level_lookahead, language_reader}
+use Rattle.text_laws.proofs.Formats.OneTokenDecides.{certificate-fine}
+use Rattle.text_laws.proofs.Formats.TextLaws.{all-is_spelled, all-is_wrong}
 use Rattle.model_lex.specs.declared.parse_error.ParseError.{ParseError}
 use Rattle.model_lex.specs.declared.parse_error.ParseError.TheVariants as errors
 use Rattle.model_read.specs.declared.stop.Stop.{Stop}

@@ -11,7 +11,7 @@ use Rattle.model_core.specs.Rules.Drop.{drop_conditions, dropped}
 use Rattle.model_core.specs.Rules.Merge.{merge_conditions, merged}
 use Rattle.model_core.specs.Rules.Slice.{slice_conditions, sliced}
 use Rattle.model_core.specs.Rules.Reduction.{RuleApplication, Prune, Settle, Drop, Merge, Slice, edge_named, vertices_named, two_vertices_named, variables_named, failed_condition, result_of, unless_failed, applied, Chain, first_bad}
-use Rattle.model_core.proofs.SameLaws.{same_refl, same_trans}
+use Rattle.run_laws.proofs.SameLaws.{same_refl, same_trans}
 
 -- ---- one application
 

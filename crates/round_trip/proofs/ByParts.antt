@@ -10,7 +10,7 @@ use Rattle.model_core.specs.Text.Canonical.{canonical}
 use Rattle.model_core.specs.Text.Spellable.{IsSpellable, ReadsBack, BeginsAsWritten}
 use Rattle.model_core.specs.Static.OwnRules.{FitsKind, KeepsVariable, KeepsStaticRules}
 use Rattle.model_core.specs.Static.Reading.{Reads, IsValid}
-use Rattle.model_core.proofs.StaticTwins.ModelTwin.{accepted_by_itself}
+use Rattle.static_laws.proofs.StaticTwins.ModelTwin.{accepted_by_itself}
 use Rattle.round_trip.proofs.ModelTold.{spelled-spellable}
 use Rattle.round_trip.proofs.CanonicalSpells.{canonical-spells}
 

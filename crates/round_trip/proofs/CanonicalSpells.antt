@@ -13,7 +13,7 @@ use Rattle.model_core.specs.Text.Spellable.{extent, IsSpellable, ReadsBack, Spel
 use Rattle.model_core.specs.Static.WrittenByKind.{IsWrittenByKind, VariablesByKind}
 use Rattle.model_core.specs.Text.Language.{text_format}
 use Rattle.model_core.specs.Text.ModelText.{SpellsText}
-use Rattle.model_core.proofs.OpeningLaws.{deep-is_counted, none-is_few}
+use Rattle.text_laws.proofs.OpeningLaws.{deep-is_counted, none-is_few}
 use Rattle.round_trip.proofs.TokenSteps.{Lexes-nil, Lexes-text, tokens_from_Lexes}
 use Rattle.round_trip.proofs.Writing.{Writes, Any, Takes, takes, writes-then, writes-made, writes-before, blank_behind, feed_behind}
 use Rattle.round_trip.proofs.OneToken.{a_word, writes-name, semicolon_text}

@@ -12,7 +12,7 @@ use Rattle.model_core.specs.Text.Format.{ByRule, by_rule, nested, Spells}
 use Rattle.model_core.specs.Text.Expressions.{Level, Whole, Disjunction, Conjunction, Negation, Comparison, Sum, Product, Unary, Primary, LanguageFormat, level_format, moved, joining, grouped, compared, right_side, chain, word_for, comparing, adding, multiplying, comparison_format}
 use Rattle.model_core.specs.EventGraph.{And, Or}
 use Rattle.model_core.specs.declared.token.Word.TheVariants as words
-use Rattle.model_core.proofs.Formats.RuleNesting.{Into, derives-into}
+use Rattle.text_laws.proofs.Formats.RuleNesting.{Into, derives-into}
 use Rattle.round_trip.proofs.TokenSteps.{Lexes-at, Lexes-text}
 use Rattle.round_trip.proofs.LongestTokens.{Ends}
 use Rattle.round_trip.proofs.Writing.{Writes, Any, takes, Takes, writes-then, writes-made, writes-before, writes-text, writes-room, writes-left, writes-right, writes-some, writes-nothing, writes-none, writes-rule}

@@ -16,7 +16,7 @@ use Rattle.model_core.specs.Text.Lexing.{Lexeme, LexemeKind, NameOf, Reserved, N
 use Rattle.model_core.specs.Text.Openings.{ends_part, is_opening}
 use Rattle.model_core.specs.Text.Format.{Single, TokenSort, AName, ANumber, AWord, ASymbol, sort_of, mark, reserved, any_name, any_number}
 use Rattle.model_core.specs.Text.Spellable.{IsName}
-use Rattle.model_core.specs.Inner.OpeningCount.{deep_from}
+use Rattle.text_laws.specs.OpeningCount.{deep_from}
 use Rattle.round_trip.proofs.TokenSteps.{Lexes-token, token}
 use Rattle.round_trip.proofs.LongestTokens.{Ends, front_name, front_digits, front_word, take_while_word}
 use Rattle.round_trip.proofs.Writing.{Writes, Any}

@@ -16,7 +16,7 @@ use Rattle.model_core.specs.Text.Numbering.{each_numbered}
 use Rattle.model_core.specs.Text.Spellable.{IsName, HasOne, openings_together}
 use Rattle.model_core.specs.Text.Format.{TokenSort, AName, ANumber, AWord, ASymbol, sort_of, Yields, Single, Apply, Either, Many, derives, name_bytes, number_value, any_name, any_number, mark, reserved, ◌<*◌, ◌*>◌, maybe, at_least_one, separated}
 use Rattle.model_core.specs.Text.Expressions.{Level, LanguageFormat}
-use Rattle.model_core.specs.Inner.OpeningCount.{deep_from}
+use Rattle.text_laws.specs.OpeningCount.{deep_from}
 use Rattle.round_trip.proofs.TokensOfTexts.{GoodKind, GoodTokens, IsLiteral}
 
 -- tokens of a text, where its part may have so many more openings

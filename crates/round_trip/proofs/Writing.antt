@@ -6,8 +6,8 @@ use Rattle.model_core.specs.Text.Lexing.{Lexeme}
 use Rattle.model_core.specs.Text.Written.{WrittenExpression}
 use Rattle.model_core.specs.Text.Format.{Yields, Apply, Either, Many, ByRule, Spells, ◌<*◌, ◌*>◌, maybe}
 use Rattle.model_core.specs.Text.Expressions.{Level, LanguageFormat, level_format}
-use Rattle.model_core.specs.Inner.OpeningCount.{deep_from}
-use Rattle.model_core.proofs.Formats.RuleNesting.{by-format}
+use Rattle.text_laws.specs.OpeningCount.{deep_from}
+use Rattle.text_laws.proofs.Formats.RuleNesting.{by-format}
 use Rattle.round_trip.proofs.TokenSteps.{Lexes, Lexes-at, Lexes-text, Lexes-space, Lexes-feed}
 
 -- before any text

@@ -9,7 +9,7 @@ use Rattle.model_core.specs.EventGraph.{EventGraph, Variable, Watched, WatchedVa
 use Rattle.model_core.specs.Run.State.{State, cell_count, within, in_ranges, in_range}
 use Rattle.model_core.specs.Run.History.{watched_values}
 use Rattle.model_core.specs.Static.OwnRules.{IsWatchable}
-use Rattle.model_core.proofs.InRange.{and_first, and_second}
+use Rattle.model_core.proofs.BothTrue.{and_first, and_second}
 use Rattle.model_core.specs.Saved.Cells.{watched_sizes, in_one_list, cell_variables, variables_watched}
 
 -- values in range, a list for each variable

@@ -4,7 +4,7 @@ use Rattle.std.proofs.lemmas.List.{take_all, take_more_set, drop-drop, length-re
 use lib.Pointwise.{pointwise_long}
 use Rattle.model_core.specs.EventGraph.{Variable}
 use Rattle.model_core.specs.Run.State.{State, no_variable, cell_count, within, in_ranges}
-use Rattle.model_core.proofs.InRange.{and_first, and_second}
+use Rattle.model_core.proofs.BothTrue.{and_first, and_second}
 use Rattle.model_core.specs.Saved.Cells.{cut_up, cell_variables}
 
 -- values in the ranges of the first variables, and of those behind them

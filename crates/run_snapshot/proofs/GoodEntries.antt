@@ -15,9 +15,9 @@ use Rattle.model_core.specs.Static.HasKind.{HasKind}
 use Rattle.model_core.specs.Static.OwnRules.{FitsKind, KeepsVariable, CarriesValues, KeepsTiming, KeepsEdge, KeepsVertex, TakeCarried, parameters_of, KeepsParts}
 use Rattle.model_core.proofs.Results.{bind_ok}
 use Rattle.model_core.proofs.EachOne.{every-both, every-map}
-use Rattle.model_core.proofs.StaticTwins.Zips.{zip_length}
+use Rattle.static_laws.proofs.StaticTwins.Zips.{zip_length}
 use Rattle.model_core.specs.Rules.RangesHold.{TruthsAreDeclared, ZeroToOne}
-use Rattle.model_core.proofs.Soundness.DeclaredRanges.{declared_sound}
+use Rattle.bound_laws.proofs.Soundness.DeclaredRanges.{declared_sound}
 use Rattle.model_core.specs.Saved.SavedRun.{IsWide, IsGoodEntry}
 use Rattle.run_snapshot.proofs.WideValues.{WideRange, value-wide}
 use Rattle.run_snapshot.proofs.MadeEntries.{SchedulesOnly}

@@ -14,10 +14,11 @@ use Rattle.model_core.specs.Run.History.{Moment, Noting, leave, leave_for, next_
 use Rattle.model_core.specs.Text.Spellable.{IsSpellable, HasOne}
 use Rattle.model_core.specs.Static.OwnRules.{IsWatchable, KeepsVertex, parameters_of, KeepsParts}
 use Rattle.model_core.proofs.EachOne.{every-both, every-map}
-use Rattle.model_core.proofs.InRange.{and_first, and_second, replicate-get, in_range-kept}
-use Rattle.model_core.proofs.BeginsInRange.{kept_models_begin_in_range}
-use Rattle.model_core.proofs.Keeping.{occur-keeps}
-use Rattle.model_core.proofs.MappedPending.{next_among-every}
+use Rattle.model_core.proofs.BothTrue.{and_first, and_second}
+use Rattle.run_laws.proofs.InRange.{replicate-get, in_range-kept}
+use Rattle.bound_laws.proofs.BeginsInRange.{kept_models_begin_in_range}
+use Rattle.run_laws.proofs.Keeping.{occur-keeps}
+use Rattle.run_laws.proofs.MappedPending.{next_among-every}
 use Rattle.model_core.specs.Saved.Cells.{variables_watched}
 use Rattle.model_core.specs.Saved.SavedRun.{IsWide, IsGoodEntry}
 use Rattle.run_snapshot.proofs.CellLists.{each_in_range, watched-in_range}

@@ -14,7 +14,7 @@ use Rattle.model_core.specs.Saved.DueOrder.{Alike}
 use Rattle.model_core.specs.Saved.Resuming.{GoesOn, Resumes}
 use Rattle.run_snapshot.proofs.CellLists.{each_in_range, lengths-in_range, in_one_list-in_range, sizes-declared}
 use Rattle.model_core.specs.Saved.Cells.{watched_sizes, cut_up, in_one_list, cell_variables, variables_watched}
-use Rattle.model_core.proofs.CutUp.{cut_up-in_one_list}
+use Rattle.run_laws.proofs.CutUp.{cut_up-in_one_list}
 use Rattle.run_snapshot.proofs.InDueOrder.{due_order-sorted, due_order-again}
 use Rattle.run_snapshot.proofs.OnTime.{sorted-every}
 use Rattle.run_snapshot.proofs.GoodMoments.{IsSound}

@@ -14,8 +14,9 @@ use Rattle.model_core.specs.Text.Spellable.{SpellableExpression}
 use Rattle.model_core.specs.Static.HasKind.{FitOperands, HasKind}
 use Rattle.model_core.specs.Static.Kinds.{result_kind, operand_kind}
 use Rattle.model_core.proofs.Results.{bind_ok}
-use Rattle.model_core.proofs.InRange.{and_first, and_second, cells_lie_in_range}
-use Rattle.model_core.proofs.Soundness.Ends.{le_of}
+use Rattle.model_core.proofs.BothTrue.{and_first, and_second}
+use Rattle.run_laws.proofs.InRange.{cells_lie_in_range}
+use Rattle.bound_laws.proofs.Soundness.Ends.{le_of}
 use Rattle.model_core.specs.Saved.SavedRun.{IsWide}
 
 wide_as : {x y : ℤ} → x ≡ y → IsWide x → IsWide y

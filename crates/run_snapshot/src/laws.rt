@@ -10,7 +10,7 @@ ghost use Rattle.model_core.specs.Static.OwnRules.{KeepsStaticRules};
 ghost use Rattle.model_core.specs.Saved.DueOrder.{Alike};
 ghost use Rattle.model_core.specs.Saved.Resuming.{GoesOn, Resumes};
 
-use model_core::runs_go_on;
+use run_laws::runs_go_on;
 
 /// Of the order of scheduling only the order among events that are due alike counts.
 pub fn due_order_decides()

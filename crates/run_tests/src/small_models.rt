@@ -7,13 +7,14 @@ ghost use Rattle.model_core.specs.Static.OwnRules.{KeepsStaticRules};
 ghost use Rattle.model_core.specs.Code.Views.{graph_of};
 ghost use Rattle.model_core.specs.Code.WrittenViews.{written_model};
 
-use model_core::{Model, RawModel, accepted_models_keep_their_rules};
+use model_core::{Model, RawModel};
 use model_lex::{LexError, ParseError, tokens};
 use model_read::parse;
 use round_trip::spelled_models_are_spellable;
 use run_control::BeginError;
 use sig_base::NoMemory;
 use sig_types::{StaticError, check};
+use static_laws::accepted_models_keep_their_rules;
 use std::alloc::Global;
 
 /// Why a run can't be tried.

@@ -1,5 +1,12 @@
--- What writes do to the bytes that a sink has taken. `None` is a sink that doesn't tell them.
-use Rattle.std.specs.Prelude.{◌≡◌, ◌++◌, ℕ, List, Option, Some, IfSome}
+-- What is seen of a sink, and what writes do to the bytes that it has taken. `None` is a sink that doesn't tell them.
+use Rattle.std.specs.Prelude.{◌≡◌, ◌++◌, ℕ, Bool, List, Option, Some, IfSome}
+
+-- what is seen of a sink: the bytes that it has taken, where it tells them, the count of its failed calls, and whether all
+-- that was written is finished
+pub record Outlet : Type 0 where
+  pub written : Option (List ℕ)
+  pub faults : ℕ
+  pub settled : Bool
 
 -- the bytes taken grew by these
 abbrev pub GrowsBy : Option (List ℕ) → Option (List ℕ) → List ℕ → Type 0

@@ -1,5 +1,10 @@
--- What reads do to the bytes that a source has left. `None` is a source that doesn't tell them.
+-- What is seen of a source, and what reads do to the bytes that it has left. `None` is a source that doesn't tell them.
 use Rattle.std.specs.Prelude.{◌≡◌, ◌≤◌, ℕ, List, [], take, drop, length, Option, Some, IfSome}
+
+-- what is seen of a source: the bytes that it has left, where it tells them, and the count of its failed calls
+pub record Inlet : Type 0 where
+  pub left : Option (List ℕ)
+  pub faults : ℕ
 
 -- bytes that are told stay as they were
 abbrev pub Stays : Option (List ℕ) → Option (List ℕ) → Type 0

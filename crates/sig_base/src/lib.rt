@@ -4,6 +4,7 @@
 
 mod count;
 mod fault;
+mod held;
 mod limits;
 mod list;
 mod memory_sink;
@@ -25,6 +26,7 @@ mod taking;
 mod text;
 
 pub use fault::FaultKind;
+pub use held::Held;
 pub use limits::{
     ARRAY_CELLS_MAX, CHANGES_MAX, DOCUMENT_MAX, EDGES_MAX, EVENTS_MAX, LITERAL_MAX, NAME_MAX,
     OPENINGS_MAX, PARAMETERS_MAX, ROWS_MAX, RUNS_MAX, STOP_MAX, TABLES_MAX, TARGETS_MAX, TEXT_MAX,

@@ -93,11 +93,7 @@ impl MemorySink {
 impl Sink for MemorySink {
     ghost use Rattle.std.specs.Prelude.{Some};
 
-    ghost written = { λ s. Some s.written };
-
-    ghost faults = { λ s. s.faults };
-
-    ghost settled = { λ s. s.settled };
+    ghost seen = { λ s. record { written = Some s.written; faults = s.faults; settled = s.settled } };
 
     fn write(&mut self, piece: &[u8]) -> Result<usize, Failed>
         requires { 0 < length piece.now }

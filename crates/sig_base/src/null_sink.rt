@@ -33,11 +33,7 @@ impl NullSink {
 impl Sink for NullSink {
     ghost use Rattle.std.specs.Prelude.{None};
 
-    ghost written = { λ s. None };
-
-    ghost faults = { λ s. 0 };
-
-    ghost settled = { λ s. s };
+    ghost seen = { λ s. record { written = None; faults = 0; settled = s } };
 
     fn write(&mut self, piece: &[u8]) -> Result<usize, Failed>
         requires { 0 < length piece.now }

@@ -9,13 +9,13 @@ use crate::sink::Sink;
 
 /// Writes all the bytes, and stops at the first call that fails.
 pub fn put<K: Sink>(sink: &mut K, bytes: &[u8]) -> Result<(), Failed>
-    ensures all { OnOk result (GrowsBy (K.written sink.old) (K.written sink.new) bytes.now) }
+    ensures all { OnOk result (GrowsBy (K.seen sink.old).written (K.seen sink.new).written bytes.now) }
     ensures prefix { OnErr result ((n : ℕ) × (n < length bytes.now)
-        × GrowsBy (K.written sink.old) (K.written sink.new) (take n bytes.now)) }
-    ensures unsettled { 0 < length bytes.now → K.settled sink.new ≡ false }
-    ensures unchanged { bytes.now ≡ [] → K.settled sink.new ≡ K.settled sink.old }
-    ensures steady { OnOk result (K.faults sink.new ≡ K.faults sink.old) }
-    ensures failed { OnErr result (HasRisen (K.faults sink.old) (K.faults sink.new)) }
+        × GrowsBy (K.seen sink.old).written (K.seen sink.new).written (take n bytes.now)) }
+    ensures unsettled { 0 < length bytes.now → (K.seen sink.new).settled ≡ false }
+    ensures unchanged { bytes.now ≡ [] → (K.seen sink.new).settled ≡ (K.seen sink.old).settled }
+    ensures steady { OnOk result ((K.seen sink.new).faults ≡ (K.seen sink.old).faults) }
+    ensures failed { OnErr result (HasRisen (K.seen sink.old).faults (K.seen sink.new).faults) }
 {
     let mut done = 0;
     while done < bytes.len() {

@@ -27,9 +27,7 @@ pub struct StdSink<W> {
 impl<W: Write> StdSink<W> {
     /// The sink that writes to the writer.
     pub fn new(inner: W) -> StdSink<W>
-        ensures written { ⟦<StdSink<W> as Sink>⟧.written result ≡ W.contents inner }
-        ensures faults { ⟦<StdSink<W> as Sink>⟧.faults result ≡ 0 }
-        ensures settled { ⟦<StdSink<W> as Sink>⟧.settled result ≡ false }
+        ensures { ⟦<StdSink<W> as Sink>⟧.seen result ≡ record { written = W.contents inner; faults = 0; settled = false } }
     {
         StdSink {
             inner,
@@ -40,11 +38,7 @@ impl<W: Write> StdSink<W> {
 }
 
 impl<W: Write> Sink for StdSink<W> {
-    ghost written = { λ s. W.contents s.inner };
-
-    ghost faults = { λ s. s.faults };
-
-    ghost settled = { λ s. s.settled };
+    ghost seen = { λ s. record { written = W.contents s.inner; faults = s.faults; settled = s.settled } };
 
     fn write(&mut self, piece: &[u8]) -> Result<usize, Failed>
         requires { 0 < length piece.now }

@@ -26,17 +26,14 @@ pub struct StdSource<R> {
 impl<R: Read> StdSource<R> {
     /// The source of what the reader has left.
     pub fn new(inner: R) -> StdSource<R>
-        ensures left { ⟦<StdSource<R> as Source>⟧.left result ≡ R.remaining inner }
-        ensures faults { ⟦<StdSource<R> as Source>⟧.faults result ≡ 0 }
+        ensures { ⟦<StdSource<R> as Source>⟧.seen result ≡ record { left = R.remaining inner; faults = 0 } }
     {
         StdSource { inner, faults: 0 }
     }
 }
 
 impl<R: Read> Source for StdSource<R> {
-    ghost left = { λ s. R.remaining s.inner };
-
-    ghost faults = { λ s. s.faults };
+    ghost seen = { λ s. record { left = R.remaining s.inner; faults = s.faults } };
 
     fn read(&mut self, into: &mut [u8]) -> Result<usize, Failed>
         requires { 0 < length into.old }

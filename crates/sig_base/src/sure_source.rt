@@ -43,9 +43,7 @@ impl SureSource {
 impl Source for SureSource {
     ghost use Rattle.std.specs.Prelude.{Some};
 
-    ghost left = { λ s. Some s.left };
-
-    ghost faults = { λ s. 0 };
+    ghost seen = { λ s. record { left = Some s.left; faults = 0 } };
 
     fn read(&mut self, into: &mut [u8]) -> Result<usize, Failed>
         requires { 0 < length into.old }

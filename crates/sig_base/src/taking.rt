@@ -52,12 +52,12 @@ fn read_more<S: Source>(source: &mut S, bytes: &mut Vec<u8>, filled: usize) -> R
     ensures len { vec_len bytes.new ≡ vec_len bytes.old }
     ensures kept { take filled bytes.new.items ≡ take filled bytes.old.items }
     ensures within { IfOk result (λ n. filled + n ≤ vec_len bytes.new) }
-    ensures takes { IfOk result (λ n. Takes (S.left source.old) (S.left source.new) n) }
-    ensures shows { IfOk result (λ n. Shows (S.left source.old) n (drop filled bytes.new.items)) }
-    ensures end { IfOk result (λ n. n ≡ 0 → IsAtEnd (S.left source.old)) }
-    ensures stays { OnErr result (Stays (S.left source.old) (S.left source.new)) }
-    ensures steady { OnOk result (S.faults source.new ≡ S.faults source.old) }
-    ensures failed { OnErr result (HasRisen (S.faults source.old) (S.faults source.new)) }
+    ensures takes { IfOk result (λ n. Takes (S.seen source.old).left (S.seen source.new).left n) }
+    ensures shows { IfOk result (λ n. Shows (S.seen source.old).left n (drop filled bytes.new.items)) }
+    ensures end { IfOk result (λ n. n ≡ 0 → IsAtEnd (S.seen source.old).left) }
+    ensures stays { OnErr result (Stays (S.seen source.old).left (S.seen source.new).left) }
+    ensures steady { OnOk result ((S.seen source.new).faults ≡ (S.seen source.old).faults) }
+    ensures failed { OnErr result (HasRisen (S.seen source.old).faults (S.seen source.new).faults) }
 {
     source.read(&mut bytes[filled..])
 }
@@ -67,21 +67,21 @@ fn read_more<S: Source>(source: &mut S, bytes: &mut Vec<u8>, filled: usize) -> R
 /// It reads at most one byte more than the limit, and answers `TooLong` where it has read that one.
 /// Its buffer grows by doubling.
 pub fn take_all<S: Source>(alloc: Global, source: &mut S, limit: usize) -> Result<Text, TakeError>
-    ensures all { IfOk result (λ text. IfSome (S.left source.old) (λ bytes.
-        (text ≡ bytes) × (S.left source.new ≡ Some []))) }
+    ensures all { IfOk result (λ text. IfSome (S.seen source.old).left (λ bytes.
+        (text ≡ bytes) × ((S.seen source.new).left ≡ Some []))) }
     ensures within { IfOk result (λ text. length text ≤ limit) }
 
     // One byte over the limit was read, and then nothing more.
-    ensures too_long { IsErrOf result TakeError.TooLong → IfSome (S.left source.old) (λ bytes.
-        (limit < length bytes) × (S.left source.new ≡ Some (drop (limit + 1) bytes))) }
+    ensures too_long { IsErrOf result TakeError.TooLong → IfSome (S.seen source.old).left (λ bytes.
+        (limit < length bytes) × ((S.seen source.new).left ≡ Some (drop (limit + 1) bytes))) }
 
     // After every answer some bytes were taken from the front, over the limit only at `TooLong`.
-    ensures taken { (n : ℕ) × (n ≤ limit + 1) × Takes (S.left source.old) (S.left source.new) n
+    ensures taken { (n : ℕ) × (n ≤ limit + 1) × Takes (S.seen source.old).left (S.seen source.new).left n
         × (IsErrOf result TakeError.TooLong ↔ (n ≡ limit + 1)) }
 
     ensures read_fault { IsErrOf result TakeError.ReadFault
-        → HasRisen (S.faults source.old) (S.faults source.new) }
-    ensures steady { result ≢ Err TakeError.ReadFault → S.faults source.new ≡ S.faults source.old }
+        → HasRisen (S.seen source.old).faults (S.seen source.new).faults }
+    ensures steady { result ≢ Err TakeError.ReadFault → (S.seen source.new).faults ≡ (S.seen source.old).faults }
 {
     let mut bytes = Vec::new(alloc);
     let mut filled = 0;

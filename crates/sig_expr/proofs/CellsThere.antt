@@ -7,7 +7,7 @@ use Rattle.model_core.specs.EventGraph.{EventGraph}
 use Rattle.model_core.specs.Run.State.{State, Place, variable_at, cell_count, in_range, cells_of}
 use Rattle.model_core.specs.Run.Value.{OrFault, indexed}
 use Rattle.model_core.specs.Code.Views.{graph_of, variable_of}
-use Rattle.model_core.proofs.InRange.{cells_are_declared}
+use Rattle.run_laws.proofs.InRange.{cells_are_declared}
 
 -- an index below an array's size
 indexed-below : (g : EventGraph) (v i : ℕ) (p : Place) (b : Bool) (none : OrFault Place) → nat_lt i (variable_at g v).size ≡ b → none ≡ indexed g v (negsuc 0)

@@ -7,7 +7,7 @@ use Rattle.model_core.specs.EventGraph.{EventGraph}
 use Rattle.model_core.specs.Run.State.{State, Place, in_range}
 use Rattle.model_core.specs.Run.Value.{in_turn}
 use Rattle.model_core.specs.Run.Changes.{store, left_by_stores}
-use Rattle.model_core.proofs.InRange.{in_range-kept}
+use Rattle.run_laws.proofs.InRange.{in_range-kept}
 use Rattle.sig_expr.specs.Outcomes.{with_ok}
 use Rattle.sig_expr.proofs.MadeSoFar.{MadeSoFar, Faults, made_more, made_fault}
 

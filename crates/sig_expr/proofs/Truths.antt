@@ -7,7 +7,7 @@ use Rattle.model_core.specs.EventGraph.{EventGraph, Variable, Expression, Number
 use Rattle.model_core.specs.Run.State.{State, Place, variable_at, cell_count, in_range, cell_at}
 use Rattle.model_core.specs.Run.Value.{OrFault, ◌>>=◌, number_of, is_one, decided, operate, indexed, value_of}
 use Rattle.model_core.proofs.Results.{bind_ok}
-use Rattle.model_core.proofs.InRange.{cells_lie_in_range}
+use Rattle.run_laws.proofs.InRange.{cells_lie_in_range}
 use Rattle.sig_expr.specs.Possible.{IsTruth, HoldsTruth, OperatorGivesTruth, GivesTruth}
 
 number-truth : (b : Bool) → IsTruth (number_of b)

@@ -14,9 +14,9 @@ use Rattle.model_core.specs.Static.Meanings.{Declaration, declared_name, meaning
 use Rattle.model_core.specs.Static.RuleTable.{model_too_long}
 use Rattle.model_core.specs.Static.PartFaults.{written_items, repeated_names, variable_faults, table_faults, vertex_faults}
 use Rattle.model_core.specs.Static.ModelFaults.{model_meaning, model_takes, watch_faults, faults_of_parts, or_too_long, model_faults, told_fault, Accepted, IsTold}
-use Rattle.model_core.proofs.NamedPlaces.{placed_as}
-use Rattle.model_core.proofs.ToldFaults.{none_told}
-use Rattle.model_core.proofs.OneFaultTold.{told_is_told, accepted_or_told}
+use Rattle.static_laws.proofs.NamedPlaces.{placed_as}
+use Rattle.static_laws.proofs.ToldFaults.{none_told}
+use Rattle.static_laws.proofs.OneFaultTold.{told_is_told, accepted_or_told}
 use Rattle.sig_types.specs.declared.error.StaticError.{StaticError}
 use Rattle.sig_types.specs.declared.error.StaticError.TheVariants as errors
 use Rattle.sig_types.specs.declared.told.Fault.{Fault}

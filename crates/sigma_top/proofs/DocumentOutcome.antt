@@ -15,12 +15,12 @@ use Rattle.model_core.specs.Text.Numbering.{numbered}
 use Rattle.model_core.specs.Static.FaultOrder.{StaticFault}
 use Rattle.model_core.specs.Static.ModelFaults.{told_fault, Accepted}
 use Rattle.model_core.specs.Static.Reading.{ReadsDocument}
-use Rattle.model_core.specs.Inner.FormatReader.{Parse, and_next, whole_read}
-use Rattle.model_core.specs.Inner.LanguageReader.{language_reader, text_and_rest}
-use Rattle.model_core.proofs.OpeningLaws.{none-is_few, few-is_none}
-use Rattle.model_core.proofs.Formats.OneTokenDecides.{certificate-fine}
-use Rattle.model_core.proofs.Formats.TextLaws.{read-is_spelled, spelled-is_read, one_place, all-is_spelled, spelled-is_all, all-is_wrong, one_wrong_place}
-use Rattle.model_core.proofs.Formats.EndWord.{front-is_text}
+use Rattle.text_laws.specs.FormatReader.{Parse, and_next, whole_read}
+use Rattle.text_laws.specs.LanguageReader.{language_reader, text_and_rest}
+use Rattle.text_laws.proofs.OpeningLaws.{none-is_few, few-is_none}
+use Rattle.text_laws.proofs.Formats.OneTokenDecides.{certificate-fine}
+use Rattle.text_laws.proofs.Formats.TextLaws.{read-is_spelled, spelled-is_read, one_place, all-is_spelled, spelled-is_all, all-is_wrong, one_wrong_place}
+use Rattle.text_laws.proofs.Formats.EndWord.{front-is_text}
 use Rattle.model_read.proofs.WholeText.{front-unexpected}
 use Rattle.sigma_top.specs.declared.complaint.Complaint.{Complaint}
 use Rattle.sigma_top.specs.declared.complaint.Complaint.TheVariants as complaints

@@ -12,7 +12,7 @@ use Rattle.sig_base.specs.Sink.{GrowsBy}
 use Rattle.model_core.specs.declared.model.Model.{Model}
 use Rattle.model_core.specs.EventGraph.{EventGraph, Variable}
 use Rattle.model_core.specs.Code.Views.{graph_of}
-use Rattle.model_core.proofs.InRange.{and_first, and_second}
+use Rattle.model_core.proofs.BothTrue.{and_first, and_second}
 use Rattle.model_core.specs.Run.State.{within, no_variable}
 use Rattle.model_core.specs.Run.Machine.{Note, Look, Standing, Ended, Stopped, Faulted, Going}
 use Rattle.model_core.specs.Run.History.{Moment, start, allowed, look, look_from, reached_from}

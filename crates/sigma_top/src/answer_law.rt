@@ -15,10 +15,9 @@ ghost use Rattle.sigma_top.specs.Jobs.{limit_of};
 ghost use Rattle.sigma_top.specs.Unreadable.{IsNoModel, IsNoDocument, IsUnreadable, HasComplaint, HasDocumentComplaint};
 ghost use Rattle.sigma_top.specs.Inner.TextLaws.{TextLaws};
 
-use model_core::{
-    one_fault_is_told, openings_have_a_limit, texts_have_one_reading, texts_read_as_one_model,
-};
 use reducer::{strategies_are_determined, strategies_end};
+use static_laws::one_fault_is_told;
+use text_laws::{openings_have_a_limit, texts_have_one_reading, texts_read_as_one_model};
 
 /// What the layers below say of texts.
 fn texts_keep_their_laws()

@@ -1,7 +1,7 @@
 -- Two vertices that do the same, of which no edge cancels events and neither is watched, may be fused: the runs stay the same.
 use Rattle.std.proofs.Common.{◌≡◌, ℕ, zero, suc, Bool, true, false, cond, ◌&&◌, ◌==◌, List, [], ◌∷◌, map, slice_index_or, refl, sym, ◌∙◌, ap, subst}
 use Rattle.std.specs.List.{AllByRecursion, list_any, remove}
-use Rattle.model_core.proofs.EntailedMarks.{same-place}
+use Rattle.mark_laws.proofs.EntailedMarks.{same-place}
 use Rattle.model_core.specs.EventGraph.{EventGraph, EventVertex, EventEdge, EdgeKind, Schedule, Urgent, CancelNext, CancelEqual, CancelAll, Watched, WatchedVariable, WatchedVertex}
 use Rattle.model_core.specs.Run.Step.{no_vertex, vertex_at}
 use Rattle.model_core.specs.Run.History.{watches}
@@ -13,7 +13,7 @@ use Rattle.model_core.proofs.EachOne.{every-fails, every-both}
 use Rattle.model_core.proofs.Images.{at-map}
 use Rattle.model_core.proofs.FusedPlaces.{Other, standing-itself, fused-at, fused-first, fused-apart, same-leading}
 use Rattle.twin_rules.proofs.AlikeVertices.{AreAlike}
-use Rattle.model_core.proofs.MappedVertices.{DoesAs, MayLead, WatchedTold, mapped-Same}
+use Rattle.run_laws.proofs.MappedVertices.{DoesAs, MayLead, WatchedTold, mapped-Same}
 
 -- what holds of the edges of each vertex holds of those of the vertex at a place
 edges_at : (P : EventEdge → Type 0) (vs : List EventVertex) (k : ℕ) → AllByRecursion (λ (v : EventVertex). AllByRecursion P v.edges) vs → AllByRecursion P (slice_index_or vs k no_vertex).edges

@@ -3,11 +3,11 @@ use Rattle.std.proofs.Common.{◌≡◌, ◌⊎◌, inl, inr, ℕ, suc, ◌+◌,
 use Rattle.std.specs.Prelude.{is_none, take, if◌then◌else◌}
 use Rattle.std.specs.Option.{option_map}
 use Rattle.std.proofs.lemmas.Bool.Decides.{nat_tests}
-use Rattle.model_core.proofs.EntailedMarks.{same-place}
+use Rattle.mark_laws.proofs.EntailedMarks.{same-place}
 use Rattle.model_core.specs.EventGraph.{EventGraph}
 use Rattle.model_core.specs.Rules.Conditions.{first_failed}
 use Rattle.model_core.specs.Rules.Fuse.{fuse_conditions}
-use Rattle.model_core.proofs.InRange.{and_first, and_second}
+use Rattle.model_core.proofs.BothTrue.{and_first, and_second}
 use Rattle.model_core.proofs.Among.{either_true}
 use Rattle.twin_rules.specs.Inner.AskedPairs.{are_alike, NoneAlikeBefore, NoneAlikeWith}
 

@@ -4,7 +4,7 @@ use Rattle.std.proofs.lemmas.Bool.Decides.{nat_tests}
 use Rattle.std.specs.Prelude.{codes}
 use Rattle.std.specs.List.{flat_map, remove}
 use Rattle.sig_base.specs.declared.limits.TheConstants.{TEXT_MAX}
-use Rattle.model_core.proofs.EntailedMarks.{same-place}
+use Rattle.mark_laws.proofs.EntailedMarks.{same-place}
 use Rattle.model_core.specs.EventGraph.{EventGraph, EventVertex, EventEdge}
 use Rattle.model_core.specs.Text.Canonical.{variable_name, vertex_name, expression_texts, in_parentheses, timing_text, condition_text, edge_word, edge_line, change_line, vertex_lines, variable_line, table_line, watched_name, watch_names_line, canonical}
 use Rattle.model_core.specs.Rules.Drop.{edge_renumbered, vertex_renumbered}

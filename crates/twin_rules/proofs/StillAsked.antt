@@ -11,10 +11,10 @@ use Rattle.model_core.specs.Rules.Drop.{edge_renumbered}
 use Rattle.model_core.specs.Rules.Merge.{is_watched_vertex, leads_to}
 use Rattle.model_core.specs.Rules.MarkedPlaces.{place_without}
 use Rattle.model_core.specs.Rules.Fuse.{standing_for, fused, can_be_cancelled, same_changes, same_edges_for, fuse_conditions}
-use Rattle.model_core.proofs.InRange.{and_first, and_second}
+use Rattle.model_core.proofs.BothTrue.{and_first, and_second}
 use Rattle.model_core.proofs.Among.{either_true, first_true, second_true}
 use Rattle.model_core.proofs.EachOne.{every-fails, either_false}
-use Rattle.model_core.proofs.Soundness.NumberRows.{not_true}
+use Rattle.bound_laws.proofs.Soundness.NumberRows.{not_true}
 use Rattle.twin_rules.specs.declared.asked.Asked.{Asked}
 use Rattle.twin_rules.specs.Inner.AskedPairs.{are_alike, is_before_pair, has_changed, NoneAlike, NoneAlikeBefore, place_before, some_leads}
 use Rattle.twin_rules.proofs.AlikeVertices.{AreAlike, alike_said, changes_decided, edges_decided}

@@ -5,7 +5,7 @@ use Rattle.std.proofs.lemmas.List.{length-map}
 use Rattle.std.proofs.lemmas.List.Edits.{length-remove}
 use Rattle.std.proofs.lemmas.Simd.{map-map}
 use Rattle.sig_base.specs.declared.limits.TheConstants.{TEXT_MAX, EDGES_MAX}
-use Rattle.model_core.proofs.EntailedMarks.{same-place}
+use Rattle.mark_laws.proofs.EntailedMarks.{same-place}
 use Rattle.model_core.specs.EventGraph.{EventGraph, EventVertex, EventEdge, Variable, WeightTable, Watched, WatchedVariable, WatchedVertex}
 use Rattle.model_core.specs.Run.Step.{no_vertex}
 use Rattle.model_core.specs.Text.Lexing.{same_bytes}
@@ -22,7 +22,7 @@ use Rattle.model_core.specs.Rules.Fuse.{standing_for, fused_place, fused}
 use Rattle.model_core.proofs.FusedPlaces.{Other, fused-get, fused-below, fused-apart}
 use Rattle.model_core.proofs.OtherTakes.{change_still, carries_still, timing_still}
 use Rattle.twin_rules.proofs.AlikeVertices.{AreAlike}
-use Rattle.model_core.proofs.MappedVertices.{WatchedTold}
+use Rattle.run_laws.proofs.MappedVertices.{WatchedTold}
 use Rattle.twin_rules.proofs.FusedRuns.{watched-told}
 
 -- ---- lists

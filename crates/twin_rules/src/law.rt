@@ -8,8 +8,8 @@ ghost use Rattle.model_core.specs.Rules.Conditions.{first_failed};
 ghost use Rattle.model_core.specs.Rules.Fuse.{fuse_conditions, fused, first_twins};
 ghost use Rattle.model_core.specs.Rules.Fuse.{Fused};
 
-use model_core::sameness_is_a_preorder;
 use round_trip::validity_is_by_parts;
+use run_laws::sameness_is_a_preorder;
 
 /// Where no condition of fuse fails on a valid model, the result is valid and means the same.
 pub fn fusing_keeps_the_meaning()

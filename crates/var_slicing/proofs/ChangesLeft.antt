@@ -12,8 +12,8 @@ use Rattle.model_core.specs.Rules.Uses.{index_reads}
 use Rattle.model_core.specs.Rules.Slice.{expression_renumbered, location_renumbered, kept_beside, values_left, targets_left, set_or_nothing, change_left, of_marked_variables}
 use Rattle.model_core.proofs.Results.{bind_ok, in_turn-append}
 use Rattle.model_core.proofs.Alongside.{Alongside, both_go, both_fail, alongside-known, bind-alongside, bind-alongside-same, bind-alongside-left}
-use Rattle.model_core.proofs.PlaceVariables.{place-variable}
-use Rattle.model_core.proofs.Marks.{Marked}
+use Rattle.run_laws.proofs.PlaceVariables.{place-variable}
+use Rattle.mark_laws.proofs.Marks.{Marked}
 use Rattle.var_slicing.proofs.StoresLeft.{place_left, stores_left, StateLeft, store-left, stores-left, variable-left, marked_of-skip}
 use Rattle.var_slicing.proofs.ValuesLeft.{places_left, zip-left, CanBeStored, stored-storable, ValuesFit, ValuesKept, value-left, values-alongside}
 use Rattle.var_slicing.proofs.MaskedWords.{words_left, words_left-from, words_left-set, words_left-skip}

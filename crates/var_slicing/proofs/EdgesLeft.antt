@@ -12,10 +12,10 @@ use Rattle.model_core.specs.Run.Step.{vertex_at}
 use Rattle.model_core.specs.Rules.MarkedPlaces.{rank}
 use Rattle.model_core.specs.Rules.Slice.{expression_renumbered, kept_beside, kind_left, edge_left, of_marked_variables}
 use Rattle.model_core.proofs.Alongside.{Alongside, both_go, bind-alongside, bind-alongside-same, in_turn-alongside}
-use Rattle.model_core.proofs.MappedPending.{KeepsDue, without_next-mapped, without_all-mapped, without_next-every, without_all-every}
-use Rattle.model_core.proofs.LockStep.{entry_mapped}
-use Rattle.model_core.proofs.Marks.{Marked}
-use Rattle.model_core.proofs.EntailedMarks.{same-place}
+use Rattle.run_laws.proofs.MappedPending.{KeepsDue, without_next-mapped, without_all-mapped, without_next-every, without_all-every}
+use Rattle.run_laws.proofs.LockStep.{entry_mapped}
+use Rattle.mark_laws.proofs.Marks.{Marked}
+use Rattle.mark_laws.proofs.EntailedMarks.{same-place}
 use Rattle.model_core.proofs.EachOne.{every-joined}
 use Rattle.var_slicing.proofs.StoresLeft.{StateLeft}
 use Rattle.var_slicing.proofs.ValuesLeft.{ReadsMarked, all-kept_beside, CanBeStored, ValuesFit, ValuesKept, value-left, values-alongside}

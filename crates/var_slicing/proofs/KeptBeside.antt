@@ -5,7 +5,7 @@ use Rattle.model_core.specs.declared.model.Kind.{Kind}
 use Rattle.model_core.specs.EventGraph.{EventGraph, Expression, Location}
 use Rattle.model_core.specs.Rules.MarkedPlaces.{rank, marked_of, is_marked}
 use Rattle.model_core.specs.Rules.Slice.{location_renumbered, kept_beside, parameters_left, targets_left}
-use Rattle.model_core.proofs.Marks.{Marked}
+use Rattle.mark_laws.proofs.Marks.{Marked}
 use Rattle.var_slicing.proofs.ValuesLeft.{ReadsMarked}
 use Rattle.var_slicing.proofs.ChangesLeft.{IndexReadsMarked}
 use Rattle.var_slicing.proofs.NeedsClosed.{SetNeeds, ParameterNeeds}

@@ -8,7 +8,7 @@ use Rattle.model_core.specs.Rules.Entailed.{Entailed, over_pair}
 use Rattle.model_core.specs.Rules.Needed.{needed_by_streams}
 use Rattle.model_core.proofs.Among.{Among, contained-among, among-map, among-of_map, among-front, among-back, among-flat_map, among-either}
 use Rattle.model_core.proofs.PlacesChanged.{same_number}
-use Rattle.model_core.proofs.EntailedMarks.{same-place, entailed-below, Implied}
+use Rattle.mark_laws.proofs.EntailedMarks.{same-place, entailed-below, Implied}
 use Rattle.var_slicing.specs.Inner.Leading.{leader, next_leaders, leaders_after, leaders_of, led_pairs}
 
 -- ---- what flat maps and filters hold

@@ -15,7 +15,7 @@ use Rattle.model_core.specs.Static.HasKind.{IsVariable, HasKind}
 use Rattle.model_core.specs.Static.OwnRules.{TakesKind, TakeCarried, KeepsChoice, KeepsChange, CarriesValues, KeepsTiming, KeepsEdge, parameters_of}
 use Rattle.model_core.specs.Rules.MarkedPlaces.{rank, is_marked}
 use Rattle.model_core.specs.Rules.Slice.{expression_renumbered, location_renumbered, kept_beside, values_left, parameters_left, targets_left, set_or_nothing, change_left, kind_left, edge_left, vertex_left, of_marked_variables}
-use Rattle.model_core.proofs.Marks.{Marked}
+use Rattle.mark_laws.proofs.Marks.{Marked}
 use Rattle.round_trip.proofs.MadeAgain.{than_change, than_edge, ChangeFrom, EdgeFrom}
 use Rattle.var_slicing.proofs.LeftLists.{values-none}
 use Rattle.var_slicing.proofs.ValuesLeft.{all-kept_beside}

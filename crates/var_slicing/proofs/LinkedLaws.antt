@@ -5,7 +5,7 @@ use Rattle.std.proofs.lemmas.List.FromFn.{get_or-map-range_with_len, length-map-
 use Rattle.model_core.specs.Rules.Entailed.{over_pair}
 use Rattle.model_core.proofs.Among.{Among, contained-among, among-front, among-back, among-either}
 use Rattle.model_core.proofs.PlacesChanged.{same_number, same_on_range, place-mapped}
-use Rattle.model_core.proofs.EntailedMarks.{same-place, entailed-below, Implied}
+use Rattle.mark_laws.proofs.EntailedMarks.{same-place, entailed-below, Implied}
 use Rattle.marked_walks.specs.PlacePairs.{places_behind, pairs_from}
 use Rattle.var_slicing.specs.Inner.Linking.{no_lists, with_behind, linked}
 use Rattle.marked_walks.proofs.FindingLaws.{behind-pairs, pairs-behind}

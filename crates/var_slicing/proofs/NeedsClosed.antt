@@ -11,11 +11,11 @@ use Rattle.model_core.specs.Rules.MarkedPlaces.{is_marked}
 use Rattle.model_core.specs.Rules.Uses.{variables_in, index_reads, location_reads, delay_reads}
 use Rattle.model_core.specs.Rules.Needed.{all_changes, all_edges, carried_pairs, is_scheduling, compares_values, watched_variables, compared_parameters, deciding_reads, faulting_target, faulting_writes, faulting_parameters, needed_by_edge, needed_at_once, each_beside, needed_by_targets, needed_by_parameters, streams_drawn, needed_by_streams, needed_beside}
 use Rattle.model_core.proofs.Among.{Among, among-map, among-front, among-back, among-flat_map, of-among, each-among, any-among, among-any}
-use Rattle.model_core.proofs.Marks.{Marked}
-use Rattle.model_core.proofs.MarksBelow.{tested-marked, marked-tested}
+use Rattle.mark_laws.proofs.Marks.{Marked}
+use Rattle.mark_laws.proofs.MarksBelow.{tested-marked, marked-tested}
 use Rattle.model_core.proofs.PlacesChanged.{same_number}
-use Rattle.model_core.proofs.InRange.{and_first, and_second}
-use Rattle.model_core.proofs.EntailedMarks.{HoldEntailed, same-place}
+use Rattle.model_core.proofs.BothTrue.{and_first, and_second}
+use Rattle.mark_laws.proofs.EntailedMarks.{HoldEntailed, same-place}
 use Rattle.model_core.proofs.EachOne.{every-joined}
 use Rattle.var_slicing.proofs.HeldByAll.{held-at}
 use Rattle.var_slicing.proofs.LeadingLaws.{among-of_flat_map, one_stream-streams}

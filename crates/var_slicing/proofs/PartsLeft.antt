@@ -12,7 +12,7 @@ use Rattle.model_core.specs.Static.OwnRules.{TakesKind}
 use Rattle.model_core.specs.Rules.MarkedPlaces.{rank}
 use Rattle.model_core.specs.Rules.Uses.{variables_in}
 use Rattle.model_core.specs.Rules.Slice.{expression_renumbered, location_renumbered, kept_beside, values_left, parameters_left, targets_left, of_marked_variables}
-use Rattle.model_core.proofs.Marks.{Marked}
+use Rattle.mark_laws.proofs.Marks.{Marked}
 use Rattle.model_core.proofs.EachOne.{every-map}
 use Rattle.var_slicing.proofs.HeldByAll.{held-both}
 use Rattle.var_slicing.proofs.ValuesLeft.{ReadsMarked}

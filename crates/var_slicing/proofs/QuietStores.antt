@@ -12,12 +12,12 @@ use Rattle.model_core.specs.Static.OwnRules.{TakesKind, TakeCarried, KeepsChange
 use Rattle.model_core.specs.Rules.BoundsOfParts.{quiet_set, quiet_change}
 use Rattle.model_core.specs.Rules.MarkedPlaces.{is_marked}
 use Rattle.model_core.proofs.Results.{bind_ok}
-use Rattle.model_core.proofs.InRange.{in_range-kept}
+use Rattle.run_laws.proofs.InRange.{in_range-kept}
 use Rattle.model_core.proofs.EachOne.{every-map}
 use Rattle.var_slicing.proofs.HeldByAll.{held-both, held-at}
 use Rattle.var_slicing.proofs.ValuesLeft.{IsStored, ValuesFit}
 use Rattle.var_slicing.proofs.ChangesLeft.{TargetFits, ChangeFits}
-use Rattle.model_core.proofs.PlaceVariables.{place-variable}
+use Rattle.run_laws.proofs.PlaceVariables.{place-variable}
 use Rattle.var_slicing.proofs.EdgesLeft.{KindFits, EdgeFits}
 use Rattle.var_slicing.proofs.SlicedRuns.{VertexFits, MayGo}
 use Rattle.var_slicing.proofs.NeedsClosed.{SetNeeds, ChangeNeeds, ParameterNeeds, CarriedNeed, KindNeeds, EdgeNeeds, NeedsHold}

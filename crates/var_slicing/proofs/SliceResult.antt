@@ -8,9 +8,9 @@ use Rattle.model_core.specs.Rules.Conditions.{first_failed}
 use Rattle.model_core.specs.Rules.Drop.{lists_some, lists_exactly, staying_marks}
 use Rattle.model_core.specs.Rules.Needed.{needed_at_once, needed_beside, needed_marks, unneeded}
 use Rattle.model_core.specs.Rules.Slice.{slice_conditions, of_marked_variables, sliced}
-use Rattle.model_core.proofs.BeginsInRange.{kept_models_begin_in_range}
-use Rattle.model_core.proofs.EntailedMarks.{entailed_marks-long, entailed_marks-hold}
-use Rattle.model_core.proofs.StayingMarks.{staying-unmarked, exactly-equal}
+use Rattle.bound_laws.proofs.BeginsInRange.{kept_models_begin_in_range}
+use Rattle.mark_laws.proofs.EntailedMarks.{entailed_marks-long, entailed_marks-hold}
+use Rattle.mark_laws.proofs.StayingMarks.{staying-unmarked, exactly-equal}
 use Rattle.var_slicing.proofs.SlicedRuns.{marked-same}
 use Rattle.var_slicing.proofs.NeedsClosed.{NeedsHold, live_streams, marks-hold_needs}
 use Rattle.var_slicing.proofs.QuietStores.{QuietChanges, unneeded_may_go}

@@ -13,11 +13,11 @@ use Rattle.model_core.specs.Run.History.{Moment, watched_values, watches, start,
 use Rattle.model_core.specs.Run.Same.{SameLooks, Same, thing, parameter, VariableNamed, VertexNamed}
 use Rattle.model_core.specs.Rules.MarkedPlaces.{rank, marked_of}
 use Rattle.model_core.specs.Rules.Slice.{parameters_left, watched_left, vertex_left, of_marked_variables}
-use Rattle.model_core.proofs.Keeping.{Kept, received}
+use Rattle.run_laws.proofs.Keeping.{Kept, received}
 use Rattle.model_core.proofs.Alongside.{Alongside, both_go, alongside-known, bind-alongside}
-use Rattle.model_core.proofs.MappedPending.{taken_off_mapped, next_among-every}
-use Rattle.model_core.proofs.LockStep.{configuration_mapped, Follows, follows-looks}
-use Rattle.model_core.proofs.Marks.{Marked, marked-placed}
+use Rattle.run_laws.proofs.MappedPending.{taken_off_mapped, next_among-every}
+use Rattle.run_laws.proofs.LockStep.{configuration_mapped, Follows, follows-looks}
+use Rattle.mark_laws.proofs.Marks.{Marked, marked-placed}
 use Rattle.var_slicing.proofs.StoresLeft.{StateLeft, variable-left}
 use Rattle.var_slicing.proofs.ValuesLeft.{all-kept_beside, marked-stored, received-alongside}
 use Rattle.var_slicing.proofs.MaskedWords.{words_left, words_left-none}

@@ -8,7 +8,7 @@ use Rattle.model_core.specs.Run.Changes.{kept, store}
 use Rattle.model_core.specs.Rules.MarkedPlaces.{rank, marked_of, is_marked}
 use Rattle.model_core.specs.Rules.Slice.{of_marked_variables}
 use Rattle.model_core.proofs.Alongside.{Alongside, both_go, bind-alongside, bind-alongside-same}
-use Rattle.model_core.proofs.Marks.{Marked, marked-placed}
+use Rattle.mark_laws.proofs.Marks.{Marked, marked-placed}
 
 pub marked_of-set : {A : Type 0} (marks : List Bool) (xs : List A) (k : ℕ) (x : A) → Marked marks k → marked_of marks (slice_set xs k x) ≡ slice_set (marked_of marks xs) (rank marks k) x
 marked_of-set [] xs k x marked = cc

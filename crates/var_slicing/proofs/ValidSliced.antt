@@ -14,7 +14,7 @@ use Rattle.model_core.specs.Static.OwnRules.{IsParameter, KeepsVariable, KeepsCh
 use Rattle.model_core.specs.Rules.MarkedPlaces.{rank, is_marked}
 use Rattle.model_core.specs.Rules.Slice.{parameters_left, change_left, edge_left, vertex_left, watched_left, of_marked_variables}
 use Rattle.model_core.proofs.Among.{Among, contained-among, of-among, each-among}
-use Rattle.model_core.proofs.Marks.{Marked, rank-apart}
+use Rattle.mark_laws.proofs.Marks.{Marked, rank-apart}
 use Rattle.round_trip.proofs.MadeAgain.{ChangeFrom, EdgeFrom, VertexFrom, made-spellable}
 use Rattle.model_core.proofs.EachOne.{every-joined, every-map}
 use Rattle.var_slicing.proofs.HeldByAll.{held-both}

@@ -10,7 +10,7 @@ use Rattle.model_core.specs.Rules.MarkedPlaces.{rank, is_marked}
 use Rattle.model_core.specs.Rules.Uses.{variables_in}
 use Rattle.model_core.specs.Rules.Slice.{expression_renumbered, kept_beside, values_left, parameters_left, of_marked_variables}
 use Rattle.model_core.proofs.Alongside.{Alongside, both_go, alongside-equal, bind-alongside, bind-alongside-same, bind-alongside-left}
-use Rattle.model_core.proofs.Marks.{Marked}
+use Rattle.mark_laws.proofs.Marks.{Marked}
 use Rattle.model_core.proofs.EachOne.{every-map}
 use Rattle.var_slicing.proofs.RenumberedValues.{HoldsSame, value-renumbered}
 use Rattle.var_slicing.proofs.StoresLeft.{place_left, stores_left, Storable, StateLeft, variable-left, cells-left, stores-left}

@@ -11,10 +11,10 @@ use Rattle.model_core.specs.EventGraph.{EventGraph, Variable, Watched, WatchedVa
 use Rattle.model_core.specs.Run.State.{State, within, cell_count, cells_of, in_ranges, in_range}
 use Rattle.model_core.specs.Run.Pending.{same_values}
 use Rattle.model_core.specs.Run.History.{watched_values}
-use Rattle.model_core.proofs.InRange.{and_first, and_second}
+use Rattle.model_core.proofs.BothTrue.{and_first, and_second}
 use Rattle.model_core.specs.Saved.Cells.{cells_declared, watched_sizes, cut_up, in_one_list}
 use Rattle.watch_trace.specs.Inner.KeptNotes.{watched_size, values_watched}
-use Rattle.model_core.proofs.CutUp.{cut_up-in_one_list, in_one_list-cut_up, lengths-cut_up, length-in_one_list, same-in_one_list}
+use Rattle.run_laws.proofs.CutUp.{cut_up-in_one_list, in_one_list-cut_up, lengths-cut_up, length-in_one_list, same-in_one_list}
 
 pub items-in_one_list : (s : State) (watch : List Watched) → flat_map (values_watched s) watch ≡ in_one_list (watched_values watch s)
 items-in_one_list s [] = refl

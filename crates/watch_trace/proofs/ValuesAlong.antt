@@ -4,7 +4,7 @@ use Rattle.std.specs.List.{flat_map}
 use Rattle.std.proofs.lemmas.List.{drop-drop}
 use Rattle.std.proofs.lemmas.List.Folds.{length-flat_map-take, flat_map-map}
 use Rattle.model_core.specs.Run.Pending.{same_values}
-use Rattle.model_core.proofs.CutUp.{take-and-drop, length-front, same-append}
+use Rattle.run_laws.proofs.CutUp.{take-and-drop, length-front, same-append}
 
 module _ {X Y : Type 0} (f : Y → List ℤ) (view : X → Y) (xs : List X) (i : ℕ) (d : X) (below : i < length xs) where
   -- the values of the next thing, and of those behind it

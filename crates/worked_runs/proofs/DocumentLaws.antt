@@ -13,11 +13,11 @@ use Rattle.model_core.specs.Text.Numbering.{numbered}
 use Rattle.model_core.specs.Text.CertificateText.{certificate_format, IsNoCertificateAt}
 use Rattle.model_core.specs.Static.ModelFaults.{told_fault, Accepted}
 use Rattle.model_core.specs.Static.Reading.{ReadsDocument}
-use Rattle.model_core.specs.Inner.FormatReader.{Parse, took, and_next, whole_read}
-use Rattle.model_core.specs.Inner.LanguageReader.{language_reader, text_and_rest}
-use Rattle.model_core.proofs.OpeningLaws.{none-is_few}
-use Rattle.model_core.proofs.Formats.OneTokenDecides.{certificate-fine}
-use Rattle.model_core.proofs.Formats.TextLaws.{read-is_spelled, all-is_spelled, all-is_wrong}
+use Rattle.text_laws.specs.FormatReader.{Parse, took, and_next, whole_read}
+use Rattle.text_laws.specs.LanguageReader.{language_reader, text_and_rest}
+use Rattle.text_laws.proofs.OpeningLaws.{none-is_few}
+use Rattle.text_laws.proofs.Formats.OneTokenDecides.{certificate-fine}
+use Rattle.text_laws.proofs.Formats.TextLaws.{read-is_spelled, all-is_spelled, all-is_wrong}
 use Rattle.worked_runs.specs.GrammarTexts.{place_stuck}
 use Rattle.worked_runs.specs.CertificateTexts.{IsNoCertificateText, certificate_stuck}
 

@@ -7,10 +7,10 @@ use Rattle.model_core.specs.Text.Expressions.{LanguageFormat, level_format}
 use Rattle.model_core.specs.Text.Language.{text_format}
 use Rattle.model_core.specs.Text.FirstWrong.{IsUnexpectedAt, told_place}
 use Rattle.model_core.specs.Text.Openings.{front_to_end}
-use Rattle.model_core.specs.Inner.FormatReader.{Parse, took, and_next, whole_read}
-use Rattle.model_core.specs.Inner.LanguageReader.{level_lookahead, language_reader, text_read}
-use Rattle.model_core.proofs.Formats.RuleLaws.{sound}
-use Rattle.model_core.proofs.Formats.TextLaws.{refused-is_unexpected}
+use Rattle.text_laws.specs.FormatReader.{Parse, took, and_next, whole_read}
+use Rattle.text_laws.specs.LanguageReader.{level_lookahead, language_reader, text_read}
+use Rattle.text_laws.proofs.Formats.RuleLaws.{sound}
+use Rattle.text_laws.proofs.Formats.TextLaws.{refused-is_unexpected}
 use Rattle.worked_runs.specs.GrammarTexts.{IsSpelled, IsModelText, IsRefusedAt, IsFrontRefusedAt, value_taken, place_stuck, value_of_tokens, read_as, place_of_tokens, refused_at, front_of_tokens, front_refused_at}
 
 some_is : {A : Type 0} (x y : A) → Some x ≡ Some y → x ≡ y

@@ -5,7 +5,7 @@ use Rattle.model_core.specs.EventGraph.{EventGraph}
 use Rattle.model_core.specs.Run.Machine.{Note, On, Going, Look, finished, Move, Rests, Fails, Goes, before, ahead, after, look_of}
 use Rattle.model_core.specs.Run.History.{next_move, start, allowed, look}
 use Rattle.model_core.specs.Run.Same.{Begins, SameLooks, thing, first_parameters, Same}
-use Rattle.model_core.proofs.Simulation.{Answers, Joined}
+use Rattle.run_laws.proofs.Simulation.{Answers, Joined}
 use Rattle.worked_runs.specs.Pairs.{Apart}
 
 -- ---- one machine

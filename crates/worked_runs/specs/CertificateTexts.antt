@@ -4,8 +4,8 @@ use Rattle.model_core.specs.EventGraph.{EventGraph}
 use Rattle.model_core.specs.Rules.Reduction.{RuleApplication, Drop}
 use Rattle.model_core.specs.Text.Lexing.{Lexeme, tokens_of}
 use Rattle.model_core.specs.Text.CertificateText.{certificate_format, IsNoCertificateAt}
-use Rattle.model_core.specs.Inner.FormatReader.{and_next, whole_read}
-use Rattle.model_core.specs.Inner.LanguageReader.{language_reader}
+use Rattle.text_laws.specs.FormatReader.{and_next, whole_read}
+use Rattle.text_laws.specs.LanguageReader.{language_reader}
 use Rattle.worked_runs.specs.Building.{event}
 use Rattle.worked_runs.specs.GrammarTexts.{place_stuck}
 

@@ -7,8 +7,8 @@ use Rattle.model_core.specs.Text.Expressions.{LanguageFormat, level_format}
 use Rattle.model_core.specs.Text.Language.{text_format}
 use Rattle.model_core.specs.Text.FirstWrong.{IsUnexpectedAt, told_place}
 use Rattle.model_core.specs.Text.Openings.{front_to_end, too_deep_at}
-use Rattle.model_core.specs.Inner.FormatReader.{Parse, and_next, whole_read}
-use Rattle.model_core.specs.Inner.LanguageReader.{language_reader, text_read}
+use Rattle.text_laws.specs.FormatReader.{Parse, and_next, whole_read}
+use Rattle.text_laws.specs.LanguageReader.{language_reader, text_read}
 
 -- the whole of a text spells this value of a format
 pub record IsSpelled {A : Type 0} (f : LanguageFormat A) (text : List ℕ) (value : A) : Type 0 where

@@ -7,8 +7,8 @@ use Rattle.model_core.specs.Text.Lexing.{Lexeme, LexemeKind, Reserved, Mark}
 use Rattle.model_core.specs.Text.Written.{WrittenExpression}
 use Rattle.model_core.specs.Text.Format.{Yields, Many, ByRule, reserved, mark, any_name, ◌<*>◌, ◌<*◌, maybe}
 use Rattle.model_core.specs.Text.Expressions.{Level, Whole, Disjunction, Conjunction, Negation, Sum, Product, Unary, LanguageFormat, of_name, of_negative, of_not, of_if, index_format, word_for, comparing, adding, multiplying, right_side, grouped, compared}
-use Rattle.model_core.specs.Inner.FormatReader.{Parser, took, and_next}
-use Rattle.model_core.specs.Inner.LanguageReader.{language_reader}
+use Rattle.text_laws.specs.FormatReader.{Parser, took, and_next}
+use Rattle.text_laws.specs.LanguageReader.{language_reader}
 
 -- the operator that a token of this kind is, with its level
 abbrev pub infix_of_kind : LexemeKind → Option (ℕ × Operator)

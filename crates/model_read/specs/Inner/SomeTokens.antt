@@ -1,7 +1,7 @@
 -- Each phrase of a list has a token at least.
 use Rattle.std.specs.Prelude.{◌≡◌, false, refl}
 use Rattle.model_core.specs.Text.Language.{signed_format, variable_format, row_format, table_format, target_format, change_format, schedule_format, urgent_format, cancel_format, edge_format, vertex_format}
-use Rattle.model_core.specs.Inner.FirstTokens.{nullable}
+use Rattle.text_laws.specs.FirstTokens.{nullable}
 
 pub variable-some : nullable variable_format ≡ false
 unfolding variable_format

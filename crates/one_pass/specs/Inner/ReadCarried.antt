@@ -9,8 +9,8 @@ use Rattle.model_core.specs.Text.Language.{values_format}
 use Rattle.model_core.specs.Text.Numbering.{declared_place, each_numbered, expression, written_or}
 use Rattle.model_core.specs.Static.Meanings.{Meaning, MeansVertex, AsVertex}
 use Rattle.model_core.specs.Static.PartFaults.{written_items, use_faults, target_takes}
-use Rattle.model_core.specs.Inner.FormatReader.{took}
-use Rattle.model_core.specs.Inner.LanguageReader.{language_reader}
+use Rattle.text_laws.specs.FormatReader.{took}
+use Rattle.text_laws.specs.LanguageReader.{language_reader}
 use Rattle.sig_types.specs.Inner.Checked.{NumberedAs}
 use Rattle.one_pass.specs.Inner.ReadParts.{ReadSure}
 use Rattle.one_pass.specs.Inner.ReadValues.{fitting_faults}

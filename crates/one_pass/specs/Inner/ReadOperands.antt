@@ -10,8 +10,8 @@ use Rattle.model_core.specs.Text.Numbering.{expression}
 use Rattle.model_core.specs.Static.Meanings.{Meaning}
 use Rattle.model_core.specs.Static.Kinds.{expression_kind}
 use Rattle.model_core.specs.Static.PartFaults.{expression_faults}
-use Rattle.model_core.specs.Inner.FormatReader.{Parse, took}
-use Rattle.model_core.specs.Inner.LanguageReader.{language_reader}
+use Rattle.text_laws.specs.FormatReader.{Parse, took}
+use Rattle.text_laws.specs.LanguageReader.{language_reader}
 use Rattle.model_read.specs.Inner.Ladder.{climb, not_format}
 use Rattle.sig_types.specs.Inner.Checked.{NumberedAs}
 

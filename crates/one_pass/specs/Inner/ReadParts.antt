@@ -17,8 +17,8 @@ use Rattle.model_core.specs.Static.FaultOrder.{StaticFault}
 use Rattle.model_core.specs.Static.Meanings.{Meaning}
 use Rattle.model_core.specs.Static.PartFaults.{written_items, variable_faults, table_faults, change_faults, edge_faults, vertex_faults}
 use Rattle.model_core.specs.Static.ModelFaults.{faults_of_parts, Accepted}
-use Rattle.model_core.specs.Inner.FormatReader.{took}
-use Rattle.model_core.specs.Inner.LanguageReader.{language_reader, text_read}
+use Rattle.text_laws.specs.FormatReader.{took}
+use Rattle.text_laws.specs.LanguageReader.{language_reader, text_read}
 use Rattle.model_read.specs.Beginnings.{with_vertices}
 use Rattle.sig_types.specs.Inner.Checked.{Checked, CheckedPlain, NumberedAs}
 

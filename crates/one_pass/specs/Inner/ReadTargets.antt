@@ -7,7 +7,7 @@ use Rattle.model_core.specs.Text.Written.{WrittenTarget}
 use Rattle.model_core.specs.Text.Numbering.{location}
 use Rattle.model_core.specs.Static.Meanings.{Meaning}
 use Rattle.model_core.specs.Static.PartFaults.{target_kind, target_faults}
-use Rattle.model_core.specs.Inner.FormatReader.{Parse, took}
+use Rattle.text_laws.specs.FormatReader.{Parse, took}
 use Rattle.sig_types.specs.Inner.Checked.{NumberedAs}
 
 -- where names mean this, a target without faults, of this number and this kind

@@ -4,7 +4,7 @@ use Rattle.model_core.specs.Code.Views.{graph_of}
 use Rattle.model_core.specs.Rules.MarkedPlaces.{unmarked_places}
 use Rattle.model_core.specs.Rules.Reached.{unreached}
 use Rattle.model_core.specs.Rules.Drop.{lists_exactly, only_marked, dropped}
-use Rattle.model_core.proofs.StayingMarks.{exactly-equal, some_given, none_unequal, both_conditions}
+use Rattle.mark_laws.proofs.StayingMarks.{exactly-equal, some_given, none_unequal, both_conditions}
 use Rattle.edge_pruning.proofs.DropResult.{without_unreached}
 use Rattle.edge_pruning.proofs.dropping.drop_vertices.Goals as goal
 

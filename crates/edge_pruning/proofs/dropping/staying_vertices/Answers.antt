@@ -5,7 +5,7 @@ use Rattle.std.specs.Vec.Iter.{into_iter_items, into_iter_len}
 use Rattle.model_core.specs.declared.vertex.Vertex.{Vertex}
 use Rattle.model_core.specs.Rules.MarkedPlaces.{is_marked, marked_of}
 use Rattle.model_core.specs.Code.Views.{vertex_of}
-use Rattle.model_core.proofs.LeastSets.{marked_count}
+use Rattle.mark_laws.proofs.LeastSets.{marked_count}
 use Rattle.edge_pruning.proofs.DropMarks.{kept_more, room_left, room_here, kept_all, enough_room, none_left}
 use Rattle.edge_pruning.proofs.dropping.staying_vertices.Goals as goal
 

@@ -3,7 +3,7 @@ use Rattle.std.specs.Vec.{vec_len, vec_capacity}
 use Rattle.std.specs.Vec.Iter.{into_iter_items, into_iter_len}
 use Rattle.model_core.specs.Rules.MarkedPlaces.{marked_of}
 use Rattle.model_core.specs.Code.Views.{vertex_of}
-use Rattle.model_core.proofs.LeastSets.{marked_count}
+use Rattle.mark_laws.proofs.LeastSets.{marked_count}
 use Rattle.edge_pruning.proofs.dropping.staying_vertices.Given as goal
 
 abbrev pub invariant-loop-place : goal.invariant-loop-place

@@ -1,5 +1,5 @@
 use Rattle.model_core.specs.Rules.Prune.{pruned}
-use Rattle.model_core.proofs.BeginsInRange.{kept_models_begin_in_range}
+use Rattle.bound_laws.proofs.BeginsInRange.{kept_models_begin_in_range}
 use Rattle.edge_pruning.proofs.SameRuns.{idle_edge_may_go}
 use Rattle.edge_pruning.proofs.OneVertexChanged.{changed_rules, changed_spellable}
 use Rattle.edge_pruning.proofs.FewerOrFreer.{remove_lessens, pruned_is_refuted, edge_keeps}

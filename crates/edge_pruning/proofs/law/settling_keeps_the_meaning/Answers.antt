@@ -1,5 +1,5 @@
 use Rattle.model_core.specs.Rules.Settle.{settled}
-use Rattle.model_core.proofs.BeginsInRange.{kept_models_begin_in_range}
+use Rattle.bound_laws.proofs.BeginsInRange.{kept_models_begin_in_range}
 use Rattle.edge_pruning.proofs.SameRuns.{sure_condition_may_be_true}
 use Rattle.edge_pruning.proofs.OneVertexChanged.{changed_rules, changed_spellable}
 use Rattle.edge_pruning.proofs.FewerOrFreer.{settle_lessens, settled_is_proved, edge_keeps}

@@ -1,5 +1,5 @@
 use Rattle.model_core.specs.Rules.Entailed.{entailed_marks}
-use Rattle.model_core.proofs.EntailedMarks.{entailed-marked, entailed_marks-entailed, entailed_marks-hold}
+use Rattle.mark_laws.proofs.EntailedMarks.{entailed-marked, entailed_marks-entailed, entailed_marks-hold}
 use Rattle.marked_walks.proofs.law.marks_are_of_entailed_places.Goals as goal
 
 pub returns : goal.returns

@@ -1,6 +1,6 @@
 -- One place more, where it isn't marked.
 use Rattle.std.proofs.Common.{◌∙◌, sym, ap, not, true, false, append-nil}
-use Rattle.model_core.proofs.UnmarkedPlaces.{unmarked_more}
+use Rattle.mark_laws.proofs.UnmarkedPlaces.{unmarked_more}
 use Rattle.marked_walks.proofs.marks.unmarked.Goals as goal
 use Rattle.marked_walks.proofs.marks.unmarked.Goals.{then-not-is_marked+in_ok-push, else-not-is_marked}
 

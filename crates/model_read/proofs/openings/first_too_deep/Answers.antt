@@ -1,7 +1,7 @@
 -- A token ends a part, or opens, or neither.
 use Rattle.std.proofs.Common.{map, sym, arith}
 use Rattle.model_core.specs.Code.TokenViews.{lexeme_of}
-use Rattle.model_core.proofs.OpeningLaws.{deep-is_counted}
+use Rattle.text_laws.proofs.OpeningLaws.{deep-is_counted}
 use Rattle.model_read.proofs.OpeningSteps.{behind-end, behind-opening, behind-other}
 use Rattle.model_read.proofs.openings.first_too_deep.Goals.{then-ends, else-ends+then-opens+else-room-eq0, else-ends+else-opens}
 use Rattle.model_read.proofs.openings.first_too_deep.Goals as goal

@@ -1,7 +1,7 @@
 use Rattle.std.proofs.Common.{◌≡◌, ℕ, List, map, drop}
 use Rattle.model_core.specs.Code.TokenViews.{lexeme_of}
 use Rattle.model_core.specs.Text.Openings.{too_deep_at}
-use Rattle.model_core.specs.Inner.OpeningCount.{deep_from}
+use Rattle.text_laws.specs.OpeningCount.{deep_from}
 use Rattle.model_read.proofs.openings.first_too_deep.Given as goal
 
 -- what is found from here, with the room that is left, is what is found from the start

@@ -1,6 +1,6 @@
 use Rattle.std.proofs.Common.{◌≡◌, map, length}
 use Rattle.model_core.specs.Text.Format.{Many}
-use Rattle.model_core.specs.Inner.LanguageReader.{language_reader}
+use Rattle.text_laws.specs.LanguageReader.{language_reader}
 use Rattle.model_read.specs.ReadCalls.{with_front}
 use Rattle.model_read.proofs.phrase.and_more.Given as goal
 

@@ -1,6 +1,6 @@
 -- Nothing was read before.
 use Rattle.model_core.specs.Text.Format.{Many}
-use Rattle.model_core.specs.Inner.LanguageReader.{language_reader}
+use Rattle.text_laws.specs.LanguageReader.{language_reader}
 use Rattle.model_read.proofs.ReadLoop.{front-none}
 use Rattle.model_read.proofs.phrase.many.Goals as goal
 

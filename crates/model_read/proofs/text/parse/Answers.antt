@@ -3,8 +3,8 @@ use Rattle.std.proofs.Common.{◌≡◌, refl, sym, ap, ◌∙◌, map}
 use Rattle.sig_base.specs.declared.limits.TheConstants.{OPENINGS_MAX}
 use Rattle.model_core.specs.Code.TokenViews.{lexeme_of}
 use Rattle.model_core.specs.Code.WrittenViews.{written_model}
-use Rattle.model_core.specs.Inner.LanguageReader.{text_read}
-use Rattle.model_core.proofs.OpeningLaws.{none-is_few}
+use Rattle.text_laws.specs.LanguageReader.{text_read}
+use Rattle.text_laws.proofs.OpeningLaws.{none-is_few}
 use Rattle.model_lex.specs.Lexemes.{lexemes}
 use Rattle.model_read.proofs.WholeText.{deep-place, whole-ok, whole-unexpected, never_deep}
 use Rattle.model_read.proofs.PlacedReads.{placed-tells}

@@ -7,8 +7,8 @@ use Rattle.sig_base.specs.declared.limits.TheConstants.{OPENINGS_MAX}
 use Rattle.model_core.specs.Code.TokenViews.{lexeme_of}
 use Rattle.model_core.specs.Code.WrittenViews.{written_model}
 use Rattle.model_core.specs.Text.Openings.{front_to_end}
-use Rattle.model_core.specs.Inner.LanguageReader.{text_and_rest}
-use Rattle.model_core.proofs.OpeningLaws.{none-is_few}
+use Rattle.text_laws.specs.LanguageReader.{text_and_rest}
+use Rattle.text_laws.proofs.OpeningLaws.{none-is_few}
 use Rattle.model_lex.specs.Lexemes.{lexemes}
 use Rattle.model_lex.specs.declared.parse_error.ParseError.TheVariants as errors
 use Rattle.model_read.proofs.WholeText.{deep-place, front-left, front-ok, some-are, front-counted, same-error, error-unexpected, error-never_deep}

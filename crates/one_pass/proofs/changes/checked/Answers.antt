@@ -3,7 +3,7 @@ use Rattle.std.proofs.Common.{sym, ◌∙◌}
 use Rattle.model_core.specs.Code.WrittenViews.{written_change}
 use Rattle.model_core.specs.Static.Meanings.{meaning_of}
 use Rattle.model_core.specs.Static.PartFaults.{change_faults}
-use Rattle.model_core.proofs.ToldFaults.{none_told}
+use Rattle.static_laws.proofs.ToldFaults.{none_told}
 use Rattle.one_pass.proofs.changes.checked.Goals as goal
 
 pub returns : goal.returns

@@ -1,8 +1,8 @@
 use Rattle.std.proofs.Common.{◌≡◌, subst}
 use Rattle.model_core.specs.declared.token.Word.TheVariants.{End}
 use Rattle.model_core.specs.Text.Format.{reserved}
-use Rattle.model_core.specs.Inner.FormatReader.{took}
-use Rattle.model_core.specs.Inner.LanguageReader.{language_reader}
+use Rattle.text_laws.specs.FormatReader.{took}
+use Rattle.text_laws.specs.LanguageReader.{language_reader}
 use Rattle.one_pass.proofs.WholeReads.{left-none}
 use Rattle.one_pass.proofs.text.ending.Goals as goal
 

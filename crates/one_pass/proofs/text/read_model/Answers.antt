@@ -2,8 +2,8 @@
 use Rattle.std.proofs.Common.{◌≡◌, [], map, sym, ap, ◌∙◌}
 use Rattle.sig_base.specs.declared.limits.TheConstants.{OPENINGS_MAX}
 use Rattle.model_core.specs.Code.TokenViews.{lexeme_of}
-use Rattle.model_core.proofs.Formats.TextLaws.{whole-is_spelled}
-use Rattle.model_core.proofs.OpeningLaws.{none-is_few}
+use Rattle.text_laws.proofs.Formats.TextLaws.{whole-is_spelled}
+use Rattle.text_laws.proofs.OpeningLaws.{none-is_few}
 use Rattle.model_lex.specs.Lexemes.{lexemes}
 use Rattle.one_pass.proofs.text.read_model.Goals as goal
 

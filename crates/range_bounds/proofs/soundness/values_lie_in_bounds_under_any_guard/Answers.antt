@@ -1,8 +1,8 @@
 use Rattle.model_core.specs.Run.Value.{value_of}
 use Rattle.model_core.specs.Rules.BoundsOf.{bounds_under}
-use Rattle.model_core.proofs.Soundness.BoundedExpressions.{sound}
-use Rattle.model_core.proofs.Soundness.DeclaredRanges.{declared_alike, declared_hold, no_guard_holds}
-use Rattle.model_core.proofs.Soundness.TruthEnds.{truths_declared, within_ends}
+use Rattle.bound_laws.proofs.Soundness.BoundedExpressions.{sound}
+use Rattle.bound_laws.proofs.Soundness.DeclaredRanges.{declared_alike, declared_hold, no_guard_holds}
+use Rattle.bound_laws.proofs.Soundness.TruthEnds.{truths_declared, within_ends}
 use Rattle.range_bounds.proofs.soundness.values_lie_in_bounds_under_any_guard.Goals as goal
 
 pub returns-clause-inside : goal.returns-clause-inside

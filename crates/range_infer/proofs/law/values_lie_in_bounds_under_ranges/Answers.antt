@@ -1,6 +1,6 @@
 use Rattle.model_core.specs.Run.Value.{value_of}
 use Rattle.model_core.specs.Ranges.BoundsIn.{bounds_in}
-use Rattle.model_core.proofs.Soundness.TruthEnds.{within_ends}
+use Rattle.bound_laws.proofs.Soundness.TruthEnds.{within_ends}
 use Rattle.range_infer.proofs.UnderRanges.{under_ranges}
 use Rattle.range_infer.proofs.law.values_lie_in_bounds_under_ranges.Goals as goal
 

@@ -2,8 +2,8 @@
 use Rattle.std.proofs.Common.{◌≡◌, ◌∙◌, drop, map, refl}
 use Rattle.model_core.specs.Code.Views.{application_of}
 use Rattle.model_core.specs.Text.CertificateText.{certificate_format}
-use Rattle.model_core.specs.Inner.FormatReader.{and_next, whole_read}
-use Rattle.model_core.specs.Inner.LanguageReader.{language_reader}
+use Rattle.text_laws.specs.FormatReader.{and_next, whole_read}
+use Rattle.text_laws.specs.LanguageReader.{language_reader}
 use Rattle.model_lex.specs.Lexemes.{lexemes}
 use Rattle.model_read.specs.ReadCalls.{Tells}
 use Rattle.model_read.proofs.PlacedReads.{placed-tells}

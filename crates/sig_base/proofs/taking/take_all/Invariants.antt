@@ -7,9 +7,9 @@ abbrev pub invariant-loop-filled : goal.invariant-loop-filled
 invariant-loop-filled g l = record {
   filled : l.filled ≤ vec_len l.bytes;
   bounded : vec_len l.bytes ≤ l.limit + 1;
-  takes : Takes (g.S.Source.left l.initial.source) (g.S.Source.left l.source) l.filled;
-  shows : Shows (g.S.Source.left l.initial.source) l.filled l.bytes.items;
-  steady : g.S.Source.faults l.source ≡ g.S.Source.faults l.initial.source;
+  takes : Takes (g.S.Source.seen l.initial.source).left (g.S.Source.seen l.source).left l.filled;
+  shows : Shows (g.S.Source.seen l.initial.source).left l.filled l.bytes.items;
+  steady : (g.S.Source.seen l.source).faults ≡ (g.S.Source.seen l.initial.source).faults;
 }
 
 abbrev pub decreases-loop-filled : goal.decreases-loop-filled

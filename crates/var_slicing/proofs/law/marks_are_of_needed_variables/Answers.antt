@@ -1,7 +1,7 @@
 -- Marks by passes are of what is entailed.
 use Rattle.std.proofs.Common.{length}
 use Rattle.model_core.specs.Rules.Needed.{needed_at_once, needed_beside, needed_marks}
-use Rattle.model_core.proofs.EntailedMarks.{entailed-marked, entailed_marks-entailed, entailed_marks-hold}
+use Rattle.mark_laws.proofs.EntailedMarks.{entailed-marked, entailed_marks-entailed, entailed_marks-hold}
 use Rattle.var_slicing.proofs.law.marks_are_of_needed_variables.Goals as goal
 
 pub returns : goal.returns

@@ -6,8 +6,8 @@ use Rattle.model_core.specs.Rules.MarkedPlaces.{unmarked_places}
 use Rattle.model_core.specs.Rules.Needed.{needed_at_once, needed_beside, needed_marks, unneeded}
 use Rattle.model_core.specs.Rules.Drop.{lists_exactly, staying_marks}
 use Rattle.model_core.specs.Rules.Slice.{of_marked_variables, sliced}
-use Rattle.model_core.proofs.EntailedMarks.{entailed_marks-long}
-use Rattle.model_core.proofs.StayingMarks.{staying-unmarked, exactly-equal, some_given, none_unequal, both_conditions}
+use Rattle.mark_laws.proofs.EntailedMarks.{entailed_marks-long}
+use Rattle.mark_laws.proofs.StayingMarks.{staying-unmarked, exactly-equal, some_given, none_unequal, both_conditions}
 use Rattle.var_slicing.proofs.slicing.slice.Goals as goal
 
 without_unneeded : (g : EventGraph) → sliced g (unneeded g) ≡ of_marked_variables g (needed_marks g)

@@ -5,7 +5,7 @@ use Rattle.model_core.specs.Run.Pending.{Entry}
 use Rattle.model_core.specs.Run.Machine.{At, Stopped, Rests, Goes}
 use Rattle.model_core.specs.Run.History.{Moment, next_move, allowed, look}
 use Rattle.model_core.specs.Run.Same.{SameLooks}
-use Rattle.model_core.proofs.Simulation.{Answers, rests, goes, lock_step_same}
+use Rattle.run_laws.proofs.Simulation.{Answers, rests, goes, lock_step_same}
 use Rattle.worked_runs.specs.Pairs.{due_after}
 use Rattle.worked_runs.proofs.Looks.{answered_by, none_below_0}
 use Rattle.worked_runs.proofs.alike.later_events_are_unseen.Goals as goal

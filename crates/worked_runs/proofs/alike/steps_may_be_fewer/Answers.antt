@@ -4,7 +4,7 @@ use Rattle.model_core.specs.Run.Pending.{Entry}
 use Rattle.model_core.specs.Run.Machine.{At, On, Ended, Going, Look, Goes}
 use Rattle.model_core.specs.Run.History.{Moment, next_move, allowed, look}
 use Rattle.model_core.specs.Run.Same.{SameLooks}
-use Rattle.model_core.proofs.Simulation.{rests, goes, Joined, one, two_go, two_for_one}
+use Rattle.run_laws.proofs.Simulation.{rests, goes, Joined, one, two_go, two_for_one}
 use Rattle.worked_runs.specs.Pairs.{ends, comes_twice, two_events, one_event, a_first, a_second}
 use Rattle.worked_runs.proofs.Looks.{joined_by, none_below_0, nothing_begins}
 use Rattle.worked_runs.proofs.alike.steps_may_be_fewer.Goals as goal

@@ -1,7 +1,7 @@
 use Rattle.std.proofs.Common.{refl}
 use Rattle.model_core.specs.Text.Expressions.{level_format}
-use Rattle.model_core.specs.Inner.FormatReader.{read_within, rule_at, many_within, many_at}
-use Rattle.model_core.specs.Inner.LanguageReader.{level_lookahead}
+use Rattle.text_laws.specs.FormatReader.{read_within, rule_at, many_within, many_at}
+use Rattle.text_laws.specs.LanguageReader.{level_lookahead}
 use Rattle.worked_runs.proofs.GrammarLaws.{is_spelled}
 use Rattle.worked_runs.proofs.grammar.operators_have_levels.Goals as goal
 

@@ -2,7 +2,7 @@
 use Rattle.std.proofs.Common.{◌≡◌, ℕ, zero, suc, [], ◌∷◌, refl, sym, ap, lit<, lt_irrefl, arith}
 use Rattle.model_core.specs.Rules.BoundsTable.{exact_bounds}
 use Rattle.model_core.specs.Rules.Entailed.{Entailed, from_first, over_pair}
-use Rattle.model_core.proofs.EntailedMarks.{entailed-below}
+use Rattle.mark_laws.proofs.EntailedMarks.{entailed-below}
 use Rattle.worked_runs.proofs.needing.the_least_are_needed.Goals as goal
 
 none_is_one : (k : ℕ) → 0 ≡ k → k ≡ 1 → ⊥

@@ -1,7 +1,7 @@
 -- The table with the count behind its end gives each rank.
 use Rattle.std.proofs.Common.{◌∙◌, ap, ℕ, List, Bool, slice_index_or}
 use Rattle.model_core.specs.Rules.MarkedPlaces.{rank}
-use Rattle.model_core.proofs.Ranks.{rank-in_table}
+use Rattle.mark_laws.proofs.Ranks.{rank-in_table}
 use Rattle.marked_walks.proofs.staying.Staying.number.Goals as goal
 
 pub returns : goal.returns

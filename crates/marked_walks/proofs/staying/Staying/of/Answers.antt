@@ -3,7 +3,7 @@ use Rattle.std.proofs.Common.{◌≡◌, ◌∙◌, ◌+◌, ◌++◌, ◌∷◌
 use Rattle.std.specs.List.{range_with_len}
 use Rattle.std.proofs.lemmas.List.FromFn.{map-range_with_len_more}
 use Rattle.model_core.specs.Rules.MarkedPlaces.{rank, is_marked}
-use Rattle.model_core.proofs.Ranks.{rank-none, rank-counted}
+use Rattle.mark_laws.proofs.Ranks.{rank-none, rank-counted}
 use Rattle.marked_walks.proofs.staying.Staying.of.Goals as goal
 use Rattle.marked_walks.proofs.staying.Staying.of.Goals.{then-is_marked, else-is_marked}
 

@@ -1,7 +1,7 @@
 -- The first token is the name, and the others are left.
 use Rattle.std.proofs.Common.{refl, sym, ap, ◌∙◌}
 use Rattle.model_core.specs.Text.Format.{any_name}
-use Rattle.model_core.specs.Inner.LanguageReader.{language_reader}
+use Rattle.text_laws.specs.LanguageReader.{language_reader}
 use Rattle.model_read.proofs.FirstToken.{others_in_text, name-first}
 use Rattle.model_read.proofs.cursor.Cursor.spelling.Goals as goal
 

@@ -3,7 +3,7 @@ use Rattle.std.specs.Option.{option_map}
 use Rattle.model_core.specs.Code.Views.{graph_of, watched_of}
 use Rattle.model_core.specs.Saved.Cells.{watched_sizes, cut_up, in_one_list}
 use Rattle.watch_trace.specs.Tracing.{Tracing}
-use Rattle.model_core.proofs.CutUp.{in_one_list-cut_up}
+use Rattle.run_laws.proofs.CutUp.{in_one_list-cut_up}
 use Rattle.watch_trace.proofs.KeptValues.{sizes-together}
 use Rattle.watch_trace.proofs.last_notes.LastNotes.noted.Goals as goal
 

@@ -1,0 +1,2 @@
+pub mod BeginsInRange
+pub mod Soundness

@@ -1,0 +1,7 @@
+pub mod Marks
+pub mod LeastSets
+pub mod MarksBelow
+pub mod EntailedMarks
+pub mod UnmarkedPlaces
+pub mod Ranks
+pub mod StayingMarks

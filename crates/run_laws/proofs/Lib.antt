@@ -1,0 +1,13 @@
+pub mod Simulation
+pub mod Reaching
+pub mod Leaving
+pub mod MappedPending
+pub mod LockStep
+pub mod Keeping
+pub mod EdgesAlike
+pub mod InRange
+pub mod SameLaws
+pub mod PlaceVariables
+pub mod MappedVertices
+pub mod CutUp
+pub mod Spared

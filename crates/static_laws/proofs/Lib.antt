@@ -1,0 +1,4 @@
+pub mod ToldFaults
+pub mod NamedPlaces
+pub mod StaticTwins
+pub mod OneFaultTold

@@ -1,0 +1,108 @@
+-- A written model is accepted, or exactly one fault of it is told.
+use Rattle.std.proofs.Common.{◌≡◌, ◌↔◌, ℕ, ◌≤◌, List, [], ◌∷◌, Option, Some, None, refl, sym, ap, ◌∙◌, arith, subst}
+use Rattle.std.specs.Prelude.{slice_get}
+use Rattle.std.specs.List.{Contains}
+use Rattle.model_core.specs.declared.static_kind.StaticKind.{StaticKind}
+use Rattle.model_core.specs.declared.static_kind.StaticKind.TheVariants as rules
+use Rattle.model_core.specs.EventGraph.{EventGraph}
+use Rattle.model_core.specs.Text.Written.{WrittenModel}
+use Rattle.model_core.specs.Static.FaultOrder.{StaticFault, rule_row}
+use Rattle.model_core.specs.Static.ModelFaults.{faults_of_parts, or_too_long, model_faults, Broken, IsTold, told_fault, Accepted}
+use Rattle.static_laws.proofs.ToldFaults.{IsLeast, not_before_place, not_before_row, earliest_is_least, none_told}
+use Rattle.static_laws.proofs.StaticTwins.ModelTwin.{empty_contains, parts_kept}
+
+-- ---- each rule has a place of its own in the table
+
+rules_in_order : List StaticKind
+rules_in_order =
+    rules.NameTooLong ∷ rules.UnknownName ∷ rules.DuplicateName ∷ rules.WrongUse ∷ rules.KindMismatch ∷ rules.ValueCount ∷ rules.LiteralTooLarge ∷ rules.EmptyRange
+    ∷ rules.InitialOutside ∷ rules.SizeOutside ∷ rules.PriorityOutside ∷ rules.StreamOutside ∷ rules.DrawOutside ∷ rules.WeightOutside ∷ rules.TooMany ∷ rules.ModelTooLong ∷ []
+
+at_its_place : (kind : StaticKind) → slice_get rules_in_order (rule_row kind) ≡ Some kind
+unfolding rules_in_order
+at_its_place rules.NameTooLong = refl
+at_its_place rules.UnknownName = refl
+at_its_place rules.DuplicateName = refl
+at_its_place rules.WrongUse = refl
+at_its_place rules.KindMismatch = refl
+at_its_place rules.ValueCount = refl
+at_its_place rules.LiteralTooLarge = refl
+at_its_place rules.EmptyRange = refl
+at_its_place rules.InitialOutside = refl
+at_its_place rules.SizeOutside = refl
+at_its_place rules.PriorityOutside = refl
+at_its_place rules.StreamOutside = refl
+at_its_place rules.DrawOutside = refl
+at_its_place rules.WeightOutside = refl
+at_its_place rules.TooMany = refl
+at_its_place rules.ModelTooLong = refl
+
+some_same : {A : Type 0} {a b : A} → Some a ≡ Some b → a ≡ b
+some_same e = cc
+
+one_place : (j k : StaticKind) → rule_row j ≡ rule_row k → j ≡ k
+one_place j k e = some_same (sym (at_its_place j) ∙ ap (slice_get rules_in_order) e ∙ at_its_place k)
+
+-- ---- the fault that is told
+
+both_ways : (a b : ℕ) → a ≤ b → b ≤ a → a ≡ b
+both_ways a b h k = omega arith
+
+abbrev fault_of : StaticKind → ℕ → StaticFault
+fault_of kind at = record { at = at; kind = kind }
+
+module _ (m : WrittenModel) where
+  earliest_told : (f : StaticFault) → told_fault m ≡ Some f → IsTold m f.kind f.at
+  earliest_told f e = record {
+    broken = least.among;
+    least = λ other place b. not_before_place f.at (rule_row f.kind) place (rule_row other) (least.least (record { at = place; kind = other }) b);
+    first = λ other b. not_before_row f.at (rule_row f.kind) (rule_row other) (least.least (record { at = f.at; kind = other }) b);
+  }
+    where
+      least : IsLeast (model_faults m) f
+      least = earliest_is_least (model_faults m) f e
+
+  -- no two faults are told
+  one_told : (f g : StaticFault) → IsTold m f.kind f.at → IsTold m g.kind g.at → f ≡ g
+  one_told f g t u = ap (λ kind. fault_of kind f.at) one_kind ∙ ap (fault_of g.kind) one_byte
+    where
+      one_byte : f.at ≡ g.at
+      one_byte = both_ways f.at g.at (t.least g.kind g.at u.broken) (u.least f.kind f.at t.broken)
+
+      one_kind : f.kind ≡ g.kind
+      one_kind = one_place f.kind g.kind (both_ways (rule_row f.kind) (rule_row g.kind)
+          (t.first g.kind (subst (Broken m g.kind) (sym one_byte) u.broken))
+          (u.first f.kind (subst (Broken m f.kind) one_byte t.broken)))
+
+  nothing_broken : model_faults m ≡ [] → (kind : StaticKind) (at : ℕ) → ¬ Broken m kind at
+  nothing_broken e kind at b = empty_contains (record { at = at; kind = kind }) (subst (λ fs. Contains fs (record { at = at; kind = kind })) e b)
+
+  told_earliest : (f : StaticFault) → IsTold m f.kind f.at → told_fault m ≡ Some f
+  told_earliest f t = by_case (told_fault m) refl
+    where
+      by_case : (o : Option StaticFault) → told_fault m ≡ o → told_fault m ≡ Some f
+      by_case None e = absurd (nothing_broken (none_told (model_faults m) e) f.kind f.at t.broken)
+      by_case (Some g) e = e ∙ ap Some (one_told g f (earliest_told g e) t)
+
+  pub told_is_told : (f : StaticFault) → told_fault m ≡ Some f ↔ IsTold m f.kind f.at
+  told_is_told f = (earliest_told f, told_earliest f)
+
+  no_fault_of_parts : (limit : ℕ) (fs : List StaticFault) → or_too_long m limit fs ≡ [] → fs ≡ []
+  no_fault_of_parts limit [] e = refl
+  no_fault_of_parts limit (f ∷ fs) e = cc
+
+  not_told : ((g : EventGraph) × Accepted m g) → told_fault m ≡ None
+  not_told (g, a) = by_case (told_fault m) refl
+    where
+      by_case : (o : Option StaticFault) → told_fault m ≡ o → told_fault m ≡ None
+      by_case None e = e
+      by_case (Some f) e = absurd (a.unbroken f.kind f.at (earliest_told f e).broken)
+
+  accepted_unless_told : told_fault m ≡ None → (g : EventGraph) × Accepted m g
+  accepted_unless_told e =
+      let nothing = none_told (model_faults m) e in
+      let (g, numbers, keeps, by_kind) = parts_kept m (no_fault_of_parts _ (faults_of_parts m) nothing) in
+      (g, record { unbroken = nothing_broken nothing; numbers = numbers })
+
+  pub accepted_or_told : told_fault m ≡ None ↔ ((g : EventGraph) × Accepted m g)
+  accepted_or_told = (accepted_unless_told, not_told)

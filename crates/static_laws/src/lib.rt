@@ -1,0 +1,7 @@
+//! Laws of the static rules: one fault is told or a model is accepted, and what is accepted keeps the rules by itself, without
+//! the places of a text. The functions do nothing: what they ensure holds of all written models.
+#![tactic(auto)]
+
+mod static_law;
+
+pub use static_law::{accepted_models_keep_their_rules, one_fault_is_told};

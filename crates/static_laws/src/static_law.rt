@@ -1,0 +1,24 @@
+//! Laws of static rules. The functions do nothing: what they ensure holds of all written models.
+
+ghost use Rattle.std.specs.Prelude.{◌≡◌, ◌↔◌, Some, None};
+ghost use Rattle.model_core.specs.Text.Numbering.{numbered};
+ghost use Rattle.model_core.specs.Static.OwnRules.{KeepsStaticRules};
+ghost use Rattle.model_core.specs.Static.WrittenByKind.{VariablesByKind};
+ghost use Rattle.model_core.specs.EventGraph.{EventGraph};
+ghost use Rattle.model_core.specs.Text.Written.{WrittenModel};
+ghost use Rattle.model_core.specs.Static.FaultOrder.{StaticFault};
+ghost use Rattle.model_core.specs.Static.ModelFaults.{IsTold, told_fault, Accepted};
+
+/// A written model is accepted as a model, or exactly one of its static faults is told: of those with the least
+/// place the first of the table.
+pub fn one_fault_is_told()
+    ensures told { (m : WrittenModel) (f : StaticFault) → told_fault m ≡ Some f ↔ IsTold m f.kind f.at }
+    ensures accepted { (m : WrittenModel) → told_fault m ≡ None ↔ ((g : EventGraph) × Accepted m g) }
+{}
+
+/// A written model is accepted as a model exactly where that is the model with numbers in place of its names, it keeps
+/// the static rules by itself, and each variable is written as its kind has it.
+pub fn accepted_models_keep_their_rules()
+    ensures { (m : WrittenModel) (g : EventGraph)
+        → Accepted m g ↔ (numbered m ≡ Some g) × KeepsStaticRules g × VariablesByKind m }
+{}

@@ -1,0 +1,147 @@
+-- Readings, and sets of sorts.
+use denote.Enum.Bare.{same_true, true_same}
+use Rattle.std.proofs.Common.{◌≡◌, ◌+◌, ◌≤◌, Bool, true, false, cond, List, [], ◌∷◌, ◌++◌, length, refl, sym, ap, ◌∙◌, subst, ◌⊎◌, inl, inr, arith}
+use Rattle.std.specs.Prelude.{not, ◌&&◌, ◌||◌, Ok, Err}
+use Rattle.model_core.specs.contracts.token.Word.{the_type as word_type}
+use Rattle.model_core.specs.contracts.token.Symbol.{the_type as symbol_type}
+use Rattle.model_core.specs.Text.Lexing.{Lexeme}
+use Rattle.model_core.specs.Text.Format.{TokenSort, AName, ANumber, AWord, ASymbol, sort_of, single}
+use Rattle.text_laws.specs.FirstTokens.{same_sort, among, begins_as, begins_among, apart, subset}
+use Rattle.text_laws.specs.FormatReader.{Parse, Parser, took, stuck, and_next, single_at}
+
+-- ---- tests
+
+pub both : (a b : Bool) → (a && b) ≡ true → (a ≡ true) × (b ≡ true)
+both true b e = (refl, e)
+both false b e = absurd cc
+
+pub neither : (a b : Bool) → (a || b) ≡ false → (a ≡ false) × (b ≡ false)
+neither true b e = absurd cc
+neither false b e = (refl, e)
+
+pub not_true : (a : Bool) → not a ≡ true → a ≡ false
+not_true true e = absurd cc
+not_true false e = refl
+
+pub chosen : {A : Type 0} (b : Bool) (x y z : A) → cond b x y ≡ z → ((b ≡ true) × (x ≡ z)) ⊎ ((b ≡ false) × (y ≡ z))
+chosen true x y z e = inl (refl, e)
+chosen false x y z e = inr (refl, e)
+
+-- ---- readings
+
+pub same_reading : {A : Type 0} (x y : A) (s t : List Lexeme) → took x s ≡ took y t → (x ≡ y) × (s ≡ t)
+same_reading {A} x y s t e = let p : ◌≡◌ {A = A × List Lexeme} (x, s) (y, t) = cc in (ap (λ (r : A × List Lexeme). r.0) p, ap (λ (r : A × List Lexeme). r.1) p)
+
+pub reading_of : {A : Type 0} (x y : A) (s t : List Lexeme) → x ≡ y → s ≡ t → took x s ≡ took y t
+reading_of x y s t e f = cc
+
+pub then_ok : {A B : Type 0} (next : A → Parser B) (r : Parse A) (y : B) (left : List Lexeme) → and_next next r ≡ Ok (y, left) → (x : A) × (between : List Lexeme) × (r ≡ Ok (x, between)) × (next x between ≡ Ok (y, left))
+then_ok next (Ok r) y left e = (r.0, r.1, refl, e)
+then_ok next (Err rest) y left e = absurd cc
+
+-- ---- sets of sorts
+
+pub same_sort-true : (r s : TokenSort) → same_sort r s ≡ true → r ≡ s
+same_sort-true AName AName e = refl
+same_sort-true ANumber ANumber e = refl
+same_sort-true (AWord v) (AWord w) e = ap AWord (same_true word_type tt v w e)
+same_sort-true (ASymbol v) (ASymbol w) e = ap ASymbol (same_true symbol_type tt v w e)
+same_sort-true _ _ e = absurd cc
+
+pub same_sort-refl : (s : TokenSort) → same_sort s s ≡ true
+same_sort-refl AName = refl
+same_sort-refl ANumber = refl
+same_sort-refl (AWord w) = true_same word_type w w refl
+same_sort-refl (ASymbol s) = true_same symbol_type s s refl
+
+pub begins-none : (xs : List TokenSort) → begins_among xs [] ≡ false
+begins-none [] = refl
+begins-none (x ∷ xs) = begins-none xs
+
+begins-among : (xs : List TokenSort) (t : Lexeme) (tokens : List Lexeme) → begins_among xs (t ∷ tokens) ≡ among (sort_of t.kind) xs
+begins-among [] t tokens = refl
+begins-among (x ∷ xs) t tokens = ap (λ b. same_sort (sort_of t.kind) x || b) (begins-among xs t tokens)
+
+pub begins-append : (xs ys : List TokenSort) (tokens : List Lexeme) → begins_among (xs ++ ys) tokens ≡ (begins_among xs tokens || begins_among ys tokens)
+begins-append [] ys tokens = refl
+begins-append (x ∷ xs) ys tokens = pick (begins_as x tokens) (begins_among xs tokens) (begins_among ys tokens) (begins_among (xs ++ ys) tokens) (begins-append xs ys tokens)
+  where
+    pick : (a b c d : Bool) → d ≡ (b || c) → (a || d) ≡ ((a || b) || c)
+    pick true b c d e = refl
+    pick false b c d e = e
+
+pub begins-some : (xs : List TokenSort) → begins_among xs [] ≡ true → ⊥
+begins-some xs e = let f : begins_among xs [] ≡ false = begins-none xs in absurd cc
+
+pub begins-left : (xs ys : List TokenSort) (tokens : List Lexeme) → begins_among xs tokens ≡ true → begins_among (xs ++ ys) tokens ≡ true
+begins-left xs ys tokens e = rw (begins-append xs ys tokens, e) refl
+
+or-true : (a b : Bool) → b ≡ true → (a || b) ≡ true
+or-true true b e = refl
+or-true false b e = e
+
+pub begins-right : (xs ys : List TokenSort) (tokens : List Lexeme) → begins_among ys tokens ≡ true → begins_among (xs ++ ys) tokens ≡ true
+begins-right xs ys tokens e = begins-append xs ys tokens ∙ or-true (begins_among xs tokens) (begins_among ys tokens) e
+
+pub stops-both : (xs ys : List TokenSort) (tokens : List Lexeme) → begins_among (xs ++ ys) tokens ≡ false → (begins_among xs tokens ≡ false) × (begins_among ys tokens ≡ false)
+stops-both xs ys tokens e = neither (begins_among xs tokens) (begins_among ys tokens) (sym (begins-append xs ys tokens) ∙ e)
+
+among-apart : (s : TokenSort) (xs ys : List TokenSort) → apart xs ys ≡ true → among s ys ≡ true → among s xs ≡ false
+among-apart s [] ys a e = refl
+among-apart s (x ∷ xs) ys a e =
+    let b = both (not (among x ys)) (apart xs ys) a in
+    pick (same_sort s x) refl (among-apart s xs ys b.1 e) (not_true (among x ys) b.0)
+  where
+    pick : (c : Bool) → same_sort s x ≡ c → among s xs ≡ false → among x ys ≡ false → (c || among s xs) ≡ false
+    pick true f g h = absurd (let same : s ≡ x = same_sort-true s x f in let i : among x ys ≡ true = subst (λ (z : TokenSort). among z ys ≡ true) same e in cc)
+    pick false f g h = g
+
+pub begins-apart : (xs ys : List TokenSort) (tokens : List Lexeme) → apart xs ys ≡ true → begins_among ys tokens ≡ true → begins_among xs tokens ≡ false
+begins-apart xs ys [] a e = begins-none xs
+begins-apart xs ys (t ∷ tokens) a e = begins-among xs t tokens ∙ among-apart (sort_of t.kind) xs ys a (sym (begins-among ys t tokens) ∙ e)
+
+among-subset : (s : TokenSort) (xs ys : List TokenSort) → subset xs ys ≡ true → among s xs ≡ true → among s ys ≡ true
+among-subset s [] ys a e = absurd cc
+among-subset s (x ∷ xs) ys a e =
+    let b = both (among x ys) (subset xs ys) a in
+    pick (same_sort s x) refl e b.0 (λ h. among-subset s xs ys b.1 h)
+  where
+    pick : (c : Bool) → same_sort s x ≡ c → (c || among s xs) ≡ true → among x ys ≡ true → (among s xs ≡ true → among s ys ≡ true) → among s ys ≡ true
+    pick true f g h i = let same : s ≡ x = same_sort-true s x f in subst (λ (z : TokenSort). among z ys ≡ true) (sym same) h
+    pick false f g h i = i g
+
+pub begins-subset : (xs ys : List TokenSort) (tokens : List Lexeme) → subset xs ys ≡ true → begins_among xs tokens ≡ true → begins_among ys tokens ≡ true
+begins-subset xs ys [] a e = absurd (begins-some xs e)
+begins-subset xs ys (t ∷ tokens) a e = begins-among ys t tokens ∙ among-subset (sort_of t.kind) xs ys a (sym (begins-among xs t tokens) ∙ e)
+
+pub stops-subset : (xs ys : List TokenSort) (tokens : List Lexeme) → subset xs ys ≡ true → begins_among ys tokens ≡ false → begins_among xs tokens ≡ false
+stops-subset xs ys tokens a e = pick (begins_among xs tokens) refl
+  where
+    pick : (b : Bool) → begins_among xs tokens ≡ b → begins_among xs tokens ≡ false
+    pick true f = absurd (let g : begins_among ys tokens ≡ true = begins-subset xs ys tokens a f in cc)
+    pick false f = f
+
+-- ---- one token
+
+passed : {A : Type 0} (b : Bool) (x y : A) (s t rest : List Lexeme) → cond b (took x s) (stuck rest) ≡ took y t → (b ≡ true) × (x ≡ y) × (s ≡ t)
+passed true x y s t rest e = let r = same_reading x y s t e in (refl, r.0, r.1)
+passed false x y s t rest e = absurd cc
+
+pub token-sound : {A : Type 0} (s : TokenSort) (f : Lexeme → A) (tokens : List Lexeme) (x : A) (left : List Lexeme) → single_at s f tokens ≡ Ok (x, left) → single s f tokens x left
+token-sound s f [] x left e = absurd cc
+token-sound s f (t ∷ tokens) x left e = let p = passed (same_sort (sort_of t.kind) s) (f t) x tokens left (t ∷ tokens) e in (same_sort-true (sort_of t.kind) s p.0, p.1, p.2)
+
+pub token-complete : {A : Type 0} (s : TokenSort) (f : Lexeme → A) (tokens : List Lexeme) (x : A) (left : List Lexeme) → single s f tokens x left → single_at s f tokens ≡ Ok (x, left)
+token-complete s f [] x left d = absurd d
+token-complete s f (t ∷ tokens) x left d = let e : same_sort (sort_of t.kind) s ≡ true = subst (λ (z : TokenSort). same_sort (sort_of t.kind) z ≡ true) d.0 (same_sort-refl (sort_of t.kind)) in rw e (reading_of (f t) x tokens left d.1 d.2)
+
+pub token-begins : {A : Type 0} (s : TokenSort) (f : Lexeme → A) (tokens : List Lexeme) (x : A) (left : List Lexeme) → single s f tokens x left → begins_among (s ∷ []) tokens ≡ true
+token-begins s f [] x left d = absurd d
+token-begins s f (t ∷ tokens) x left d = let e : same_sort (sort_of t.kind) s ≡ true = subst (λ (z : TokenSort). same_sort (sort_of t.kind) z ≡ true) d.0 (same_sort-refl (sort_of t.kind)) in rw e refl
+
+one_shorter : (t : Lexeme) (tokens left : List Lexeme) → tokens ≡ left → length left + 1 ≤ length (t ∷ tokens)
+one_shorter t tokens left e = rw e (omega arith)
+
+pub token-shorter : {A : Type 0} (s : TokenSort) (f : Lexeme → A) (tokens : List Lexeme) (x : A) (left : List Lexeme) → single s f tokens x left → length left + 1 ≤ length tokens
+token-shorter s f [] x left d = absurd d
+token-shorter s f (t ∷ tokens) x left d = one_shorter t tokens left d.2

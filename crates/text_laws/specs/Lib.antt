@@ -1,0 +1,4 @@
+pub mod FirstTokens
+pub mod FormatReader
+pub mod LanguageReader
+pub mod OpeningCount
