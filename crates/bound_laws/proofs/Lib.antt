@@ -1,2 +1,3 @@
 pub mod BeginsInRange
 pub mod Soundness
+pub mod NoGuard

@@ -10,7 +10,8 @@ use Rattle.model_core.specs.Rules.Reached.{Reachable, reach_first, reach_watched
 use Rattle.model_core.specs.Rules.Drop.{edge_renumbered, vertex_renumbered, watched_renumbered, only_marked}
 use Rattle.mark_laws.proofs.Marks.{Marked, marked-placed}
 use Rattle.model_core.proofs.Among.{Among, among-contained, contained-among, among-map, of-among}
-use Rattle.edge_pruning.proofs.ReachedMarks.{has_edges, reachable-marked, reached_marks-hold, reached_marks-long, reached_marks-reachable}
+use Rattle.mark_laws.proofs.ReachedLong.{reached_marks-long}
+use Rattle.edge_pruning.proofs.ReachedMarks.{has_edges, reachable-marked, reached_marks-hold, reached_marks-reachable}
 use Rattle.mark_laws.proofs.Ranks.{rank-none}
 use Rattle.model_core.proofs.Images.{at-map}
 use Rattle.edge_pruning.proofs.DropSame.{NamesVertices}

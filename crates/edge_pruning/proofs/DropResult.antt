@@ -5,7 +5,7 @@ use Rattle.model_core.specs.Rules.Conditions.{first_failed}
 use Rattle.model_core.specs.Rules.Reached.{reached_marks, unreached}
 use Rattle.model_core.specs.Rules.Drop.{lists_some, lists_exactly, drop_conditions, staying_marks, only_marked, dropped}
 use Rattle.edge_pruning.proofs.FewerOrFreer.{both_hold}
-use Rattle.edge_pruning.proofs.ReachedMarks.{reached_marks-long}
+use Rattle.mark_laws.proofs.ReachedLong.{reached_marks-long}
 use Rattle.mark_laws.proofs.StayingMarks.{staying-unmarked, exactly-equal}
 
 pub lists_unreached : (g : EventGraph) (vertices : List ℕ) → first_failed (drop_conditions g vertices) ≡ None → vertices ≡ unreached g

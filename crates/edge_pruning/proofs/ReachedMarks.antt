@@ -8,13 +8,13 @@ use Rattle.model_core.specs.Run.History.{watches}
 use Rattle.model_core.specs.Rules.MarkedPlaces.{marked_of, is_marked, is_among, passes}
 use Rattle.model_core.specs.Rules.Entailed.{Entailed, from_first, over_pair, is_entailed_by, one_pair_further, entailed_marks}
 use Rattle.model_core.specs.Rules.Reached.{Reachable, reach_first, reach_watched, reach_over, begins_reached, is_led_to, one_edge_further, reached_marks}
-use Rattle.marked_walks.specs.PlacePairs.{places_behind, pairs_from}
+use Rattle.mark_laws.specs.PlacePairs.{places_behind, pairs_from}
 use Rattle.mark_laws.proofs.Marks.{Marked}
 use Rattle.model_core.proofs.PlacesChanged.{same_number, same_on_range}
-use Rattle.mark_laws.proofs.EntailedMarks.{same-place, among-place, entailed-by, by-entailed, HoldEntailed, entailed_marks-long, entailed_marks-entailed, entailed_marks-hold}
+use Rattle.mark_laws.proofs.EntailedMarks.{same-place, among-place, entailed-by, by-entailed, HoldEntailed, entailed_marks-entailed, entailed_marks-hold}
 use Rattle.model_core.proofs.Among.{Among, among-contained, contained-among, among-map, among-of_map, second_true, any-among, among-any}
 use Rattle.mark_laws.proofs.MarksBelow.{among-marked, marked-among}
-use Rattle.marked_walks.proofs.FindingLaws.{behind-pairs, pairs-behind}
+use Rattle.mark_laws.proofs.PairsBehind.{behind-pairs, pairs-behind}
 use Rattle.edge_pruning.specs.Inner.Walk.{targets_of, targets_behind, watched_vertices}
 
 -- ---- where one begins
@@ -108,9 +108,6 @@ module _ (g : EventGraph) where
       ap₂ (λ (pass : List Bool → List Bool) (marks : List Bool). passes pass (length marks) marks)
       (λ i marks. further-alike g.vertices marks i)
       (same_on_range (begins_reached g) (is_among first) 0 count (λ k from. begins-alike k))
-
-  pub reached_marks-long : length (reached_marks g) ≡ length g.vertices
-  reached_marks-long = ap length reached_marks-entailed ∙ entailed_marks-long count first pairs
 
   entailed-reachable : {k : ℕ} → Entailed count first pairs k → Reachable g k
   entailed-reachable (from_first k below contains) = begun (among-contained first k contains) where

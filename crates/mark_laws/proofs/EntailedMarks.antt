@@ -6,7 +6,7 @@ use Rattle.std.proofs.lemmas.List.FromFn.{length-map-range_with_len}
 use Rattle.model_core.specs.Rules.MarkedPlaces.{is_marked, is_among, passes}
 use Rattle.model_core.specs.Rules.Entailed.{Entailed, from_first, over_pair, is_entailed_by, one_pair_further, entailed_marks}
 use Rattle.mark_laws.proofs.Marks.{Marked}
-use Rattle.mark_laws.proofs.LeastSets.{Below, passes-close}
+use Rattle.mark_laws.proofs.LeastSets.{Below, passes-close, passes-long}
 use Rattle.model_core.proofs.PlacesChanged.{same_number}
 use Rattle.model_core.proofs.Among.{Among, among-contained, contained-among, either_true, first_true, second_true, any-among, among-any}
 use Rattle.mark_laws.proofs.MarksBelow.{marked-within, below-by_places, equal-by_places, tested-marked, marked-tested}
@@ -69,10 +69,6 @@ module _ (count : ℕ) (first : List ℕ) (pairs : List (ℕ × ℕ)) where
   pass-grows : (marks : List Bool) → Below marks (pass marks)
   pass-grows marks = below-by_places marks (pass marks) (sym (pass-long marks)) (pass-keeps marks)
 
-  passes-long : (n : ℕ) (marks : List Bool) → length (passes pass n marks) ≡ length marks
-  passes-long zero marks = refl
-  passes-long (suc n) marks = passes-long n (pass marks) ∙ pass-long marks
-
   passes-keep : (n : ℕ) (marks : List Bool) (k : ℕ) → Marked marks k → Marked (passes pass n marks) k
   passes-keep zero marks k marked = marked
   passes-keep (suc n) marks k marked = passes-keep n (pass marks) k (pass-keeps marks k marked)
@@ -95,7 +91,7 @@ module _ (count : ℕ) (first : List ℕ) (pairs : List (ℕ × ℕ)) where
   beginnings-long = length-map-range_with_len (is_among first) 0 count
 
   pub entailed_marks-long : length (entailed_marks count first pairs) ≡ count
-  entailed_marks-long = passes-long (length beginnings) beginnings ∙ beginnings-long
+  entailed_marks-long = passes-long pass pass-long (length beginnings) beginnings ∙ beginnings-long
 
   pub entailed_marks-entailed : (k : ℕ) → Marked (entailed_marks count first pairs) k → Entailed count first pairs k
   entailed_marks-entailed = passes-entailed (length beginnings) beginnings beginnings-long (λ k marked.

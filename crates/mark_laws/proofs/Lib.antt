@@ -5,3 +5,5 @@ pub mod EntailedMarks
 pub mod UnmarkedPlaces
 pub mod Ranks
 pub mod StayingMarks
+pub mod PairsBehind
+pub mod ReachedLong

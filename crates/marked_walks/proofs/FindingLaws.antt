@@ -7,7 +7,8 @@ use Rattle.mark_laws.proofs.Marks.{Marked}
 use Rattle.model_core.proofs.Among.{Among, among-contained, contained-among, among-map, among-of_map, among-front, among-back, among-either}
 use Rattle.mark_laws.proofs.MarksBelow.{marked-within}
 use Rattle.mark_laws.proofs.EntailedMarks.{closed-entailed_marks}
-use Rattle.marked_walks.specs.PlacePairs.{places_behind, pairs_from}
+use Rattle.mark_laws.specs.PlacePairs.{places_behind, pairs_from}
+use Rattle.mark_laws.proofs.PairsBehind.{behind-pairs, pairs-behind}
 use Rattle.marked_walks.specs.Inner.Finding.{Found, is_unfound, find_one, find_all, find_nth, IsFollowed, Going}
 
 -- ---- one mark more
@@ -155,26 +156,6 @@ nth-and_rest f (k ∷ ks) (suc n) below = nth-and_rest f ks n (omega arith)
 pub one_further : (f u all : Found) (ks : List ℕ) (n : ℕ) → n < length ks → u ≡ find_nth f ks n → find_all f (drop n ks) ≡ all → find_all u (drop (n + 1) ks) ≡ all
 one_further f u all ks n below found so_far =
     ap (λ (k : ℕ). find_all u (drop k ks)) (add-one n) ∙ ap (λ (f : Found). find_all f (drop (suc n) ks)) found ∙ nth-and_rest f ks n below ∙ so_far
-
--- ---- pairs and lists of the places behind
-
-pub behind-pairs : (next : List (List ℕ)) (before at k j : ℕ) → before + k ≡ at → Among j (places_behind next k) → Among (at, j) (pairs_from before next)
-behind-pairs [] before at k j is among = absurd among
-behind-pairs (ks ∷ next) before at zero j is among =
-    let same : before ≡ at = omega (arith, is) in
-    among-front (each_beside before ks) (pairs_from (before + 1) next) (at, j) (subst (λ (n : ℕ). Among (n, j) (each_beside before ks)) same (among-map (λ w. (before, w)) ks j among))
-behind-pairs (ks ∷ next) before at (suc k) j is among = among-back (each_beside before ks) (pairs_from (before + 1) next) (at, j) (behind-pairs next (before + 1) at k j (omega (arith, is)) among)
-
-pub pairs-behind : (next : List (List ℕ)) (before at j : ℕ) → Among (at, j) (pairs_from before next) → (k : ℕ) × (before + k ≡ at) × Among j (places_behind next k)
-pairs-behind [] before at j among = absurd among
-pairs-behind (ks ∷ next) before at j among = by (among-either (each_beside before ks) (pairs_from (before + 1) next) (at, j) among) (pairs-behind next (before + 1) at j) where
-  by : Among (at, j) (each_beside before ks) ⊎ Among (at, j) (pairs_from (before + 1) next) → (Among (at, j) (pairs_from (before + 1) next) → (k : ℕ) × (before + 1 + k ≡ at) × Among j (places_behind next k)) → (k : ℕ) × (before + k ≡ at) × Among j (places_behind (ks ∷ next) k)
-  by (inl here) rest =
-      let (w, there, is) = among-of_map (λ w. (before, w)) ks (at, j) here in
-      let first : before ≡ at = ap (λ (p : ℕ × ℕ). p.0) is in
-      let second : w ≡ j = ap (λ (p : ℕ × ℕ). p.1) is in
-      (zero, omega (arith, first), subst (λ (n : ℕ). Among n ks) second there)
-  by (inr later) rest = let (k, is, there) = rest later in (suc k, omega (arith, is), there)
 
 -- ---- it begins
 

@@ -2,7 +2,7 @@
 
 ghost use Rattle.std.specs.Prelude.{◌≡◌, [], length, replicate, false, OnOk, IfOk};
 ghost use Rattle.model_core.specs.Rules.Entailed.{entailed_marks};
-ghost use Rattle.marked_walks.specs.PlacePairs.{places_behind, pairs_from};
+ghost use Rattle.mark_laws.specs.PlacePairs.{places_behind, pairs_from};
 ghost use Rattle.marked_walks.specs.Inner.Finding.{found_of, find_one, find_all, find_nth, Going};
 
 use crate::places_behind::PlacesBehind;

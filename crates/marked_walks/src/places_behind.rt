@@ -1,7 +1,7 @@
 //! What a walk follows: the places behind each place, wherever they are kept.
 
 ghost use Rattle.std.specs.Prelude.{◌≡◌, ℕ, List, length, slice_get};
-ghost use Rattle.marked_walks.specs.PlacePairs.{places_behind};
+ghost use Rattle.mark_laws.specs.PlacePairs.{places_behind};
 
 /// For each of some places, counted from 0, the places behind it.
 pub trait PlacesBehind {

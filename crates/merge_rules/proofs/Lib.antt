@@ -22,3 +22,4 @@ pub mod MergedLength
 pub mod LimitsTold
 pub mod PairsFound
 pub mod RulesOfEdges
+pub mod OneUrgentLess

@@ -18,7 +18,8 @@ use Rattle.model_core.specs.Rules.Merge.{set_parameters, merged_vertex, merged_w
 use Rattle.model_core.specs.Code.Views.{graph_of, vertex_of, edge_of, change_of, expression_of}
 use Rattle.model_core.proofs.BothTrue.{and_first, and_second}
 use Rattle.merge_rules.proofs.MergedModels.{place-here}
-use Rattle.merge_rules.proofs.MergeHolds.{every-holds, read_at, is_below}
+use Rattle.model_core.proofs.AllHold.{every-holds}
+use Rattle.merge_rules.proofs.MergeHolds.{read_at, is_below}
 use Rattle.merge_rules.proofs.PlainEdges.{PlainEdge, plain_edge_of, plain_within}
 use Rattle.merge_rules.proofs.EdgesAside.{urgent_edge}
 use Rattle.merge_rules.proofs.MergedLength.{rest_length, merged_length, added_together}

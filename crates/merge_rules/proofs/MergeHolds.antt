@@ -16,6 +16,7 @@ use Rattle.model_core.specs.Rules.Uses.{vertex_writes}
 use Rattle.model_core.specs.Rules.UrgentEdges.{is_urgent_kind, single_urgent}
 use Rattle.model_core.specs.Rules.Merge.{merge_conditions, cancels, is_cancelling, is_watched_vertex, reads_none_of, happens_unseen, set_parameters, values_at_once, other_edges, is_within_limits, merged}
 use Rattle.model_core.proofs.BothTrue.{and_first, and_second}
+use Rattle.model_core.proofs.AllHold.{every-holds}
 use Rattle.static_laws.proofs.StaticTwins.DeclaredNames.{every_item}
 use Rattle.bound_laws.proofs.Soundness.NumberRows.{not_true}
 use Rattle.model_core.proofs.EachOne.{every-map, every-front, every-behind, every-joined, either_false}
@@ -25,15 +26,6 @@ use Rattle.merge_rules.proofs.SingleUrgent.{at_each_place, edges_keep}
 use Rattle.merge_rules.proofs.PlainEdges.{PlainEdge, plain_edge_of}
 
 -- ---- the conditions
-
-pub none_before : (o : Option ℕ) → option_map (λ n. suc n) o ≡ None → o ≡ None
-none_before None e = refl
-none_before (Some n) e = cc
-
-pub every-holds : (bs : List Bool) → first_failed bs ≡ None → AllByRecursion (λ b. b ≡ true) bs
-every-holds [] e = tt
-every-holds (true ∷ bs) e = (refl, every-holds bs (none_before (first_failed bs) e))
-every-holds (false ∷ bs) e = cc
 
 -- what the eight conditions say
 pub record Mergeable (g : EventGraph) (first second : ℕ) : Type 0 where

@@ -11,7 +11,8 @@ use Rattle.model_core.specs.Text.Canonical.{canonical}
 use Rattle.model_core.specs.Rules.Conditions.{first_failed}
 use Rattle.model_core.specs.Rules.Merge.{merge_conditions, merged, has_few_parts}
 use Rattle.model_core.proofs.BothTrue.{and_second}
-use Rattle.merge_rules.proofs.MergeHolds.{none_before, conditions_hold}
+use Rattle.model_core.proofs.AllHold.{none_before}
+use Rattle.merge_rules.proofs.MergeHolds.{conditions_hold}
 
 -- ---- the last condition
 

@@ -1,6 +1,6 @@
 //! The laws of merge. The functions do nothing: what they ensure holds of all models.
 
-ghost use Rattle.std.specs.Prelude.{◌≡◌, ℕ, ◌≤◌, ◌^◌, ℤ, true, List, Some, None, Ok};
+ghost use Rattle.std.specs.Prelude.{◌≡◌, ℕ, suc, ◌≤◌, ◌^◌, ℤ, true, List, length, Some, None, Ok};
 ghost use Rattle.model_core.specs.EventGraph.{EventGraph};
 ghost use Rattle.model_core.specs.Run.Pending.{TakenOff, next_entry};
 ghost use Rattle.model_core.specs.Run.Step.{Configuration, step};
@@ -13,6 +13,7 @@ ghost use Rattle.model_core.specs.Rules.Settle.{first_settle};
 ghost use Rattle.model_core.specs.Rules.UrgentEdges.{single_urgent};
 ghost use Rattle.model_core.specs.Rules.Merge.{merge_conditions, merged};
 ghost use Rattle.merge_rules.specs.BetweenSteps.{IsSettled};
+ghost use Rattle.merge_rules.specs.UrgentVertices.{plain_count};
 
 use range_bounds::{exclusive_conditions_are_never_both_true, quiet_parts_have_no_fault};
 use round_trip::validity_is_by_parts;
@@ -49,4 +50,11 @@ pub fn merging_keeps_the_meaning()
 pub fn merging_brings_no_rule_of_edges()
     ensures prune { (g : EventGraph) (first second : ℕ) → first_prune g ≡ None → first_prune (merged g first second) ≡ None }
     ensures settle { (g : EventGraph) (first second : ℕ) → first_settle g ≡ None → first_settle (merged g first second) ≡ None }
+{}
+
+/// A merge leaves as many vertices, and one fewer that has a plain urgent edge: so merges end.
+pub fn merging_takes_an_urgent_edge()
+    ensures { (g : EventGraph) (first second : ℕ) → first_failed (merge_conditions g first second) ≡ None
+        → (length (merged g first second).vertices ≡ length g.vertices)
+        × (suc (plain_count (merged g first second).vertices) ≡ plain_count g.vertices) }
 {}

@@ -12,5 +12,6 @@ mod within_limits;
 pub use first_pair::{first_merge, first_merge_measured};
 pub use law::{
     at_most_one_event_is_urgent, merging_brings_no_rule_of_edges, merging_keeps_the_meaning,
+    merging_takes_an_urgent_edge,
 };
 pub use merging::{merge, merge_measured};

@@ -1,4 +1,3 @@
 mod WrittenOperators
 mod OneEdgeLess
 pub mod Putting
-pub mod FusedText

@@ -1,5 +1,5 @@
 -- Drop, merge and slice where no rule of edges is applicable: each application that the code makes is the first rule's.
-use Rattle.std.proofs.Common.{◌≡◌, ℕ, zero, suc, ◌+◌, ◌<◌, ◌≤◌, Bool, true, false, not, cond, nat_eq, eq-eqb, ◌&&◌, List, [], ◌∷◌, ◌++◌, map, length, Option, Some, None, refl, sym, ap, ◌∙◌, subst, arith}
+use Rattle.std.proofs.Common.{◌≡◌, ℕ, zero, suc, ◌+◌, ◌<◌, ◌≤◌, ◌==◌, Bool, true, false, not, cond, nat_eq, eq-eqb, ◌&&◌, List, [], ◌∷◌, ◌++◌, map, length, Option, Some, None, refl, sym, ap, ◌∙◌, subst, arith}
 use Rattle.std.proofs.lemmas.Bool.Decides.{nat_tests}
 use Rattle.std.specs.Prelude.{filter, slice_get, is_none, nat_lt}
 use Rattle.std.specs.List.{AllByRecursion, range_with_len, filter_map, cons_option}
@@ -20,8 +20,9 @@ use Rattle.model_core.specs.Rules.Needed.{needed_at_once, needed_beside, needed_
 use Rattle.model_core.specs.Rules.Slice.{slice_conditions, sliced}
 use Rattle.model_core.specs.Rules.Reduction.{RuleApplication, Prune, Settle, Drop, Merge, Slice, place_of_vertex, vertices_named, two_vertices_named, variables_named, unless_failed, applied, at_edge, drop_of, merge_of, slice_of, first_given, first_rule}
 use Rattle.mark_laws.proofs.EntailedMarks.{entailed_marks-long}
-use Rattle.edge_pruning.proofs.ReachedMarks.{reached_marks-long}
-use Rattle.merge_rules.proofs.MergeHolds.{conditions_hold}
+use Rattle.mark_laws.proofs.ReachedLong.{reached_marks-long}
+use Rattle.model_core.proofs.AllHold.{every-holds}
+use Rattle.model_core.proofs.BothTrue.{and_first, and_second}
 use Rattle.reducer.specs.Inner.LaterRules.{NoEdgeRule, Made}
 use Rattle.reducer.proofs.PlacesByName.{variables_distinct, vertices_distinct, place_of_its_name, places_of_their_names}
 
@@ -174,13 +175,21 @@ merge_holds g first second is =
     let (place, at_place) = head_given (merge_at g) (range_with_len 0 (length g.vertices)) (first, second) is in
     merge_at-holds g place first second at_place
 
+-- the two vertices of a merge are there
+both_exist : (g : EventGraph) (first second : ℕ) → first_failed (merge_conditions g first second) ≡ None → (nat_lt first (length g.vertices) ≡ true) × (nat_lt second (length g.vertices) ≡ true)
+both_exist g first second holds =
+    let all = (every-holds (merge_conditions g first second) holds).0 in
+    let apart = and_first (nat_lt first (length g.vertices) && nat_lt second (length g.vertices) && not (first == second)) _ all in
+    let both = and_first (nat_lt first (length g.vertices) && nat_lt second (length g.vertices)) _ apart in
+    (and_first (nat_lt first (length g.vertices)) _ both, and_second (nat_lt first (length g.vertices)) _ both)
+
 pub merge_made : (g h : EventGraph) (first second : ℕ) (before after : List RuleApplication) → IsValid g → first_merge g ≡ Some (first, second) → h ≡ merged g first second → after ≡ before ++ Merge (vertex_name g first) (vertex_name g second) ∷ [] → Made (merge_of g (first_merge g)) true g h before after
 merge_made g h first second before after valid is left noted =
     let holds = merge_holds g first second is in
-    let there = conditions_hold g first second holds in
+    let (exist, targets) = both_exist g first second holds in
     let distinct = vertices_distinct g valid in
-    let at_first : place_of_vertex (vertex_name g first) g.vertices ≡ Some first = place_of_its_name (λ (v : EventVertex). v.name) g.vertices first (below first (length g.vertices) there.exists) distinct in
-    let at_second : place_of_vertex (vertex_name g second) g.vertices ≡ Some second = place_of_its_name (λ (v : EventVertex). v.name) g.vertices second (below second (length g.vertices) there.target_exists) distinct in
+    let at_first : place_of_vertex (vertex_name g first) g.vertices ≡ Some first = place_of_its_name (λ (v : EventVertex). v.name) g.vertices first (below first (length g.vertices) exist) distinct in
+    let at_second : place_of_vertex (vertex_name g second) g.vertices ≡ Some second = place_of_its_name (λ (v : EventVertex). v.name) g.vertices second (below second (length g.vertices) targets) distinct in
     let named : two_vertices_named g (vertex_name g first) (vertex_name g second) ≡ Some (first, second) =
     ap (option_and_then (λ first. option_map (λ second. (first, second)) (place_of_vertex (vertex_name g second) g.vertices))) at_first ∙ ap (option_map (λ second. (first, second))) at_second in (
       Merge (vertex_name g first) (vertex_name g second),

@@ -12,7 +12,7 @@ use Rattle.model_core.specs.Rules.Reduction.{RuleApplication, applied, first_rul
 use Rattle.reducer.specs.Inner.LaterRules.{NoEdgeRule, Made, Finished}
 use Rattle.reducer.proofs.FirstRules.{AreFirst, are_first-append, are_first-strategy}
 use Rattle.reducer.proofs.NoEdgeRuleAnew.{LeavesEdges, none-applied}
-use Rattle.reducer.proofs.StrategyEnds.{measure, applied_leaves_less}
+use Rattle.reducer.proofs.StrategyEnds.{measure, MergesTakeOne, applied_leaves_less}
 
 -- first rules led from one graph to another and were noted, and the rules of edges don't apply to this one
 pub record Led (g h : EventGraph) (before after : List RuleApplication) : Type 0 where
@@ -44,9 +44,9 @@ led_to_the_end g h k before between after false e led (no_rule, same, unnoted) =
   subst (λ (xs : List RuleApplication). Strategy g xs k) (sym (append_nothing led.later)) (are_first-strategy led.later [] g h k led.first (no_rule, sym same)),
 )
 
-pub leaves_less : (g h : EventGraph) (before after : List RuleApplication) (made : Bool) → made ≡ true → NoEdgeRule g → Made (first_rule g) made g h before after → measure h < measure g
-leaves_less g h before after true e none (a, is, made, noted) = applied_leaves_less g h a none is made
-leaves_less g h before after false e none made = cc
+pub leaves_less : MergesTakeOne → (g h : EventGraph) (before after : List RuleApplication) (made : Bool) → made ≡ true → NoEdgeRule g → Made (first_rule g) made g h before after → measure h < measure g
+leaves_less takes g h before after true e none (a, is, made, noted) = applied_leaves_less takes g h a none is made
+leaves_less takes g h before after false e none made = cc
 
 -- ---- one application in code
 

@@ -21,21 +21,18 @@ use Rattle.model_core.specs.Rules.Slice.{slice_conditions, expression_renumbered
 use Rattle.model_core.specs.Rules.Reduction.{RuleApplication, applied, drop_of, merge_of, first_rule, Strategy}
 use Rattle.mark_laws.proofs.EntailedMarks.{entailed_marks-long}
 use Rattle.mark_laws.proofs.StayingMarks.{staying-unmarked, exactly-equal}
-use Rattle.edge_pruning.proofs.ReachedMarks.{reached_marks-long}
-use Rattle.merge_rules.proofs.MergeHolds.{every-holds, conditions_hold}
-use Rattle.merge_rules.proofs.MergeResult.{joined_is}
+use Rattle.mark_laws.proofs.ReachedLong.{reached_marks-long}
+use Rattle.model_core.proofs.AllHold.{every-holds}
+use Rattle.merge_rules.specs.UrgentVertices.{has_plain, plain_count}
 use Rattle.reducer.specs.Inner.LaterRules.{NoEdgeRule, Made}
 use Rattle.reducer.proofs.FirstLaterRule.{unmarked-within, below, drop_made, drop_not_made, merge_holds, merge_made, merge_not_made, slice_made, slice_not_made, drop_is_made, merge_is_made, slice_is_made}
 use Rattle.reducer.proofs.NoEdgeRuleAnew.{LeavesEdges, later_kept, none-applied}
 
 -- ---- the measure
 
-abbrev has_plain : EventVertex → Bool
-has_plain v = is_some (plain_urgent v)
-
 -- how many vertices, variables and vertices with a plain urgent edge there are
 abbrev pub measure : EventGraph → ℕ
-measure g = length g.vertices + length g.variables + count_by has_plain g.vertices
+measure g = length g.vertices + length g.variables + plain_count g.vertices
 
 abbrev counts : EventVertex → ℕ
 counts v = cond (has_plain v) 1 0
@@ -157,69 +154,14 @@ slice_leaves_less g k ks is =
 
 -- ---- merge
 
-some_if : (b : Bool) (o : Option ℕ) → is_some (cond b o None) ≡ (b && is_some o)
-some_if true o = refl
-some_if false o = refl
+-- the law that a merge takes a plain urgent edge
+abbrev pub MergesTakeOne : Type 0
+MergesTakeOne = (g : EventGraph) (first second : ℕ) → first_failed (merge_conditions g first second) ≡ None
+    → (length (merged g first second).vertices ≡ length g.vertices) × (suc (plain_count (merged g first second).vertices) ≡ plain_count g.vertices)
 
-none-some : {A : Type 0} (o : Option A) → is_none o ≡ true → is_some o ≡ false
-none-some None e = refl
-none-some (Some x) e = cc
-
--- whether one is found doesn't go by where the places begin
-found-anywhere : (n m : ℕ) (es : List EventEdge) → is_some (position_from is_plain n es) ≡ is_some (position_from is_plain m es)
-found-anywhere n m [] = refl
-found-anywhere n m (e ∷ es) = one (is_plain e) (found-anywhere (n + 1) (m + 1) es) where
-  one : (b : Bool) → is_some (position_from is_plain (n + 1) es) ≡ is_some (position_from is_plain (m + 1) es) → is_some (cond b (Some n) (position_from is_plain (n + 1) es)) ≡ is_some (cond b (Some m) (position_from is_plain (m + 1) es))
-  one true later = refl
-  one false later = later
-
--- behind edges that aren't urgent the plain urgent edge is what it is without them
-module _ (ys : List EventEdge) where
-  count-behind : (xs : List EventEdge) → AllByRecursion (λ e. is_urgent e ≡ false) xs → count_by is_urgent (xs ++ ys) ≡ count_by is_urgent ys
-  count-behind [] calm = refl
-  count-behind (x ∷ xs) calm =
-      let here : count_by is_urgent (x ∷ (xs ++ ys)) ≡ cond (is_urgent x) 1 0 + count_by is_urgent (xs ++ ys) = sum_by-cons (λ e. cond (is_urgent e) 1 0) x (xs ++ ys) in
-      let aside : cond (is_urgent x) 1 0 ≡ 0 = ap (λ b. cond {A = ℕ} b 1 0) calm.0 in
-      let later = count-behind xs calm.1 in
-      omega (arith, here, aside, later)
-
-  found-behind : (n : ℕ) (xs : List EventEdge) → AllByRecursion (λ e. is_urgent e ≡ false) xs → is_some (position_from is_plain n (xs ++ ys)) ≡ is_some (position_from is_plain n ys)
-  found-behind n [] calm = refl
-  found-behind n (x ∷ xs) calm =
-      ap (λ b. is_some (cond (b && is_literal_true x.condition) (Some n) (position_from is_plain (n + 1) (xs ++ ys)))) calm.0
-      ∙ found-behind (n + 1) xs calm.1 ∙ found-anywhere (n + 1) n ys
-
-  plain-behind : (xs : List EventEdge) → AllByRecursion (λ e. is_urgent e ≡ false) xs → is_some (cond (count_by is_urgent (xs ++ ys) == 1) (position_from is_plain 0 (xs ++ ys)) None) ≡ is_some (cond (count_by is_urgent ys == 1) (position_from is_plain 0 ys) None)
-  plain-behind xs calm =
-      some_if (count_by is_urgent (xs ++ ys) == 1) (position_from is_plain 0 (xs ++ ys))
-      ∙ ap₂ (λ n b. (n == 1) && b) (count-behind xs calm) (found-behind 0 xs calm)
-      ∙ sym (some_if (count_by is_urgent ys == 1) (position_from is_plain 0 ys))
-
--- the vertex at a place loses its plain urgent edge
-count-placed : (f : EventVertex → EventVertex) (vs : List EventVertex) (k : ℕ) → k < length vs → has_plain (slice_index_or vs k no_vertex) ≡ true → has_plain (f (slice_index_or vs k no_vertex)) ≡ false → (length (with_place f k vs) ≡ length vs) × (suc (count_by has_plain (with_place f k vs)) ≡ count_by has_plain vs)
-count-placed f [] k below had has = absurd (omega (arith, below))
-count-placed f (v ∷ vs) zero below had has =
-    let here = count-cons v vs in
-    let there = count-cons (f v) vs in
-    let one : counts v ≡ 1 = ap (λ b. cond b 1 0) had in
-    let no : counts (f v) ≡ 0 = ap (λ b. cond b 1 0) has in
-    (refl, omega (arith, here, there, one, no))
-count-placed f (v ∷ vs) (suc k) below had has =
-    let (long, fewer) = count-placed f vs k (omega (arith, below)) had has in
-    let here = count-cons v vs in
-    let there = count-cons v (with_place f k vs) in
-    (ap suc long, omega (arith, here, there, fewer))
-
-merge_leaves_less : (g : EventGraph) (first second : ℕ) → first_failed (merge_conditions g first second) ≡ None → measure (merged g first second) < measure g
-merge_leaves_less g first second holds =
-    let a = vertex_at g first in
-    let b = vertex_at g second in
-    let h = conditions_hold g first second holds in
-    let p = h.edge in
-    let had : has_plain a ≡ true = ap is_some p.is in
-    let none : has_plain b ≡ false = none-some (plain_urgent b) (every-holds (merge_conditions g first second) holds).1.0 in
-    let has : has_plain (merged_with b a) ≡ false = ap has_plain (joined_is a b second p) ∙ plain-behind b.edges (p.before ++ p.after) p.calm ∙ none in
-    let (long, fewer) = count-placed (merged_with b) g.vertices first (below first (length g.vertices) h.exists) had has in
+merge_leaves_less : MergesTakeOne → (g : EventGraph) (first second : ℕ) → first_failed (merge_conditions g first second) ≡ None → measure (merged g first second) < measure g
+merge_leaves_less takes g first second holds =
+    let (long, fewer) = takes g first second holds in
     omega (arith, long, fewer)
 
 -- ---- any application behind the rules of edges
@@ -238,8 +180,8 @@ sliced_less g ks holds =
     let (k, rest, is, unneeded_is) = listed ks (unneeded g) holds in
     subst (λ (ks : List ℕ). measure (sliced g ks) < measure g) (sym is) (slice_leaves_less g k rest unneeded_is)
 
-pub applied_leaves_less : (g h : EventGraph) (a : RuleApplication) → NoEdgeRule g → first_rule g ≡ Some a → applied g a ≡ Some h → measure h < measure g
-applied_leaves_less g h a none is made = later_kept g h a (λ h. measure h < measure g) none is (dropped_less g) (merge_leaves_less g) (sliced_less g) made
+pub applied_leaves_less : MergesTakeOne → (g h : EventGraph) (a : RuleApplication) → NoEdgeRule g → first_rule g ≡ Some a → applied g a ≡ Some h → measure h < measure g
+applied_leaves_less takes g h a none is made = later_kept g h a (λ h. measure h < measure g) none is (dropped_less g) (merge_leaves_less takes g) (sliced_less g) made
 
 -- ---- the end
 
@@ -247,7 +189,7 @@ applied_leaves_less g h a none is made = later_kept g h a (λ h. measure h < mea
 abbrev Ended : EventGraph → Type 0
 Ended g = (later : List RuleApplication) × (h : EventGraph) × Strategy g later h
 
-module _ (one_valid : (g h : EventGraph) (a : RuleApplication) → IsValid g → applied g a ≡ Some h → IsValid h) (leaves : LeavesEdges) where
+module _ (one_valid : (g h : EventGraph) (a : RuleApplication) → IsValid g → applied g a ≡ Some h → IsValid h) (leaves : LeavesEdges) (takes : MergesTakeOne) where
   -- one application, where there is one
   module _ (fuel : ℕ) (go : (h : EventGraph) → measure h < fuel → IsValid h → NoEdgeRule h → Ended h) (g : EventGraph) (below : measure g < suc fuel) (valid : IsValid g) (none : NoEdgeRule g) where
     goes_on : (h : EventGraph) → measure h < measure g → (after : List RuleApplication) → Made (first_rule g) true g h [] after → Ended g
@@ -266,7 +208,7 @@ module _ (one_valid : (g h : EventGraph) (a : RuleApplication) → IsValid g →
 
     merges : NoDrop → (o : Option (ℕ × ℕ)) → first_merge g ≡ o → Ended g
     merges no_drop None is = slices no_drop (merge_not_made g g [] [] is refl refl) (unneeded g) refl
-    merges no_drop (Some (first, second)) is = goes_on (merged g first second) (merge_leaves_less g first second (merge_holds g first second is)) _ (merge_is_made g g (merged g first second) [] [] _ none false true refl refl no_drop (merge_made g (merged g first second) first second [] _ valid is refl refl))
+    merges no_drop (Some (first, second)) is = goes_on (merged g first second) (merge_leaves_less takes g first second (merge_holds g first second is)) _ (merge_is_made g g (merged g first second) [] [] _ none false true refl refl no_drop (merge_made g (merged g first second) first second [] _ valid is refl refl))
 
     drops : (ks : List ℕ) → unreached g ≡ ks → Ended g
     drops [] is = merges (drop_not_made g g [] [] [] refl (sym is) refl refl) (first_merge g) refl

@@ -15,7 +15,7 @@ use Rattle.reducer.proofs.PlacesByName.{vertices_distinct}
 use Rattle.reducer.proofs.FirstRules.{AreFirst, are_first-chain, are_first-strategy}
 use Rattle.reducer.proofs.SweepRules.{IsReady, AreReady, swept-none, swept-ready, sweep_rules}
 use Rattle.reducer.proofs.NoEdgeRuleAnew.{LeavesEdges}
-use Rattle.reducer.proofs.StrategyEnds.{later_rules_end}
+use Rattle.reducer.proofs.StrategyEnds.{MergesTakeOne, later_rules_end}
 
 edges_ready : (g : EventGraph) (es : List EventEdge) → AllByRecursion (IsReady rules.Prune g) es
 edges_ready g [] = tt
@@ -73,9 +73,9 @@ module _ (keep : ChainsKeep) (g : EventGraph) (valid : IsValid g) where
   pub with_sweeps : (later : List RuleApplication) (h : EventGraph) → Strategy settled later h → Strategy g (prunes ++ (settles ++ later)) h
   with_sweeps later h strategy = are_first-strategy prunes (settles ++ later) g pruned h first (are_first-strategy settles later pruned settled h second strategy)
 
-pub whole_strategy : ChainsKeep → ((g h : EventGraph) (a : RuleApplication) → IsValid g → applied g a ≡ Some h → IsValid h) → LeavesEdges → (g : EventGraph) → IsValid g → (applications : List RuleApplication) × (h : EventGraph) × Strategy g applications h
-whole_strategy keep one_valid leaves g valid =
-    let (later, h, strategy) = later_rules_end one_valid leaves (after_settle (after_prune g)) (settled_valid keep g valid) (none_left keep g valid) in
+pub whole_strategy : ChainsKeep → ((g h : EventGraph) (a : RuleApplication) → IsValid g → applied g a ≡ Some h → IsValid h) → LeavesEdges → MergesTakeOne → (g : EventGraph) → IsValid g → (applications : List RuleApplication) × (h : EventGraph) × Strategy g applications h
+whole_strategy keep one_valid leaves takes g valid =
+    let (later, h, strategy) = later_rules_end one_valid leaves takes (after_settle (after_prune g)) (settled_valid keep g valid) (none_left keep g valid) in
     (_, h, with_sweeps keep g valid later h strategy)
 
 -- the same of what the parts are known to give: the graph after each, and the applications noted so far

@@ -12,7 +12,10 @@ ghost use Rattle.reducer.specs.Inner.LaterRules.{NoEdgeRule, Made, Finished};
 
 use crate::naming::{Declared, name_at, names_at};
 use edge_pruning::{drop_vertices, dropping_brings_no_rule_of_edges, unreached};
-use merge_rules::{first_merge_measured, merge_measured, merging_brings_no_rule_of_edges};
+use merge_rules::{
+    first_merge_measured, merge_measured, merging_brings_no_rule_of_edges,
+    merging_takes_an_urgent_edge,
+};
 use model_core::{Application, Model, RuleError, was_made};
 use reduction_cert::chains_keep_the_meaning;
 use sig_base::{List, NoMemory};
@@ -33,6 +36,7 @@ pub(crate) fn apply_later_rules(
     chains_keep_the_meaning();
     dropping_brings_no_rule_of_edges();
     merging_brings_no_rule_of_edges();
+    merging_takes_an_urgent_edge();
     slicing_leaves_the_rules_of_edges();
     let mut bytes = None;
     while apply_one(alloc, model, &mut bytes, applications)? {}

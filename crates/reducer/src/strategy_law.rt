@@ -7,7 +7,7 @@ ghost use Rattle.model_core.specs.Static.Reading.{IsValid};
 ghost use Rattle.model_core.specs.Rules.Reduction.{RuleApplication, Chain, Strategy};
 
 use edge_pruning::dropping_brings_no_rule_of_edges;
-use merge_rules::merging_brings_no_rule_of_edges;
+use merge_rules::{merging_brings_no_rule_of_edges, merging_takes_an_urgent_edge};
 use reduction_cert::chains_keep_the_meaning;
 use var_slicing::slicing_leaves_the_rules_of_edges;
 
@@ -38,5 +38,6 @@ pub fn strategies_end()
     chains_keep_the_meaning();
     dropping_brings_no_rule_of_edges();
     merging_brings_no_rule_of_edges();
+    merging_takes_an_urgent_edge();
     slicing_leaves_the_rules_of_edges();
 }

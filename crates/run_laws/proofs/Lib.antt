@@ -11,3 +11,8 @@ pub mod PlaceVariables
 pub mod MappedVertices
 pub mod CutUp
 pub mod Spared
+pub mod CellsThere
+pub mod MadeSoFar
+pub mod Stores
+pub mod WordsTaken
+pub mod HistoryBytes

@@ -1,9 +1,9 @@
 -- What is true of any list: the lemmas that std doesn't have.
-use Rattle.std.proofs.Common.{◌≡◌, ℕ, zero, suc, ◌<◌, ◌+◌, Bool, true, false, cond, List, [], ◌∷◌, ◌++◌, map, take, length, get_or, Some, refl, sym, ap, ◌∙◌, subst, arith}
+use Rattle.std.proofs.Common.{◌≡◌, ℕ, zero, suc, ◌<◌, ◌+◌, Bool, true, false, cond, List, [], ◌∷◌, ◌++◌, All, map, take, drop, length, get_or, Some, refl, sym, ap, ◌∙◌, subst, arith}
 use Rattle.std.specs.Prelude.{filter, slice_get}
 use Rattle.std.specs.List.{AllByRecursion, flat_map, remove}
 use Rattle.std.proofs.Math.ListN.{set}
-use Rattle.std.proofs.lemmas.List.{map_more, flat_map_more}
+use Rattle.std.proofs.lemmas.List.{get_or-map, length-map, drop_more, map_more, flat_map_more}
 
 filter-cons : {A B : Type 0} (f : A → B) (b : Bool) (x : A) (xs : List A) (ys : List B) → map f xs ≡ ys → map f (cond b (x ∷ xs) xs) ≡ cond b (f x ∷ ys) ys
 filter-cons f true x xs ys e = ap (λ zs. f x ∷ zs) e
@@ -90,3 +90,14 @@ pushed f before after x y rest later all e same split h =
 pub every-always : {A : Type 0} (P : A → Type 0) → ((a : A) → P a) → (xs : List A) → AllByRecursion P xs
 every-always P f [] = tt
 every-always P f (x ∷ xs) = (f x, every-always P f xs)
+
+-- ---- one element of a list that a loop goes along
+
+-- what holds of what each element stands for holds of what one of them stands for
+pub holds_of_each : {X Y : Type 0} (P : Y → Type 0) (view : X → Y) (xs : List X) (i : ℕ) (x : X) → All P (map view xs) → i < length xs → x ≡ get_or xs i x → P (view x)
+holds_of_each P view xs i x all below is =
+    subst P (get_or-map view xs i x (view x) below ∙ ap view (sym is)) (all i (view x) (omega (arith, below, length-map xs view)))
+
+-- what remains begins with what the element stands for
+pub remaining_more : {X Y : Type 0} (view : X → Y) (xs : List X) (i : ℕ) (x : X) → i < length xs → x ≡ get_or xs i x → map view (drop i xs) ≡ view x ∷ map view (drop (i + 1) xs)
+remaining_more view xs i x below is = ap (map view) (drop_more xs i x below) ∙ ap (λ y. view y ∷ map view (drop (i + 1) xs)) (sym is)

@@ -1,10 +1,6 @@
-pub mod AlongLists
 pub mod Begun
-pub mod CellsThere
-pub mod MadeSoFar
 pub mod Picks
 pub mod PieceLaws
 pub mod TargetPlaces
-pub mod Stores
 pub mod Truths
-pub mod WordsTaken
+pub mod StoreStays

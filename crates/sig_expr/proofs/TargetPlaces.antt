@@ -10,7 +10,7 @@ use Rattle.model_core.specs.Code.Views.{graph_of, variable_of}
 use Rattle.model_core.proofs.Results.{bind_ok}
 use Rattle.sig_expr.specs.Possible.{PossibleLocation}
 use Rattle.sig_expr.specs.Inner.Placed.{DeclaredPlace}
-use Rattle.sig_expr.proofs.CellsThere.{indexed_is_declared, declared_is_there}
+use Rattle.run_laws.proofs.CellsThere.{indexed_is_declared, declared_is_there}
 
 -- a declared place is there, of a variable that the state has
 pub place_is_there : (m : Model) (s : State) (v k : ℕ) (p : Place) → IsTrue (in_range (graph_of m) s) → DeclaredPlace (graph_of m) p → record { variable = v; index = k } ≡ p → k < length (cells_of s v)

@@ -40,6 +40,8 @@ pub fn store(
     requires inside { index < length (cells_of state.old var) }
     ensures stores { with_ok state.new result ≡ store (graph_of model.now) (record { variable = var; index = index }, value) state.old }
     ensures fault { OnErr result (state.new ≡ state.old) }
+    // A state in range stays so.
+    ensures stays { IsTrue (in_range (graph_of model.now) state.old) → IsTrue (in_range (graph_of model.now) state.new) }
 {
     let kept = kept(&model.vars.as_slice()[var], value)?;
     state.put(var, index, kept);

@@ -9,7 +9,7 @@ use Rattle.model_core.specs.Run.History.{look}
 use Rattle.model_core.specs.Text.Canonical.{canonical}
 use Rattle.model_core.specs.Rules.Certificate.{certificate}
 use Rattle.model_core.specs.Rules.Verdict.{Verdict, Sound, Rejected, Differs, verdict}
-use Rattle.watch_trace.proofs.HistoryBytes.{history_has_bytes}
+use Rattle.run_laws.proofs.HistoryBytes.{history_has_bytes}
 use Rattle.sigma_top.specs.declared.answer.Answer.{Answer}
 use Rattle.sigma_top.specs.declared.answer.Answer.TheVariants.{Given, Refused}
 use Rattle.sigma_top.specs.declared.delivering.Said.{Said}

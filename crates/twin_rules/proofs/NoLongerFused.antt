@@ -11,7 +11,7 @@ use Rattle.model_core.specs.Rules.Drop.{edge_renumbered, vertex_renumbered}
 use Rattle.model_core.specs.Rules.Fuse.{standing_for, fused, has_short_text}
 use Rattle.model_core.specs.Rules.Merge.{is_watched_vertex}
 use Rattle.model_core.proofs.NoLongerTexts.{NoLonger, no_longer-behind, no_longer-before, no_longer-same, no_longer-both}
-use Rattle.model_print.proofs.FusedText.{same_declarations, same_lines}
+use Rattle.model_core.proofs.FusedText.{same_declarations, same_lines}
 
 lines-shorter : {A : Type 0} (old new : A → List ℕ) → ((x : A) → NoLonger (new x) (old x)) → (xs : List A) → NoLonger (flat_map new xs) (flat_map old xs)
 lines-shorter old new shorter [] = record { at_most = omega arith }

@@ -16,7 +16,7 @@ use Rattle.model_core.specs.Rules.Uses.{variables_in}
 use Rattle.model_core.specs.Rules.Needed.{needed_marks}
 use Rattle.model_core.specs.Rules.Slice.{expression_renumbered, edge_left, vertex_left, of_marked_variables, slice_conditions, sliced}
 use Rattle.mark_laws.proofs.Marks.{Marked}
-use Rattle.range_bounds.proofs.NoGuard.{beside_no_guard}
+use Rattle.bound_laws.proofs.NoGuard.{beside_no_guard}
 use Rattle.model_core.proofs.EachOne.{every-front, every-behind, every-map}
 use Rattle.var_slicing.proofs.StoresLeft.{variable-left}
 use Rattle.var_slicing.proofs.ValuesLeft.{ReadsMarked}

@@ -6,9 +6,9 @@ use Rattle.model_core.specs.Rules.Entailed.{over_pair}
 use Rattle.model_core.proofs.Among.{Among, contained-among, among-front, among-back, among-either}
 use Rattle.model_core.proofs.PlacesChanged.{same_number, same_on_range, place-mapped}
 use Rattle.mark_laws.proofs.EntailedMarks.{same-place, entailed-below, Implied}
-use Rattle.marked_walks.specs.PlacePairs.{places_behind, pairs_from}
+use Rattle.mark_laws.specs.PlacePairs.{places_behind, pairs_from}
 use Rattle.var_slicing.specs.Inner.Linking.{no_lists, with_behind, linked}
-use Rattle.marked_walks.proofs.FindingLaws.{behind-pairs, pairs-behind}
+use Rattle.mark_laws.proofs.PairsBehind.{behind-pairs, pairs-behind}
 
 -- the second places of the pairs that have this one as their first
 abbrev pub seconds : ℕ → List (ℕ × ℕ) → List ℕ

@@ -6,7 +6,7 @@ use Rattle.model_core.specs.Run.Step.{vertex_at}
 use Rattle.model_core.specs.Rules.Entailed.{entailed_marks}
 use Rattle.model_core.specs.Rules.Needed.{all_changes, all_edges, watched_variables, faulting_writes, needed_by_edge, needed_by_targets, needed_by_parameters, streams_drawn, needed_at_once, needed_beside, needed_marks}
 use Rattle.mark_laws.proofs.EntailedMarks.{marks-implied}
-use Rattle.marked_walks.specs.PlacePairs.{pairs_from}
+use Rattle.mark_laws.specs.PlacePairs.{pairs_from}
 use Rattle.var_slicing.specs.Inner.Leading.{leaders_of, led_pairs}
 use Rattle.var_slicing.specs.Inner.Linking.{no_lists, linked}
 use Rattle.var_slicing.specs.Inner.Needing.{Collected, nothing, with_change, with_changes, with_all_changes, with_edge, with_edges, with_all_edges, collected}

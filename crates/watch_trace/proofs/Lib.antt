@@ -1,6 +1,5 @@
 pub mod AddedTexts
 pub mod ShownLines
-pub mod HistoryBytes
 pub mod ValuesAlong
 pub mod KeptValues
 pub mod Due

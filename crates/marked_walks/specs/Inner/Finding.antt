@@ -4,7 +4,7 @@ use Rattle.std.specs.Option.{option_map_or}
 use Rattle.model_core.specs.Rules.MarkedPlaces.{is_marked}
 use Rattle.model_core.specs.Rules.Entailed.{Entailed}
 use Rattle.marked_walks.specs.declared.entailing.Finder.{Finder}
-use Rattle.marked_walks.specs.PlacePairs.{places_behind, pairs_from}
+use Rattle.mark_laws.specs.PlacePairs.{places_behind, pairs_from}
 
 pub record Found : Type 0 where
   pub marks : List Bool

@@ -7,7 +7,7 @@ use Rattle.model_core.specs.declared.model.Watch.{Watch}
 use Rattle.model_core.specs.EventGraph.{EventVertex}
 use Rattle.model_core.specs.Rules.Entailed.{entailed_marks}
 use Rattle.model_core.specs.Code.Views.{graph_of, vertex_of, watched_of}
-use Rattle.marked_walks.specs.PlacePairs.{pairs_from}
+use Rattle.mark_laws.specs.PlacePairs.{pairs_from}
 use Rattle.edge_pruning.specs.Inner.Walk.{targets_of, targets_behind, watched_vertices}
 use Rattle.edge_pruning.proofs.ReachedMarks.{reached_marks-entailed}
 use Rattle.edge_pruning.proofs.walk.reached.Goals as goal

@@ -4,7 +4,7 @@ use Rattle.reducer.proofs.RuleByRule.{led_on, leaves_less, led_to_the_end}
 use Rattle.reducer.proofs.later_rules.apply_later_rules.Goals as goal
 
 pub loop-smaller : goal.loop-smaller
-loop-smaller c = leaves_less _ _ _ _ _ c.if-branch.true c.loop.invariant.led.none c.in_ok-apply_one.ensures.made
+loop-smaller c = leaves_less c.merging_takes_an_urgent_edge.ensures _ _ _ _ _ c.if-branch.true c.loop.invariant.led.none c.in_ok-apply_one.ensures.made
 
 pub loop-preserved : goal.loop-preserved
 loop-preserved c =

@@ -12,4 +12,4 @@ returns c =
       prune_sliced = c.slicing_leaves_the_rules_of_edges.ensures.prune;
       settle_sliced = c.slicing_leaves_the_rules_of_edges.ensures.settle;
     } in
-    λ g valid. whole_strategy c.chains_keep_the_meaning.ensures.valid c.chains_keep_the_meaning.ensures.one_valid leaves g valid
+    λ g valid. whole_strategy c.chains_keep_the_meaning.ensures.valid c.chains_keep_the_meaning.ensures.one_valid leaves c.merging_takes_an_urgent_edge.ensures g valid

@@ -1,5 +1,5 @@
 use Rattle.std.proofs.Common.{arith}
-use Rattle.sig_expr.proofs.WordsTaken.{none_taken}
+use Rattle.run_laws.proofs.WordsTaken.{none_taken}
 use Rattle.run_tests.proofs.values.raised_twice.Goals as goal
 
 pub apply-applied-requires-clause-countable : goal.apply-applied-requires-clause-countable

@@ -2,8 +2,8 @@ use Rattle.std.proofs.Common.{sym, ap, ◌∙◌, arith, map, drop, length}
 use Rattle.model_core.specs.Run.Changes.{make_change, left_by_change}
 use Rattle.model_core.specs.Code.Views.{graph_of, change_of}
 use Rattle.sig_expr.specs.Possible.{PossibleChange}
-use Rattle.sig_expr.proofs.AlongLists.{holds_of_each, remaining_more}
-use Rattle.sig_expr.proofs.MadeSoFar.{made_more}
+use Rattle.sig_base.proofs.Lists.{holds_of_each, remaining_more}
+use Rattle.run_laws.proofs.MadeSoFar.{made_more}
 use Rattle.sig_expr.proofs.changes.apply.Goals as goal
 
 pub make-requires-clause-possible : goal.make-requires-clause-possible

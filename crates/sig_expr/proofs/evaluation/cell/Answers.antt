@@ -1,6 +1,6 @@
 use Rattle.std.proofs.Common.{w64}
 use Rattle.std.proofs.lemmas.Int.{to_z-of_z}
-use Rattle.sig_expr.proofs.CellsThere.{indexed_is_there}
+use Rattle.run_laws.proofs.CellsThere.{indexed_is_there}
 use Rattle.sig_expr.proofs.evaluation.cell.Goals as goal
 
 pub cell-requires-clause-inside : goal.cell-requires-clause-inside

@@ -1,4 +1,4 @@
-use Rattle.sig_expr.proofs.CellsThere.{scalar_is_there}
+use Rattle.run_laws.proofs.CellsThere.{scalar_is_there}
 use Rattle.sig_expr.proofs.evaluation.scalar.Goals as goal
 
 pub cell-requires-clause-inside : goal.cell-requires-clause-inside

@@ -1,7 +1,7 @@
 use Rattle.std.proofs.Common.{arith}
 use Rattle.model_core.specs.Code.Views.{graph_of, expression_of}
 use Rattle.sig_expr.specs.Possible.{PossibleExpression}
-use Rattle.sig_expr.proofs.AlongLists.{holds_of_each}
+use Rattle.sig_base.proofs.Lists.{holds_of_each}
 use Rattle.sig_expr.proofs.lists.put_values.Goals as goal
 
 pub value-requires-clause-possible : goal.value-requires-clause-possible

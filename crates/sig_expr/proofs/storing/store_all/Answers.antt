@@ -1,7 +1,7 @@
 use Rattle.std.proofs.Common.{rules, sym, ◌∙◌, arith, get_or, pos, w64}
 use Rattle.std.proofs.lemmas.Int.{to_z-of_z}
 use Rattle.model_core.specs.Code.Views.{graph_of}
-use Rattle.sig_expr.proofs.Stores.{stored_more, stored_fault, stored_all}
+use Rattle.run_laws.proofs.Stores.{stored_more, stored_fault, stored_all}
 use Rattle.sig_expr.proofs.storing.store_all.Goals as goal
 
 pub returns-in_err-store_at-clause-stores : goal.returns-in_err-store_at-clause-stores

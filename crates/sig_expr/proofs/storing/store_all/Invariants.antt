@@ -2,7 +2,7 @@ use Rattle.std.proofs.Common.{drop, zip, IsTrue}
 use Rattle.model_core.specs.Run.State.{in_range}
 use Rattle.model_core.specs.Run.Changes.{store}
 use Rattle.model_core.specs.Code.Views.{graph_of}
-use Rattle.sig_expr.proofs.MadeSoFar.{MadeSoFar}
+use Rattle.run_laws.proofs.MadeSoFar.{MadeSoFar}
 use Rattle.sig_expr.proofs.storing.store_all.Given as goal
 
 abbrev pub invariant-loop-i : goal.invariant-loop-i

@@ -2,7 +2,7 @@ use Rattle.std.proofs.Common.{w64}
 use Rattle.std.proofs.lemmas.Int.{to_z-of_z}
 use Rattle.model_core.specs.Code.Views.{graph_of}
 use Rattle.sig_expr.proofs.TargetPlaces.{place_is_there}
-use Rattle.sig_expr.proofs.Stores.{store_stays}
+use Rattle.sig_expr.proofs.StoreStays.{store_stays}
 use Rattle.sig_expr.proofs.storing.store_at.Goals as goal
 
 pub store-requires-clause-inside : goal.store-requires-clause-inside

@@ -5,7 +5,7 @@ use Rattle.std.proofs.lemmas.List.{length-map}
 use Rattle.std.proofs.lemmas.Result.{IfOk-weaker}
 use Rattle.model_core.specs.Rules.Entailed.{entailed_marks}
 use Rattle.model_core.specs.Code.Views.{graph_of, variable_of}
-use Rattle.marked_walks.specs.PlacePairs.{pairs_from}
+use Rattle.mark_laws.specs.PlacePairs.{pairs_from}
 use Rattle.var_slicing.specs.Inner.Leading.{leaders_of, led_pairs}
 use Rattle.var_slicing.specs.Inner.Linking.{no_lists, linked}
 use Rattle.var_slicing.specs.Inner.Needing.{collected_of}

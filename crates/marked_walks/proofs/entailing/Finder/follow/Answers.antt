@@ -1,7 +1,7 @@
 -- The places behind the place taken off are found.
 use Rattle.std.proofs.Common.{◌<◌, sym, subst, List, ℕ}
 use Rattle.marked_walks.specs.Inner.Finding.{Found, found_of, find_all, Going}
-use Rattle.marked_walks.specs.PlacePairs.{places_behind}
+use Rattle.mark_laws.specs.PlacePairs.{places_behind}
 use Rattle.marked_walks.proofs.FindingLaws.{left_over, finding_goes, less_left}
 use Rattle.marked_walks.proofs.entailing.Finder.follow.Goals as goal
 

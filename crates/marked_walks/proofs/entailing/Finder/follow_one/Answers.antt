@@ -1,6 +1,6 @@
 -- One place more of those behind.
 use Rattle.std.proofs.Common.{◌<◌, length, arith}
-use Rattle.marked_walks.specs.PlacePairs.{places_behind}
+use Rattle.mark_laws.specs.PlacePairs.{places_behind}
 use Rattle.marked_walks.specs.Inner.Finding.{found_of, find_all}
 use Rattle.marked_walks.proofs.FindingLaws.{one_further}
 use Rattle.marked_walks.proofs.entailing.Finder.follow_one.Goals as goal

@@ -1,5 +1,5 @@
 use Rattle.std.proofs.Common.{◌≡◌, drop}
-use Rattle.marked_walks.specs.PlacePairs.{places_behind}
+use Rattle.mark_laws.specs.PlacePairs.{places_behind}
 use Rattle.marked_walks.specs.Inner.Finding.{found_of, find_all}
 use Rattle.marked_walks.proofs.entailing.Finder.follow_one.Given as goal
 

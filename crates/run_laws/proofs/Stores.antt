@@ -1,15 +1,13 @@
 -- A loop that stores each value at its place.
-use Rattle.std.proofs.Common.{◌≡◌, ℕ, ◌+◌, ◌<◌, ◌≤◌, ℤ, pos, List, [], ◌∷◌, length, get_or, drop, zip, min, Result, Ok, Err, sym, subst, OnErr, ap, ◌∙◌, arith, IsTrue}
+use Rattle.std.proofs.Common.{◌≡◌, ℕ, ◌+◌, ◌<◌, ◌≤◌, ℤ, pos, List, [], ◌∷◌, length, get_or, drop, zip, min, Ok, Err, sym, ap, ◌∙◌, arith}
 use Rattle.std.proofs.lemmas.List.{drop_more, drop_all}
 use Rattle.std.proofs.lemmas.Slice.Zip.{get_or-zip, length-zip}
 use Rattle.sig_base.specs.declared.fault.FaultKind.{FaultKind}
 use Rattle.model_core.specs.EventGraph.{EventGraph}
-use Rattle.model_core.specs.Run.State.{State, Place, in_range}
+use Rattle.model_core.specs.Run.State.{State, Place}
 use Rattle.model_core.specs.Run.Value.{in_turn}
 use Rattle.model_core.specs.Run.Changes.{store, left_by_stores}
-use Rattle.run_laws.proofs.InRange.{in_range-kept}
-use Rattle.sig_expr.specs.Outcomes.{with_ok}
-use Rattle.sig_expr.proofs.MadeSoFar.{MadeSoFar, Faults, made_more, made_fault}
+use Rattle.run_laws.proofs.MadeSoFar.{MadeSoFar, Faults, made_more, made_fault}
 
 module _ (g : EventGraph) (places : List Place) (values : List ℤ) (first : State) where
   -- the first so many stores were made
@@ -35,8 +33,3 @@ module _ (g : EventGraph) (places : List Place) (values : List ℤ) (first : Sta
       let none : drop i (zip places values) ≡ [] = drop_all i (zip places values) (omega (arith, length-zip places values, over)) in
       let done = rw none at h in
       (sym done.makes, sym done.leaves)
-
--- a store keeps the state in range, and a fault leaves it
-pub store_stays : {U : Type 0} (g : EventGraph) (p : Place × ℤ) (s t : State) (r : Result U FaultKind) → IsTrue (in_range g s) → with_ok t r ≡ store g p s → OnErr r (t ≡ s) → IsTrue (in_range g t)
-store_stays g p s t (Ok u) inside stores fault = (in_range-kept g).by_store p s t inside (sym stores)
-store_stays g p s t (Err k) inside stores fault = subst (λ u. IsTrue (in_range g u)) (sym fault) inside
