@@ -21,5 +21,5 @@ pub mod ValidMerged
 pub mod MergedLength
 pub mod LimitsTold
 pub mod PairsFound
-pub mod RulesOfEdges
+pub mod RulesOfMergedEdges
 pub mod OneUrgentLess

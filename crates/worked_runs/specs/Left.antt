@@ -6,8 +6,8 @@ use Rattle.model_core.specs.Run.Changes.{Drawn}
 use Rattle.worked_runs.specs.Building.{whole, at_variable, at_cell}
 
 -- the state with which a run begins, and no words taken
-abbrev pub untouched : EventGraph → Drawn
-untouched g = record { state = initial_state g; taken = replicate 64 0 }
+abbrev pub as_it_begins : EventGraph → Drawn
+as_it_begins g = record { state = initial_state g; taken = replicate 64 0 }
 
 abbrev pub with_state : State → Drawn → Drawn
 with_state s d = record d { state = s }

@@ -1,4 +1,4 @@
-use Rattle.merge_rules.proofs.RulesOfEdges.{merged-prune, merged-settle}
+use Rattle.merge_rules.proofs.RulesOfMergedEdges.{merged-prune, merged-settle}
 use Rattle.merge_rules.proofs.law.merging_brings_no_rule_of_edges.Goals as goal
 
 pub returns-clause-prune : goal.returns-clause-prune
