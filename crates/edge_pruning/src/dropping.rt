@@ -5,12 +5,12 @@ ghost use Rattle.std.specs.Vec.{vec_len, vec_capacity};
 ghost use Rattle.model_core.specs.Rules.Conditions.{first_failed, TellsCondition};
 ghost use Rattle.model_core.specs.Rules.MarkedPlaces.{rank, marked_of};
 ghost use Rattle.model_core.specs.Rules.Reached.{unreached};
-ghost use Rattle.model_core.specs.Rules.Drop.{drop_conditions, edge_renumbered, vertex_renumbered, watched_renumbered, only_marked, dropped};
-ghost use Rattle.model_core.specs.Code.Views.{graph_of, vertex_of, edge_of, watched_of};
+ghost use Rattle.model_core.specs.Rules.Drop.{drop_conditions, only_marked, dropped};
+ghost use Rattle.model_core.specs.Code.Views.{graph_of, vertex_of};
 
 use crate::walk::reached;
-use marked_walks::{Staying, unmarked};
-use model_core::{Edge, Model, RuleError, Vertex, Watch};
+use marked_walks::{Staying, renumber_vertices, renumber_watch, unmarked};
+use model_core::{Model, RuleError, Vertex};
 use sig_base::{List, NoMemory};
 use std::alloc::Global;
 use std::mem;
@@ -22,45 +22,6 @@ pub fn unreached(alloc: Global, model: &Model) -> Result<List<usize>, NoMemory>
 {
     let marks = reached(alloc, model)?;
     unmarked(alloc, marks.as_slice())
-}
-
-/// Gives the targets of edges their new places.
-fn renumber_edges(staying: &Staying, edges: &mut Vec<Edge>)
-    ensures { map edge_of edges.new.items ≡ map (edge_renumbered (rank staying.now)) (map edge_of edges.old.items) }
-{
-    for edge in edges.iter_mut() {
-        edge.target = staying.number(edge.target);
-    }
-}
-
-/// Gives the targets of all edges of vertices their new places.
-fn renumber_vertices(staying: &Staying, vertices: &mut Vec<Vertex>)
-    ensures { map vertex_of vertices.new.items ≡ map (vertex_renumbered (rank staying.now)) (map vertex_of vertices.old.items) }
-{
-    for vertex in vertices.iter_mut() {
-        renumber_edges(staying, vertex.edges.as_mut_vec());
-    }
-}
-
-/// A watch item with its vertex at its new place.
-fn renumbered(staying: &Staying, watched: Watch) -> Watch
-    ensures { watched_of result ≡ watched_renumbered (rank staying.now) (watched_of watched) }
-{
-    match watched {
-        Watch::Variable { var } => Watch::Variable { var },
-        Watch::Event { vertex } => Watch::Event {
-            vertex: staying.number(vertex),
-        },
-    }
-}
-
-/// Gives the watched vertices their new places.
-fn renumber_watch(staying: &Staying, watch: &mut Vec<Watch>)
-    ensures { map watched_of watch.new.items ≡ map (watched_renumbered (rank staying.now)) (map watched_of watch.old.items) }
-{
-    for watched in watch.iter_mut() {
-        *watched = renumbered(staying, *watched);
-    }
 }
 
 /// Adds a vertex that stays to a list that has room for it.

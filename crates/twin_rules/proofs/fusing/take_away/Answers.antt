@@ -9,4 +9,4 @@ use Rattle.twin_rules.proofs.fusing.take_away.Goals as goal
 
 pub returns : goal.returns
 returns c =
-    c.renumber_vertices.ensures ∙ ap (map (vertex_renumbered (fused_place c.args.keep c.args.gone))) (ap (λ (vs : List Vertex). map vertex_of vs) c.remove.ensures.items ∙ map-remove vertex_of c.args.vertices.now.items c.args.gone)
+    c.renumber_vertices.ensures ∙ ap (map (vertex_renumbered (fused_place c.args.places.now.keep c.args.places.now.gone))) (ap (λ (vs : List Vertex). map vertex_of vs) c.remove.ensures.items ∙ map-remove vertex_of c.args.vertices.now.items c.args.places.now.gone)

@@ -4,23 +4,22 @@ use Rattle.model_core.specs.declared.vertex.Edge.{Edge}
 use Rattle.model_core.specs.Rules.Drop.{edge_renumbered}
 use Rattle.model_core.specs.Code.Views.{edge_of}
 use Rattle.sig_base.proofs.Lists.{ChangedTo-step, ChangedTo-all, ChangedTo-length}
-use Rattle.model_core.specs.Rules.MarkedPlaces.{rank}
-use Rattle.edge_pruning.proofs.dropping.renumber_edges.Goals as goal
+use Rattle.marked_walks.proofs.renumbering.renumber_edges.Goals as goal
 
 pub loop-edge-preserved : goal.loop-edge-preserved
-loop-edge-preserved c =
-    let f = edge_renumbered (rank c.args.staying.now) in
+loop-edge-preserved g c =
+    let f = edge_renumbered (g.N.NewPlaces.moved c.args.places.now) in
     let i = c.loop-edge.edge-index in
     let xs = c.deref_mut-edge-items.result.now in
     let ys = c.loop-edge.edge-items in
     let d = c.edge-item.result in
     let same_length = ChangedTo-length edge_of f i xs ys c.loop-edge.invariant in
     let below : i < length ys = omega (arith, same_length, c.loop-edge-test.true) in
-    rw add-one (ChangedTo-step edge_of f i xs ys d _ below (ap (λ (k : ℕ). record (edge_of (get_or ys i d)) { target = k }) c.number-edge.ensures) c.loop-edge.invariant)
+    rw add-one (ChangedTo-step edge_of f i xs ys d _ below (ap (λ (k : ℕ). record (edge_of (get_or ys i d)) { target = k }) c.place-edge.ensures) c.loop-edge.invariant)
 
 pub returns : goal.returns
-returns c =
-    let f = edge_renumbered (rank c.args.staying.now) in
+returns g c =
+    let f = edge_renumbered (g.N.NewPlaces.moved c.args.places.now) in
     let i = c.loop-edge.edge-index in
     let xs = c.deref_mut-edge-items.result.now in
     let ys = c.loop-edge.edge-items in

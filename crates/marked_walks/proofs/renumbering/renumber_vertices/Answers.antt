@@ -6,23 +6,22 @@ use Rattle.model_core.specs.EventGraph.{EventEdge}
 use Rattle.model_core.specs.Rules.Drop.{edge_renumbered, vertex_renumbered}
 use Rattle.model_core.specs.Code.Views.{vertex_of, edge_of}
 use Rattle.sig_base.proofs.Lists.{ChangedTo-step, ChangedTo-all, ChangedTo-length}
-use Rattle.model_core.specs.Rules.MarkedPlaces.{rank}
-use Rattle.edge_pruning.proofs.dropping.renumber_vertices.Goals as goal
+use Rattle.marked_walks.proofs.renumbering.renumber_vertices.Goals as goal
 
 pub loop-vertex-preserved : goal.loop-vertex-preserved
-loop-vertex-preserved c =
-    let f = vertex_renumbered (rank c.args.staying.now) in
+loop-vertex-preserved g c =
+    let f = vertex_renumbered (g.N.NewPlaces.moved c.args.places.now) in
     let i = c.loop-vertex.vertex-index in
     let xs = c.deref_mut-vertex-items.result.now in
     let ys = c.loop-vertex.vertex-items in
     let d = c.vertex-item.result in
     let same_length = ChangedTo-length vertex_of f i xs ys c.loop-vertex.invariant in
     let below : i < length ys = omega (arith, same_length, c.loop-vertex-test.true) in
-    rw add-one (ChangedTo-step vertex_of f i xs ys d _ below (ap (λ (es : List EventEdge). record (vertex_of (get_or ys i d)) { edges = es }) (c.renumber_edges.ensures ∙ ap (λ (es : List Edge). map (edge_renumbered (rank c.args.staying.now)) (map edge_of es)) c.as_mut_vec.ensures.shows)) c.loop-vertex.invariant)
+    rw add-one (ChangedTo-step vertex_of f i xs ys d _ below (ap (λ (es : List EventEdge). record (vertex_of (get_or ys i d)) { edges = es }) (c.renumber_edges.ensures ∙ ap (λ (es : List Edge). map (edge_renumbered (g.N.NewPlaces.moved c.args.places.now)) (map edge_of es)) c.as_mut_vec.ensures.shows)) c.loop-vertex.invariant)
 
 pub returns : goal.returns
-returns c =
-    let f = vertex_renumbered (rank c.args.staying.now) in
+returns g c =
+    let f = vertex_renumbered (g.N.NewPlaces.moved c.args.places.now) in
     let i = c.loop-vertex.vertex-index in
     let xs = c.deref_mut-vertex-items.result.now in
     let ys = c.loop-vertex.vertex-items in

@@ -4,12 +4,11 @@ use Rattle.model_core.specs.declared.model.Watch.{Watch}
 use Rattle.model_core.specs.Rules.Drop.{watched_renumbered}
 use Rattle.model_core.specs.Code.Views.{watched_of}
 use Rattle.sig_base.proofs.Lists.{ChangedTo-step, ChangedTo-all, ChangedTo-length}
-use Rattle.model_core.specs.Rules.MarkedPlaces.{rank}
-use Rattle.edge_pruning.proofs.dropping.renumber_watch.Goals as goal
+use Rattle.marked_walks.proofs.renumbering.renumber_watch.Goals as goal
 
 pub loop-watched-preserved : goal.loop-watched-preserved
-loop-watched-preserved c =
-    let f = watched_renumbered (rank c.args.staying.now) in
+loop-watched-preserved g c =
+    let f = watched_renumbered (g.N.NewPlaces.moved c.args.places.now) in
     let i = c.loop-watched.watched-index in
     let xs = c.deref_mut-watched-items.result.now in
     let ys = c.loop-watched.watched-items in
@@ -18,8 +17,8 @@ loop-watched-preserved c =
     rw add-one (ChangedTo-step watched_of f i xs ys _ _ below c.renumbered.ensures c.loop-watched.invariant)
 
 pub returns : goal.returns
-returns c =
-    let f = watched_renumbered (rank c.args.staying.now) in
+returns g c =
+    let f = watched_renumbered (g.N.NewPlaces.moved c.args.places.now) in
     let i = c.loop-watched.watched-index in
     let xs = c.deref_mut-watched-items.result.now in
     let ys = c.loop-watched.watched-items in
