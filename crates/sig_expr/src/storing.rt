@@ -26,6 +26,25 @@ fn kept(var: &Var, x: i64) -> Result<i64, FaultKind>
     Ok(if x < var.lo { var.lo } else { var.hi })
 }
 
+/// Puts what a variable keeps of a value into a cell of it.
+fn put_kept(
+    model: &Model,
+    var: usize,
+    index: usize,
+    value: i64,
+    state: &mut State,
+) -> Result<(), FaultKind>
+    requires declared { var < length model.now.vars }
+    requires exists { var < length state.old }
+    requires inside { index < length (cells_of state.old var) }
+    ensures stores { with_ok state.new result ≡ store (graph_of model.now) (record { variable = var; index = index }, value) state.old }
+    ensures fault { OnErr result (state.new ≡ state.old) }
+{
+    let kept = kept(&model.vars.as_slice()[var], value)?;
+    state.put(var, index, kept);
+    Ok(())
+}
+
 /// Stores a value in a cell, of which index 0 is a scalar's. The fault is `RangeOutside`, where the value lies outside
 /// the variable's range and the variable isn't `clip`.
 pub fn store(
@@ -43,9 +62,7 @@ pub fn store(
     // A state in range stays so.
     ensures stays { IsTrue (in_range (graph_of model.now) state.old) → IsTrue (in_range (graph_of model.now) state.new) }
 {
-    let kept = kept(&model.vars.as_slice()[var], value)?;
-    state.put(var, index, kept);
-    Ok(())
+    put_kept(model, var, index, value, state)
 }
 
 /// Stores a value at a place that is declared.
