@@ -10,7 +10,7 @@ use Rattle.model_core.specs.Code.TokenViews.{lexeme_of}
 use Rattle.text_laws.specs.FormatReader.{took}
 use Rattle.text_laws.specs.LanguageReader.{language_reader}
 use Rattle.model_read.specs.InText.{AreInText}
-use Rattle.model_read.specs.Inner.Ladder.{infix_of_kind, infix_at}
+use Rattle.text_laws.specs.Ladder.{infix_of_kind, infix_at}
 
 -- what the other tokens stand for
 abbrev pub others : List ℕ → List Token → List Lexeme

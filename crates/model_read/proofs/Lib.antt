@@ -1,9 +1,5 @@
 mod FirstToken
-pub mod ReadLoop
-mod FirstOperator
-pub mod OperandLevels
-mod LevelOperators
-pub mod OperatorsInTurn
+mod LevelCalls
 mod OpeningSteps
-pub mod WholeText
-pub mod PlacedReads
+mod WholeText
+mod PlacedReads

@@ -3,11 +3,19 @@ use Rattle.std.proofs.Common.{◌≡◌, ℕ, List, refl, subst, sym}
 use Rattle.std.specs.Prelude.{Result, Ok, Err}
 use Rattle.model_core.specs.Text.Lexing.{Lexeme}
 use Rattle.model_core.specs.Text.FirstWrong.{told_place}
-use Rattle.text_laws.specs.FormatReader.{Parse}
+use Rattle.text_laws.specs.FormatReader.{Parse, took, stuck}
 use Rattle.model_lex.specs.declared.parse_error.ParseError.{ParseError}
+use Rattle.model_lex.specs.declared.parse_error.ParseError.TheVariants as errors
 use Rattle.model_read.specs.declared.stop.Stop.{Stop}
 use Rattle.model_read.specs.declared.stop.Stop.TheVariants as stops
-use Rattle.model_read.specs.ReadCalls.{Returned, Tells, placed_at}
+use Rattle.model_read.specs.ReadCalls.{Returned, placed_at}
+
+-- What a call returned that tells where it stopped in a text, seen by view, is what was taken, or the place is that of the first token that it left.
+abbrev pub Tells : {A B : Type 0} → (A → B) → List ℕ → Result A ParseError → List Lexeme → Parse B → Type 0
+Tells view text (Ok x) left parse = parse ≡ took (view x) left
+Tells view text (Err (errors.Unexpected at)) left parse = (parse ≡ stuck left) × (told_place text left ≡ at)
+Tells view text (Err (errors.TooDeep at)) left parse = ⊥
+Tells view text (Err errors.NoMemory) left parse = Unit {0}
 
 tells_at : {A B : Type 0} (view : A → B) (text : List ℕ) (read : Result A Stop) (left : List Lexeme) (parse : Parse B) → Returned view read left parse → Tells view text (placed_at (told_place text left) read) left parse
 tells_at view text (Ok x) left parse e = e

@@ -1,7 +1,3 @@
--- The code of this crate, restated for its proofs. Of the public clauses only those of the cursor and of `next_level` cite these, and nobody has to believe them.
-pub mod Ladder
-pub mod Infixes
-pub mod SomeTokens
+-- The code of this crate, restated for its proofs. No public clause cites these, and nobody has to believe them.
 pub mod LineFormats
 pub mod Cancels
-pub mod Spelled

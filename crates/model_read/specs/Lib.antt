@@ -1,4 +1,6 @@
 pub mod InText
 pub mod Beginnings
 pub mod ReadCalls
+pub mod Infixes
+pub mod Spelled
 pub mod Inner

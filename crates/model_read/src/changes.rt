@@ -8,7 +8,7 @@ ghost use Rattle.model_core.specs.Text.Language.{target_format, choice_format, c
 ghost use Rattle.text_laws.specs.LanguageReader.{language_reader};
 ghost use Rattle.model_read.specs.ReadCalls.{Returned};
 ghost use Rattle.model_read.specs.Inner.LineFormats.{set_format, draw_format};
-ghost use Rattle.model_read.specs.Inner.SomeTokens.{target-some, change-some};
+ghost use Rattle.text_laws.specs.SomeTokens.{target-some, change-some};
 
 use crate::cursor::Cursor;
 use crate::expressions::{expression, index};

@@ -10,9 +10,9 @@ ghost use Rattle.text_laws.specs.FirstTokens.{begins_as};
 ghost use Rattle.text_laws.specs.FormatReader.{whole_read};
 ghost use Rattle.text_laws.specs.LanguageReader.{language_reader};
 ghost use Rattle.model_read.specs.ReadCalls.{Returned};
-ghost use Rattle.model_read.specs.Inner.Ladder.{infix_at, at_levels, behind};
-ghost use Rattle.model_read.specs.Inner.Infixes.{infix_of};
-ghost use Rattle.model_read.specs.Inner.Spelled.{spelled_name};
+ghost use Rattle.text_laws.specs.Ladder.{infix_at, at_levels, behind};
+ghost use Rattle.model_read.specs.Infixes.{infix_of};
+ghost use Rattle.model_read.specs.Spelled.{spelled_name};
 
 use crate::operators::{CONJUNCTIONS, Infix, infix_of};
 use crate::stop::Stop;

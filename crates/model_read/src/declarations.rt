@@ -9,7 +9,7 @@ ghost use Rattle.model_core.specs.Text.Format.{mark, any_name, any_number, ◌*>
 ghost use Rattle.model_core.specs.Text.Language.{variable_format, row_format, table_format, watch_format};
 ghost use Rattle.text_laws.specs.LanguageReader.{language_reader};
 ghost use Rattle.model_read.specs.ReadCalls.{Returned};
-ghost use Rattle.model_read.specs.Inner.SomeTokens.{variable-some, row-some, table-some};
+ghost use Rattle.text_laws.specs.SomeTokens.{variable-some, row-some, table-some};
 
 use crate::cursor::Cursor;
 use crate::phrase::{Phrase, Repeated, at_least_one, separated};

@@ -11,7 +11,7 @@ ghost use Rattle.model_core.specs.Text.Language.{values_format, when_format, tim
 ghost use Rattle.text_laws.specs.LanguageReader.{language_reader};
 ghost use Rattle.model_read.specs.ReadCalls.{Returned};
 ghost use Rattle.model_read.specs.Inner.Cancels.{written_cancel};
-ghost use Rattle.model_read.specs.Inner.SomeTokens.{edge-some};
+ghost use Rattle.text_laws.specs.SomeTokens.{edge-some};
 
 use crate::cursor::Cursor;
 use crate::expressions::expression;

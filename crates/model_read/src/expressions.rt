@@ -10,7 +10,7 @@ ghost use Rattle.model_core.specs.Text.Expressions.{Unary, Primary, joining, who
 ghost use Rattle.text_laws.specs.FormatReader.{took, and_next};
 ghost use Rattle.text_laws.specs.LanguageReader.{language_reader};
 ghost use Rattle.model_read.specs.ReadCalls.{Returned};
-ghost use Rattle.model_read.specs.Inner.Ladder.{operand_level, climb, if_format, not_format, negative_format, named_format};
+ghost use Rattle.text_laws.specs.Ladder.{operand_level, climb, if_format, not_format, negative_format, named_format};
 
 use crate::cursor::Cursor;
 use crate::operators::{CONJUNCTIONS, LEVELS, next_level};

@@ -4,8 +4,8 @@ ghost use Rattle.std.specs.Prelude.{◌≡◌, ℕ, List};
 ghost use Rattle.std.specs.Option.{option_map};
 ghost use Rattle.model_core.specs.Code.TokenViews.{lexeme_kind_of};
 ghost use Rattle.model_core.specs.Text.Lexing.{Reserved, Mark};
-ghost use Rattle.model_read.specs.Inner.Ladder.{infix_of_kind, next_level};
-ghost use Rattle.model_read.specs.Inner.Infixes.{infix_of};
+ghost use Rattle.text_laws.specs.Ladder.{infix_of_kind, next_level};
+ghost use Rattle.model_read.specs.Infixes.{infix_of};
 
 use model_core::{Op, Symbol, TokenKind, Word};
 

@@ -6,7 +6,8 @@ ghost use Rattle.model_core.specs.Text.Format.{Many, mark, ◌*>◌, at_least_on
 ghost use Rattle.model_core.specs.Text.Expressions.{LanguageFormat};
 ghost use Rattle.text_laws.specs.FirstTokens.{nullable, first_sorts, begins_among};
 ghost use Rattle.text_laws.specs.LanguageReader.{level_lookahead, language_reader};
-ghost use Rattle.model_read.specs.ReadCalls.{Returned, with_front};
+ghost use Rattle.model_read.specs.ReadCalls.{Returned};
+ghost use Rattle.text_laws.specs.FormatReader.{with_front};
 
 use crate::cursor::Cursor;
 use crate::stop::Stop;

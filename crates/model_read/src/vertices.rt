@@ -10,7 +10,7 @@ ghost use Rattle.model_core.specs.Text.Language.{vertex_format};
 ghost use Rattle.text_laws.specs.LanguageReader.{language_reader};
 ghost use Rattle.model_read.specs.Beginnings.{with_body, vertex_beginning};
 ghost use Rattle.model_read.specs.ReadCalls.{Returned};
-ghost use Rattle.model_read.specs.Inner.SomeTokens.{vertex-some};
+ghost use Rattle.text_laws.specs.SomeTokens.{vertex-some};
 
 use crate::cursor::Cursor;
 use crate::phrase::{Phrase, Repeated, many, separated};

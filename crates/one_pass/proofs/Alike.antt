@@ -5,7 +5,7 @@ use Rattle.model_core.specs.Static.Meanings.{Meaning, declarations, declarations
 use Rattle.model_core.specs.Static.PartFaults.{kinds_taken, vertex_word_place}
 use Rattle.model_core.specs.Static.ModelFaults.{model_meaning, model_takes}
 use Rattle.model_read.specs.Beginnings.{with_vertices}
-use Rattle.sig_types.specs.Inner.Redeclared.{faults_of_declared}
+use Rattle.static_laws.specs.DeclaredFaults.{faults_of_declared}
 use Rattle.one_pass.specs.Inner.ReadParts.{BeginAlike, AllBeginAlike}
 
 pub alike-push : (vs ws : List WrittenVertex) (v w : WrittenVertex) → AllBeginAlike vs ws → BeginAlike v w → AllBeginAlike (vs ++ v ∷ []) (ws ++ w ∷ [])

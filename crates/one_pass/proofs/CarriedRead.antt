@@ -13,7 +13,7 @@ use Rattle.model_core.specs.Static.PartFaults.{values_faults}
 use Rattle.text_laws.specs.FirstTokens.{begins_as}
 use Rattle.static_laws.proofs.StaticTwins.RowTwins.{same_count}
 use Rattle.static_laws.proofs.StaticTwins.Twins.{both_empty}
-use Rattle.model_read.proofs.ReadLoop.{begins-one}
+use Rattle.text_laws.proofs.ReadLoop.{begins-one}
 use Rattle.one_pass.specs.Inner.ReadParts.{ReadSure}
 use Rattle.one_pass.specs.Inner.ReadValues.{fitting_faults}
 use Rattle.one_pass.specs.Inner.ReadCarried.{ReadGiven}

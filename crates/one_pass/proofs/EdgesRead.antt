@@ -24,8 +24,8 @@ use Rattle.text_laws.specs.FormatReader.{took}
 use Rattle.text_laws.specs.LanguageReader.{language_reader}
 use Rattle.model_core.proofs.EmptyLists.{left_empty, right_empty}
 use Rattle.static_laws.proofs.StaticTwins.Twins.{both_empty}
-use Rattle.sig_types.specs.Inner.Checked.{NumberedAs}
-use Rattle.sig_types.proofs.Checks.{two_numbered, four_numbered}
+use Rattle.static_laws.specs.Checked.{NumberedAs}
+use Rattle.static_laws.proofs.Checks.{two_numbered, four_numbered}
 use Rattle.one_pass.specs.Inner.ReadParts.{ReadSure}
 use Rattle.one_pass.specs.Inner.ReadCarried.{ReadCarried}
 

@@ -17,8 +17,8 @@ use Rattle.text_laws.specs.LanguageReader.{level_lookahead, language_reader}
 use Rattle.text_laws.proofs.Formats.RuleLaws.{rule-is}
 use Rattle.text_laws.proofs.Formats.OneTokenDecides.{levels-fine}
 use Rattle.text_laws.specs.FirstTokens.{begins_as}
-use Rattle.model_read.specs.Inner.Ladder.{operand_level, climb}
-use Rattle.model_read.proofs.OperandLevels.{from-not, from-unary}
+use Rattle.text_laws.specs.Ladder.{operand_level, climb}
+use Rattle.text_laws.proofs.OperandLevels.{from-not, from-unary}
 use Rattle.one_pass.specs.Inner.ReadOperands.{first_operand, IsOperand, ReadOperand}
 
 -- whatever stands before the first operator that is left: the operators from there on are what is left of those from the first on

@@ -12,10 +12,10 @@ use Rattle.text_laws.specs.FirstTokens.{nullable, first_sorts, begins_among}
 use Rattle.text_laws.specs.FormatReader.{took}
 use Rattle.text_laws.specs.LanguageReader.{level_lookahead, language_reader}
 use Rattle.static_laws.proofs.StaticTwins.Twins.{both_empty}
-use Rattle.model_read.specs.ReadCalls.{with_front}
-use Rattle.model_read.proofs.ReadLoop.{goes_on, is_done, front-none}
-use Rattle.sig_types.specs.Inner.Checked.{NumberedAs}
-use Rattle.sig_types.proofs.ListChecks.{one_numbered_more}
+use Rattle.text_laws.specs.FormatReader.{with_front}
+use Rattle.text_laws.proofs.ReadLoop.{goes_on, is_done, front-none}
+use Rattle.static_laws.specs.Checked.{NumberedAs}
+use Rattle.static_laws.proofs.ListChecks.{one_numbered_more}
 use Rattle.one_pass.specs.Inner.ReadParts.{ReadSure, ReadParts}
 
 module _ {W B X : Type 0} (f : LanguageFormat W) (means : List ℕ → Option Meaning) (faults : W → List StaticFault) (number : Declared → W → Option B) (view : X → B) where

@@ -8,8 +8,8 @@ use Rattle.model_core.specs.Text.Expressions.{LanguageFormat}
 use Rattle.text_laws.specs.FirstTokens.{begins_as}
 use Rattle.text_laws.specs.FormatReader.{took}
 use Rattle.text_laws.specs.LanguageReader.{language_reader}
-use Rattle.model_read.specs.ReadCalls.{with_front}
-use Rattle.model_read.proofs.ReadLoop.{begins-one, goes_on, is_done}
+use Rattle.text_laws.specs.FormatReader.{with_front}
+use Rattle.text_laws.proofs.ReadLoop.{begins-one, goes_on, is_done}
 use Rattle.one_pass.specs.Inner.ReadRows.{AllAre, ReadRow}
 
 -- a token that is read stands first

@@ -23,7 +23,7 @@ use Rattle.text_laws.specs.LanguageReader.{language_reader}
 use Rattle.model_core.proofs.EmptyLists.{left_empty, right_empty}
 use Rattle.static_laws.proofs.StaticTwins.RowTwins.{same_count, few}
 use Rattle.static_laws.proofs.StaticTwins.Twins.{both_empty}
-use Rattle.sig_types.specs.Inner.Checked.{NumberedAs}
+use Rattle.static_laws.specs.Checked.{NumberedAs}
 use Rattle.one_pass.specs.Inner.ReadParts.{ReadSure}
 use Rattle.one_pass.specs.Inner.ReadRows.{AllAre, ReadRow}
 use Rattle.one_pass.specs.Inner.ReadTargets.{IsTarget}

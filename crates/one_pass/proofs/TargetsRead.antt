@@ -18,8 +18,8 @@ use Rattle.text_laws.specs.FirstTokens.{begins_as}
 use Rattle.text_laws.specs.FormatReader.{took}
 use Rattle.text_laws.specs.LanguageReader.{language_reader}
 use Rattle.static_laws.proofs.StaticTwins.Twins.{both_empty}
-use Rattle.sig_types.specs.Inner.Checked.{NumberedAs}
-use Rattle.sig_types.specs.Inner.Seen.{variable_role}
+use Rattle.static_laws.specs.Checked.{NumberedAs}
+use Rattle.static_laws.specs.Roles.{variable_role}
 use Rattle.one_pass.specs.Inner.ReadOperands.{ReadOperand}
 use Rattle.one_pass.specs.Inner.ReadTargets.{ReadTarget}
 use Rattle.one_pass.proofs.SureOperands.{fitting}

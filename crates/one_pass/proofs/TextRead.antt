@@ -16,9 +16,9 @@ use Rattle.model_core.specs.Static.RuleTable.{model_too_long}
 use Rattle.model_core.specs.Static.PartFaults.{vertex_faults, written_items, kinds_taken, use_faults, repeated_names, variable_faults, table_faults}
 use Rattle.model_core.specs.Static.ModelFaults.{model_meaning, model_takes, faults_of_parts, Accepted}
 use Rattle.model_read.specs.Beginnings.{with_vertices}
-use Rattle.sig_types.specs.Inner.Checked.{Checked, CheckedPart, CheckedPlain}
-use Rattle.sig_types.specs.Inner.Redeclared.{faults_of_declared}
-use Rattle.sig_types.proofs.WholeModel.{model_checked, all_told, is_accepted}
+use Rattle.static_laws.specs.Checked.{Checked, CheckedPart, CheckedPlain}
+use Rattle.static_laws.specs.DeclaredFaults.{faults_of_declared}
+use Rattle.static_laws.proofs.WholeModel.{model_checked, all_told, is_accepted}
 use Rattle.one_pass.specs.Inner.ReadParts.{ReadVertices, ReadBehind}
 use Rattle.one_pass.proofs.Sure.{checked_surely}
 use Rattle.one_pass.proofs.Alike.{same-meaning, same-takes, same-faults}

@@ -18,11 +18,11 @@ use Rattle.text_laws.specs.LanguageReader.{language_reader}
 use Rattle.model_core.proofs.EmptyLists.{left_empty, right_empty}
 use Rattle.static_laws.proofs.StaticTwins.RowTwins.{same_count}
 use Rattle.static_laws.proofs.StaticTwins.Twins.{both_empty}
-use Rattle.model_read.specs.ReadCalls.{with_front}
-use Rattle.model_read.proofs.ReadLoop.{begins-one, goes_on, is_done, front-none}
-use Rattle.sig_types.specs.Inner.Checked.{NumberedAs}
-use Rattle.sig_types.specs.Inner.Wanted.{wanted}
-use Rattle.sig_types.proofs.ListChecks.{one_numbered_more}
+use Rattle.text_laws.specs.FormatReader.{with_front}
+use Rattle.text_laws.proofs.ReadLoop.{begins-one, goes_on, is_done, front-none}
+use Rattle.static_laws.specs.Checked.{NumberedAs}
+use Rattle.static_laws.specs.Wanted.{wanted}
+use Rattle.static_laws.proofs.ListChecks.{one_numbered_more}
 use Rattle.one_pass.specs.Inner.ReadParts.{ReadSure}
 use Rattle.one_pass.specs.Inner.ReadValues.{fitting_faults}
 use Rattle.one_pass.proofs.WholeReads.{applied}

@@ -19,12 +19,12 @@ use Rattle.model_core.specs.Static.PartFaults.{written_items, change_place, edge
 use Rattle.text_laws.specs.FormatReader.{took}
 use Rattle.text_laws.specs.LanguageReader.{language_reader}
 use Rattle.model_read.specs.Beginnings.{with_body, vertex_beginning}
-use Rattle.model_read.specs.Inner.SomeTokens.{vertex-some}
-use Rattle.sig_types.specs.Inner.Checked.{NumberedAs, CheckedPart}
+use Rattle.text_laws.specs.SomeTokens.{vertex-some}
+use Rattle.static_laws.specs.Checked.{NumberedAs, CheckedPart}
 use Rattle.model_core.proofs.EmptyLists.{left_empty, right_empty}
 use Rattle.static_laws.proofs.ToldFaults.{none_told}
-use Rattle.sig_types.proofs.Checks.{told_both}
-use Rattle.sig_types.proofs.VertexParts.{vertex_checked}
+use Rattle.static_laws.proofs.Checks.{told_both}
+use Rattle.static_laws.proofs.VertexParts.{vertex_checked}
 use Rattle.one_pass.specs.Inner.ReadParts.{ReadParts, ReadBody, ReadVertex, ReadVertices, BeginAlike, AllBeginAlike}
 use Rattle.one_pass.proofs.Sure.{checked_surely}
 use Rattle.one_pass.proofs.WholeReads.{vertex-read, some-read}

@@ -13,7 +13,7 @@ use Rattle.text_laws.specs.FormatReader.{Parse, took, stuck, and_next, whole_rea
 use Rattle.text_laws.specs.LanguageReader.{level_lookahead, language_reader, text_and_rest, text_read}
 use Rattle.text_laws.proofs.Formats.ManyLaws.{repeated-is, one_more, one_more-ok, one_more-err}
 use Rattle.model_read.specs.Beginnings.{with_body, with_vertices, vertex_beginning, model_beginning}
-use Rattle.model_read.proofs.ReadLoop.{shorter}
+use Rattle.text_laws.proofs.ReadLoop.{shorter}
 
 pub applied : {A B : Type 0} (p : LanguageFormat (A → B)) (q : LanguageFormat A) (before between after : List Lexeme) (f : A → B) (x : A)
     → language_reader p before ≡ took f between → language_reader q between ≡ took x after → language_reader (p <*> q) before ≡ took (f x) after

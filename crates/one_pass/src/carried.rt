@@ -6,7 +6,7 @@ ghost use Rattle.model_core.specs.Text.Language.{values_format};
 ghost use Rattle.model_core.specs.Text.Numbering as numbering;
 ghost use Rattle.model_core.specs.Text.Numbering.{each_numbered};
 ghost use Rattle.model_core.specs.Static.Meanings.{meaning_of};
-ghost use Rattle.model_read.specs.Inner.Spelled.{spelled_name};
+ghost use Rattle.model_read.specs.Spelled.{spelled_name};
 ghost use Rattle.one_pass.specs.Inner.ReadParts.{ReadSure};
 ghost use Rattle.one_pass.specs.Inner.ReadValues.{fitting_faults};
 ghost use Rattle.one_pass.specs.Inner.ReadCarried.{ReadGiven, IsVertex, ReadCarried};

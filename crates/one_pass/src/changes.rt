@@ -9,7 +9,7 @@ ghost use Rattle.model_core.specs.Text.Numbering as numbering;
 ghost use Rattle.model_core.specs.Static.Meanings.{meaning_of};
 ghost use Rattle.model_core.specs.Static.PartFaults.{change_faults};
 ghost use Rattle.text_laws.specs.LanguageReader.{language_reader};
-ghost use Rattle.sig_types.specs.Inner.Checked.{NumberedAs};
+ghost use Rattle.static_laws.specs.Checked.{NumberedAs};
 ghost use Rattle.one_pass.specs.Inner.ReadParts.{ReadSure};
 ghost use Rattle.one_pass.specs.Inner.ReadRows.{ReadRow};
 ghost use Rattle.one_pass.specs.Inner.ReadTargets.{IsTarget, ReadTarget};

@@ -13,7 +13,7 @@ ghost use Rattle.model_core.specs.Text.Numbering as numbering;
 ghost use Rattle.model_core.specs.Text.Numbering.{written_or, natural};
 ghost use Rattle.model_core.specs.Static.Meanings.{Meaning, meaning_of};
 ghost use Rattle.model_core.specs.Static.PartFaults.{if_written, operand_faults, priority_faults, edge_faults};
-ghost use Rattle.sig_types.specs.Inner.Checked.{NumberedAs};
+ghost use Rattle.static_laws.specs.Checked.{NumberedAs};
 ghost use Rattle.one_pass.specs.Inner.ReadParts.{ReadSure};
 
 use crate::carried::carried;

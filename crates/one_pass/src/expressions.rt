@@ -15,10 +15,10 @@ ghost use Rattle.model_core.specs.Static.Kinds as kinds;
 ghost use Rattle.model_core.specs.Static.RuleTable.{kind_mismatch};
 ghost use Rattle.model_core.specs.Static.PartFaults.{use_faults};
 ghost use Rattle.text_laws.specs.LanguageReader.{language_reader};
-ghost use Rattle.model_read.specs.Inner.Ladder.{operand_level, if_format, not_format, negative_format, named_format};
-ghost use Rattle.model_read.specs.Inner.Spelled.{spelled_name};
-ghost use Rattle.sig_types.specs.Inner.Checked.{NumberedAs};
-ghost use Rattle.sig_types.specs.Inner.Seen.{variable_role};
+ghost use Rattle.text_laws.specs.Ladder.{operand_level, if_format, not_format, negative_format, named_format};
+ghost use Rattle.model_read.specs.Spelled.{spelled_name};
+ghost use Rattle.static_laws.specs.Checked.{NumberedAs};
+ghost use Rattle.static_laws.specs.Roles.{variable_role};
 ghost use Rattle.one_pass.specs.Inner.ReadOperands.{first_operand, ReadOperand, ClimbsFrom};
 
 use crate::not_read::NotRead;

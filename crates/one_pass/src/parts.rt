@@ -14,7 +14,7 @@ ghost use Rattle.model_core.specs.Static.Meanings.{Meaning, meaning_of};
 ghost use Rattle.model_core.specs.Static.PartFaults.{change_faults, edge_faults};
 ghost use Rattle.text_laws.specs.FirstTokens.{nullable, first_sorts, begins_among};
 ghost use Rattle.text_laws.specs.LanguageReader.{level_lookahead};
-ghost use Rattle.model_read.specs.Inner.SomeTokens.{change-some, edge-some};
+ghost use Rattle.text_laws.specs.SomeTokens.{change-some, edge-some};
 ghost use Rattle.one_pass.specs.Inner.ReadParts.{ReadSure, ReadParts};
 
 use crate::changes::change;

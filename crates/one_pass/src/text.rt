@@ -16,8 +16,8 @@ ghost use Rattle.text_laws.specs.FormatReader.{took};
 ghost use Rattle.text_laws.specs.LanguageReader.{language_reader};
 ghost use Rattle.model_lex.specs.Lexemes.{lexemes};
 ghost use Rattle.model_read.specs.Beginnings.{with_vertices, model_beginning};
-ghost use Rattle.sig_types.specs.Inner.Checked.{CheckedPart};
-ghost use Rattle.sig_types.specs.Inner.Redeclared.{faults_of_declared};
+ghost use Rattle.static_laws.specs.Checked.{CheckedPart};
+ghost use Rattle.static_laws.specs.DeclaredFaults.{faults_of_declared};
 ghost use Rattle.one_pass.specs.ReadModel.{AreAccepted};
 ghost use Rattle.one_pass.specs.Inner.ReadParts.{CheckedInTurn, ReadVertices, ReadBehind, ReadText};
 

@@ -7,7 +7,7 @@ ghost use Rattle.model_core.specs.Text.Numbering.{each_numbered, numbered_parame
 ghost use Rattle.model_core.specs.Static.Meanings.{meaning_of};
 ghost use Rattle.model_core.specs.Static.RuleTable.{name_too_long};
 ghost use Rattle.model_core.specs.Static.PartFaults.{written_items, parameters_faults};
-ghost use Rattle.sig_types.specs.Inner.Checked.{NumberedAs};
+ghost use Rattle.static_laws.specs.Checked.{NumberedAs};
 ghost use Rattle.one_pass.specs.Inner.ReadParts.{BeginAlike, ReadBody, ReadVertex, ReadVertices};
 
 use crate::beginnings::begin_alike;

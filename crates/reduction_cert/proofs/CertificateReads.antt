@@ -3,20 +3,22 @@ use Rattle.std.proofs.Common.{◌≡◌, ℕ, Bool, true, false, List, [], ◌�
 use Rattle.std.specs.Prelude.{Result, Ok, Err, IfOk}
 use Rattle.std.proofs.lemmas.List.{map-id}
 use Rattle.model_core.specs.declared.application.Application.{Application}
+use Rattle.model_core.specs.Rules.Reduction.{RuleApplication}
 use Rattle.model_core.specs.Text.Lexing.{Lexeme}
+use Rattle.model_core.specs.Text.FirstWrong.{told_place}
 use Rattle.model_core.specs.Text.Format.{AName, Many}
 use Rattle.model_core.specs.Text.CertificateText.{plain_name_format, prune_format, settle_format, drop_format, merge_format, slice_format, application_format, certificate_format, IsCertificate, IsNoCertificateAt}
 use Rattle.model_core.specs.Code.Views.{application_of}
 use Rattle.text_laws.specs.FirstTokens.{nullable, first_sorts, begins_as, begins_among}
-use Rattle.text_laws.specs.FormatReader.{Parse, took, and_next, whole_read}
+use Rattle.text_laws.specs.FormatReader.{Parse, took, and_next, with_front, whole_read}
 use Rattle.text_laws.specs.LanguageReader.{level_lookahead, language_reader}
 use Rattle.text_laws.proofs.Formats.OneTokenDecides.{certificate-fine}
 use Rattle.text_laws.proofs.Formats.TextLaws.{all-is_spelled, all-is_wrong}
-use Rattle.model_lex.specs.declared.parse_error.ParseError.{ParseError}
 use Rattle.model_lex.specs.declared.parse_error.ParseError.TheVariants as errors
 use Rattle.model_read.specs.declared.stop.Stop.{Stop}
-use Rattle.model_read.specs.ReadCalls.{Stops, Tells, with_front}
-use Rattle.model_read.proofs.ReadLoop.{begins-one, goes_on, ends, is_done}
+use Rattle.model_read.specs.declared.stop.Stop.TheVariants as stops
+use Rattle.model_read.specs.ReadCalls.{Stops, Returned, placed_at, stops-too}
+use Rattle.text_laws.proofs.ReadLoop.{begins-one, goes_on, ends, is_done}
 
 -- ---- names and applications have a token at least
 
@@ -44,7 +46,8 @@ name-goes_on names name tokens left total begun e so_far =
 pub name-ends : (names : List (List ℕ)) (tokens rest : List Lexeme) (total : Parse (List (List ℕ))) (error : Stop) → begins_as AName tokens ≡ true
     → Stops error rest (language_reader plain_name_format tokens) → with_front names (language_reader (Many plain_name_format) tokens) ≡ total → Stops error rest total
 name-ends names tokens rest total error begun e so_far =
-    ends (λ (n : List ℕ). n) plain_name_format name-some names tokens rest total error (name-begins tokens true begun) e (rw (map-id names) so_far)
+    stops-too error rest (language_reader plain_name_format tokens) total
+    (ends (λ (n : List ℕ). n) plain_name_format name-some names tokens rest total (name-begins tokens true begun) (rw (map-id names) so_far)) e
 
 pub name-done : (names : List (List ℕ)) (tokens : List Lexeme) (total : Parse (List (List ℕ))) → begins_as AName tokens ≡ false
     → with_front names (language_reader (Many plain_name_format) tokens) ≡ total → total ≡ took names tokens
@@ -53,14 +56,22 @@ name-done names tokens total stop so_far =
 
 -- ---- the whole
 
-pub certificate-ok : (text : List ℕ) (tokens left : List Lexeme) (r : Result (List Application) ParseError) → Tells (map application_of) text r left (and_next whole_read (language_reader certificate_format tokens)) → IfOk r (λ applications. IsCertificate tokens (map application_of applications))
-certificate-ok text tokens left (Ok applications) g = all-is_spelled certificate_format tokens (map application_of applications) left g
-certificate-ok text tokens left (Err e) g = tt
+abbrev certificate_read : List Lexeme → Parse (List RuleApplication)
+certificate_read tokens = and_next whole_read (language_reader certificate_format tokens)
 
-pub certificate-unexpected : (text : List ℕ) (tokens left : List Lexeme) (r : Result (List Application) ParseError) (at : ℕ) → Tells (map application_of) text r left (and_next whole_read (language_reader certificate_format tokens)) → r ≡ Err (errors.Unexpected at) → IsNoCertificateAt text tokens at
-certificate-unexpected text tokens left r at g e =
-    let h : Tells (map application_of) text (Err (errors.Unexpected at)) left (and_next whole_read (language_reader certificate_format tokens)) = subst (λ (q : Result (List Application) ParseError). Tells (map application_of) text q left (and_next whole_read (language_reader certificate_format tokens))) e g in
-    subst (λ (n : ℕ). IsNoCertificateAt text tokens n) h.1 (all-is_wrong certificate_format certificate-fine text tokens left h.0)
+pub certificate-ok : (tokens left : List Lexeme) (place : ℕ) (r : Result (List Application) Stop) → Returned (map application_of) r left (certificate_read tokens) → IfOk (placed_at place r) (λ applications. IsCertificate tokens (map application_of applications))
+certificate-ok tokens left place (Ok applications) g = all-is_spelled certificate_format tokens (map application_of applications) left g
+certificate-ok tokens left place (Err stops.Unexpected) g = tt
+certificate-ok tokens left place (Err stops.NoMemory) g = tt
 
-pub certificate-never_deep : (text : List ℕ) (tokens left : List Lexeme) (r : Result (List Application) ParseError) (at : ℕ) → Tells (map application_of) text r left (and_next whole_read (language_reader certificate_format tokens)) → r ≡ Err (errors.TooDeep at) → ⊥
-certificate-never_deep text tokens left r at g e = subst (λ (q : Result (List Application) ParseError). Tells (map application_of) text q left (and_next whole_read (language_reader certificate_format tokens))) e g
+pub certificate-unexpected : (text : List ℕ) (tokens left : List Lexeme) (r : Result (List Application) Stop) (at : ℕ) → Returned (map application_of) r left (certificate_read tokens) → placed_at (told_place text left) r ≡ Err (errors.Unexpected at) → IsNoCertificateAt text tokens at
+certificate-unexpected text tokens left (Ok applications) at g e = absurd cc
+certificate-unexpected text tokens left (Err stops.Unexpected) at g e =
+    let same : told_place text left ≡ at = cc in
+    subst (λ (n : ℕ). IsNoCertificateAt text tokens n) same (all-is_wrong certificate_format certificate-fine text tokens left g)
+certificate-unexpected text tokens left (Err stops.NoMemory) at g e = absurd cc
+
+pub certificate-never_deep : (place : ℕ) (r : Result (List Application) Stop) (at : ℕ) → placed_at place r ≡ Err (errors.TooDeep at) → ⊥
+certificate-never_deep place (Ok applications) at e = cc
+certificate-never_deep place (Err stops.Unexpected) at e = cc
+certificate-never_deep place (Err stops.NoMemory) at e = cc

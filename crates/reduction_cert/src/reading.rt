@@ -8,7 +8,8 @@ ghost use Rattle.text_laws.specs.FirstTokens.{first_sorts, begins_among};
 ghost use Rattle.text_laws.specs.FormatReader.{and_next, whole_read};
 ghost use Rattle.text_laws.specs.LanguageReader.{level_lookahead, language_reader};
 ghost use Rattle.model_lex.specs.Lexemes.{lexemes};
-ghost use Rattle.model_read.specs.ReadCalls.{Returned, with_front};
+ghost use Rattle.model_read.specs.ReadCalls.{Returned};
+ghost use Rattle.text_laws.specs.FormatReader.{with_front};
 
 use model_core::{Application, Word};
 use model_lex::{ParseError, Tokens, tokens_stand_in_order};

@@ -9,11 +9,11 @@ use Rattle.model_core.specs.Text.Numbering.{each_numbered, expression}
 use Rattle.model_core.specs.Static.FaultOrder.{StaticFault}
 use Rattle.model_core.specs.Static.Meanings.{Meaning}
 use Rattle.model_core.specs.Static.PartFaults.{expression_faults, operand_faults, values_faults}
-use Rattle.sig_types.specs.Inner.Checked.{CheckedPart}
-use Rattle.sig_types.specs.Inner.Wanted.{wanted}
-use Rattle.sig_types.proofs.Checks.{both, made}
+use Rattle.static_laws.specs.Checked.{CheckedPart}
+use Rattle.static_laws.specs.Wanted.{wanted}
+use Rattle.static_laws.proofs.Checks.{both, made}
 use Rattle.std.proofs.lemmas.List.{append-nil}
-use Rattle.sig_types.proofs.ListChecks.{one_numbered_more}
+use Rattle.static_laws.proofs.ListChecks.{one_numbered_more}
 
 module _ (means : List ℕ → Option Meaning) where
   -- where no kind is wanted, no kind differs

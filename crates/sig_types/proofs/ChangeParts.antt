@@ -14,10 +14,10 @@ use Rattle.model_core.specs.Static.FaultOrder.{StaticFault, earliest_fault}
 use Rattle.model_core.specs.Static.Meanings.{Meaning}
 use Rattle.model_core.specs.Static.RuleTable.{kind_mismatch, value_count, number_too_large, literal_too_large, empty_range, draw_outside, stream_outside, too_many}
 use Rattle.model_core.specs.Static.PartFaults.{if_written, use_faults, operand_faults, values_faults, target_place, target_role, target_kind, target_faults, choice_faults, change_faults}
-use Rattle.sig_types.specs.Inner.Checked.{CheckedPart, CheckedPlain}
-use Rattle.sig_types.specs.Inner.Seen.{variable_role}
-use Rattle.sig_types.specs.Inner.Wanted.{stored_faults}
-use Rattle.sig_types.proofs.Checks.{told_both, both, made, before, behind, two_numbered, three_numbered}
+use Rattle.static_laws.specs.Checked.{CheckedPart, CheckedPlain}
+use Rattle.static_laws.specs.Roles.{variable_role}
+use Rattle.sig_types.specs.Inner.Stored.{stored_faults}
+use Rattle.static_laws.proofs.Checks.{told_both, both, made, before, behind, two_numbered, three_numbered}
 use Rattle.std.proofs.lemmas.List.{append-nil}
 
 role_of_index : (o : Option WrittenExpression) → variable_role (is_some o) ≡ target_role o

@@ -11,8 +11,8 @@ use Rattle.model_core.specs.Text.Written.{WrittenName}
 use Rattle.model_core.specs.Static.FaultOrder.{StaticFault, earliest_fault, fault_where}
 use Rattle.model_core.specs.Static.RuleTable.{duplicate_name}
 use Rattle.model_core.specs.Static.PartFaults.{repeated_names}
-use Rattle.sig_types.specs.Inner.Seen.{bytes_of}
-use Rattle.sig_types.proofs.Checks.{told_both}
+use Rattle.sig_types.specs.Seen.{bytes_of}
+use Rattle.static_laws.proofs.Checks.{told_both}
 use Rattle.std.proofs.lemmas.List.{append-nil}
 
 -- the names of a list before these, the last first

@@ -11,10 +11,10 @@ use Rattle.model_core.specs.Text.Numbering.{each_numbered, written_or, declared_
 use Rattle.model_core.specs.Static.FaultOrder.{StaticFault}
 use Rattle.model_core.specs.Static.Meanings.{Meaning, MeansVariable, MeansTable, MeansVertex, AsVertex}
 use Rattle.model_core.specs.Static.PartFaults.{if_written, use_faults, operand_faults, priority_faults, target_takes, carried_faults, schedule_faults, edge_faults}
-use Rattle.sig_types.specs.Inner.Checked.{CheckedPart, CheckedPlain}
-use Rattle.sig_types.specs.Inner.Seen.{vertex_meant}
-use Rattle.sig_types.specs.Inner.Wanted.{taken_by}
-use Rattle.sig_types.proofs.Checks.{both, made, two_numbered, four_numbered}
+use Rattle.static_laws.specs.Checked.{CheckedPart, CheckedPlain}
+use Rattle.static_laws.specs.Roles.{vertex_meant}
+use Rattle.sig_types.specs.Inner.Stored.{taken_by}
+use Rattle.static_laws.proofs.Checks.{both, made, two_numbered, four_numbered}
 
 takes_by_place : (means : List ℕ → Option Meaning) (taken : List (List (Option Kind))) (w : Option Meaning) → target_takes means taken w ≡ taken_by taken (vertex_meant w)
 takes_by_place means taken None = refl

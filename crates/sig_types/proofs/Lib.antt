@@ -1,15 +1,12 @@
-pub mod Checks
-pub mod LeftOut
-pub mod Lookups
-pub mod Operands
-pub mod TooMany
-pub mod ListChecks
-pub mod EarlierNames
-pub mod CarriedValues
-pub mod ChangeParts
-pub mod EdgeParts
-pub mod VertexParts
-pub mod VariableParts
-pub mod RowSums
-pub mod MeaningsSoFar
-pub mod WholeModel
+mod Lookups
+mod Operands
+mod TooMany
+mod EarlierNames
+mod CarriedValues
+mod ChangeParts
+mod EdgeParts
+mod VariableParts
+mod RowSums
+mod MeaningsSoFar
+mod DeclaredInTurn
+mod ToldError

@@ -9,7 +9,7 @@ use lib.Pointwise.{pointwise}
 use Rattle.model_core.specs.Static.Meanings as plain
 use Rattle.model_core.specs.Static.Meanings.{Declaration, meaning_of}
 use Rattle.sig_types.specs.declared.names.Meaning.{Meaning}
-use Rattle.sig_types.specs.Inner.Seen.{meaning_seen, declaration_of}
+use Rattle.sig_types.specs.Seen.{meaning_seen, declaration_of}
 
 abbrev pub seen : List (Bytes ℕ × Meaning) → List Declaration
 seen entries = map (λ (e : Bytes ℕ × Meaning). declaration_of e.0.items (meaning_seen e.1)) entries

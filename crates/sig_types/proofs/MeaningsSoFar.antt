@@ -12,8 +12,8 @@ use Rattle.model_core.specs.Static.FaultOrder.{StaticFault, earliest_fault, faul
 use Rattle.model_core.specs.Static.Meanings.{Meaning, Declaration, declarations_from, declared_name, meaning_of}
 use Rattle.model_core.specs.Static.PartFaults.{repeated_names}
 use Rattle.sig_types.specs.Inner.Redeclared.{redeclared}
-use Rattle.sig_types.specs.Inner.Seen.{declaration_of}
-use Rattle.sig_types.proofs.Checks.{told_both}
+use Rattle.sig_types.specs.Seen.{declaration_of}
+use Rattle.static_laws.proofs.Checks.{told_both}
 use Rattle.std.proofs.lemmas.List.{append-nil}
 
 abbrev or_else : Option Meaning → Option Meaning → Option Meaning

@@ -14,8 +14,8 @@ use Rattle.model_core.specs.Static.FaultOrder.{StaticFault}
 use Rattle.model_core.specs.Static.Meanings.{Meaning, AsArray}
 use Rattle.model_core.specs.Static.Kinds.{operand_kind, right_operand_kind, expression_kind}
 use Rattle.model_core.specs.Static.PartFaults.{use_faults, expression_faults, operand_faults}
-use Rattle.sig_types.specs.Inner.Checked.{CheckedPart}
-use Rattle.sig_types.proofs.Checks.{both, made, two_numbered, three_numbered}
+use Rattle.static_laws.specs.Checked.{CheckedPart}
+use Rattle.static_laws.proofs.Checks.{both, made, two_numbered, three_numbered}
 
 pub place-written : (at : ℕ) (f : RawForm) → place (written_form at f) ≡ at
 place-written at (raw.Int n) = refl

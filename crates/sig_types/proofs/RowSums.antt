@@ -7,10 +7,10 @@ use Rattle.model_core.specs.Text.Numbering.{each_numbered, row}
 use Rattle.model_core.specs.Static.FaultOrder.{StaticFault}
 use Rattle.model_core.specs.Static.RuleTable.{certain_value, literal_too_large, number_too_large, weight_outside}
 use Rattle.model_core.specs.Static.PartFaults.{rows_faults}
-use Rattle.sig_types.specs.Inner.Checked.{CheckedPlain}
-use Rattle.sig_types.proofs.Checks.{both, made}
+use Rattle.static_laws.specs.Checked.{CheckedPlain}
+use Rattle.static_laws.proofs.Checks.{both, made}
 use Rattle.std.proofs.lemmas.List.{append-nil}
-use Rattle.sig_types.proofs.ListChecks.{one_numbered_more}
+use Rattle.static_laws.proofs.ListChecks.{one_numbered_more}
 
 -- the sum of the weights of rows, and of others before them
 abbrev pub weights_sum : ℤ → List WrittenRow → ℤ

@@ -10,9 +10,9 @@ use Rattle.model_core.specs.Static.FaultOrder.{StaticFault, earliest_fault}
 use Rattle.model_core.specs.Static.RuleTable.{name_too_long, literal_too_large, empty_range, initial_outside}
 use Rattle.model_core.specs.Static.PartFaults.{if_written, size_faults, range_faults, variable_faults}
 use Rattle.sig_types.specs.declared.variables.Range.{Range}
-use Rattle.sig_types.specs.Inner.Checked.{CheckedPlain}
+use Rattle.static_laws.specs.Checked.{CheckedPlain}
 use Rattle.sig_types.specs.Inner.HeldAsDeclared.{initial_faults, numbered_range}
-use Rattle.sig_types.proofs.Checks.{both, made, before, behind}
+use Rattle.static_laws.proofs.Checks.{both, made, before, behind}
 
 bounds_first : (lo hi : WrittenSigned) (clip : Bool) (l : WrittenLiteral) → range_faults (written.RangeKind lo hi clip) l ≡ (literal_too_large lo ++ literal_too_large hi ++ empty_range lo hi) ++ initial_faults lo hi l
 bounds_first lo hi clip (written.TruthLiteral at b) = refl

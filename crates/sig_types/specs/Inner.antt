@@ -1,6 +1,4 @@
--- The code of this crate, restated for its proofs. Nobody has to believe these: of the public clauses only those of parts that `one_pass` puts together cite them.
-pub mod Checked
+-- The code of this crate, restated for its proofs. No public clause cites these, and nobody has to believe them.
 pub mod HeldAsDeclared
 pub mod Redeclared
-pub mod Seen
-pub mod Wanted
+pub mod Stored

@@ -11,8 +11,9 @@ ghost use Rattle.model_core.specs.Text.Numbering as numbering;
 ghost use Rattle.model_core.specs.Text.Numbering.{each_numbered, written_or};
 ghost use Rattle.model_core.specs.Static.Meanings.{meaning_of};
 ghost use Rattle.model_core.specs.Static.PartFaults.{if_written, operand_faults, values_faults, target_kind, target_faults, choice_faults, change_faults};
-ghost use Rattle.sig_types.specs.Inner.Checked.{CheckedPart};
-ghost use Rattle.sig_types.specs.Inner.Wanted.{wanted, stored_faults};
+ghost use Rattle.static_laws.specs.Checked.{CheckedPart};
+ghost use Rattle.static_laws.specs.Wanted.{wanted};
+ghost use Rattle.sig_types.specs.Inner.Stored.{stored_faults};
 
 use crate::expressions::operand;
 use crate::kinds::{Typed, kinds_differ};

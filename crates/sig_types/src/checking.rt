@@ -13,8 +13,8 @@ ghost use Rattle.model_core.specs.Static.RuleTable.{model_too_long};
 ghost use Rattle.model_core.specs.Static.PartFaults.{repeated_names};
 ghost use Rattle.model_core.specs.Static.ModelFaults.{model_meaning, model_takes, faults_of_counts, faults_of_parts, told_fault, Accepted, IsTold};
 ghost use Rattle.sig_types.specs.declared.error.StaticError.TheVariants as errors;
-ghost use Rattle.sig_types.specs.Inner.Checked.{Checked};
-ghost use Rattle.sig_types.specs.Inner.Redeclared.{faults_of_declared};
+ghost use Rattle.static_laws.specs.Checked.{Checked};
+ghost use Rattle.static_laws.specs.DeclaredFaults.{faults_of_declared};
 
 use crate::declaring::declare_all;
 use crate::edges::items;

@@ -6,7 +6,7 @@ ghost use Rattle.model_core.specs.Text.Written.{WrittenVariable, WrittenTable, W
 ghost use Rattle.model_core.specs.Static.FaultOrder.{earliest_fault};
 ghost use Rattle.model_core.specs.Static.Meanings.{Declaration, declared_kind, variable_declaration, table_declaration, vertex_declaration, declarations_from, meaning_of};
 ghost use Rattle.sig_types.specs.Inner.Redeclared.{redeclared};
-ghost use Rattle.sig_types.specs.Inner.Seen.{meaning_seen};
+ghost use Rattle.sig_types.specs.Seen.{meaning_seen};
 
 use crate::names::{Meaning, Names};
 use crate::told::Told;

@@ -12,8 +12,8 @@ ghost use Rattle.model_core.specs.Text.Numbering.{each_numbered, written_or, nat
 ghost use Rattle.model_core.specs.Static.FaultOrder.{earliest_fault};
 ghost use Rattle.model_core.specs.Static.Meanings.{meaning_of};
 ghost use Rattle.model_core.specs.Static.PartFaults.{if_written, written_items, operand_faults, count_faults, priority_faults, carried_faults, schedule_faults, edge_faults};
-ghost use Rattle.sig_types.specs.Inner.Checked.{CheckedPart, CheckedPlain};
-ghost use Rattle.sig_types.specs.Inner.Wanted.{taken_by};
+ghost use Rattle.static_laws.specs.Checked.{CheckedPart, CheckedPlain};
+ghost use Rattle.sig_types.specs.Inner.Stored.{taken_by};
 
 use crate::changes::values;
 use crate::expressions::operand;

@@ -7,7 +7,7 @@ ghost use Rattle.model_core.specs.Text.Numbering.{expression};
 ghost use Rattle.model_core.specs.Static.Meanings.{meaning_of};
 ghost use Rattle.model_core.specs.Static.Kinds.{expression_kind};
 ghost use Rattle.model_core.specs.Static.PartFaults.{expression_faults, operand_faults};
-ghost use Rattle.sig_types.specs.Inner.Checked.{CheckedPart};
+ghost use Rattle.static_laws.specs.Checked.{CheckedPart};
 
 use crate::kinds::{Typed, kinds_differ, known_or, operand_kind, result_kind, right_kind};
 use crate::names::Names;

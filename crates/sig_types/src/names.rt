@@ -3,7 +3,7 @@
 ghost use Rattle.std.specs.Prelude.{◌≡◌, [], ◌∷◌, ◌++◌, IfOk, is_none, if◌then◌else◌};
 ghost use Rattle.std.specs.Option.{option_map};
 ghost use Rattle.model_core.specs.Static.Meanings.{meaning_of};
-ghost use Rattle.sig_types.specs.Inner.Seen.{meaning_seen, declaration_of};
+ghost use Rattle.sig_types.specs.Seen.{meaning_seen, declaration_of};
 
 use indexmap::IndexMap;
 use model_core::Kind;
@@ -41,7 +41,7 @@ impl Model for Names {
     ghost use Rattle.std.specs.Global.{Vec as Bytes};
     ghost use Rattle.model_core.specs.Static.Meanings.{Declaration};
     ghost use Rattle.sig_types.specs.declared.names.Meaning.{Meaning};
-    ghost use Rattle.sig_types.specs.Inner.Seen.{declaration_of, meaning_seen};
+    ghost use Rattle.sig_types.specs.Seen.{declaration_of, meaning_seen};
 
     ghost Value = { List Declaration };
 

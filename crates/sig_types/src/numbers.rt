@@ -6,7 +6,7 @@ ghost use Rattle.model_core.specs.Text.Numbering.{signed, natural};
 ghost use Rattle.model_core.specs.Static.FaultOrder.{earliest_fault, fault_where};
 ghost use Rattle.model_core.specs.Static.RuleTable as table;
 ghost use Rattle.model_core.specs.Static.RuleTable.{is_between, number_too_large, literal_too_large, empty_range, initial_outside, draw_outside};
-ghost use Rattle.sig_types.specs.Inner.Checked.{CheckedPlain};
+ghost use Rattle.static_laws.specs.Checked.{CheckedPlain};
 
 use crate::told::Told;
 use model_core::{RawNumber, RawSigned, StaticKind};

@@ -6,7 +6,7 @@ ghost use Rattle.model_core.specs.Code.WrittenViews.{written_name};
 ghost use Rattle.model_core.specs.Text.Lexing.{same_bytes};
 ghost use Rattle.model_core.specs.Static.FaultOrder.{earliest_fault};
 ghost use Rattle.model_core.specs.Static.PartFaults.{repeated_names};
-ghost use Rattle.sig_types.specs.Inner.Seen.{bytes_of};
+ghost use Rattle.sig_types.specs.Seen.{bytes_of};
 
 use crate::told::Told;
 use indexmap::IndexSet;

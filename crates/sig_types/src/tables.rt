@@ -10,7 +10,7 @@ ghost use Rattle.model_core.specs.Text.Numbering as numbering;
 ghost use Rattle.model_core.specs.Text.Numbering.{each_numbered, natural};
 ghost use Rattle.model_core.specs.Static.RuleTable.{certain_value, literal_too_large, number_too_large, weight_outside};
 ghost use Rattle.model_core.specs.Static.PartFaults.{rows_faults, table_faults};
-ghost use Rattle.sig_types.specs.Inner.Checked.{CheckedPlain};
+ghost use Rattle.static_laws.specs.Checked.{CheckedPlain};
 
 use crate::numbers::{certain_number, literal};
 use crate::placed::tell_too_many;

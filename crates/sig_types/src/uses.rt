@@ -12,8 +12,9 @@ ghost use Rattle.model_core.specs.Static.FaultOrder.{earliest_fault};
 ghost use Rattle.model_core.specs.Static.Meanings.{MeansVariable, MeansTable, MeansVertex, AsScalar, AsTable, AsVertex, AsWatched, fits_role, meaning_of};
 ghost use Rattle.model_core.specs.Static.Kinds.{kind_in_role};
 ghost use Rattle.model_core.specs.Static.PartFaults.{use_faults};
-ghost use Rattle.sig_types.specs.Inner.Checked.{CheckedPart};
-ghost use Rattle.sig_types.specs.Inner.Seen.{meaning_seen, role_seen, variable_role, vertex_meant};
+ghost use Rattle.static_laws.specs.Checked.{CheckedPart};
+ghost use Rattle.sig_types.specs.Seen.{meaning_seen, role_seen};
+ghost use Rattle.static_laws.specs.Roles.{variable_role, vertex_meant};
 
 use crate::kinds::Typed;
 use crate::names::{Meaning, Names};

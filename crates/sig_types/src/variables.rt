@@ -9,7 +9,7 @@ ghost use Rattle.model_core.specs.Text.Written.{TruthKind, RangeKind};
 ghost use Rattle.model_core.specs.Text.Numbering as numbering;
 ghost use Rattle.model_core.specs.Text.Numbering.{each_numbered};
 ghost use Rattle.model_core.specs.Static.PartFaults.{if_written, size_faults, range_faults, variable_faults};
-ghost use Rattle.sig_types.specs.Inner.Checked.{CheckedPlain};
+ghost use Rattle.static_laws.specs.Checked.{CheckedPlain};
 ghost use Rattle.sig_types.specs.Inner.HeldAsDeclared.{initial_faults, numbered_range};
 
 use crate::numbers::{bounded, literal, tell_empty, tell_outside};

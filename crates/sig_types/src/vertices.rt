@@ -8,7 +8,7 @@ ghost use Rattle.model_core.specs.Text.Numbering as numbering;
 ghost use Rattle.model_core.specs.Text.Numbering.{each_numbered};
 ghost use Rattle.model_core.specs.Static.Meanings.{AsScalar, meaning_of};
 ghost use Rattle.model_core.specs.Static.PartFaults.{use_faults, parameter_kind, kinds_taken, parameters_faults, vertex_faults};
-ghost use Rattle.sig_types.specs.Inner.Checked.{CheckedPart};
+ghost use Rattle.static_laws.specs.Checked.{CheckedPart};
 
 use crate::changes::changes;
 use crate::edges::{edges, items};

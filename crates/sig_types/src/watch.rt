@@ -8,7 +8,7 @@ ghost use Rattle.model_core.specs.Text.Numbering as numbering;
 ghost use Rattle.model_core.specs.Text.Numbering.{each_numbered};
 ghost use Rattle.model_core.specs.Static.Meanings.{AsWatched, meaning_of};
 ghost use Rattle.model_core.specs.Static.PartFaults.{use_faults, repeated_names};
-ghost use Rattle.sig_types.specs.Inner.Checked.{CheckedPart};
+ghost use Rattle.static_laws.specs.Checked.{CheckedPart};
 
 use crate::names::Names;
 use crate::repeats::tell_repeated;

@@ -21,7 +21,7 @@ use Rattle.text_laws.proofs.OpeningLaws.{none-is_few, few-is_none}
 use Rattle.text_laws.proofs.Formats.OneTokenDecides.{certificate-fine}
 use Rattle.text_laws.proofs.Formats.TextLaws.{read-is_spelled, spelled-is_read, one_place, all-is_spelled, spelled-is_all, all-is_wrong, one_wrong_place}
 use Rattle.text_laws.proofs.Formats.EndWord.{front-is_text}
-use Rattle.model_read.proofs.WholeText.{front-unexpected}
+use Rattle.text_laws.proofs.FrontReads.{front-unexpected}
 use Rattle.sigma_top.specs.declared.complaint.Complaint.{Complaint}
 use Rattle.sigma_top.specs.declared.complaint.Complaint.TheVariants as complaints
 use Rattle.sigma_top.specs.DocumentComplaints.{IsFrontComplaint, IsCertificateComplaint, IsGrammarComplaint, in_first, in_second, in_certificate, IsDocumentComplaint, of_bytes, of_tokens, of_first, of_second}

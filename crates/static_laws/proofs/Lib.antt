@@ -2,3 +2,8 @@ pub mod ToldFaults
 pub mod NamedPlaces
 pub mod StaticTwins
 pub mod OneFaultTold
+pub mod Checks
+pub mod LeftOut
+pub mod ListChecks
+pub mod VertexParts
+pub mod WholeModel

@@ -1,2 +1,10 @@
 pub mod Formats
 pub mod OpeningLaws
+pub mod ReadLoop
+mod FirstOperator
+pub mod OperandLevels
+mod LevelOperators
+pub mod OperatorsInTurn
+pub mod FrontReads
+pub mod TokensFrom
+pub mod DigitsTaken

@@ -1,5 +1,5 @@
 -- The reader of a format: it computes what the format spells, or where it is stuck. A law says so.
-use Rattle.std.specs.Prelude.{ℕ, zero, suc, ◌+◌, ◌*◌, if◌then◌else◌, List, [], ◌∷◌, length, Result, Ok, Err}
+use Rattle.std.specs.Prelude.{ℕ, zero, suc, ◌+◌, ◌*◌, if◌then◌else◌, List, [], ◌∷◌, ◌++◌, length, Result, Ok, Err}
 use Rattle.model_core.specs.Text.Lexing.{Lexeme}
 use Rattle.model_core.specs.Text.Format.{TokenSort, sort_of, Format, Yields, Single, Apply, Either, Many, ByRule}
 use Rattle.text_laws.specs.FirstTokens.{same_sort, begins_among, Lookahead, first_sorts}
@@ -20,6 +20,10 @@ stuck rest = Err rest
 abbrev pub and_next : {A B : Type 0} → (A → Parser B) → Parse A → Parse B
 and_next next (Ok r) = next r.0 r.1
 and_next next (Err rest) = Err rest
+
+-- what is read, with others before it
+abbrev pub with_front : {A : Type 0} → List A → Parse (List A) → Parse (List A)
+with_front front parse = and_next (λ xs rest. took (front ++ xs) rest) parse
 
 abbrev pub single_at : {A : Type 0} → TokenSort → (Lexeme → A) → Parser A
 single_at s f [] = Err []

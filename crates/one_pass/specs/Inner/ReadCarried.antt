@@ -11,7 +11,7 @@ use Rattle.model_core.specs.Static.Meanings.{Meaning, MeansVertex, AsVertex}
 use Rattle.model_core.specs.Static.PartFaults.{written_items, use_faults, target_takes}
 use Rattle.text_laws.specs.FormatReader.{took}
 use Rattle.text_laws.specs.LanguageReader.{language_reader}
-use Rattle.sig_types.specs.Inner.Checked.{NumberedAs}
+use Rattle.static_laws.specs.Checked.{NumberedAs}
 use Rattle.one_pass.specs.Inner.ReadParts.{ReadSure}
 use Rattle.one_pass.specs.Inner.ReadValues.{fitting_faults}
 

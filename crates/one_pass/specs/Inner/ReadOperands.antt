@@ -12,8 +12,8 @@ use Rattle.model_core.specs.Static.Kinds.{expression_kind}
 use Rattle.model_core.specs.Static.PartFaults.{expression_faults}
 use Rattle.text_laws.specs.FormatReader.{Parse, took}
 use Rattle.text_laws.specs.LanguageReader.{language_reader}
-use Rattle.model_read.specs.Inner.Ladder.{climb, not_format}
-use Rattle.sig_types.specs.Inner.Checked.{NumberedAs}
+use Rattle.text_laws.specs.Ladder.{climb, not_format}
+use Rattle.static_laws.specs.Checked.{NumberedAs}
 
 -- the first operand at a level, which may be a negated one
 abbrev pub first_operand : Bool → List Lexeme → Parse WrittenExpression

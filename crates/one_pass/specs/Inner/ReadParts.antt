@@ -20,7 +20,7 @@ use Rattle.model_core.specs.Static.ModelFaults.{faults_of_parts, Accepted}
 use Rattle.text_laws.specs.FormatReader.{took}
 use Rattle.text_laws.specs.LanguageReader.{language_reader, text_read}
 use Rattle.model_read.specs.Beginnings.{with_vertices}
-use Rattle.sig_types.specs.Inner.Checked.{Checked, CheckedPlain, NumberedAs}
+use Rattle.static_laws.specs.Checked.{Checked, CheckedPlain, NumberedAs}
 
 -- between these tokens, where names mean this, stands a part without faults, which has this number
 pub record ReadSure {W B : Type 0} (f : LanguageFormat W) (means : List ℕ → Option Meaning) (faults : W → List StaticFault) (number : Declared → W → Option B) (before after : List Lexeme) (part : B) : Type 0 where

@@ -8,7 +8,7 @@ use Rattle.model_core.specs.Text.Numbering.{location}
 use Rattle.model_core.specs.Static.Meanings.{Meaning}
 use Rattle.model_core.specs.Static.PartFaults.{target_kind, target_faults}
 use Rattle.text_laws.specs.FormatReader.{Parse, took}
-use Rattle.sig_types.specs.Inner.Checked.{NumberedAs}
+use Rattle.static_laws.specs.Checked.{NumberedAs}
 
 -- where names mean this, a target without faults, of this number and this kind
 pub record IsTarget (means : List ℕ → Option Meaning) (t : WrittenTarget) (x : graph.Location) (kind : Option Kind) : Type 0 where

@@ -2,11 +2,13 @@
 use Rattle.std.proofs.Common.{sym, ◌∙◌, arith}
 use Rattle.std.proofs.lemmas.Result.{err_from_is_err_and}
 use Rattle.model_core.specs.Code.WrittenViews.{written_expression}
-use Rattle.model_read.specs.Inner.Ladder.{climb}
-use Rattle.model_read.specs.Inner.Infixes.{infix_of}
+use Rattle.text_laws.specs.Ladder.{climb}
+use Rattle.model_read.specs.Infixes.{infix_of}
 use Rattle.model_core.specs.Text.Expressions.{Whole, Unary, Primary, level_format}
-use Rattle.model_read.proofs.OperandLevels.{by_format, stops_first, gives_others, from-not, from-unary}
-use Rattle.model_read.proofs.OperatorsInTurn.{gives_alone, taken-is, not-taken-is, one-more}
+use Rattle.model_read.proofs.LevelCalls.{by_format, stops_first, gives_others}
+use Rattle.text_laws.proofs.OperandLevels.{from-not, from-unary}
+use Rattle.model_read.proofs.LevelCalls.{gives_alone}
+use Rattle.text_laws.proofs.OperatorsInTurn.{taken-is, not-taken-is, one-more}
 use Rattle.model_read.proofs.expressions.+expressions.Goals as goal
 
 pub expression-returns-clause-reads : goal.expression-returns-clause-reads

@@ -1,6 +1,6 @@
 use Rattle.std.proofs.Common.{◌≡◌, ◌+◌, ◌*◌, ◌≤◌, length}
 use Rattle.model_core.specs.Code.WrittenViews.{written_expression}
-use Rattle.model_read.specs.Inner.Ladder.{climb}
+use Rattle.text_laws.specs.Ladder.{climb}
 use Rattle.model_read.proofs.expressions.+expressions.Given as goal
 
 abbrev pub decreases-expression : goal.decreases-expression

@@ -1,7 +1,7 @@
 use Rattle.std.proofs.Common.{◌≡◌, map, length}
 use Rattle.model_core.specs.Text.Format.{Many}
 use Rattle.text_laws.specs.LanguageReader.{language_reader}
-use Rattle.model_read.specs.ReadCalls.{with_front}
+use Rattle.text_laws.specs.FormatReader.{with_front}
 use Rattle.model_read.proofs.phrase.and_more.Given as goal
 
 abbrev pub invariant-loop-alloc : goal.invariant-loop-alloc

@@ -2,7 +2,7 @@ use Rattle.std.proofs.Common.{◌≡◌, map, length}
 use Rattle.model_core.specs.declared.token.Symbol.TheVariants.{Comma}
 use Rattle.model_core.specs.Text.Format.{Many, mark, ◌*>◌}
 use Rattle.text_laws.specs.LanguageReader.{language_reader}
-use Rattle.model_read.specs.ReadCalls.{with_front}
+use Rattle.text_laws.specs.FormatReader.{with_front}
 use Rattle.model_read.proofs.phrase.and_others.Given as goal
 
 abbrev pub invariant-loop-alloc : goal.invariant-loop-alloc

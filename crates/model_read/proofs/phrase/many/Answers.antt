@@ -1,7 +1,7 @@
 -- Nothing was read before.
 use Rattle.model_core.specs.Text.Format.{Many}
 use Rattle.text_laws.specs.LanguageReader.{language_reader}
-use Rattle.model_read.proofs.ReadLoop.{front-none}
+use Rattle.text_laws.proofs.ReadLoop.{front-none}
 use Rattle.model_read.proofs.phrase.many.Goals as goal
 
 pub returns : goal.returns

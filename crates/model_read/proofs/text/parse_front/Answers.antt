@@ -11,7 +11,8 @@ use Rattle.text_laws.specs.LanguageReader.{text_and_rest}
 use Rattle.text_laws.proofs.OpeningLaws.{none-is_few}
 use Rattle.model_lex.specs.Lexemes.{lexemes}
 use Rattle.model_lex.specs.declared.parse_error.ParseError.TheVariants as errors
-use Rattle.model_read.proofs.WholeText.{deep-place, front-left, front-ok, some-are, front-counted, same-error, error-unexpected, error-never_deep}
+use Rattle.model_read.proofs.WholeText.{deep-place, front-left, front-ok, front-counted, same-error, error-unexpected, error-never_deep}
+use Rattle.text_laws.proofs.TokensFrom.{some-are}
 use Rattle.model_read.proofs.PlacedReads.{placed-tells}
 use Rattle.model_read.proofs.text.parse_front.Goals as goal
 

@@ -1,4 +1,4 @@
-use Rattle.model_read.specs.Inner.Spelled.{spelled_name}
+use Rattle.model_read.specs.Spelled.{spelled_name}
 use Rattle.one_pass.proofs.carried.carried.Goals as goal
 
 pub returns : goal.returns

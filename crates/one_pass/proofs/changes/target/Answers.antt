@@ -2,7 +2,7 @@
 use Rattle.std.proofs.Common.{sym}
 use Rattle.model_core.specs.Code.Views.{expression_of}
 use Rattle.model_core.specs.Static.Meanings.{meaning_of}
-use Rattle.model_read.specs.Inner.Spelled.{spelled_name}
+use Rattle.model_read.specs.Spelled.{spelled_name}
 use Rattle.one_pass.proofs.TargetsRead.{scalar_read, cell_read}
 use Rattle.one_pass.proofs.changes.target.Goals as goal
 use Rattle.one_pass.proofs.changes.target.Goals.{then-is_array+in_ok-bracketed, else-is_array}

@@ -8,7 +8,7 @@ use Rattle.model_core.specs.Text.Expressions.{expression_format}
 use Rattle.model_core.specs.Text.Numbering.{expression}
 use Rattle.model_core.specs.Static.Meanings.{meaning_of}
 use Rattle.model_core.specs.Static.PartFaults.{operand_faults}
-use Rattle.model_read.proofs.ReadLoop.{begins-one}
+use Rattle.text_laws.proofs.ReadLoop.{begins-one}
 use Rattle.one_pass.proofs.FormatReads.{behind_token, is_there, is_left_out}
 use Rattle.one_pass.proofs.edges.delay.Goals as goal
 

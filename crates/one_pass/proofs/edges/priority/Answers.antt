@@ -4,7 +4,7 @@ use Rattle.model_core.specs.Code.WrittenViews.{written_number}
 use Rattle.model_core.specs.Text.Format.{AWord, reserved, any_number, ◌*>◌}
 use Rattle.model_core.specs.Text.Numbering.{natural}
 use Rattle.model_core.specs.Static.PartFaults.{priority_faults}
-use Rattle.model_read.proofs.ReadLoop.{begins-one}
+use Rattle.text_laws.proofs.ReadLoop.{begins-one}
 use Rattle.one_pass.proofs.FormatReads.{behind_token, is_there, is_left_out}
 use Rattle.one_pass.proofs.edges.priority.Goals as goal
 

@@ -3,9 +3,9 @@ use Rattle.std.proofs.Common.{refl, sym, ◌∙◌, arith}
 use Rattle.model_core.specs.Code.Views.{operator_of}
 use Rattle.model_core.specs.Text.Expressions.{Whole, Unary, Primary, joining, level_format}
 use Rattle.model_core.specs.Static.Meanings.{meaning_of}
-use Rattle.model_read.specs.Inner.Ladder.{climb}
-use Rattle.model_read.specs.Inner.Infixes.{infix_of}
-use Rattle.model_read.proofs.OperatorsInTurn.{not-taken-is, one-more}
+use Rattle.text_laws.specs.Ladder.{climb}
+use Rattle.model_read.specs.Infixes.{infix_of}
+use Rattle.text_laws.proofs.OperatorsInTurn.{not-taken-is, one-more}
 use Rattle.one_pass.proofs.SureOperands.{joined_operand}
 use Rattle.one_pass.proofs.OperandsInTurn.{by_level, first_comes, behind_first}
 use Rattle.one_pass.proofs.expressions.+expressions.Goals as goal

@@ -1,7 +1,7 @@
 -- One part more is read, or no more comes.
 use Rattle.std.proofs.Common.{sym, arith}
 use Rattle.model_core.specs.Static.Meanings.{meaning_of}
-use Rattle.model_read.proofs.ReadLoop.{shorter}
+use Rattle.text_laws.proofs.ReadLoop.{shorter}
 use Rattle.one_pass.proofs.PartsInTurn.{one_more_taken, all_taken}
 use Rattle.one_pass.proofs.parts.take_all.Goals as goal
 

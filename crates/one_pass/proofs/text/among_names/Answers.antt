@@ -2,7 +2,7 @@ use Rattle.std.proofs.Common.{map, refl}
 use Rattle.model_core.specs.Code.WrittenViews.{written_name, written_vertex, written_model}
 use Rattle.model_core.specs.Static.Meanings.{meaning_of}
 use Rattle.model_core.specs.Static.PartFaults.{kinds_taken}
-use Rattle.sig_types.proofs.LeftOut.{map-items}
+use Rattle.static_laws.proofs.LeftOut.{map-items}
 use Rattle.one_pass.proofs.TextRead.{model_taken}
 use Rattle.one_pass.proofs.text.among_names.Goals as goal
 

@@ -6,8 +6,8 @@ use Rattle.model_core.specs.Code.Views.{expression_of}
 use Rattle.model_core.specs.Text.Format.{mark, ◌*>◌}
 use Rattle.model_core.specs.Text.Expressions.{expression_format}
 use Rattle.model_core.specs.Static.Meanings.{meaning_of}
-use Rattle.model_read.proofs.ReadLoop.{shorter}
-use Rattle.sig_types.specs.Inner.Wanted.{wanted}
+use Rattle.text_laws.proofs.ReadLoop.{shorter}
+use Rattle.static_laws.specs.Wanted.{wanted}
 use Rattle.one_pass.proofs.ValuesRead.{one_listed, one_more_listed, all_listed}
 use Rattle.one_pass.proofs.values.values.Goals as goal
 

@@ -1,7 +1,7 @@
 use Rattle.std.proofs.Common.{refl}
 use Rattle.model_core.specs.Code.WrittenViews.{written_name, written_vertex}
 use Rattle.model_core.specs.Static.Meanings.{meaning_of}
-use Rattle.sig_types.proofs.LeftOut.{map-items}
+use Rattle.static_laws.proofs.LeftOut.{map-items}
 use Rattle.one_pass.proofs.VerticesRead.{begun_surely}
 use Rattle.one_pass.proofs.vertices.known_parameters.Goals as goal
 

@@ -8,7 +8,7 @@ use Rattle.model_core.specs.Text.Language.{vertex_format}
 use Rattle.model_core.specs.Text.Numbering as numbering
 use Rattle.model_core.specs.Static.Meanings.{meaning_of}
 use Rattle.model_core.specs.Static.PartFaults.{vertex_faults}
-use Rattle.model_read.specs.Inner.SomeTokens.{vertex-some}
+use Rattle.text_laws.specs.SomeTokens.{vertex-some}
 use Rattle.one_pass.specs.Inner.ReadParts.{AllBeginAlike}
 use Rattle.one_pass.proofs.PartsInTurn.{none_taken, one_more_taken, all_taken}
 use Rattle.one_pass.proofs.Alike.{alike-push}

@@ -2,7 +2,7 @@
 use Rattle.std.proofs.Common.{sym, arith}
 use Rattle.std.proofs.lemmas.Result.{err_from_is_err_and}
 use Rattle.model_core.specs.Text.CertificateText.{plain_name_format}
-use Rattle.model_read.proofs.ReadLoop.{shorter}
+use Rattle.text_laws.proofs.ReadLoop.{shorter}
 use Rattle.reduction_cert.proofs.CertificateReads.{name-some, name-goes_on, name-ends, name-done}
 use Rattle.reduction_cert.proofs.reading.and_more_names.Goals as goal
 

@@ -2,7 +2,7 @@ use Rattle.std.proofs.Common.{◌≡◌, length}
 use Rattle.model_core.specs.Text.Format.{Many}
 use Rattle.model_core.specs.Text.CertificateText.{plain_name_format}
 use Rattle.text_laws.specs.LanguageReader.{language_reader}
-use Rattle.model_read.specs.ReadCalls.{with_front}
+use Rattle.text_laws.specs.FormatReader.{with_front}
 use Rattle.reduction_cert.proofs.reading.and_more_names.Given as goal
 
 abbrev pub invariant-loop-alloc : goal.invariant-loop-alloc

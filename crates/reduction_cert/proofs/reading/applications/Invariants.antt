@@ -3,7 +3,7 @@ use Rattle.model_core.specs.Code.Views.{application_of}
 use Rattle.model_core.specs.Text.Format.{Many}
 use Rattle.model_core.specs.Text.CertificateText.{application_format}
 use Rattle.text_laws.specs.LanguageReader.{language_reader}
-use Rattle.model_read.specs.ReadCalls.{with_front}
+use Rattle.text_laws.specs.FormatReader.{with_front}
 use Rattle.reduction_cert.proofs.reading.applications.Given as goal
 
 abbrev pub invariant-loop-alloc : goal.invariant-loop-alloc

@@ -1,24 +1,26 @@
 -- The reader of the grammar tells.
-use Rattle.std.proofs.Common.{◌≡◌, ◌∙◌, drop, map, refl}
+use Rattle.std.proofs.Common.{◌≡◌, ◌∙◌, drop, map, refl, sym}
 use Rattle.model_core.specs.Code.Views.{application_of}
 use Rattle.model_core.specs.Text.CertificateText.{certificate_format}
+use Rattle.model_core.specs.Text.FirstWrong.{told_place}
 use Rattle.text_laws.specs.FormatReader.{and_next, whole_read}
 use Rattle.text_laws.specs.LanguageReader.{language_reader}
+use Rattle.text_laws.proofs.TokensFrom.{some-are}
 use Rattle.model_lex.specs.Lexemes.{lexemes}
-use Rattle.model_read.specs.ReadCalls.{Tells}
-use Rattle.model_read.proofs.PlacedReads.{placed-tells}
-use Rattle.model_read.proofs.WholeText.{some-are}
+use Rattle.model_read.specs.ReadCalls.{Returned, placed_at}
 use Rattle.reduction_cert.proofs.CertificateReads.{certificate-ok, certificate-unexpected, certificate-never_deep}
 use Rattle.reduction_cert.proofs.reading.read_certificate.Goals as goal
 
 pub returns : goal.returns
 returns c =
+    let text = c.args.tokens.now.text.now in
     let tokens = drop c.args.from (lexemes c.args.tokens.now) in
-    let are : c.new-cursor.result ≡ tokens = c.new-cursor.ensures ∙ some-are c.args.tokens.now.text.now c.as_slice.result.now c.args.tokens.now.list c.args.from c.as_slice.ensures in
-    let told : Tells (map application_of) c.args.tokens.now.text.now c.placed.result c.whole-read.new.cursor (and_next whole_read (language_reader certificate_format tokens)) =
-    placed-tells (map application_of) c.args.tokens.now.text.now c.whole-read.result c.whole-read.new.cursor _ c.placed.result (c.placed.ensures c.args.tokens.now.text.now refl) (rw are at c.whole-read.ensures) in
+    let left = c.whole-read.new.cursor in
+    let are : c.new-cursor.result ≡ tokens = c.new-cursor.ensures ∙ some-are text c.as_slice.result.now c.args.tokens.now.list c.args.from c.as_slice.ensures in
+    let read : Returned (map application_of) c.whole-read.result left (and_next whole_read (language_reader certificate_format tokens)) = rw are at c.whole-read.ensures in
+    let placed : c.placed.result ≡ placed_at (told_place text left) c.whole-read.result = c.placed.ensures text refl in
     record {
-      ok = certificate-ok c.args.tokens.now.text.now tokens c.whole-read.new.cursor c.placed.result told;
-      unexpected = λ at e. certificate-unexpected c.args.tokens.now.text.now tokens c.whole-read.new.cursor c.placed.result at told e;
-      never_too_deep = λ at e. certificate-never_deep c.args.tokens.now.text.now tokens c.whole-read.new.cursor c.placed.result at told e;
+      ok = rw placed (certificate-ok tokens left (told_place text left) c.whole-read.result read);
+      unexpected = λ at e. certificate-unexpected text tokens left c.whole-read.result at read (sym placed ∙ e);
+      never_too_deep = λ at e. certificate-never_deep (told_place text left) c.whole-read.result at (sym placed ∙ e);
     }

@@ -6,7 +6,7 @@ use Rattle.model_core.specs.Code.WrittenViews.{written_target}
 use Rattle.model_core.specs.Text.Numbering.{location}
 use Rattle.model_core.specs.Static.Meanings.{meaning_of}
 use Rattle.model_core.specs.Static.PartFaults.{target_faults, target_kind}
-use Rattle.sig_types.proofs.ListChecks.{turn}
+use Rattle.static_laws.proofs.ListChecks.{turn}
 use Rattle.sig_types.proofs.changes.all_targets.Goals as goal
 
 pub loop-raw-preserved : goal.loop-raw-preserved

@@ -5,7 +5,7 @@ use Rattle.model_core.specs.Code.WrittenViews.{written_target}
 use Rattle.model_core.specs.Text.Numbering.{each_numbered, location}
 use Rattle.model_core.specs.Static.Meanings.{meaning_of}
 use Rattle.model_core.specs.Static.PartFaults.{target_faults, target_kind}
-use Rattle.sig_types.specs.Inner.Checked.{CheckedPart}
+use Rattle.static_laws.specs.Checked.{CheckedPart}
 use Rattle.sig_types.proofs.changes.all_targets.Given as goal
 
 -- the targets before this one are checked, and their kinds are known

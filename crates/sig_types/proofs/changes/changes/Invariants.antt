@@ -5,7 +5,7 @@ use Rattle.model_core.specs.Code.WrittenViews.{written_change}
 use Rattle.model_core.specs.Text.Numbering.{each_numbered, change}
 use Rattle.model_core.specs.Static.Meanings.{meaning_of}
 use Rattle.model_core.specs.Static.PartFaults.{change_faults}
-use Rattle.sig_types.specs.Inner.Checked.{CheckedPart}
+use Rattle.static_laws.specs.Checked.{CheckedPart}
 use Rattle.sig_types.proofs.changes.changes.Given as goal
 
 -- the changes before this one are checked

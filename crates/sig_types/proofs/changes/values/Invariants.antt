@@ -4,7 +4,7 @@ use Rattle.model_core.specs.Code.WrittenViews.{written_expression}
 use Rattle.model_core.specs.Text.Numbering.{each_numbered, expression}
 use Rattle.model_core.specs.Static.Meanings.{meaning_of}
 use Rattle.model_core.specs.Static.PartFaults.{values_faults}
-use Rattle.sig_types.specs.Inner.Checked.{CheckedPart}
+use Rattle.static_laws.specs.Checked.{CheckedPart}
 use Rattle.sig_types.proofs.changes.values.Given as goal
 
 -- the values before this one are checked

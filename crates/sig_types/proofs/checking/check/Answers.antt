@@ -2,7 +2,8 @@ use Rattle.std.proofs.Common.{ap, sym, ◌∙◌}
 use Rattle.std.specs.Option.{option_map}
 use Rattle.model_core.specs.Code.Views.{graph_of}
 use Rattle.model_core.specs.Code.WrittenViews.{written_model}
-use Rattle.sig_types.proofs.WholeModel.{is_accepted, is_told}
+use Rattle.static_laws.proofs.WholeModel.{is_accepted}
+use Rattle.sig_types.proofs.ToldError.{is_told}
 use Rattle.sig_types.proofs.checking.check.Goals as goal
 
 pub returns-in-None-clause-accepted : goal.returns-in-None-clause-accepted

@@ -4,7 +4,7 @@ use Rattle.model_core.specs.Static.Meanings.{declarations, declared_name}
 use Rattle.model_core.specs.Static.RuleTable.{name_too_long}
 use Rattle.model_core.specs.Static.PartFaults.{repeated_names}
 use Rattle.model_core.specs.Static.ModelFaults.{faults_of_counts}
-use Rattle.sig_types.proofs.Checks.{told_both}
+use Rattle.static_laws.proofs.Checks.{told_both}
 use Rattle.sig_types.proofs.checking.declared.Goals as goal
 
 pub returns-clause-told : goal.returns-clause-told

@@ -1,7 +1,7 @@
 use Rattle.std.proofs.Common.{map}
 use Rattle.model_core.specs.Code.WrittenViews.{written_variable, written_table, written_vertex}
 use Rattle.model_core.specs.Static.Meanings.{variable_declaration, table_declaration, vertex_declaration, declarations_from}
-use Rattle.sig_types.proofs.WholeModel.{three_mean, three_told}
+use Rattle.sig_types.proofs.DeclaredInTurn.{three_mean, three_told}
 use Rattle.sig_types.proofs.checking.names_of.Goals as goal
 
 pub returns-clause-means : goal.returns-clause-means

@@ -1,6 +1,6 @@
 use Rattle.model_core.specs.Code.WrittenViews.{written_name, written_model}
-use Rattle.sig_types.proofs.LeftOut.{map-items}
-use Rattle.sig_types.proofs.WholeModel.{model_checked}
+use Rattle.static_laws.proofs.LeftOut.{map-items}
+use Rattle.static_laws.proofs.WholeModel.{model_checked}
 use Rattle.sig_types.proofs.checking.numbered_among.Goals as goal
 
 pub returns : goal.returns

@@ -1,6 +1,6 @@
 use Rattle.model_core.specs.Code.Views.{graph_of}
 use Rattle.model_core.specs.Code.WrittenViews.{written_model}
-use Rattle.sig_types.proofs.WholeModel.{all_told}
+use Rattle.static_laws.proofs.WholeModel.{all_told}
 use Rattle.sig_types.proofs.checking.told_model.Goals as goal
 
 pub returns-clause-told : goal.returns-clause-told

@@ -1,6 +1,6 @@
 use Rattle.std.proofs.Common.{ap}
 use Rattle.model_core.specs.Text.Written.{WrittenName}
-use Rattle.sig_types.specs.Inner.Seen.{meaning_seen}
+use Rattle.sig_types.specs.Seen.{meaning_seen}
 use Rattle.sig_types.proofs.MeaningsSoFar.{means_turn, told_turn}
 use Rattle.sig_types.proofs.declaring.declare_all.Goals as goal
 

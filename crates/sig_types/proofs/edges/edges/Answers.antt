@@ -5,7 +5,7 @@ use Rattle.model_core.specs.Code.WrittenViews.{written_edge}
 use Rattle.model_core.specs.Text.Numbering.{edge}
 use Rattle.model_core.specs.Static.Meanings.{meaning_of}
 use Rattle.model_core.specs.Static.PartFaults.{edge_faults}
-use Rattle.sig_types.proofs.ListChecks.{turn}
+use Rattle.static_laws.proofs.ListChecks.{turn}
 use Rattle.sig_types.proofs.edges.edges.Goals as goal
 
 pub loop-raw-preserved : goal.loop-raw-preserved

@@ -5,7 +5,7 @@ use Rattle.model_core.specs.Code.WrittenViews.{written_edge}
 use Rattle.model_core.specs.Text.Numbering.{each_numbered, edge}
 use Rattle.model_core.specs.Static.Meanings.{meaning_of}
 use Rattle.model_core.specs.Static.PartFaults.{edge_faults}
-use Rattle.sig_types.specs.Inner.Checked.{CheckedPart}
+use Rattle.static_laws.specs.Checked.{CheckedPart}
 use Rattle.sig_types.proofs.edges.edges.Given as goal
 
 -- the edges before this one are checked

@@ -5,7 +5,7 @@ use Rattle.model_core.specs.Code.WrittenViews.{written_name, written_expression}
 use Rattle.model_core.specs.Static.FaultOrder.{fault_where}
 use Rattle.model_core.specs.Static.Meanings.{meaning_of}
 use Rattle.model_core.specs.Static.PartFaults.{kind_faults}
-use Rattle.sig_types.proofs.Checks.{before}
+use Rattle.static_laws.proofs.Checks.{before}
 use Rattle.sig_types.proofs.Operands.{place-written, cell, binary, choice}
 use Rattle.sig_types.proofs.expressions.+expressions.Goals as goal
 

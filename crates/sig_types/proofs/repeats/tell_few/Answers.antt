@@ -3,7 +3,7 @@ use Rattle.std.specs.List.{list_any}
 use Rattle.sig_base.proofs.Lists.{seen_more}
 use Rattle.model_core.specs.Code.WrittenViews.{written_name}
 use Rattle.model_core.specs.Text.Lexing.{same_bytes}
-use Rattle.sig_types.specs.Inner.Seen.{bytes_of}
+use Rattle.sig_types.specs.Seen.{bytes_of}
 use Rattle.sig_types.proofs.EarlierNames.{few_turn, names_seen}
 use Rattle.sig_types.proofs.repeats.tell_few.Goals as goal
 

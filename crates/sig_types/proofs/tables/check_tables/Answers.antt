@@ -4,8 +4,8 @@ use Rattle.model_core.specs.Code.Views.{table_of}
 use Rattle.model_core.specs.Code.WrittenViews.{written_table}
 use Rattle.model_core.specs.Text.Numbering.{table}
 use Rattle.model_core.specs.Static.PartFaults.{table_faults}
-use Rattle.sig_types.proofs.Checks.{no_meaning, as_part, as_plain}
-use Rattle.sig_types.proofs.ListChecks.{taken_turn, all_taken}
+use Rattle.static_laws.proofs.Checks.{no_meaning, as_part, as_plain}
+use Rattle.static_laws.proofs.ListChecks.{taken_turn, all_taken}
 use Rattle.sig_types.proofs.tables.check_tables.Goals as goal
 
 pub loop-raw-preserved : goal.loop-raw-preserved

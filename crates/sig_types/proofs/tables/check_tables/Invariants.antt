@@ -4,8 +4,8 @@ use Rattle.model_core.specs.Code.Views.{table_of}
 use Rattle.model_core.specs.Code.WrittenViews.{written_table}
 use Rattle.model_core.specs.Text.Numbering.{table}
 use Rattle.model_core.specs.Static.PartFaults.{table_faults}
-use Rattle.sig_types.proofs.Checks.{no_meaning}
-use Rattle.sig_types.proofs.ListChecks.{CheckedTo}
+use Rattle.static_laws.proofs.Checks.{no_meaning}
+use Rattle.static_laws.proofs.ListChecks.{CheckedTo}
 use Rattle.sig_types.proofs.tables.check_tables.Given as goal
 
 -- the tables before those that are left are checked

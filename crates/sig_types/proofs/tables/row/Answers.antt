@@ -3,7 +3,7 @@ use Rattle.std.specs.Int.{w64, w128}
 use Rattle.std.proofs.lemmas.Int.{to_z-of_z}
 use Rattle.model_core.specs.Code.WrittenViews.{written_row}
 use Rattle.model_core.specs.Static.RuleTable.{literal_too_large, number_too_large, weight_outside}
-use Rattle.sig_types.proofs.Checks.{both, made}
+use Rattle.static_laws.proofs.Checks.{both, made}
 use Rattle.sig_types.proofs.tables.row.Goals as goal
 
 pub returns : goal.returns

@@ -3,7 +3,7 @@ use Rattle.model_core.specs.Code.Views.{weighted_of}
 use Rattle.model_core.specs.Code.WrittenViews.{written_row}
 use Rattle.model_core.specs.Text.Numbering.{each_numbered, row}
 use Rattle.model_core.specs.Static.PartFaults.{rows_faults}
-use Rattle.sig_types.specs.Inner.Checked.{CheckedPlain}
+use Rattle.static_laws.specs.Checked.{CheckedPlain}
 use Rattle.sig_types.proofs.RowSums.{weights_sum}
 use Rattle.sig_types.proofs.tables.rows.Given as goal
 

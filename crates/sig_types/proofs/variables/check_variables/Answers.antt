@@ -4,8 +4,8 @@ use Rattle.model_core.specs.Code.Views.{variable_of}
 use Rattle.model_core.specs.Code.WrittenViews.{written_variable}
 use Rattle.model_core.specs.Text.Numbering.{variable}
 use Rattle.model_core.specs.Static.PartFaults.{variable_faults}
-use Rattle.sig_types.proofs.Checks.{no_meaning, as_part, as_plain}
-use Rattle.sig_types.proofs.ListChecks.{taken_turn, all_taken}
+use Rattle.static_laws.proofs.Checks.{no_meaning, as_part, as_plain}
+use Rattle.static_laws.proofs.ListChecks.{taken_turn, all_taken}
 use Rattle.sig_types.proofs.variables.check_variables.Goals as goal
 
 pub loop-raw-preserved : goal.loop-raw-preserved

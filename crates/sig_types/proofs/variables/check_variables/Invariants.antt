@@ -4,8 +4,8 @@ use Rattle.model_core.specs.Code.Views.{variable_of}
 use Rattle.model_core.specs.Code.WrittenViews.{written_variable}
 use Rattle.model_core.specs.Text.Numbering.{variable}
 use Rattle.model_core.specs.Static.PartFaults.{variable_faults}
-use Rattle.sig_types.proofs.Checks.{no_meaning}
-use Rattle.sig_types.proofs.ListChecks.{CheckedTo}
+use Rattle.static_laws.proofs.Checks.{no_meaning}
+use Rattle.static_laws.proofs.ListChecks.{CheckedTo}
 use Rattle.sig_types.proofs.variables.check_variables.Given as goal
 
 -- the variables before those that are left are checked

@@ -2,7 +2,7 @@ use Rattle.model_core.specs.Code.WrittenViews.{written_name}
 use Rattle.model_core.specs.Text.Numbering.{numbered_parameter}
 use Rattle.model_core.specs.Static.Meanings.{AsScalar, meaning_of}
 use Rattle.model_core.specs.Static.PartFaults.{use_faults}
-use Rattle.sig_types.proofs.ListChecks.{turn}
+use Rattle.static_laws.proofs.ListChecks.{turn}
 use Rattle.sig_types.proofs.vertices.numbers_of.Goals as goal
 
 pub loop-raw-preserved : goal.loop-raw-preserved

@@ -4,7 +4,7 @@ use Rattle.model_core.specs.Code.WrittenViews.{written_name}
 use Rattle.model_core.specs.Text.Numbering.{each_numbered, numbered_parameter}
 use Rattle.model_core.specs.Static.Meanings.{AsScalar, meaning_of}
 use Rattle.model_core.specs.Static.PartFaults.{use_faults}
-use Rattle.sig_types.specs.Inner.Checked.{CheckedPart}
+use Rattle.static_laws.specs.Checked.{CheckedPart}
 use Rattle.sig_types.proofs.vertices.numbers_of.Given as goal
 
 -- the parameters before this one are checked

@@ -1,7 +1,7 @@
 use Rattle.std.proofs.Common.{map}
 use Rattle.model_core.specs.Code.WrittenViews.{written_name}
 use Rattle.model_core.specs.Static.Meanings.{meaning_of}
-use Rattle.sig_types.proofs.VertexParts.{parameters_checked}
+use Rattle.static_laws.proofs.VertexParts.{parameters_checked}
 use Rattle.sig_types.proofs.vertices.parameters.Goals as goal
 
 pub returns : goal.returns

@@ -1,7 +1,7 @@
 use Rattle.model_core.specs.Code.WrittenViews.{written_name, written_vertex}
 use Rattle.model_core.specs.Static.Meanings.{meaning_of}
-use Rattle.sig_types.proofs.LeftOut.{map-items}
-use Rattle.sig_types.proofs.VertexParts.{vertex_checked}
+use Rattle.static_laws.proofs.LeftOut.{map-items}
+use Rattle.static_laws.proofs.VertexParts.{vertex_checked}
 use Rattle.sig_types.proofs.vertices.parts_of.Goals as goal
 
 pub returns : goal.returns

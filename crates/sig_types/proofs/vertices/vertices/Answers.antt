@@ -5,7 +5,7 @@ use Rattle.model_core.specs.Code.WrittenViews.{written_vertex}
 use Rattle.model_core.specs.Text.Numbering.{vertex}
 use Rattle.model_core.specs.Static.Meanings.{meaning_of}
 use Rattle.model_core.specs.Static.PartFaults.{vertex_faults}
-use Rattle.sig_types.proofs.ListChecks.{taken_turn, all_taken}
+use Rattle.static_laws.proofs.ListChecks.{taken_turn, all_taken}
 use Rattle.sig_types.proofs.vertices.vertices.Goals as goal
 
 pub loop-raw-preserved : goal.loop-raw-preserved

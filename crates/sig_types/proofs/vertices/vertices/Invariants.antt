@@ -5,7 +5,7 @@ use Rattle.model_core.specs.Code.WrittenViews.{written_vertex}
 use Rattle.model_core.specs.Text.Numbering.{vertex}
 use Rattle.model_core.specs.Static.Meanings.{meaning_of}
 use Rattle.model_core.specs.Static.PartFaults.{vertex_faults}
-use Rattle.sig_types.proofs.ListChecks.{CheckedTo}
+use Rattle.static_laws.proofs.ListChecks.{CheckedTo}
 use Rattle.sig_types.proofs.vertices.vertices.Given as goal
 
 -- the vertices before those that are left are checked

@@ -5,7 +5,7 @@ use Rattle.model_core.specs.Code.WrittenViews.{written_name}
 use Rattle.model_core.specs.Text.Numbering.{watched}
 use Rattle.model_core.specs.Static.Meanings.{AsWatched, meaning_of}
 use Rattle.model_core.specs.Static.PartFaults.{use_faults}
-use Rattle.sig_types.proofs.ListChecks.{turn}
+use Rattle.static_laws.proofs.ListChecks.{turn}
 use Rattle.sig_types.proofs.watch.all_watched.Goals as goal
 
 pub loop-raw-preserved : goal.loop-raw-preserved

@@ -5,7 +5,7 @@ use Rattle.model_core.specs.Code.WrittenViews.{written_name}
 use Rattle.model_core.specs.Text.Numbering.{each_numbered, watched}
 use Rattle.model_core.specs.Static.Meanings.{AsWatched, meaning_of}
 use Rattle.model_core.specs.Static.PartFaults.{use_faults}
-use Rattle.sig_types.specs.Inner.Checked.{CheckedPart}
+use Rattle.static_laws.specs.Checked.{CheckedPart}
 use Rattle.sig_types.proofs.watch.all_watched.Given as goal
 
 -- the names before this one are checked

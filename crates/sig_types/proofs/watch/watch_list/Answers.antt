@@ -1,7 +1,7 @@
 use Rattle.std.proofs.Common.{[], map}
 use Rattle.model_core.specs.Code.WrittenViews.{written_name}
 use Rattle.model_core.specs.Static.PartFaults.{repeated_names}
-use Rattle.sig_types.proofs.Checks.{before}
+use Rattle.static_laws.proofs.Checks.{before}
 use Rattle.sig_types.proofs.watch.watch_list.Goals as goal
 
 pub returns : goal.returns

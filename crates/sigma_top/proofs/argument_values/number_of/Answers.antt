@@ -1,5 +1,5 @@
 use Rattle.std.proofs.Common.{arith}
-use Rattle.model_lex.proofs.Digits.{digit-le-number}
+use Rattle.text_laws.proofs.DigitsTaken.{digit-le-number}
 use Rattle.sigma_top.proofs.argument_values.number_of.Goals as goal
 
 -- ten times the value so far is too large

@@ -1,6 +1,6 @@
 -- The operator is that of the first token.
 use Rattle.std.proofs.Common.{sym, ap, ◌∙◌}
-use Rattle.model_read.specs.Inner.Ladder.{infix_at}
+use Rattle.text_laws.specs.Ladder.{infix_at}
 use Rattle.model_read.proofs.FirstToken.{infix-first}
 use Rattle.model_read.proofs.cursor.Cursor.next_infix.Goals as goal
 

@@ -1,7 +1,7 @@
 use Rattle.std.proofs.Common.{ap, ◌∙◌}
 use Rattle.std.specs.Option.{option_map}
 use Rattle.model_core.specs.Static.Meanings.{meaning_of}
-use Rattle.sig_types.specs.Inner.Seen.{meaning_seen}
+use Rattle.sig_types.specs.Seen.{meaning_seen}
 use Rattle.sig_types.proofs.Lookups.{lookup-meaning}
 use Rattle.sig_types.proofs.names.Names.find.Goals as goal
 

@@ -7,8 +7,8 @@ use Rattle.sig_base.proofs.Lists.{seen_more}
 use Rattle.model_core.specs.Text.Numbering.{◌>>=◌, each_numbered, Declared}
 use Rattle.model_core.specs.Static.FaultOrder.{StaticFault}
 use Rattle.model_core.specs.Static.Meanings.{Meaning}
-use Rattle.sig_types.specs.Inner.Checked.{CheckedPart}
-use Rattle.sig_types.proofs.Checks.{both, made}
+use Rattle.static_laws.specs.Checked.{CheckedPart}
+use Rattle.static_laws.proofs.Checks.{both, made}
 
 each_shift : {B : Type 0} (o : Option B) (p : Option (List B)) (q : Option B)
     → (o >>= λ y. (p >>= λ ys. option_map (λ z. ys ++ z ∷ []) q) >>= λ zs. Some (y ∷ zs)) ≡ ((o >>= λ y. p >>= λ ys. Some (y ∷ ys)) >>= λ ys. option_map (λ z. ys ++ z ∷ []) q)

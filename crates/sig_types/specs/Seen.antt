@@ -1,5 +1,5 @@
 -- Which plain value each value of this crate's types stands for.
-use Rattle.std.specs.Prelude.{ℕ, Bool, true, false, List, Option, Some, None}
+use Rattle.std.specs.Prelude.{ℕ, List}
 use Rattle.model_core.specs.declared.raw.RawName.{RawName}
 use Rattle.model_core.specs.Static.Meanings as plain
 use Rattle.model_core.specs.Static.Meanings.{Declaration}
@@ -21,16 +21,6 @@ role_seen roles.Array = plain.AsArray
 role_seen roles.Table = plain.AsTable
 role_seen roles.Vertex = plain.AsVertex
 role_seen roles.Watched = plain.AsWatched
-
--- the role of a variable with an index, or without one
-abbrev pub variable_role : Bool → plain.Role
-variable_role true = plain.AsArray
-variable_role false = plain.AsScalar
-
--- the place of the vertex that is meant
-abbrev pub vertex_meant : Option plain.Meaning → Option ℕ
-vertex_meant (Some (plain.MeansVertex k)) = Some k
-vertex_meant meaning = None
 
 -- a declaration of a name whose place isn't known
 abbrev pub declaration_of : List ℕ → plain.Meaning → Declaration

@@ -11,10 +11,10 @@ use Rattle.text_laws.specs.FormatReader.{Parse, Parser, took, and_next}
 use Rattle.text_laws.specs.LanguageReader.{level_lookahead, language_reader}
 use Rattle.text_laws.proofs.Formats.RuleLaws.{same_next}
 use Rattle.text_laws.proofs.Formats.ManyLaws.{repeated-is, one_more, one_more-ok, one_more-err}
-use Rattle.model_read.specs.Inner.Ladder.{infix_of_kind, operators_of, operand_level, next_level, rung, climb}
-use Rattle.model_read.proofs.ReadLoop.{shorter}
-use Rattle.model_read.proofs.FirstOperator.{AtFirst, at_each}
-use Rattle.model_read.proofs.OperandLevels.{of_level, climb-more, climb-none}
+use Rattle.text_laws.specs.Ladder.{infix_of_kind, operators_of, operand_level, next_level, rung, climb}
+use Rattle.text_laws.proofs.ReadLoop.{shorter}
+use Rattle.text_laws.proofs.FirstOperator.{AtFirst, at_each}
+use Rattle.text_laws.proofs.OperandLevels.{of_level, climb-more, climb-none}
 
 right_sides : LanguageFormat Operator → Level → WrittenExpression → Parser WrittenExpression
 right_sides op l a tokens = and_next (λ xs. took (grouped a xs)) (language_reader (Many (right_side op l)) tokens)

@@ -1,24 +1,20 @@
 -- The operators of all levels, taken one after another.
 use Rattle.std.proofs.Common.{◌≡◌, ℕ, zero, suc, ◌≤◌, ◌<◌, Bool, true, false, cond, List, [], ◌∷◌, Some, None, refl, sym, ap, ◌∙◌, subst, ◌⊎◌, inl, inr, arith}
-use Rattle.std.specs.Prelude.{Option, Result, Ok, Err, nat_eq, nat_lt}
+use Rattle.std.specs.Prelude.{Option, nat_eq, nat_lt}
 use Rattle.std.proofs.lemmas.Grind.{common_steps}
-use Rattle.model_core.specs.declared.raw.RawExpr.{RawExpr}
-use Rattle.model_core.specs.Code.WrittenViews.{written_expression}
 use Rattle.model_core.specs.EventGraph.{Operator}
 use Rattle.model_core.specs.Text.Lexing.{Lexeme}
 use Rattle.model_core.specs.Text.Written.{WrittenExpression}
 use Rattle.model_core.specs.Text.Expressions.{joining}
 use Rattle.text_laws.specs.FirstTokens.{first_sorts, begins_among}
-use Rattle.text_laws.specs.FormatReader.{Parse, took, and_next}
+use Rattle.text_laws.specs.FormatReader.{took, and_next}
 use Rattle.text_laws.specs.LanguageReader.{level_lookahead}
 use Rattle.text_laws.proofs.Formats.TokenSorts.{begins-none}
 use Rattle.text_laws.proofs.Formats.RuleLaws.{same_next}
-use Rattle.model_read.specs.declared.stop.Stop.{Stop}
-use Rattle.model_read.specs.ReadCalls.{Returned}
-use Rattle.model_read.specs.Inner.Ladder.{infix_of_kind, infix_at, operators_of, operand_level, next_level, rung, climb, at_levels, behind}
-use Rattle.model_read.proofs.FirstOperator.{is_at}
-use Rattle.model_read.proofs.OperandLevels.{next-next, of_level, isnt_below, climb-more, climb-none, stops_first}
-use Rattle.model_read.proofs.LevelOperators.{rung-none, at_level, rung-some}
+use Rattle.text_laws.specs.Ladder.{infix_of_kind, infix_at, operators_of, operand_level, next_level, rung, climb, at_levels, behind}
+use Rattle.text_laws.proofs.FirstOperator.{is_at}
+use Rattle.text_laws.proofs.OperandLevels.{next-next, of_level, isnt_below, climb-more, climb-none}
+use Rattle.text_laws.proofs.LevelOperators.{rung-none, at_level, rung-some}
 
 was_below : (m n : ℕ) → nat_lt m n ≡ true → m < n
 was_below m n h = grind (arith, common_steps)
@@ -55,7 +51,7 @@ within-in least under (Some j) i e = go (nat_lt j.0 least) (nat_lt j.0 under) re
         some_same x y p = cc
 
 -- no operator of these levels comes
-no_operator : (under least : ℕ) (a : WrittenExpression) (tokens : List Lexeme) → under ≤ 5 → at_levels least under (infix_at tokens) ≡ None → climb under least a tokens ≡ took a tokens
+pub no_operator : (under least : ℕ) (a : WrittenExpression) (tokens : List Lexeme) → under ≤ 5 → at_levels least under (infix_at tokens) ≡ None → climb under least a tokens ≡ took a tokens
 unfolding climb
 no_operator zero least a tokens few e = refl
 no_operator (suc level) least a tokens few e = go (no_operator level least a tokens (omega arith)) (nat_lt least (suc level)) refl
@@ -137,8 +133,3 @@ pub one-more : (under least next : ℕ) (a b both : WrittenExpression) (tokens b
     → of_level (operand_level i.0) between ≡ took b left → both ≡ joining a (i.1, b) → next ≡ next_level i.0 → climb under next both left ≡ climb under least a tokens
 one-more under least next a b both tokens between left i few e f g h k =
     rw (h, k) (sym (taken-is under least a tokens between i few e f ∙ ap (and_next (λ c. climb under (next_level i.0) (joining a (i.1, c)))) g))
-
--- the first operand alone, behind which no operator of these levels comes
-pub gives_alone : (under : ℕ) (whole first : Parse WrittenExpression) (r : Result RawExpr Stop) (left : List Lexeme) → under ≤ 5 → whole ≡ and_next (climb under 0) first → Returned written_expression r left first → at_levels 0 under (infix_at left) ≡ None → Returned written_expression r left whole
-gives_alone under whole first (Ok e) left few same g none = same ∙ ap (and_next (climb under 0)) g ∙ no_operator under 0 (written_expression e) left few none
-gives_alone under whole first (Err e) left few same g none = stops_first (climb under 0) whole first e left same g

@@ -4,7 +4,7 @@ use Rattle.model_core.specs.Text.Numbering.{◌>>=◌, Declared}
 use Rattle.model_core.specs.Static.FaultOrder.{StaticFault, earlier_fault, earliest_fault}
 use Rattle.model_core.specs.Static.Meanings.{Meaning}
 use Rattle.model_core.proofs.EmptyLists.{left_empty, right_empty}
-use Rattle.sig_types.specs.Inner.Checked.{Checked, NumberedAs, CheckedPart, CheckedPlain}
+use Rattle.static_laws.specs.Checked.{Checked, NumberedAs, CheckedPart, CheckedPlain}
 
 earliest-append : (told : Option StaticFault) (fs gs : List StaticFault) → earliest_fault told (fs ++ gs) ≡ earliest_fault (earliest_fault told fs) gs
 earliest-append told [] gs = refl

@@ -1,8 +1,7 @@
 -- The check of a whole model from those of its parts, and what is told of it.
-use Rattle.std.proofs.Common.{◌≡◌, ℕ, List, [], ◌∷◌, ◌++◌, map, Option, Some, None, Result, Err, refl, sym, ap, ◌∙◌}
+use Rattle.std.proofs.Common.{◌≡◌, List, [], ◌∷◌, Option, Some, None, refl, sym, ap, ◌∙◌}
 use Rattle.std.specs.List.{flat_map}
 use Rattle.sig_base.specs.declared.limits.TheConstants.{TEXT_MAX}
-use Rattle.model_core.specs.declared.static_kind.StaticKind.{StaticKind}
 use Rattle.model_core.specs.EventGraph as graph
 use Rattle.model_core.specs.EventGraph.{EventGraph}
 use Rattle.model_core.specs.Text.Canonical.{canonical}
@@ -10,42 +9,16 @@ use Rattle.model_core.specs.Text.Written.{WrittenModel}
 use Rattle.model_core.specs.Text.Numbering as numbering
 use Rattle.model_core.specs.Text.Numbering.{each_numbered, written_or, declared_by, numbered}
 use Rattle.model_core.specs.Static.FaultOrder.{StaticFault, earliest_fault}
-use Rattle.model_core.specs.Static.Meanings.{Declaration, declared_name, meaning_of}
 use Rattle.model_core.specs.Static.RuleTable.{model_too_long}
-use Rattle.model_core.specs.Static.PartFaults.{written_items, repeated_names, variable_faults, table_faults, vertex_faults}
-use Rattle.model_core.specs.Static.ModelFaults.{model_meaning, model_takes, watch_faults, faults_of_parts, or_too_long, model_faults, told_fault, Accepted, IsTold}
+use Rattle.model_core.specs.Static.PartFaults.{written_items, variable_faults, table_faults, vertex_faults}
+use Rattle.model_core.specs.Static.ModelFaults.{model_meaning, model_takes, watch_faults, faults_of_parts, or_too_long, model_faults, told_fault, Accepted}
 use Rattle.static_laws.proofs.NamedPlaces.{placed_as}
 use Rattle.static_laws.proofs.ToldFaults.{none_told}
-use Rattle.static_laws.proofs.OneFaultTold.{told_is_told, accepted_or_told}
-use Rattle.sig_types.specs.declared.error.StaticError.{StaticError}
-use Rattle.sig_types.specs.declared.error.StaticError.TheVariants as errors
-use Rattle.sig_types.specs.declared.told.Fault.{Fault}
-use Rattle.sig_types.specs.Inner.Checked.{Checked, CheckedPart, CheckedPlain}
-use Rattle.sig_types.specs.Inner.Redeclared.{redeclared, faults_of_declared}
-use Rattle.sig_types.proofs.LeftOut.{each_numbered-items}
-use Rattle.sig_types.proofs.Checks.{told_both, both, made, behind}
-use Rattle.sig_types.proofs.MeaningsSoFar.{meaning_of-same, redeclared-same, redeclared-append, redeclared-repeated}
-
--- ---- three lists of declarations, one after another
-
-module _ (a b c n1 n2 n3 : List Declaration) (first : meaning_of n1 ≡ meaning_of a) (second : meaning_of n2 ≡ meaning_of (n1 ++ b)) where
-  two_mean : meaning_of n2 ≡ meaning_of (a ++ b)
-  two_mean = second ∙ meaning_of-same n1 a b b first refl
-
-  pub three_mean : meaning_of n3 ≡ meaning_of (n2 ++ c) → meaning_of n3 ≡ meaning_of (a ++ b ++ c)
-  three_mean third = third ∙ meaning_of-same n2 (a ++ b) c c two_mean refl
-
-  pub three_told : (t0 t1 t2 t3 : Option StaticFault) → t1 ≡ earliest_fault t0 (redeclared [] a) → t2 ≡ earliest_fault t1 (redeclared n1 b) → t3 ≡ earliest_fault t2 (redeclared n2 c)
-      → t3 ≡ earliest_fault t0 (repeated_names [] (map declared_name (a ++ b ++ c)))
-  three_told t0 t1 t2 t3 e f g =
-      let all : redeclared [] a ++ redeclared a b ++ redeclared (a ++ b) c ≡ repeated_names [] (map declared_name (a ++ b ++ c))
-      = ap (λ fs. fs ++ redeclared (a ++ b) c) (sym (redeclared-append [] a b)) ∙ sym (redeclared-append [] (a ++ b) c) ∙ redeclared-repeated (a ++ b ++ c) in
-      told_both t0 t2 t3 (redeclared [] a ++ redeclared a b) (redeclared (a ++ b) c)
-      (told_both t0 t1 t2 (redeclared [] a) (redeclared a b) e (f ∙ ap (earliest_fault t1) (redeclared-same n1 a b first)))
-      (g ∙ ap (earliest_fault t2) (redeclared-same n2 (a ++ b) c two_mean))
-      ∙ ap (earliest_fault t0) all
-
--- ---- the model
+use Rattle.static_laws.proofs.OneFaultTold.{accepted_or_told}
+use Rattle.static_laws.specs.Checked.{Checked, CheckedPart, CheckedPlain}
+use Rattle.static_laws.specs.DeclaredFaults.{faults_of_declared}
+use Rattle.static_laws.proofs.LeftOut.{each_numbered-items}
+use Rattle.static_laws.proofs.Checks.{both, made, behind}
 
 module _ (m : WrittenModel) where
   pub model_checked : (t0 t1 t2 t3 t4 t5 : Option StaticFault) (xs : List graph.Variable) (ts : List graph.WeightTable) (ws : List graph.Watched) (vs : List graph.EventVertex)
@@ -88,9 +61,3 @@ module _ (m : WrittenModel) where
       let (h, accepted) = (accepted_or_told m).0 none in
       let is : numbered m ≡ Some g = numbers (parts_unbroken (faults_of_parts m) (none_told (model_faults m) none)) in
       record { unbroken = accepted.unbroken; numbers = is }
-
-  pub is_told : {A : Type 0} (f : Fault) (kind : StaticKind) (at : ℕ) → told_fault m ≡ Some (record { at = f.at; kind = f.kind }) → ◌≡◌ {A = Result A StaticError} (Err (errors.Fault f.kind f.at)) (Err (errors.Fault kind at)) → IsTold m kind at
-  is_told f kind at told is =
-      let one : f.kind ≡ kind = cc in
-      let place : f.at ≡ at = cc in
-      rw (← one, ← place) ((told_is_told m (record { at = f.at; kind = f.kind })).0 told)

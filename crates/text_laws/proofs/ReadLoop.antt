@@ -6,15 +6,12 @@ use Rattle.model_core.specs.Text.Lexing.{Lexeme}
 use Rattle.model_core.specs.Text.Format.{TokenSort, Many}
 use Rattle.model_core.specs.Text.Expressions.{LanguageFormat, level_format}
 use Rattle.text_laws.specs.FirstTokens.{nullable, first_sorts, begins_as, begins_among}
-use Rattle.text_laws.specs.FormatReader.{Parse, took, stuck, and_next, rule_at}
+use Rattle.text_laws.specs.FormatReader.{Parse, took, stuck, and_next, with_front, rule_at}
 use Rattle.text_laws.specs.LanguageReader.{level_lookahead, language_reader}
 use Rattle.text_laws.proofs.Formats.FormatLaws.{Shorter, reads-shorter}
 use Rattle.text_laws.proofs.Formats.RuleLaws.{rule-shorter}
 use Rattle.text_laws.proofs.Formats.ManyLaws.{repeated-is, one_more-ok, one_more-err}
 use Rattle.text_laws.proofs.Formats.OneTokenDecides.{levels-fine}
-use Rattle.model_read.specs.declared.stop.Stop.{Stop}
-use Rattle.model_read.specs.declared.stop.Stop.TheVariants as stops
-use Rattle.model_read.specs.ReadCalls.{Stops, with_front}
 
 -- what is read takes a token at least
 pub shorter : {A : Type 0} (f : LanguageFormat A) → nullable f ≡ false → Shorter (language_reader f) false
@@ -41,10 +38,9 @@ goes_on view f some items item tokens left total begun e so_far =
     rw map-append (sym (front-one (map view items) (view item) (language_reader (Many f) left)) ∙ ap (with_front (map view items)) (sym m) ∙ so_far)
 
 -- the phrase can't be read
-pub ends : {V A : Type 0} (view : V → A) (f : LanguageFormat A) → nullable f ≡ false → (items : List V) (tokens rest : List Lexeme) (total : Parse (List A)) (error : Stop) → begins_among (first_sorts level_lookahead f) tokens ≡ true
-    → Stops error rest (language_reader f tokens) → with_front (map view items) (language_reader (Many f) tokens) ≡ total → Stops error rest total
-ends view f some items tokens rest total stops.NoMemory begun e so_far = tt
-ends view f some items tokens rest total stops.Unexpected begun e so_far =
+pub ends : {V A : Type 0} (view : V → A) (f : LanguageFormat A) → nullable f ≡ false → (items : List V) (tokens rest : List Lexeme) (total : Parse (List A)) → begins_among (first_sorts level_lookahead f) tokens ≡ true
+    → with_front (map view items) (language_reader (Many f) tokens) ≡ total → language_reader f tokens ≡ stuck rest → total ≡ stuck rest
+ends view f some items tokens rest total begun so_far e =
     let m : language_reader (Many f) tokens ≡ stuck rest = rw (repeated-is (first_sorts level_lookahead f) (language_reader f) (shorter f some) tokens, begun) (one_more-err (first_sorts level_lookahead f) (language_reader f) tokens rest e) in
     sym so_far ∙ ap (with_front (map view items)) m
 

@@ -8,7 +8,7 @@ use Rattle.model_core.specs.Text.Lexing.{Lexeme, LexemeKind, NameOf, Reserved, N
 use Rattle.text_laws.specs.FirstTokens.{first_sorts, begins_among}
 use Rattle.text_laws.specs.FormatReader.{Parse, took, stuck}
 use Rattle.text_laws.specs.LanguageReader.{level_lookahead, language_reader}
-use Rattle.model_read.specs.Inner.Ladder.{infix_of_kind, operators_of}
+use Rattle.text_laws.specs.Ladder.{infix_of_kind, operators_of}
 
 abbrev pub is_at : ℕ → Option (ℕ × Operator) → Bool
 is_at k None = false

@@ -3,7 +3,7 @@ use Rattle.std.specs.Prelude.{◌≡◌, ℕ, List, [], Option, Some}
 use Rattle.model_core.specs.Text.Numbering.{Declared}
 use Rattle.model_core.specs.Static.FaultOrder.{StaticFault, earliest_fault}
 use Rattle.model_core.specs.Static.Meanings.{Meaning}
-use Rattle.static_laws.proofs.NamedPlaces.{PlacedAs}
+use Rattle.static_laws.specs.PlacedMeanings.{PlacedAs}
 
 -- these faults are told, and where there are none something holds
 pub record Checked (before after : Option StaticFault) (faults : List StaticFault) (Holds : Type 0) : Type 0 where

@@ -11,9 +11,9 @@ use Rattle.model_core.specs.Static.FaultOrder.{StaticFault, earliest_fault}
 use Rattle.model_core.specs.Static.Meanings.{Meaning, AsScalar}
 use Rattle.model_core.specs.Static.RuleTable.{name_too_long, too_many}
 use Rattle.model_core.specs.Static.PartFaults.{written_items, repeated_names, name_place, change_place, edge_place, use_faults, change_faults, edge_faults, parameters_faults, vertex_faults}
-use Rattle.sig_types.specs.Inner.Checked.{CheckedPart}
-use Rattle.sig_types.proofs.LeftOut.{each_numbered-items}
-use Rattle.sig_types.proofs.Checks.{both, made, before, behind, three_numbered}
+use Rattle.static_laws.specs.Checked.{CheckedPart}
+use Rattle.static_laws.proofs.LeftOut.{each_numbered-items}
+use Rattle.static_laws.proofs.Checks.{both, made, before, behind, three_numbered}
 
 module _ (means : List ℕ → Option Meaning) where
   pub parameters_checked : (t0 t1 t2 t3 : Option StaticFault) (ns : List WrittenName) (xs : List ℕ)

@@ -1,10 +1,8 @@
 -- An expression is its first operand, and then operators with their right operands, level by level.
-use Rattle.std.proofs.Common.{◌≡◌, ℕ, zero, suc, ◌≤◌, true, false, List, refl, sym, ap, ◌∙◌, subst, arith}
-use Rattle.std.specs.Prelude.{Result, Ok, Err, nat_lt}
+use Rattle.std.proofs.Common.{◌≡◌, ℕ, zero, suc, ◌≤◌, true, false, List, refl, sym, ap, ◌∙◌, arith}
+use Rattle.std.specs.Prelude.{Ok, Err, nat_lt}
 use Rattle.std.proofs.lemmas.Grind.{common_steps}
 use Rattle.model_core.specs.declared.token.Word.TheVariants as words
-use Rattle.model_core.specs.declared.raw.RawExpr.{RawExpr}
-use Rattle.model_core.specs.Code.WrittenViews.{written_expression}
 use Rattle.model_core.specs.Text.Lexing.{Lexeme}
 use Rattle.model_core.specs.Text.Written.{WrittenExpression}
 use Rattle.model_core.specs.Text.Format.{Many, ByRule, AWord, maybe}
@@ -14,10 +12,7 @@ use Rattle.text_laws.specs.FormatReader.{Parse, Parser, took, and_next}
 use Rattle.text_laws.specs.LanguageReader.{level_lookahead, language_reader}
 use Rattle.text_laws.proofs.Formats.RuleLaws.{same_next, rule-is}
 use Rattle.text_laws.proofs.Formats.OneTokenDecides.{levels-fine}
-use Rattle.model_read.specs.declared.stop.Stop.{Stop}
-use Rattle.model_read.specs.declared.stop.Stop.TheVariants as stops
-use Rattle.model_read.specs.ReadCalls.{Stops, Returned}
-use Rattle.model_read.specs.Inner.Ladder.{operators_of, operand_level, rung, climb, not_format}
+use Rattle.text_laws.specs.Ladder.{operators_of, operand_level, rung, climb, not_format}
 
 pub next-next : {A B C : Type 0} (f : B → Parser C) (g : A → Parser B) (r : Parse A) → and_next f (and_next g r) ≡ and_next (λ a left. and_next f (g a left)) r
 next-next f g (Ok r) = refl
@@ -30,12 +25,9 @@ two_parts f q (Err rest) = refl
 abbrev pub of_level : Level → Parser WrittenExpression
 of_level l tokens = language_reader (ByRule l) tokens
 
-level-is : (l : Level) (tokens : List Lexeme) → of_level l tokens ≡ language_reader (level_format l) tokens
+-- a level is read as its format is
+pub level-is : (l : Level) (tokens : List Lexeme) → of_level l tokens ≡ language_reader (level_format l) tokens
 level-is l tokens = rule-is level_lookahead level_format levels-fine l tokens
-
--- a level's call is that of its format
-pub by_format : (l : Level) (r : Result RawExpr Stop) (tokens left : List Lexeme) → Returned written_expression r left (language_reader (level_format l) tokens) → Returned written_expression r left (of_level l tokens)
-by_format l r tokens left g = subst (λ (p : Parse WrittenExpression). Returned written_expression r left p) (sym (level-is l tokens)) g
 
 next-0 : (tokens : List Lexeme) → of_level Product tokens ≡ and_next (rung 0) (of_level Unary tokens)
 unfolding level_format
@@ -112,13 +104,3 @@ from-not zero tokens few e = absurd (let h = e.0 in omega arith)
 from-not (suc zero) tokens few e = absurd (let h = e.0 in omega arith)
 from-not (suc (suc zero)) tokens few e = absurd (let h = e.0 in omega arith)
 from-not (suc (suc (suc above))) tokens few e = from-negation above tokens (omega arith) e.1
-
--- the first operand can't be read
-pub stops_first : (others : WrittenExpression → Parser WrittenExpression) (whole first : Parse WrittenExpression) (error : Stop) (rest : List Lexeme) → whole ≡ and_next others first → Stops error rest first → Stops error rest whole
-stops_first others whole first stops.NoMemory rest e g = tt
-stops_first others whole first stops.Unexpected rest e g = e ∙ ap (and_next others) g
-
--- the first operand is read, and then what stands behind it
-pub gives_others : (others : WrittenExpression → Parser WrittenExpression) (whole first : Parse WrittenExpression) (r : Result RawExpr Stop) (a : WrittenExpression) (between left : List Lexeme) → whole ≡ and_next others first → first ≡ took a between
-    → Returned written_expression r left (others a between) → Returned written_expression r left whole
-gives_others others whole first r a between left e f g = subst (λ (p : Parse WrittenExpression). Returned written_expression r left p) (sym (e ∙ ap (and_next others) f)) g

@@ -1,0 +1,5 @@
+pub mod PlacedMeanings
+pub mod Checked
+pub mod DeclaredFaults
+pub mod Roles
+pub mod Wanted
