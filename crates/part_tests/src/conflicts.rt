@@ -3,6 +3,9 @@
 use crate::copies::drawing_model;
 use conflict_report::{Pair, Reasons, conflict, conflict_list, conflict_text};
 use model_core::Model;
+use sig_base::{List, NoMemory, Text};
+use std::alloc::Global;
+use std::mem::forget;
 use std::test::*;
 
 const LINE: &[u8] = b"RUN RUN variables,streams,cancels\n";
@@ -33,24 +36,41 @@ fn own_conflict(model: &Model) -> Option<Reasons> {
 #[test]
 fn a_vertex_is_in_conflict_with_itself(rt: HostRuntime) -> Result<(), Fail> {
     let model = drawing_model(rt.alloc(), 5)?;
-    assert_eq!(rt; own_conflict(&model), Some(OWN));
+    let found = own_conflict(&model);
+    forget(model);
+    assert!(rt; found == Some(OWN));
     Ok(())
+}
+
+/// The pairs that are in conflict.
+fn listed(alloc: Global) -> Result<List<Pair>, NoMemory> {
+    let model = drawing_model(alloc, 5)?;
+    let pairs = conflict_list(alloc, &model);
+    forget(model);
+    pairs
+}
+
+/// Whether these are the one pair of the first vertex and itself.
+fn are_own(pairs: &[Pair]) -> bool {
+    pairs.len() == 1 && pairs[0] == OWN_PAIR
 }
 
 #[test]
 fn its_pair_is_listed(rt: HostRuntime) -> Result<(), Fail> {
-    let model = drawing_model(rt.alloc(), 5)?;
-    let pairs = conflict_list(rt.alloc(), &model)?;
-    assert_eq!(rt; pairs.as_slice().len(), 1);
-    for pair in pairs.as_slice() {
-        assert_eq!(rt; *pair, OWN_PAIR);
-    }
+    assert!(rt; are_own(listed(rt.alloc())?.as_slice()));
     Ok(())
+}
+
+/// A line for each pair that is in conflict.
+fn written(alloc: Global) -> Result<Text, NoMemory> {
+    let model = drawing_model(alloc, 5)?;
+    let text = conflict_text(alloc, &model);
+    forget(model);
+    text
 }
 
 #[test]
 fn its_line_is_written(rt: HostRuntime) -> Result<(), Fail> {
-    let model = drawing_model(rt.alloc(), 5)?;
-    assert_eq!(rt; conflict_text(rt.alloc(), &model)?.as_slice(), LINE);
+    assert!(rt; written(rt.alloc())?.as_slice() == LINE);
     Ok(())
 }

@@ -4,8 +4,9 @@ use model_core::{
     Change, Choice, Edge, EdgeForm, Expr, Kind, Model, Op, Target, Var, Vertex, Watch, copy_expr,
     copy_model, same_expr, same_model,
 };
-use sig_base::{List, Name, NoMemory, Row, Table};
+use sig_base::{Held, List, Name, NoMemory, Row, Table};
 use std::alloc::Global;
+use std::mem::forget;
 use std::test::*;
 
 fn name(alloc: Global, bytes: &[u8]) -> Result<Name, NoMemory> {
@@ -43,11 +44,15 @@ fn cancelling(alloc: Global, limit: i64) -> Result<Edge, NoMemory> {
 
 /// A vertex `RUN` with a parameter, a draw and an edge that cancels.
 fn drawing_vertex(alloc: Global, limit: i64) -> Result<Vertex, NoMemory> {
+    let name = name(alloc, b"RUN")?;
+    let params = List::of_one(alloc, 0)?;
+    let changes = Held::of(List::of_one(alloc, draw())?);
+    let edges = List::of_one(alloc, cancelling(alloc, limit)?)?;
     Ok(Vertex {
-        name: name(alloc, b"RUN")?,
-        params: List::of_one(alloc, 0)?,
-        changes: List::of_one(alloc, draw())?,
-        edges: List::of_one(alloc, cancelling(alloc, limit)?)?,
+        name,
+        params,
+        changes: changes.free(),
+        edges,
     })
 }
 
@@ -78,21 +83,38 @@ fn table(alloc: Global) -> Result<Table, NoMemory> {
 
 /// A model of one variable, one table and one vertex.
 pub fn drawing_model(alloc: Global, limit: i64) -> Result<Model, NoMemory> {
+    let name = name(alloc, b"DRAWING")?;
+    let vars = Held::of(List::of_one(alloc, variable(alloc)?)?);
+    let tables = Held::of(List::of_one(alloc, table(alloc)?)?);
+    let watch = List::of_one(alloc, Watch::Event { vertex: 0 })?;
+    let vertices = List::of_one(alloc, drawing_vertex(alloc, limit)?)?;
     Ok(Model {
-        name: name(alloc, b"DRAWING")?,
-        vars: List::of_one(alloc, variable(alloc)?)?,
-        tables: List::of_one(alloc, table(alloc)?)?,
-        watch: List::of_one(alloc, Watch::Event { vertex: 0 })?,
-        vertices: List::of_one(alloc, drawing_vertex(alloc, limit)?)?,
+        name,
+        vars: vars.free(),
+        tables: tables.free(),
+        watch,
+        vertices,
     })
+}
+
+/// Whether an expression is the one of this limit.
+fn expr_has_limit(alloc: Global, expr: &Expr, limit: i64) -> Result<bool, NoMemory> {
+    Ok(same_expr(expr, &limited(alloc, limit)?))
+}
+
+/// A copy of the expression of this limit.
+fn copied_expr(alloc: Global, limit: i64) -> Result<Expr, NoMemory> {
+    copy_expr(alloc, &limited(alloc, limit)?)
 }
 
 #[test]
 fn an_expression_is_copied(rt: HostRuntime) -> Result<(), Fail> {
-    let expr = limited(rt.alloc(), 5)?;
-    let copy = copy_expr(rt.alloc(), &expr)?;
-    assert_eq!(rt; same_expr(&copy, &expr), true);
-    assert_eq!(rt; same_expr(&copy, &limited(rt.alloc(), 6)?), false);
+    let copy = copied_expr(rt.alloc(), 5)?;
+    let same = expr_has_limit(rt.alloc(), &copy, 5);
+    let other = expr_has_limit(rt.alloc(), &copy, 6);
+    forget(copy);
+    assert!(rt; same?);
+    assert!(rt; !other?);
     Ok(())
 }
 
@@ -109,7 +131,10 @@ fn copied_model(alloc: Global, limit: i64) -> Result<Model, NoMemory> {
 #[test]
 fn a_model_is_copied(rt: HostRuntime) -> Result<(), Fail> {
     let copy = copied_model(rt.alloc(), 5)?;
-    assert!(rt; has_limit(rt.alloc(), &copy, 5)?);
-    assert!(rt; !has_limit(rt.alloc(), &copy, 6)?);
+    let same = has_limit(rt.alloc(), &copy, 5);
+    let other = has_limit(rt.alloc(), &copy, 6);
+    forget(copy);
+    assert!(rt; same?);
+    assert!(rt; !other?);
     Ok(())
 }
