@@ -12,6 +12,7 @@ use run_control::{Run, kept_models_can_be_run};
 use sig_base::{List, MemorySink, NoMemory, Steps};
 use std::alloc::Global;
 use std::marker::Brand;
+use std::mem::forget;
 use std::sync::ledger::{Blank, Ledger};
 use std::test::*;
 use watch_trace::{Outcome, Tracer, follow};
@@ -38,17 +39,58 @@ fn history_over<P: Pending + Drop, L: Ledger>(
     let mut steps: Steps<L> = Steps::begin(blank);
     let mut tracer = Tracer::begin(alloc, model)?;
     let mut run = Run::begin(alloc, model, pending, 42, starts, 0)?;
-    Ok(follow(
+    let outcome = follow(
         &mut tracer,
         &mut run,
         u64::from(until),
         u64::from(events),
         sink,
         &mut steps,
-    ))
+    );
+    forget(run);
+    forget(tracer);
+    Ok(outcome)
 }
 
-/// What runs of a text's model come to, and what they write: over the plain list, and over heaps.
+/// What runs of a model come to, and what they write: over the plain list, and over heaps.
+fn histories_over_both(
+    alloc: Global,
+    model: &Model,
+    starts: &List<i64>,
+    until: u16,
+    events: u16,
+    plain: &mut MemorySink,
+    heaped: &mut MemorySink,
+) -> Result<(Outcome, Outcome), Refused>
+    requires { PossibleModel (graph_of model.now) }
+{
+    let vertices = model.vertices.len();
+    let pending = PlainPending::begin(alloc, vertices);
+    let one = history_over::<PlainPending, Brand>(
+        alloc,
+        model,
+        pending,
+        starts,
+        until,
+        events,
+        plain,
+        Blank::new(1),
+    )?;
+    let pending = HeapPending::begin(alloc, vertices)?;
+    let other = history_over::<HeapPending, Brand>(
+        alloc,
+        model,
+        pending,
+        starts,
+        until,
+        events,
+        heaped,
+        Blank::new(1),
+    )?;
+    Ok((one, other))
+}
+
+/// The same for the model that a text reads as.
 fn both_histories(
     alloc: Global,
     text: &[u8],
@@ -60,30 +102,9 @@ fn both_histories(
 ) -> Result<(Outcome, Outcome), Refused> {
     let model = model_of(alloc, text)?;
     kept_models_can_be_run();
-    let vertices = model.vertices.len();
-    let pending = PlainPending::begin(alloc, vertices);
-    let one = history_over::<PlainPending, Brand>(
-        alloc,
-        &model,
-        pending,
-        starts,
-        until,
-        events,
-        plain,
-        Blank::new(1),
-    )?;
-    let pending = HeapPending::begin(alloc, vertices)?;
-    let other = history_over::<HeapPending, Brand>(
-        alloc,
-        &model,
-        pending,
-        starts,
-        until,
-        events,
-        heaped,
-        Blank::new(1),
-    )?;
-    Ok((one, other))
+    let outcomes = histories_over_both(alloc, &model, starts, until, events, plain, heaped);
+    forget(model);
+    outcomes
 }
 
 /// A text, the starting values of its model, a stop time, a budget of events, and what is written of a run with the seed
@@ -225,27 +246,43 @@ const KNOWN: [Known; 18] = [
     },
 ];
 
+/// A sink for a whole history.
+fn ample_sink(alloc: Global) -> Result<MemorySink, NoMemory> {
+    MemorySink::begin(alloc, 10_000, 10_000, List::new(alloc))
+}
+
+/// Whether a text's model has this history over both lists.
+fn has_history(alloc: Global, known: &Known, starts: &List<i64>) -> Result<bool, Refused> {
+    let mut plain = ample_sink(alloc)?;
+    let mut heaped = ample_sink(alloc)?;
+    let outcomes = both_histories(
+        alloc,
+        known.text,
+        starts,
+        known.until,
+        known.events,
+        &mut plain,
+        &mut heaped,
+    );
+    let as_known = plain.written() == known.written && heaped.written() == known.written;
+    forget(plain);
+    forget(heaped);
+    outcomes?;
+    Ok(as_known)
+}
+
+fn listed(alloc: Global, values: &[i64]) -> Result<List<i64>, NoMemory> {
+    Ok(List::from_vec(Vec::from_slice(alloc, values)?))
+}
+
 #[test]
 fn known_histories_are_written_over_both_lists(rt: HostRuntime) -> Result<(), Fail> {
     let alloc = rt.alloc();
-    for known in &KNOWN {
-        let mut plain = MemorySink::begin(alloc, 10_000, 10_000, List::new(alloc))?;
-        let mut heaped = MemorySink::begin(alloc, 10_000, 10_000, List::new(alloc))?;
-        let mut starts = List::new(alloc);
-        for start in known.starts {
-            starts.push(*start)?;
-        }
-        both_histories(
-            alloc,
-            known.text,
-            &starts,
-            known.until,
-            known.events,
-            &mut plain,
-            &mut heaped,
-        )?;
-        assert_eq!(rt; plain.written(), known.written);
-        assert_eq!(rt; heaped.written(), known.written);
+    for (place, known) in KNOWN.iter().enumerate() {
+        let starts = listed(alloc, known.starts)?;
+        let as_known = has_history(alloc, known, &starts);
+        forget(starts);
+        assert!(rt; as_known?, "at {place}");
     }
     Ok(())
 }
@@ -297,25 +334,27 @@ fn varied(alloc: Global, number: u64) -> Result<Vec<u8>, NoMemory> {
     Ok(text)
 }
 
+/// Whether runs of a text's model come to the same over both lists, and write the same.
+fn runs_alike(alloc: Global, text: &[u8], starts: &List<i64>) -> Result<bool, Refused> {
+    let mut plain = ample_sink(alloc)?;
+    let mut heaped = ample_sink(alloc)?;
+    let outcomes = both_histories(alloc, text, starts, 100, 300, &mut plain, &mut heaped);
+    let written_alike = plain.written() == heaped.written();
+    forget(plain);
+    forget(heaped);
+    let (one, other) = outcomes?;
+    Ok(written_alike && one == other)
+}
+
 #[test]
 fn small_models_run_alike_over_both_lists(rt: HostRuntime) -> Result<(), Fail> {
     let alloc = rt.alloc();
     let starts = List::new(alloc);
     for number in 0..300 {
-        let mut plain = MemorySink::begin(alloc, 10_000, 10_000, List::new(alloc))?;
-        let mut heaped = MemorySink::begin(alloc, 10_000, 10_000, List::new(alloc))?;
         let text = varied(alloc, number)?;
-        let (one, other) = both_histories(
-            alloc,
-            text.as_slice(),
-            &starts,
-            100,
-            300,
-            &mut plain,
-            &mut heaped,
-        )?;
-        assert_eq!(rt; one, other);
-        assert_eq!(rt; plain.written(), heaped.written());
+        let alike = runs_alike(alloc, text.as_slice(), &starts);
+        forget(text);
+        assert!(rt; alike?, "at {number}");
     }
     Ok(())
 }

@@ -11,6 +11,7 @@ use run_control::{Run, kept_models_can_be_run};
 use sig_base::{List, MemorySink, Sink, Steps};
 use std::alloc::Global;
 use std::marker::Brand;
+use std::mem::forget;
 use std::sync::ledger::{Blank, Ledger};
 use std::test::*;
 use watch_trace::{Outcome, Tracer, follow};
@@ -47,14 +48,14 @@ fn followed<K: Sink, L: Ledger>(
     let mut tracer = Tracer::begin(alloc, model)?;
     let mut run = begun(alloc, model)?;
     let first = follow(&mut tracer, &mut run, until, events, sink, &mut steps);
-    match first {
-        Outcome::Budget => Ok((
-            first,
-            follow(&mut tracer, &mut run, until, 100, sink, &mut steps),
-            run.turns(),
-        )),
-        other => Ok((first, other, run.turns())),
-    }
+    let last = match first {
+        Outcome::Budget => follow(&mut tracer, &mut run, until, 100, sink, &mut steps),
+        other => other,
+    };
+    let turns = run.turns();
+    forget(run);
+    forget(tracer);
+    Ok((first, last, turns))
 }
 
 /// What following a run of a model for so many events comes to, and then on, with the steps made and the sink behind it.
@@ -77,8 +78,9 @@ fn history(
         events,
         &mut sink,
         Blank::new(1),
-    )?;
-    Ok((outcomes, sink))
+    );
+    forget(model);
+    Ok((outcomes?, sink))
 }
 
 #[test]

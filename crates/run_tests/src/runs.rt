@@ -11,6 +11,7 @@ use run_control::{BeginError, Run, Turn};
 use sig_base::{List, Name, NoMemory, Steps};
 use std::alloc::Global;
 use std::marker::Brand;
+use std::mem::forget;
 use std::sync::ledger::{Blank, Ledger};
 use std::test::*;
 
@@ -128,46 +129,54 @@ fn begun<'m>(
 }
 
 /// What each of four steps of the clock up to 12 comes to, and behind them the clock's time and the number of turns.
-fn stepped(alloc: Global) -> Result<([Turn; 4], u64, u64), Fail> {
-    let model = clock(alloc)?;
-    let none = List::new(alloc);
-    let mut run = begun(alloc, &model, &none)?;
-    let turns = turns::<PlainPending, Brand>(&mut run, 12, Blank::new(1))?;
-    Ok((turns, run.clock(), run.turns()))
+fn stepped(alloc: Global, model: &Model) -> Result<([Turn; 4], u64, u64), Fail>
+    requires { graph_of model.now ≡ ticking }
+{
+    let mut run = begun(alloc, model, &List::new(alloc))?;
+    let turns = turns::<PlainPending, Brand>(&mut run, 12, Blank::new(1));
+    let (time, count) = (run.clock(), run.turns());
+    forget(run);
+    Ok((turns?, time, count))
+}
+
+/// The event's turn at this time.
+fn ran(time: u64) -> Turn {
+    Turn::Ran { vertex: 0, time }
+}
+
+/// Whether these are the clock's turns up to 12.
+fn are_three_ticks(turns: &[Turn; 4]) -> bool {
+    turns[0] == ran(0) && turns[1] == ran(5) && turns[2] == ran(10) && turns[3] == Turn::Stopped
 }
 
 #[test]
 fn a_clock_runs_until_it_is_stopped(rt: HostRuntime) -> Result<(), Fail> {
-    let (turns, time, count) = stepped(rt.alloc())?;
-    assert_eq!(rt; turns[0], Turn::Ran { vertex: 0, time: 0 });
-    assert_eq!(rt; turns[1], Turn::Ran { vertex: 0, time: 5 });
-    assert_eq!(rt;
-        turns[2],
-        Turn::Ran {
-            vertex: 0,
-            time: 10
-        }
-    );
-    assert_eq!(rt; turns[3], Turn::Stopped);
-    assert_eq!(rt; (time, count), (10, 3));
+    let model = clock(rt.alloc())?;
+    let stepped = stepped(rt.alloc(), &model);
+    forget(model);
+    let (turns, time, count) = stepped?;
+    assert!(rt; are_three_ticks(&turns));
+    assert!(rt; time == 10 && count == 3);
     Ok(())
 }
 
 #[test]
 fn a_clock_takes_no_starting_values(rt: HostRuntime) -> Result<(), Fail> {
     let alloc = rt.alloc();
-    let model = clock(alloc)?;
     let one = List::of_one(alloc, 7)?;
+    let model = clock(alloc)?;
     let refused = match begun(alloc, &model, &one) {
-        Ok(_run) => None,
+        Ok(run) => {
+            forget(run);
+            None
+        }
         Err(error) => Some(error),
     };
-    assert_eq!(rt;
-        refused,
-        Some(BeginError::StartCount {
-            needed: 0,
-            given: 1
-        })
-    );
+    forget(model);
+    let wanted = BeginError::StartCount {
+        needed: 0,
+        given: 1,
+    };
+    assert!(rt; refused == Some(wanted));
     Ok(())
 }

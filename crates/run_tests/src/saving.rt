@@ -16,6 +16,7 @@ use run_snapshot::{Snapshot, resume, save, saved_runs_resume};
 use sig_base::{List, MemorySink, Steps};
 use std::alloc::Global;
 use std::marker::Brand;
+use std::mem::forget;
 use std::sync::ledger::{Blank, Ledger};
 use std::test::*;
 use watch_trace::{Outcome, Tracer, follow};
@@ -49,7 +50,11 @@ fn saved<L: Ledger>(
     let mut tracer = Tracer::begin(alloc, model)?;
     let mut run = begun(alloc, model)?;
     match follow(&mut tracer, &mut run, 12, 2, sink, &mut steps) {
-        Outcome::Budget => Ok(save(alloc, model, run, &tracer, 42)?),
+        Outcome::Budget => {
+            let snapshot = save(alloc, model, run, &tracer, 42);
+            forget(tracer);
+            Ok(snapshot?)
+        }
         _ => Err(Refused::Over),
     }
 }
@@ -78,20 +83,47 @@ fn resumed<L: Ledger>(
     let resumed = resume(alloc, model, pending, snapshot, 10)?;
     let mut tracer = resumed.tracer;
     let mut run = resumed.run;
-    Ok(follow(&mut tracer, &mut run, 12, 100, sink, &mut steps))
+    let outcome = follow(&mut tracer, &mut run, 12, 100, sink, &mut steps);
+    forget(run);
+    forget(tracer);
+    Ok(outcome)
 }
 
-/// What is saved of the clock after two events, and what its run comes to from there. The sinks take what is written before
+/// What is saved of a model's run after two events, and what it comes to from there. The sinks take what is written before
 /// and behind.
 fn both_halves(
+    alloc: Global,
+    model: &Model,
+    before: &mut MemorySink,
+    behind: &mut MemorySink,
+) -> Result<(Snapshot, Outcome), Refused>
+    requires kept { KeepsStaticRules (graph_of model.now) }
+    requires spellable { IsSpellable (graph_of model.now) }
+{
+    let snapshot = saved::<Brand>(alloc, model, before, Blank::new(1))?;
+    let outcome = resumed::<Brand>(alloc, model, &snapshot, behind, Blank::new(1))?;
+    Ok((snapshot, outcome))
+}
+
+/// The same for the clock.
+fn halves_of_clock(
     alloc: Global,
     before: &mut MemorySink,
     behind: &mut MemorySink,
 ) -> Result<(Snapshot, Outcome), Refused> {
     let model = model_of(alloc, CLOCK)?;
-    let snapshot = saved::<Brand>(alloc, &model, before, Blank::new(1))?;
-    let outcome = resumed::<Brand>(alloc, &model, &snapshot, behind, Blank::new(1))?;
-    Ok((snapshot, outcome))
+    let halves = both_halves(alloc, &model, before, behind);
+    forget(model);
+    halves
+}
+
+/// Whether this is the clock's state after its second event, with one event pending.
+fn is_after_two(snapshot: &Snapshot) -> bool {
+    (snapshot.seed, snapshot.clock, snapshot.events) == (42, 5, 2)
+        && snapshot.values.as_slice() == [2].as_slice()
+        && snapshot.noted.is_some()
+        && snapshot.taken.len() == 64
+        && snapshot.pending.len() == 1
 }
 
 #[test]
@@ -99,20 +131,16 @@ fn a_saved_run_goes_on(rt: HostRuntime) -> Result<(), Fail> {
     let alloc = rt.alloc();
     let mut before = MemorySink::begin(alloc, 1000, 1000, List::new(alloc))?;
     let mut behind = MemorySink::begin(alloc, 1000, 1000, List::new(alloc))?;
-    let (snapshot, outcome) = both_halves(alloc, &mut before, &mut behind)?;
-    assert_eq!(rt; before.written(), b"at 0 N=1\nbudget 2\n".as_slice());
-    assert_eq!(rt; outcome, Outcome::Stopped);
-    assert_eq!(rt;
-        behind.written(),
-        b"at 5 N=2\nat 10 N=3\nstopped 12\n".as_slice()
-    );
-    assert_eq!(rt;
-        (snapshot.seed, snapshot.clock, snapshot.events),
-        (42, 5, 2)
-    );
-    assert_eq!(rt; snapshot.values.as_slice(), [2].as_slice());
-    assert!(rt; snapshot.noted.is_some());
-    assert_eq!(rt; snapshot.taken.len(), 64);
-    assert_eq!(rt; snapshot.pending.len(), 1);
+    let halves = halves_of_clock(alloc, &mut before, &mut behind);
+    let well_written = before.written() == b"at 0 N=1\nbudget 2\n".as_slice()
+        && behind.written() == b"at 5 N=2\nat 10 N=3\nstopped 12\n".as_slice();
+    forget(before);
+    forget(behind);
+    let (snapshot, outcome) = halves?;
+    let well_saved = is_after_two(&snapshot);
+    forget(snapshot);
+    assert!(rt; well_written);
+    assert!(rt; outcome == Outcome::Stopped);
+    assert!(rt; well_saved);
     Ok(())
 }

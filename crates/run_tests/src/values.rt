@@ -12,6 +12,7 @@ use random_streams::Streams;
 use sig_base::{FaultKind, List, Name, NoMemory};
 use sig_expr::{State, apply, value};
 use std::alloc::Global;
+use std::mem::forget;
 use std::test::*;
 
 fn variable(alloc: Global, size: usize, lo: i64, hi: i64, clip: bool) -> Var
@@ -85,18 +86,31 @@ fn operation(alloc: Global, op: Op, a: i64, b: i64) -> Result<Expr, NoMemory>
     binary(alloc, op, left, right)
 }
 
+/// The value of an expression as a run of the model begins.
+fn evaluated_in(alloc: Global, model: &Model, expr: &Expr) -> Result<Outcome, NoMemory>
+    requires model { graph_of model.now ≡ tried }
+    requires possible { PossibleExpression tried (expression_of expr.now) }
+{
+    let state = begun(alloc, model)?;
+    Ok(value(model, expr, &state, 0))
+}
+
 /// The value of an expression as a run begins.
 fn evaluated(alloc: Global, expr: &Expr) -> Result<Outcome, NoMemory>
     requires { PossibleExpression tried (expression_of expr.now) }
 {
     let model = tried(alloc)?;
-    let state = begun(alloc, &model)?;
-    Ok(value(&model, expr, &state, 0))
+    let outcome = evaluated_in(alloc, &model, expr);
+    forget(model);
+    outcome
 }
 
 /// What an operator makes of two numbers.
 fn operated(alloc: Global, op: Op, a: i64, b: i64) -> Result<Outcome, NoMemory> {
-    evaluated(alloc, &operation(alloc, op, a, b)?)
+    let expr = operation(alloc, op, a, b)?;
+    let outcome = evaluated(alloc, &expr);
+    forget(expr);
+    outcome
 }
 
 #[test]
@@ -129,7 +143,10 @@ fn arithmetic_is_exact_or_faults(rt: HostRuntime) -> Result<(), Fail> {
 /// The value of a cell of the array, whose values are all 0.
 fn cell(alloc: Global, index: i64) -> Result<Outcome, NoMemory> {
     let index = Box::new(alloc, number(alloc, index)?)?;
-    evaluated(alloc, &Expr::Cell(0, index))
+    let expr = Expr::Cell(0, index);
+    let outcome = evaluated(alloc, &expr);
+    forget(expr);
+    outcome
 }
 
 #[test]
@@ -148,7 +165,9 @@ fn an_index_is_below_the_size(rt: HostRuntime) -> Result<(), Fail> {
 fn chosen(alloc: Global, test: bool) -> Result<Outcome, NoMemory> {
     let faulty = binary(alloc, Op::Div, Expr::Int(1), Expr::Int(0))?;
     let expr = Expr::conditional(alloc, Expr::Truth(test), Expr::Int(1), faulty)?;
-    evaluated(alloc, &expr)
+    let outcome = evaluated(alloc, &expr);
+    forget(expr);
+    outcome
 }
 
 #[test]
@@ -182,19 +201,29 @@ fn two_raises(alloc: Global, var: usize, by: i64) -> Result<List<Change>, NoMemo
 }
 
 /// What two raises of a scalar come to, and what it holds then.
-fn raised_twice(
-    alloc: Global,
-    var: usize,
-    by: i64,
-) -> Result<(Result<(), FaultKind>, Outcome), NoMemory>
-    requires { var < 4 }
+type Raised = (Result<(), FaultKind>, Outcome);
+
+/// The same in a model.
+fn raised_in(alloc: Global, model: &Model, var: usize, by: i64) -> Result<Raised, NoMemory>
+    requires model { graph_of model.now ≡ tried }
+    requires declared { var < 4 }
 {
     let changes = two_raises(alloc, var, by)?;
-    let model = tried(alloc)?;
-    let mut state = begun(alloc, &model)?;
+    let mut state = begun(alloc, model)?;
     let mut streams = Streams::begin(42);
-    let applied = apply(&model, &changes, &mut state, &mut streams, 0);
-    Ok((applied, value(&model, &Expr::Scalar(var), &state, 0)))
+    let applied = apply(model, &changes, &mut state, &mut streams, 0);
+    let now = value(model, &Expr::Scalar(var), &state, 0);
+    forget(changes);
+    Ok((applied, now))
+}
+
+fn raised_twice(alloc: Global, var: usize, by: i64) -> Result<Raised, NoMemory>
+    requires { var < 4 }
+{
+    let model = tried(alloc)?;
+    let raised = raised_in(alloc, &model, var, by);
+    forget(model);
+    raised
 }
 
 #[test]

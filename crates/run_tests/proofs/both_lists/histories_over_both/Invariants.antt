@@ -1,5 +1,5 @@
 -- The counters' ledgers are the blanks'.
-use Rattle.run_tests.proofs.both_lists.both_histories.Given as goal
+use Rattle.run_tests.proofs.both_lists.histories_over_both.Given as goal
 
 abbrev pub ghosts-history_over : goal.ghosts-history_over
 ghosts-history_over a = record { name = a.blank.name; parts = a.blank.parts }
