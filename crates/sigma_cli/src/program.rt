@@ -6,13 +6,13 @@ ghost use Rattle.std.specs.IoError.{error_kind};
 ghost use Rattle.std.specs.Process.{exit_status};
 ghost use Rattle.std.specs.String.{string_bytes};
 ghost use Rattle.sig_base.specs.Sink.{GrowsBy};
-ghost use Rattle.sigma_top.specs.Answer.{KeepsMeaning};
-ghost use Rattle.sigma_top.specs.CertifyAnswer.{Certifies};
-ghost use Rattle.sigma_top.specs.Delivery.{inlet, outlet, Told, Ends};
-ghost use Rattle.sigma_top.specs.Ending.{exit_status_of, failure_line};
-ghost use Rattle.sigma_top.specs.Jobs.{job_of};
-ghost use Rattle.sigma_top.specs.declared.job.Job.TheVariants as jobs;
-ghost use Rattle.sigma_top.specs.declared.status.Failure.TheVariants as failures;
+ghost use Rattle.command_words.specs.declared.job.Job.TheVariants as jobs;
+ghost use Rattle.command_words.specs.Jobs.{job_of};
+ghost use Rattle.job_answers.specs.declared.status.Failure.TheVariants as failures;
+ghost use Rattle.job_answers.specs.CertifyAnswer.{Certifies};
+ghost use Rattle.job_answers.specs.ReduceAnswer.{KeepsMeaning};
+ghost use Rattle.job_answers.specs.Statuses.{exit_status_of, failure_line};
+ghost use Rattle.sigma_top.specs.StatusTable.{Told, Ends};
 
 use sig_base::{Sink, Source, put};
 use sigma_top::{Status, sigma};
@@ -45,22 +45,20 @@ fn work<S: Source, K: Sink, E: Sink>(
     output: &mut K,
     errors: &mut E,
 ) -> Status
-    ensures ended { IfOk words (λ words. Ends result (map string_bytes (vec_items words))
-        (inlet S.left S.faults input.old) (inlet S.left S.faults input.new)
-        (outlet K.written K.faults K.settled output.old) (outlet K.written K.faults K.settled output.new)
-        (outlet E.written E.faults E.settled errors.old) (outlet E.written E.faults E.settled errors.new)) }
+    ensures ended { IfOk words (λ words. Ends S.seen K.seen E.seen result (map string_bytes (vec_items words))
+        input.old input.new output.old output.new errors.old errors.new) }
     ensures reduced { IfOk words (λ words. job_of (map string_bytes (vec_items words)) ≡ Some jobs.Reduce → result ≡ Status.Done
-        → IfSome (S.left input.old) (λ text. (out : List ℕ) × KeepsMeaning text out × GrowsBy (K.written output.old) (K.written output.new) out)) }
+        → IfSome (S.seen input.old).left (λ text. (out : List ℕ) × KeepsMeaning text out × GrowsBy (K.seen output.old).written (K.seen output.new).written out)) }
     ensures certified { IfOk words (λ words. job_of (map string_bytes (vec_items words)) ≡ Some jobs.Certify → result ≡ Status.Done
-        → IfSome (S.left input.old) Certifies) }
+        → IfSome (S.seen input.old).left Certifies) }
 
     ensures untouched { OnErr words ((input.new ≡ input.old) × (output.new ≡ output.old)) }
     ensures without_memory { IfErr words (λ error. error_kind error ≡ ErrorKind.OutOfMemory
         → (result ≡ Status.NoMemory)
-        × Told (outlet E.written E.faults E.settled errors.old) (outlet E.written E.faults E.settled errors.new) (failure_line failures.NoMemory)) }
+        × Told (E.seen errors.old) (E.seen errors.new) (failure_line failures.NoMemory)) }
     ensures without_words { IfErr words (λ error. error_kind error ≢ ErrorKind.OutOfMemory
         → (result ≡ Status.Usage)
-        × Told (outlet E.written E.faults E.settled errors.old) (outlet E.written E.faults E.settled errors.new) (failure_line failures.Usage)) }
+        × Told (E.seen errors.old) (E.seen errors.new) (failure_line failures.Usage)) }
 {
     match words {
         Ok(words) => sigma(alloc, &words, input, output, errors),
@@ -82,27 +80,25 @@ pub fn program<S: Source, K: Sink, E: Sink>(
 ) -> ExitCode
     // The exit status is the number of how the call of `sigma` ended.
     ensures ended { IfOk words (λ words. (status : Status) × (exit_status result ≡ exit_status_of status)
-        × Ends status (map string_bytes (vec_items words))
-        (inlet S.left S.faults input.old) (inlet S.left S.faults input.new)
-        (outlet K.written K.faults K.settled output.old) (outlet K.written K.faults K.settled output.new)
-        (outlet E.written E.faults E.settled errors.old) (outlet E.written E.faults E.settled errors.new)) }
+        × Ends S.seen K.seen E.seen status (map string_bytes (vec_items words))
+        input.old input.new output.old output.new errors.old errors.new) }
 
     // At the exit status 0 what `reduce` writes means the same as what it read.
     ensures reduced { IfOk words (λ words. job_of (map string_bytes (vec_items words)) ≡ Some jobs.Reduce → exit_status result ≡ 0
-        → IfSome (S.left input.old) (λ text. (out : List ℕ) × KeepsMeaning text out × GrowsBy (K.written output.old) (K.written output.new) out)) }
+        → IfSome (S.seen input.old).left (λ text. (out : List ℕ) × KeepsMeaning text out × GrowsBy (K.seen output.old).written (K.seen output.new).written out)) }
 
     // At the exit status 0 the two models of the document that `certify` read mean the same.
     ensures certified { IfOk words (λ words. job_of (map string_bytes (vec_items words)) ≡ Some jobs.Certify → exit_status result ≡ 0
-        → IfSome (S.left input.old) Certifies) }
+        → IfSome (S.seen input.old).left Certifies) }
 
     // Without words nothing is read, and nothing but the line is written.
     ensures untouched { OnErr words ((input.new ≡ input.old) × (output.new ≡ output.old)) }
     ensures without_memory { IfErr words (λ error. error_kind error ≡ ErrorKind.OutOfMemory
         → (exit_status result ≡ exit_status_of Status.NoMemory)
-        × Told (outlet E.written E.faults E.settled errors.old) (outlet E.written E.faults E.settled errors.new) (failure_line failures.NoMemory)) }
+        × Told (E.seen errors.old) (E.seen errors.new) (failure_line failures.NoMemory)) }
     ensures without_words { IfErr words (λ error. error_kind error ≢ ErrorKind.OutOfMemory
         → (exit_status result ≡ exit_status_of Status.Usage)
-        × Told (outlet E.written E.faults E.settled errors.old) (outlet E.written E.faults E.settled errors.new) (failure_line failures.Usage)) }
+        × Told (E.seen errors.old) (E.seen errors.new) (failure_line failures.Usage)) }
 {
     let status = work(alloc, words, input, output, errors);
     ExitCode::from(status.number())

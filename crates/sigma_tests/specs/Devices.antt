@@ -1,19 +1,26 @@
--- Small inputs and outputs, which have no state of their own.
+-- Small inputs and outputs, which are what is seen of them.
 use Rattle.std.specs.Prelude.{ℕ, Bool, true, List, [], Some}
-use Rattle.sigma_top.specs.Delivery.{Inlet, Outlet}
+use Rattle.sig_base.specs.Sink.{Outlet}
+use Rattle.sig_base.specs.Source.{Inlet}
+use Rattle.job_answers.specs.declared.status.Status.{Status}
+use Rattle.sigma_top.specs.StatusTable.{Ends}
 
 -- an input that has these bytes left, of which so many calls failed
-abbrev pub input_of : List ℕ → ℕ → Inlet (Unit {0})
-input_of bytes faults = record { state = tt; left = Some bytes; faults = faults }
+abbrev pub input_of : List ℕ → ℕ → Inlet
+input_of bytes faults = record { left = Some bytes; faults = faults }
 
 -- an output that took these bytes, of which so many calls failed, and which is finished or not
-abbrev pub output_of : List ℕ → ℕ → Bool → Outlet (Unit {0})
-output_of bytes faults settled = record { state = tt; written = Some bytes; faults = faults; settled = settled }
+abbrev pub output_of : List ℕ → ℕ → Bool → Outlet
+output_of bytes faults settled = record { written = Some bytes; faults = faults; settled = settled }
 
 -- an output that took nothing
-abbrev pub untouched : Outlet (Unit {0})
+abbrev pub untouched : Outlet
 untouched = output_of [] 0 true
 
 -- an error output that took this line
-abbrev pub with_line : List ℕ → Outlet (Unit {0})
+abbrev pub with_line : List ℕ → Outlet
 with_line line = output_of line 0 true
+
+-- the table of statuses over such devices
+abbrev pub EndsSo : Status → List (List ℕ) → Inlet → Inlet → Outlet → Outlet → Outlet → Outlet → Type 0
+EndsSo status words i j o p e f = Ends {S = Inlet} {K = Outlet} {E = Outlet} (λ i. i) (λ o. o) (λ e. e) status words i j o p e f

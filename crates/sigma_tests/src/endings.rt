@@ -3,71 +3,73 @@
 
 ghost use Rattle.std.specs.Prelude.{◌≡◌, ◌+◌, ◌≤◌, ℕ, pos, true, false, List, [], ◌∷◌, codes, drop, length, Some};
 ghost use Rattle.sig_base.specs.declared.limits.TheConstants.{TEXT_MAX};
+ghost use Rattle.sig_base.specs.Sink.{Outlet};
+ghost use Rattle.sig_base.specs.Source.{Inlet};
 ghost use Rattle.model_core.specs.EventGraph.{EventGraph};
 ghost use Rattle.model_core.specs.Static.Reading.{Reads, ReadsDocument};
 ghost use Rattle.model_core.specs.Text.Canonical.{canonical};
 ghost use Rattle.model_core.specs.Rules.Reduction.{RuleApplication};
 ghost use Rattle.model_core.specs.Rules.Verdict.{Differs, verdict};
-ghost use Rattle.sigma_top.specs.declared.answer.Answer.TheVariants.{Given};
-ghost use Rattle.sigma_top.specs.declared.status.End.TheVariants as ends;
-ghost use Rattle.sigma_top.specs.declared.status.Status.TheVariants as statuses;
-ghost use Rattle.sigma_top.specs.Delivery.{Inlet, Outlet, Ends};
-ghost use Rattle.sigma_top.specs.RunAnswer.{start_refusal, run_answer};
-ghost use Rattle.sigma_tests.specs.Devices.{input_of, output_of, untouched, with_line};
+ghost use Rattle.job_answers.specs.declared.answer.Answer.TheVariants.{Given};
+ghost use Rattle.job_answers.specs.declared.status.End.TheVariants as ends;
+ghost use Rattle.job_answers.specs.declared.status.Status.TheVariants as statuses;
+ghost use Rattle.job_answers.specs.RunAnswer.{run_answer};
+ghost use Rattle.job_answers.specs.StartingValues.{start_refusal};
+ghost use Rattle.sigma_tests.specs.Devices.{EndsSo, input_of, output_of, untouched, with_line};
 
 /// One ending with each status.
 pub fn calls_end_so()
     ensures done { (text : List ℕ) (g : EventGraph) → Reads text g
-        → Ends statuses.Done (codes "print" ∷ []) (input_of text 0) (input_of [] 0)
+        → EndsSo statuses.Done (codes "print" ∷ []) (input_of text 0) (input_of [] 0)
         (output_of [] 0 false) (output_of (canonical g) 0 true) untouched untouched }
-    ensures refused { Ends statuses.Refused (codes "check" ∷ []) (input_of (codes "?") 0) (input_of [] 0)
+    ensures refused { EndsSo statuses.Refused (codes "check" ∷ []) (input_of (codes "?") 0) (input_of [] 0)
         untouched untouched untouched (with_line (codes "sigma: byte 0: bad byte\n")) }
-    ensures usage { Ends statuses.Usage (codes "chek" ∷ []) (input_of (codes "model") 0) (input_of (codes "model") 0)
+    ensures usage { EndsSo statuses.Usage (codes "chek" ∷ []) (input_of (codes "model") 0) (input_of (codes "model") 0)
         untouched untouched untouched (with_line (codes "sigma: bad command line\n")) }
-    ensures read_fault { Ends statuses.ReadFault (codes "check" ∷ []) (input_of (codes "model") 0) (input_of (codes "el") 1)
+    ensures read_fault { EndsSo statuses.ReadFault (codes "check" ∷ []) (input_of (codes "model") 0) (input_of (codes "el") 1)
         untouched untouched untouched (with_line (codes "sigma: cannot read\n")) }
     ensures write_fault { (text : List ℕ) (g : EventGraph) → Reads text g
-        → Ends statuses.WriteFault (codes "print" ∷ []) (input_of text 0) (input_of [] 0)
+        → EndsSo statuses.WriteFault (codes "print" ∷ []) (input_of text 0) (input_of [] 0)
         (output_of [] 0 true) (output_of (codes "mod") 1 false) untouched (with_line (codes "sigma: cannot write\n")) }
-    ensures no_memory { Ends statuses.NoMemory (codes "print" ∷ []) (input_of (codes "model") 0) (input_of (codes "el") 0)
+    ensures no_memory { EndsSo statuses.NoMemory (codes "print" ∷ []) (input_of (codes "model") 0) (input_of (codes "el") 0)
         untouched untouched untouched (with_line (codes "sigma: out of memory\n")) }
     ensures model_fault { (text bytes : List ℕ) (g : EventGraph) → Reads text g → run_answer g 10 0 5 [] ≡ Given ends.ModelFault bytes
-        → Ends statuses.ModelFault (codes "run" ∷ codes "--until=10" ∷ codes "--seed=0" ∷ codes "--events=5" ∷ []) (input_of text 0) (input_of [] 0)
+        → EndsSo statuses.ModelFault (codes "run" ∷ codes "--until=10" ∷ codes "--seed=0" ∷ codes "--events=5" ∷ []) (input_of text 0) (input_of [] 0)
         (output_of [] 0 false) (output_of bytes 0 true) untouched untouched }
     ensures budget { (text bytes : List ℕ) (g : EventGraph) → Reads text g → run_answer g 10 0 5 [] ≡ Given ends.Budget bytes
-        → Ends statuses.Budget (codes "run" ∷ codes "--until=10" ∷ codes "--seed=0" ∷ codes "--events=5" ∷ []) (input_of text 0) (input_of [] 0)
+        → EndsSo statuses.Budget (codes "run" ∷ codes "--until=10" ∷ codes "--seed=0" ∷ codes "--events=5" ∷ []) (input_of text 0) (input_of [] 0)
         (output_of [] 0 false) (output_of bytes 0 true) untouched untouched }
     ensures rejected { (text : List ℕ) (g h : EventGraph) (applications : List RuleApplication)
         → ReadsDocument text g applications h → verdict g applications h ≡ Differs
-        → Ends statuses.Rejected (codes "certify" ∷ []) (input_of text 0) (input_of [] 0)
+        → EndsSo statuses.Rejected (codes "certify" ∷ []) (input_of text 0) (input_of [] 0)
         (output_of [] 0 false) (output_of (codes "differs\n") 0 true) untouched untouched }
     ensures bad_start { (text line : List ℕ) (g : EventGraph) → Reads text g → start_refusal g (pos 7 ∷ []) ≡ Some line
-        → Ends statuses.BadStart (codes "run" ∷ codes "--until=10" ∷ codes "--seed=0" ∷ codes "--events=5" ∷ codes "--start=7" ∷ []) (input_of text 0) (input_of [] 0)
+        → EndsSo statuses.BadStart (codes "run" ∷ codes "--until=10" ∷ codes "--seed=0" ∷ codes "--events=5" ∷ codes "--start=7" ∷ []) (input_of text 0) (input_of [] 0)
         untouched untouched untouched (with_line line) }
 {}
 
 /// Endings that differ from these in one thing, and never come.
 pub fn calls_never_end_so()
-    ensures done_but_unfinished { (words : List (List ℕ)) (i j : Inlet (Unit {0})) (o e f : Outlet (Unit {0})) (bytes : List ℕ) (faults : ℕ)
-        → Ends statuses.Done words i j o (output_of bytes faults false) e f → ⊥ }
-    ensures done_but_unread { (text rest : List ℕ) (byte : ℕ) (o p e f : Outlet (Unit {0}))
-        → Ends statuses.Done (codes "print" ∷ []) (input_of text 0) (input_of (byte ∷ rest) 0) o p e f → ⊥ }
-    ensures done_but_told { (words : List (List ℕ)) (i j : Inlet (Unit {0})) (o p : Outlet (Unit {0})) (byte : ℕ) (rest : List ℕ)
-        → Ends statuses.Done words i j o p untouched (with_line (byte ∷ rest)) → ⊥ }
-    ensures refused_but_read_too_far { (text : List ℕ) (o p e f : Outlet (Unit {0})) → TEXT_MAX + 2 ≤ length text
-        → Ends statuses.Refused (codes "check" ∷ []) (input_of text 0) (input_of (drop (TEXT_MAX + 2) text) 0) o p e f → ⊥ }
-    ensures refused_but_written { (words : List (List ℕ)) (i j : Inlet (Unit {0})) (byte : ℕ) (rest : List ℕ) (e f : Outlet (Unit {0}))
-        → Ends statuses.Refused words i j untouched (output_of (byte ∷ rest) 0 true) e f → ⊥ }
-    ensures usage_but_read { (words : List (List ℕ)) (byte : ℕ) (o p e f : Outlet (Unit {0}))
-        → Ends statuses.Usage words (input_of (byte ∷ []) 0) (input_of [] 0) o p e f → ⊥ }
-    ensures usage_but_untold { (words : List (List ℕ)) (i j : Inlet (Unit {0})) (o p : Outlet (Unit {0}))
-        → Ends statuses.Usage words i j o p untouched untouched → ⊥ }
-    ensures read_fault_but_read_too_far { (text : List ℕ) (o p e f : Outlet (Unit {0})) → TEXT_MAX + 2 ≤ length text
-        → Ends statuses.ReadFault (codes "check" ∷ []) (input_of text 0) (input_of (drop (TEXT_MAX + 2) text) 1) o p e f → ⊥ }
-    ensures read_fault_but_none_failed { (words : List (List ℕ)) (text rest : List ℕ) (o p e f : Outlet (Unit {0}))
-        → Ends statuses.ReadFault words (input_of text 0) (input_of rest 0) o p e f → ⊥ }
-    ensures write_fault_but_finished { (i j : Inlet (Unit {0})) (o e f : Outlet (Unit {0})) (bytes : List ℕ) (faults : ℕ)
-        → Ends statuses.WriteFault (codes "print" ∷ []) i j o (output_of bytes faults true) e f → ⊥ }
-    ensures no_memory_but_read_too_far { (text : List ℕ) (o p e f : Outlet (Unit {0})) → TEXT_MAX + 2 ≤ length text
-        → Ends statuses.NoMemory (codes "check" ∷ []) (input_of text 0) (input_of (drop (TEXT_MAX + 2) text) 0) o p e f → ⊥ }
+    ensures done_but_unfinished { (words : List (List ℕ)) (i j : Inlet) (o e f : Outlet) (bytes : List ℕ) (faults : ℕ)
+        → EndsSo statuses.Done words i j o (output_of bytes faults false) e f → ⊥ }
+    ensures done_but_unread { (text rest : List ℕ) (byte : ℕ) (o p e f : Outlet)
+        → EndsSo statuses.Done (codes "print" ∷ []) (input_of text 0) (input_of (byte ∷ rest) 0) o p e f → ⊥ }
+    ensures done_but_told { (words : List (List ℕ)) (i j : Inlet) (o p : Outlet) (byte : ℕ) (rest : List ℕ)
+        → EndsSo statuses.Done words i j o p untouched (with_line (byte ∷ rest)) → ⊥ }
+    ensures refused_but_read_too_far { (text : List ℕ) (o p e f : Outlet) → TEXT_MAX + 2 ≤ length text
+        → EndsSo statuses.Refused (codes "check" ∷ []) (input_of text 0) (input_of (drop (TEXT_MAX + 2) text) 0) o p e f → ⊥ }
+    ensures refused_but_written { (words : List (List ℕ)) (i j : Inlet) (byte : ℕ) (rest : List ℕ) (e f : Outlet)
+        → EndsSo statuses.Refused words i j untouched (output_of (byte ∷ rest) 0 true) e f → ⊥ }
+    ensures usage_but_read { (words : List (List ℕ)) (byte : ℕ) (o p e f : Outlet)
+        → EndsSo statuses.Usage words (input_of (byte ∷ []) 0) (input_of [] 0) o p e f → ⊥ }
+    ensures usage_but_untold { (words : List (List ℕ)) (i j : Inlet) (o p : Outlet)
+        → EndsSo statuses.Usage words i j o p untouched untouched → ⊥ }
+    ensures read_fault_but_read_too_far { (text : List ℕ) (o p e f : Outlet) → TEXT_MAX + 2 ≤ length text
+        → EndsSo statuses.ReadFault (codes "check" ∷ []) (input_of text 0) (input_of (drop (TEXT_MAX + 2) text) 1) o p e f → ⊥ }
+    ensures read_fault_but_none_failed { (words : List (List ℕ)) (text rest : List ℕ) (o p e f : Outlet)
+        → EndsSo statuses.ReadFault words (input_of text 0) (input_of rest 0) o p e f → ⊥ }
+    ensures write_fault_but_finished { (i j : Inlet) (o e f : Outlet) (bytes : List ℕ) (faults : ℕ)
+        → EndsSo statuses.WriteFault (codes "print" ∷ []) i j o (output_of bytes faults true) e f → ⊥ }
+    ensures no_memory_but_read_too_far { (text : List ℕ) (o p e f : Outlet) → TEXT_MAX + 2 ≤ length text
+        → EndsSo statuses.NoMemory (codes "check" ∷ []) (input_of text 0) (input_of (drop (TEXT_MAX + 2) text) 0) o p e f → ⊥ }
 {}

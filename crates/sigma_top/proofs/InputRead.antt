@@ -2,9 +2,9 @@
 use Rattle.std.proofs.Common.{◌≡◌, ℕ, ◌+◌, ◌≤◌, ◌<◌, Result, Ok, Err, List, [], length, drop, Option, Some, None, sym, ap, ◌∙◌, arith}
 use Rattle.std.specs.Prelude.{IfSome}
 use Rattle.std.proofs.lemmas.List.{drop_all}
-use Rattle.sig_base.specs.Source.{Takes}
-use Rattle.sigma_top.specs.Answer.{IsWithin, IsOver}
-use Rattle.sigma_top.specs.Delivery.{Inlet, text_of, IsReadToEnd, IsReadThrough, IsReadInPart}
+use Rattle.sig_base.specs.Source.{Inlet, Takes}
+use Rattle.job_answers.specs.Answers.{IsWithin, IsOver}
+use Rattle.sigma_top.specs.StatusTable.{text_of, IsReadToEnd, IsReadThrough, IsReadInPart}
 
 -- ---- what the take of all bytes says, clause by clause
 
@@ -48,13 +48,13 @@ part_of_through : (left now : Option (List ℕ)) (limit : ℕ) → IfSome left (
 part_of_through None now limit read = tt
 part_of_through (Some bytes) now limit read = (limit + 1, omega arith, read)
 
-module _ {S : Type 0} (i j : Inlet S) where
+module _ {S : Type 0} (seen : S → Inlet) (i j : S) where
   -- a text within the limit that was read to its end was read through
-  pub read_through : (limit : Option ℕ) (text : List ℕ) → IfSome (text_of limit i.left) (λ bytes. text ≡ bytes) → IsWithin limit text → IsReadToEnd limit i j → IsReadThrough limit i j
+  pub read_through : (limit : Option ℕ) (text : List ℕ) → IfSome (text_of limit (seen i).left) (λ bytes. text ≡ bytes) → IsWithin limit text → IsReadToEnd seen limit i j → IsReadThrough seen limit i j
   read_through None text same within read = read
-  read_through (Some limit) text same within read = through_to_end i.left j.left limit text same within read
+  read_through (Some limit) text same within read = through_to_end (seen i).left (seen j).left limit text same within read
 
   -- what was read through was read in part
-  pub read_in_part : (limit : Option ℕ) → IsReadThrough limit i j → IsReadInPart limit i j
+  pub read_in_part : (limit : Option ℕ) → IsReadThrough seen limit i j → IsReadInPart seen limit i j
   read_in_part None read = read
-  read_in_part (Some limit) read = part_of_through i.left j.left limit read
+  read_in_part (Some limit) read = part_of_through (seen i).left (seen j).left limit read

@@ -1,133 +1,37 @@
 -- From the text that was taken, and the answer to it, to how the job ended.
-use Rattle.std.proofs.Common.{◌≡◌, ◌⊎◌, inl, inr, ℕ, zero, suc, ◌+◌, ◌<◌, ◌≤◌, true, false, List, [], ◌∷◌, ◌++◌, length, Option, Some, None, Result, Ok, Err, refl, sym, subst, arith}
-use Rattle.std.specs.Prelude.{IfSome, codes, decimal}
-use Rattle.sig_base.specs.declared.limits.TheConstants.{TEXT_MAX, DOCUMENT_MAX}
-use Rattle.std.proofs.lemmas.List.{length-append, append-nil}
-use Rattle.model_core.specs.EventGraph.{EventGraph}
-use Rattle.model_core.specs.Run.Machine.{Look}
-use Rattle.model_core.specs.Run.History.{look}
-use Rattle.model_core.specs.Text.Canonical.{canonical}
-use Rattle.model_core.specs.Rules.Certificate.{certificate}
-use Rattle.model_core.specs.Rules.Verdict.{Verdict, Sound, Rejected, Differs, verdict}
-use Rattle.run_laws.proofs.HistoryBytes.{history_has_bytes}
-use Rattle.sigma_top.specs.declared.answer.Answer.{Answer}
-use Rattle.sigma_top.specs.declared.answer.Answer.TheVariants.{Given, Refused}
-use Rattle.sigma_top.specs.declared.delivering.Said.{Said}
-use Rattle.sigma_top.specs.declared.delivering.Said.TheVariants as said
-use Rattle.sigma_top.specs.declared.reading.Taken.{Taken}
-use Rattle.sigma_top.specs.declared.reading.Taken.TheVariants as taken
-use Rattle.sigma_top.specs.declared.job.Job.{Job}
-use Rattle.sigma_top.specs.declared.job.Job.TheVariants as jobs
-use Rattle.sigma_top.specs.declared.status.End.{End}
-use Rattle.sigma_top.specs.declared.status.Refusal.{Refusal}
-use Rattle.sigma_top.specs.declared.status.Failure.{Failure}
-use Rattle.sigma_top.specs.declared.status.Failure.TheVariants as failures
-use Rattle.sigma_top.specs.Answer.{done, refused, too_long, accepted_line, Reduces, AnswersModel, AnswersText, AnswersJob, MayStopShort, HasNothingToWrite, IsWithin, IsOver}
-use Rattle.sigma_top.specs.CertifyAnswer.{answer_of_verdict, AnswersDocument}
-use Rattle.sigma_top.specs.RunAnswer.{start_refusal, told_of, refused_or}
-use Rattle.sigma_top.specs.Delivery.{Inlet, Outlet, text_of, IsReadThrough, AnswersInput, HasBegun}
-use Rattle.sigma_top.specs.Inner.Frame.{TakesText, StopsShort, Answering, Performs}
-use Rattle.sigma_top.specs.Jobs.{limit_of, reads_document}
+use Rattle.std.proofs.Common.{◌≡◌, ◌≢◌, ◌⊎◌, inl, inr, ℕ, zero, suc, ◌+◌, ◌<◌, List, [], ◌∷◌, length, Option, Some, None, Result, Ok, Err, refl, sym, ap, subst, arith}
+use Rattle.std.specs.Prelude.{IfOk, IfSome, MatchResult}
+use Rattle.sig_base.specs.declared.no_memory.NoMemory.{NoMemory}
+use Rattle.sig_base.specs.Sink.{Outlet}
+use Rattle.sig_base.specs.Source.{Inlet}
+use Rattle.command_words.specs.declared.reading.Reading.{Reading}
+use Rattle.command_words.specs.declared.reading.Reading.TheVariants as readings
+use Rattle.command_words.specs.Readings.{limit_of}
+use Rattle.job_answers.specs.declared.answer.Answer.{Answer}
+use Rattle.job_answers.specs.declared.answer.Answer.TheVariants.{Given, Refused}
+use Rattle.job_answers.specs.declared.delivering.Said.{Said}
+use Rattle.job_answers.specs.declared.delivering.Said.TheVariants as said
+use Rattle.job_answers.specs.declared.status.End.{End}
+use Rattle.job_answers.specs.declared.status.Refusal.{Refusal}
+use Rattle.job_answers.specs.declared.status.Failure.{Failure}
+use Rattle.job_answers.specs.declared.status.Failure.TheVariants as failures
+use Rattle.job_answers.specs.AnswerForms.{refused, too_long}
+use Rattle.job_answers.specs.AnswerLaws.{KeepsAnswerLaws}
+use Rattle.job_answers.specs.Answers.{Responds, MayStopShort, HasNothingToWrite, IsOver}
+use Rattle.job_answers.specs.Delivery.{Delivers, DeliversSome}
+use Rattle.sigma_top.specs.declared.text_taking.Taken.{Taken}
+use Rattle.sigma_top.specs.declared.text_taking.Taken.TheVariants as taken
+use Rattle.sigma_top.specs.StatusTable.{text_of, IsReadThrough, RepliesToInput, HasBegun}
+use Rattle.sigma_top.specs.Inner.Frame.{TakesText, Performs}
 use Rattle.sigma_top.proofs.InputRead.{read_through, read_in_part}
 
 -- ---- an answer that is given has bytes, unless its job may have none
 
-pub given_is_no_refusal : {end : End} {bytes line : List ℕ} {why : Refusal} → Given end bytes ≡ Refused why line → ⊥
-given_is_no_refusal e = cc
-
-pub given_bytes : {end other : End} {bytes out : List ℕ} → Given end bytes ≡ Given other out → bytes ≡ out
-given_bytes e = cc
-
-begins_with : (front behind later : List ℕ) → 0 < length front → 0 < length ((front ++ behind) ++ later)
-begins_with front behind later some = omega (arith, length-append (front ++ behind) later, length-append front behind, some)
-
--- a canonical text begins with its first word
-canonical_has_bytes : (g : EventGraph) (behind : List ℕ) → 0 < length (canonical g ++ behind)
-canonical_has_bytes g behind = begins_with (codes "model ") _ behind (omega arith)
-
-reduced_has_bytes : (g : EventGraph) (out : List ℕ) → Reduces g out → 0 < length out
-reduced_has_bytes g out r = subst (λ (bytes : List ℕ). 0 < length bytes) (sym r.written) (canonical_has_bytes r.reduced (certificate r.applications))
-
-accepted_has_bytes : (g : EventGraph) → 0 < length (accepted_line g)
-accepted_has_bytes g = begins_with (codes "accepted ") g.name (codes "\n") (omega arith)
-
-written_has_bytes : (bytes : List ℕ) (end : End) (out : List ℕ) → 0 < length out → Given end bytes ≡ done out → 0 < length bytes
-written_has_bytes bytes end out some is = subst (λ (b : List ℕ). 0 < length b) (sym (given_bytes is)) some
-
--- a run that begins has a history
-told_has_bytes : (g : EventGraph) (until events : ℕ) (refusal : Option (List ℕ)) (seen : Look) (end : End) (bytes : List ℕ) → Given end bytes ≡ refused_or refusal (told_of g until events seen) → 0 < length bytes
-told_has_bytes g until events (Some line) seen end bytes h = absurd (given_is_no_refusal h)
-told_has_bytes g until events None seen end bytes h = subst (λ (b : List ℕ). 0 < length b) (sym (given_bytes h)) (history_has_bytes g until events seen)
-
-none_or_some : (bytes : List ℕ) → (bytes ≡ []) ⊎ (0 < length bytes)
-none_or_some [] = inl refl
-none_or_some (b ∷ bytes) = inr (omega arith)
-
--- of whatever model a job writes at least a byte, but for the one that may have none
-model_has_bytes : (job : Job) (g : EventGraph) (end : End) (bytes : List ℕ) → AnswersModel job g (Given end bytes) → HasNothingToWrite job bytes ⊎ (0 < length bytes)
-model_has_bytes jobs.Check g end bytes h = inr (written_has_bytes bytes end (accepted_line g) (accepted_has_bytes g) h)
-model_has_bytes jobs.Print g end bytes h = inr (written_has_bytes bytes end (canonical g) (subst (λ (b : List ℕ). 0 < length b) (append-nil (canonical g)) (canonical_has_bytes g [])) h)
-model_has_bytes jobs.Reduce g end bytes h = inr (written_has_bytes bytes end h.0 (reduced_has_bytes g h.0 h.1) h.2)
-model_has_bytes jobs.Uses g end bytes h = none_or_some bytes
-model_has_bytes jobs.Certify g end bytes h = absurd h
-model_has_bytes (jobs.Run until seed events starts room) g end bytes h = inr (told_has_bytes g until events (start_refusal g starts) (look g seed starts until events) end bytes h)
-
-text_has_bytes : (job : Job) (text : List ℕ) (end : End) (bytes : List ℕ) → AnswersText job text (Given end bytes) → HasNothingToWrite job bytes ⊎ (0 < length bytes)
-text_has_bytes job text end bytes (inl h) = absurd (given_is_no_refusal h.told)
-text_has_bytes job text end bytes (inr h) = model_has_bytes job h.0 end bytes h.2
-
--- and so it does of whatever document
-verdict_has_bytes : (v : Verdict) (end : End) (bytes : List ℕ) → Given end bytes ≡ answer_of_verdict v → 0 < length bytes
-verdict_has_bytes Sound end bytes h = subst (λ (b : List ℕ). 0 < length b) (sym (given_bytes h)) (omega arith)
-verdict_has_bytes (Rejected line) end bytes h = subst (λ (b : List ℕ). 0 < length b) (sym (given_bytes h)) (begins_with (codes "rejected ") (decimal line) (codes "\n") (omega arith))
-verdict_has_bytes Differs end bytes h = subst (λ (b : List ℕ). 0 < length b) (sym (given_bytes h)) (omega arith)
-
-document_has_bytes : (text : List ℕ) (end : End) (bytes : List ℕ) → AnswersDocument text (Given end bytes) → 0 < length bytes
-document_has_bytes text end bytes (inl h) = absurd (given_is_no_refusal h.told)
-document_has_bytes text end bytes (inr h) = verdict_has_bytes (verdict h.original h.applications h.reduced) end bytes h.told
-
-given_has_bytes : (job : Job) (text : List ℕ) (end : End) (bytes : List ℕ) → AnswersJob job text (Given end bytes) → HasNothingToWrite job bytes ⊎ (0 < length bytes)
-given_has_bytes jobs.Certify text end bytes h = inr (document_has_bytes text end bytes h)
-given_has_bytes jobs.Check text end bytes h = text_has_bytes jobs.Check text end bytes h
-given_has_bytes jobs.Print text end bytes h = text_has_bytes jobs.Print text end bytes h
-given_has_bytes jobs.Reduce text end bytes h = text_has_bytes jobs.Reduce text end bytes h
-given_has_bytes jobs.Uses text end bytes h = text_has_bytes jobs.Uses text end bytes h
-given_has_bytes (jobs.Run until seed events starts room) text end bytes h = text_has_bytes (jobs.Run until seed events starts room) text end bytes h
-
--- ---- a job that reads a model answers its text
-
-pub answers_text : (job : Job) (text : List ℕ) → reads_document job ≡ false → (a : Answer) → AnswersText job text a → AnswersJob job text a
-answers_text jobs.Certify text e a h = absurd cc
-answers_text jobs.Check text e a h = h
-answers_text jobs.Print text e a h = h
-answers_text jobs.Reduce text e a h = h
-answers_text jobs.Uses text e a h = h
-answers_text (jobs.Run until seed events starts room) text e a h = h
-
--- a document that a job reads is within its limit, and its answer is that of the job
-pub answers_document : (job : Job) (text : List ℕ) → reads_document job ≡ true → (a : Answer) → AnswersDocument text a → AnswersJob job text a
-answers_document jobs.Certify text e a h = h
-answers_document jobs.Check text e a h = absurd cc
-answers_document jobs.Print text e a h = absurd cc
-answers_document jobs.Reduce text e a h = absurd cc
-answers_document jobs.Uses text e a h = absurd cc
-answers_document (jobs.Run until seed events starts room) text e a h = absurd cc
-
-pub document_within : (job : Job) (text : List ℕ) → reads_document job ≡ true → IsWithin (limit_of job) text → length text ≤ DOCUMENT_MAX
-document_within jobs.Certify text e within = within
-document_within jobs.Check text e within = absurd cc
-document_within jobs.Print text e within = absurd cc
-document_within jobs.Reduce text e within = absurd cc
-document_within jobs.Uses text e within = absurd cc
-document_within (jobs.Run until seed events starts room) text e within = absurd cc
-
-pub text_within : (job : Job) (text : List ℕ) → reads_document job ≡ false → IsWithin (limit_of job) text → length text ≤ TEXT_MAX
-text_within jobs.Certify text e within = absurd cc
-text_within jobs.Check text e within = within
-text_within jobs.Print text e within = within
-text_within jobs.Reduce text e within = within
-text_within jobs.Uses text e within = within
-text_within (jobs.Run until seed events starts room) text e within = within
+given_has_bytes : (reading : Reading) → KeepsAnswerLaws reading → (text : List ℕ) (end : End) (bytes : List ℕ) → Responds reading text (Given end bytes) → HasNothingToWrite reading bytes ⊎ (0 < length bytes)
+given_has_bytes (readings.Model job) laws text end bytes (inl h) = let e = h.told in absurd cc
+given_has_bytes (readings.Model job) laws text end bytes (inr h) = laws.has_bytes h.0 end bytes h.2
+given_has_bytes (readings.Document job) laws text end bytes (inl h) = let e = h.told in absurd cc
+given_has_bytes (readings.Document job) laws text end bytes (inr h) = laws.has_bytes (h.original, h.applications, h.reduced) end bytes h.told
 
 -- ---- the answer to the text is that to the input
 
@@ -146,71 +50,97 @@ long_text None left over = absurd over
 long_text (Some limit) None over = (zeros (limit + 1), tt, omega (arith, zeros-length (limit + 1)))
 long_text (Some limit) (Some bytes) over = (bytes, refl, over)
 
-refused_long : {S : Type 0} (job : Job) (i : Inlet S) (a : Answer) → IfSome (text_of (limit_of job) i.left) (IsOver (limit_of job)) → a ≡ refused too_long → AnswersInput job i a
-refused_long job i a over is = let long = long_text (limit_of job) i.left over in record { text = long.0; told = long.1; answers = inl (long.2, is) }
+refused_long : (reading : Reading) (i : Inlet) → IfSome (text_of (limit_of reading) i.left) (IsOver (limit_of reading)) → RepliesToInput reading i (refused too_long)
+refused_long reading i over = let long = long_text (limit_of reading) i.left over in record { text = long.0; told = long.1; answers = inl (long.2, refl) }
 
 -- what was taken up to a limit that is the job's
-pub taken_as : {S : Type 0} (job : Job) (i j : Inlet S) (limit : Option ℕ) (r s : Result Taken Failure) → limit ≡ limit_of job → r ≡ s → TakesText limit r i j → TakesText (limit_of job) s i j
-taken_as job i j limit r s known is h = subst (λ (l : Option ℕ). TakesText l s i j) known (subst (λ (x : Result Taken Failure). TakesText limit x i j) is h)
+pub taken_as : {S : Type 0} (source : S → Inlet) (reading : Reading) (i j : S) (limit : Option ℕ) (r s : Result Taken Failure) → limit ≡ limit_of reading → r ≡ s → TakesText source limit r i j → TakesText source (limit_of reading) s i j
+taken_as source reading i j limit r s known is h = subst (λ (l : Option ℕ). TakesText source l s i j) known (subst (λ (x : Result Taken Failure). TakesText source limit x i j) is h)
 
-module _ {S K : Type 0} (job : Job) (i j : Inlet S) (o : Outlet K) where
+module _ {S K : Type 0} (source : S → Inlet) (sink : K → Outlet) (reading : Reading) (i j : S) (o : K) where
   -- no text was taken
-  pub not_taken : (f : Failure) → TakesText (limit_of job) (Err f) i j → Performs job (Err f) i j o o
+  pub not_taken : (f : Failure) → TakesText source (limit_of reading) (Err f) i j → Performs source sink reading (Err f) i j o o
   not_taken failures.Usage h = absurd h
   not_taken failures.ReadFault h = record { reads_text = h.0; input_read = h.1; input_failed = h.2; output_untouched = refl }
   not_taken failures.WriteFault h = absurd h
   not_taken failures.NoMemory h = record { input_read = h.0; input_steady = h.1; output_grown = inl refl; output_steady = refl }
 
-  module _ (p : Outlet K) where
-    -- a refusal isn't begun
-    unbegun : (p ≡ o) ⊎ StopsShort (λ a. a ≡ refused too_long) ⊥ o p → (p ≡ o) ⊎ HasBegun job i o p
-    unbegun (inl same) = inl same
-    unbegun (inr x) = absurd x.short
+  module _ (p : K) where
+    -- ---- the text is over the limit
 
-    -- the text is over the limit
-    pub performed_long : TakesText (limit_of job) (Ok taken.TooLong) i j → (r : Result Said Failure) → Answering (λ a. a ≡ refused too_long) ⊥ r o p → Performs job r i j o p
-    performed_long h (Ok (said.Gave end)) k = absurd (given_is_no_refusal k.answers)
-    performed_long h (Ok (said.Refused why line)) k =
-        record { answer = refused_long job i (Refused why line) h.0 k.0; input_read = h.1; input_steady = h.2; output_untouched = k.1 }
-    performed_long h (Err failures.WriteFault) k = absurd (given_is_no_refusal k.answers)
-    performed_long h (Err failures.NoMemory) k =
-        record { input_read = read_in_part i j (limit_of job) h.1; input_steady = h.2; output_grown = unbegun k.0; output_steady = k.1 }
-    performed_long h (Err failures.Usage) k = absurd k
-    performed_long h (Err failures.ReadFault) k = absurd k
-
-    module _ (text : List ℕ) (h : TakesText (limit_of job) (Ok (taken.Whole text)) i j) where
-      answers_input : (a : Answer) → AnswersJob job text a → AnswersInput job i a
-      answers_input a x = record { text = text; told = h.0; answers = inr (h.1, x) }
-
-      through : IsReadThrough (limit_of job) i j
-      through = read_through i j (limit_of job) text h.0 h.1 h.2
-
-      begun : (p ≡ o) ⊎ StopsShort (AnswersJob job text) (MayStopShort job text) o p → (p ≡ o) ⊎ HasBegun job i o p
-      begun (inl same) = inl same
-      begun (inr x) = inr (record { end = x.end; bytes = x.bytes; answer = record { text = text; told = h.0; answers = inr (h.1, x.answers) }; short = x.short; output_grown = x.grown })
-
-      -- the text was answered
-      pub performed : (r : Result Said Failure) → Answering (AnswersJob job text) (MayStopShort job text) r o p → Performs job r i j o p
-      performed (Ok (said.Gave end)) k = record {
-        bytes = k.bytes;
-        answer = answers_input (Given end k.bytes) k.answers;
-        input_read = h.2;
-        input_steady = h.3;
-        output_grown = k.grown;
-        output_settled = k.settled;
-        output_steady = k.steady;
+    module _ (h : TakesText source (limit_of reading) (Ok taken.TooLong) i j) where
+      long_told : (r : Result Said Failure) → Delivers sink (refused too_long) r o p → Performs source sink reading r i j o p
+      long_told (Ok (said.Gave end)) k = absurd k
+      long_told (Ok (said.Refused why line)) k = record {
+        answer = subst (λ (w : Refusal). RepliesToInput reading (source i) (Refused w line)) (sym k.0) (subst (λ (l : List ℕ). RepliesToInput reading (source i) (refused l)) (sym k.1) (refused_long reading (source i) h.0));
+        input_read = h.1;
+        input_steady = h.2;
+        output_untouched = k.2;
       }
-      performed (Ok (said.Refused why line)) k = record { answer = answers_input (Refused why line) k.0; input_read = through; input_steady = h.3; output_untouched = k.1 }
-      performed (Err failures.WriteFault) k = record {
-        end = k.end;
-        bytes = k.bytes;
-        answer = answers_input (Given k.end k.bytes) k.answers;
+      long_told (Err f) k = absurd k
+
+      short_of_memory : p ≡ o → Performs source sink reading (Err failures.NoMemory) i j o p
+      short_of_memory same = record { input_read = read_in_part source i j (limit_of reading) h.1; input_steady = h.2; output_grown = inl same; output_steady = ap (λ (k : K). (sink k).faults) same }
+
+      pub performed_long : (made : Result Answer NoMemory) (r : Result Said Failure) → IfOk made (λ a. a ≡ refused too_long)
+          → MatchResult made (λ a. Delivers sink a r o p × (r ≢ Err failures.NoMemory)) (λ e. (r ≡ Err failures.NoMemory) × (p ≡ o)) → Performs source sink reading r i j o p
+      performed_long (Ok a) r is k = long_told r (subst (λ (b : Answer). Delivers sink b r o p) is k.0)
+      performed_long (Err e) r is k = subst (λ (x : Result Said Failure). Performs source sink reading x i j o p) (sym k.0) (short_of_memory k.1)
+
+    -- ---- the text was answered
+
+    module _ (laws : KeepsAnswerLaws reading) (text : List ℕ) (h : TakesText source (limit_of reading) (Ok (taken.Whole text)) i j) where
+      replies : (a : Answer) → Responds reading text a → RepliesToInput reading (source i) a
+      replies a x = record { text = text; told = h.0; answers = inr (h.1, x) }
+
+      through : IsReadThrough source (limit_of reading) i j
+      through = read_through source i j (limit_of reading) text h.0 h.1 h.2
+
+      in_memory : (a : Answer) (r : Result Said Failure) → Responds reading text a → Delivers sink a r o p → (r ≡ Err failures.NoMemory → (p ≡ o) ⊎ MayStopShort reading text) → Performs source sink reading r i j o p
+      in_memory (Given end bytes) (Ok (said.Gave other)) x k short = record {
+        bytes = bytes;
+        answer = subst (λ (e : End). RepliesToInput reading (source i) (Given e bytes)) (sym k.0) (replies (Given end bytes) x);
+        input_read = h.2;
+        input_steady = h.3;
+        output_grown = k.1.grown;
+        output_settled = k.1.settled;
+        output_steady = k.1.steady;
+      }
+      in_memory (Given end bytes) (Ok (said.Refused why line)) x k short = absurd k
+      in_memory (Given end bytes) (Err failures.WriteFault) x k short = record {
+        end = end;
+        bytes = bytes;
+        answer = replies (Given end bytes) x;
         input_read = h.2;
         input_steady = h.3;
         output_grown = k.grown;
-        output_unsettled = elim (given_has_bytes job text k.end k.bytes k.answers) [ inl none ↦ inl none | inr some ↦ inr (k.unsettled some) ];
+        output_unsettled = elim (given_has_bytes reading laws text end bytes x) [ inl none ↦ inl none | inr some ↦ inr (k.unsettled some) ];
         output_failed = k.failed;
       }
-      performed (Err failures.NoMemory) k = record { input_read = read_in_part i j (limit_of job) through; input_steady = h.3; output_grown = begun k.0; output_steady = k.1 }
-      performed (Err failures.Usage) k = absurd k
-      performed (Err failures.ReadFault) k = absurd k
+      in_memory (Given end bytes) (Err failures.NoMemory) x k short = record {
+        input_read = read_in_part source i j (limit_of reading) through;
+        input_steady = h.3;
+        output_grown = begun (short refl);
+        output_steady = k.steady;
+      }
+        where
+          begun : (p ≡ o) ⊎ MayStopShort reading text → (p ≡ o) ⊎ HasBegun source sink reading i o p
+          begun (inl same) = inl same
+          begun (inr may) = inr (record { end = end; bytes = bytes; answer = record { text = text; told = h.0; answers = inr (h.1, x) }; short = may; output_grown = k.grown })
+      in_memory (Given end bytes) (Err failures.Usage) x k short = absurd k
+      in_memory (Given end bytes) (Err failures.ReadFault) x k short = absurd k
+      in_memory (Refused why line) (Ok (said.Gave end)) x k short = absurd k
+      in_memory (Refused why line) (Ok (said.Refused other told)) x k short = record {
+        answer = subst (λ (w : Refusal). RepliesToInput reading (source i) (Refused w told)) (sym k.0) (subst (λ (l : List ℕ). RepliesToInput reading (source i) (Refused why l)) (sym k.1) (replies (Refused why line) x));
+        input_read = through;
+        input_steady = h.3;
+        output_untouched = k.2;
+      }
+      in_memory (Refused why line) (Err f) x k short = absurd k
+
+      without_answer : p ≡ o → Performs source sink reading (Err failures.NoMemory) i j o p
+      without_answer same = record { input_read = read_in_part source i j (limit_of reading) through; input_steady = h.3; output_grown = inl same; output_steady = ap (λ (k : K). (sink k).faults) same }
+
+      pub performed : (r : Result Said Failure) → DeliversSome sink (Responds reading text) (MayStopShort reading text) r o p → Performs source sink reading r i j o p
+      performed r (inl one) = in_memory one.answer r one.holds one.delivers one.short
+      performed r (inr none) = subst (λ (x : Result Said Failure). Performs source sink reading x i j o p) (sym none.0) (without_answer none.1)

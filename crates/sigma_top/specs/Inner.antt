@@ -1,7 +1,2 @@
 -- The code of this crate, restated for its proofs. No public clause cites these, and nobody has to believe them.
-pub mod ArgumentViews
-pub mod Asking
 pub mod Frame
-pub mod Refusals
-pub mod RunSteps
-pub mod TextLaws

@@ -1,12 +1,2 @@
-pub mod Arguments
-pub mod ArgumentValues
-pub mod Jobs
-pub mod Ending
-pub mod Complaints
-pub mod RunAnswer
-pub mod DocumentComplaints
-pub mod CertifyAnswer
-pub mod Answer
-pub mod Delivery
-pub mod Unreadable
+pub mod StatusTable
 pub mod Inner

@@ -1,9 +1,9 @@
 -- The exit status 0 is that of one status alone.
 use Rattle.std.proofs.Common.{◌≡◌, ℕ, Result, Ok, Err, refl, sym, ◌∙◌}
 use Rattle.std.specs.Prelude.{IfOk}
-use Rattle.sigma_top.specs.declared.status.Status.{Status}
-use Rattle.sigma_top.specs.declared.status.Status.TheVariants as statuses
-use Rattle.sigma_top.specs.Ending.{exit_status_of}
+use Rattle.job_answers.specs.declared.status.Status.{Status}
+use Rattle.job_answers.specs.declared.status.Status.TheVariants as statuses
+use Rattle.job_answers.specs.Statuses.{exit_status_of}
 use Rattle.sigma_cli.proofs.program.program.Goals as goal
 
 is_done : (status : Status) → exit_status_of status ≡ 0 → status ≡ statuses.Done

@@ -5,12 +5,12 @@ use Rattle.std.proofs.lemmas.List.{length-append, drop_all}
 use Rattle.sig_base.specs.declared.limits.TheConstants.{TEXT_MAX}
 use Rattle.model_core.specs.Run.History.{look}
 use Rattle.model_core.specs.Text.Canonical.{canonical}
-use Rattle.sigma_top.specs.declared.complaint.Complaint.TheVariants as complaints
-use Rattle.sigma_top.specs.declared.job.Job.TheVariants as jobs
-use Rattle.sigma_top.specs.declared.job.TheConstants.{ROOM_USUAL}
-use Rattle.sigma_top.specs.declared.status.End.TheVariants as ends
-use Rattle.sigma_top.specs.RunAnswer.{refused_or, told_of}
-use Rattle.sigma_top.specs.CertifyAnswer.{answer_of_verdict}
+use Rattle.command_words.specs.declared.job.Job.TheVariants as jobs
+use Rattle.command_words.specs.declared.run_options.TheConstants.{ROOM_USUAL}
+use Rattle.job_answers.specs.declared.complaint.Complaint.TheVariants as complaints
+use Rattle.job_answers.specs.declared.status.End.TheVariants as ends
+use Rattle.job_answers.specs.RunAnswer.{refused_or, told_of}
+use Rattle.job_answers.specs.CertifyAnswer.{answer_of_verdict}
 use Rattle.sigma_tests.proofs.endings.calls_end_so.Goals as goal
 
 no_shorter : (front later : List ℕ) → length front ≤ length (front ++ later)

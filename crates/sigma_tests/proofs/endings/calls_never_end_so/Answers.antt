@@ -4,13 +4,24 @@ use Rattle.std.proofs.lemmas.List.{length-drop}
 use Rattle.std.proofs.lemmas.Option.{same_Some}
 use Rattle.sig_base.specs.declared.limits.TheConstants.{TEXT_MAX}
 use Rattle.sig_base.specs.Faults.{HasRisen}
-use Rattle.sigma_top.specs.declared.job.Job.{Job}
-use Rattle.sigma_top.specs.declared.job.Job.TheVariants as jobs
-use Rattle.sigma_top.specs.declared.status.End.TheVariants as ends
-use Rattle.sigma_top.specs.declared.status.Refusal.TheVariants as refusals
-use Rattle.sigma_top.specs.Delivery.{Outlet, WritesAnswer, Refuses, FailsToRead, FailsToWrite, LacksMemory, ForJob}
+use Rattle.sig_base.specs.Sink.{Outlet}
+use Rattle.sig_base.specs.Source.{Inlet}
+use Rattle.command_words.specs.declared.job.Job.{Job}
+use Rattle.command_words.specs.declared.job.Job.TheVariants as jobs
+use Rattle.command_words.specs.declared.reading.Reading.{Reading}
+use Rattle.command_words.specs.Readings.{reading_of}
+use Rattle.job_answers.specs.declared.status.End.TheVariants as ends
+use Rattle.job_answers.specs.declared.status.Refusal.TheVariants as refusals
+use Rattle.sigma_top.specs.StatusTable.{WritesAnswer, Refuses, FailsToRead, FailsToWrite, LacksMemory, ForJob}
 use Rattle.sigma_tests.specs.Devices.{input_of, output_of}
 use Rattle.sigma_tests.proofs.endings.calls_never_end_so.Goals as goal
+
+-- what is seen of a device is the device
+abbrev inlet : Inlet → Inlet
+inlet i = i
+
+abbrev outlet : Outlet → Outlet
+outlet o = o
 
 unsettled : false ≡ true → ⊥
 unsettled e = cc
@@ -37,18 +48,18 @@ returns-clause-done_but_unfinished c = λ words i j o e f bytes faults h. unsett
 
 pub returns-clause-done_but_unread : goal.returns-clause-done_but_unread
 returns-clause-done_but_unread c = λ text rest byte o p e f h.
-    some_bytes byte rest (subst (λ (job : Job). WritesAnswer job ends.Done (input_of text 0) (input_of (byte ∷ rest) 0) o p) (sym (same_Some jobs.Print _ h.0.1)) h.0.2).input_read
+    some_bytes byte rest (subst (λ (job : Job). WritesAnswer inlet outlet (reading_of job) ends.Done (input_of text 0) (input_of (byte ∷ rest) 0) o p) (sym (same_Some jobs.Print _ h.0.1)) h.0.2).input_read
 
 pub returns-clause-done_but_told : goal.returns-clause-done_but_told
-returns-clause-done_but_told c = λ words i j o p byte rest h. some_bytes byte rest (ap (λ (e : Outlet (Unit {0})). e.written) h.1)
+returns-clause-done_but_told c = λ words i j o p byte rest h. some_bytes byte rest (ap (λ (e : Outlet). e.written) h.1)
 
 pub returns-clause-refused_but_read_too_far : goal.returns-clause-refused_but_read_too_far
 returns-clause-refused_but_read_too_far c = λ text o p e f long h.
-    let k = subst (λ (job : Job). Refuses job refusals.Refused h.0 (input_of text 0) (input_of (drop (TEXT_MAX + 2) text) 0) o p) (sym (same_Some jobs.Check _ h.1.1)) h.1.2 in
+    let k = subst (λ (job : Job). Refuses inlet outlet (reading_of job) refusals.Refused h.0 (input_of text 0) (input_of (drop (TEXT_MAX + 2) text) 0) o p) (sym (same_Some jobs.Check _ h.1.1)) h.1.2 in
     apart (TEXT_MAX + 1) (TEXT_MAX + 2) text (omega arith) long k.input_read
 
 pub returns-clause-refused_but_written : goal.returns-clause-refused_but_written
-returns-clause-refused_but_written c = λ words i j byte rest e f h. some_bytes byte rest (ap (λ (o : Outlet (Unit {0})). o.written) h.1.2.output_untouched)
+returns-clause-refused_but_written c = λ words i j byte rest e f h. some_bytes byte rest (ap (λ (o : Outlet). o.written) h.1.2.output_untouched)
 
 pub returns-clause-usage_but_read : goal.returns-clause-usage_but_read
 returns-clause-usage_but_read c = λ words byte o p e f h. no_bytes byte [] (ap (λ i. i.left) h.1)
@@ -62,7 +73,7 @@ returns-clause-usage_but_untold c = λ words i j o p h. untold h.3
 
 pub returns-clause-read_fault_but_read_too_far : goal.returns-clause-read_fault_but_read_too_far
 returns-clause-read_fault_but_read_too_far c = λ text o p e f long h.
-    let k = (subst (λ (job : Job). FailsToRead job (input_of text 0) (input_of (drop (TEXT_MAX + 2) text) 1) o p) (sym (same_Some jobs.Check _ h.0.1)) h.0.2).input_read in
+    let k = (subst (λ (job : Job). FailsToRead inlet outlet (reading_of job) (input_of text 0) (input_of (drop (TEXT_MAX + 2) text) 1) o p) (sym (same_Some jobs.Check _ h.0.1)) h.0.2).input_read in
     apart k.0 (TEXT_MAX + 2) text (omega (arith, k.1)) long k.2
 
 pub returns-clause-read_fault_but_none_failed : goal.returns-clause-read_fault_but_none_failed
@@ -70,7 +81,7 @@ returns-clause-read_fault_but_none_failed c = λ words text rest o p e f h. no_r
 
 pub returns-clause-write_fault_but_finished : goal.returns-clause-write_fault_but_finished
 returns-clause-write_fault_but_finished c = λ i j o e f bytes faults h.
-    finished (subst (λ (job : Job). FailsToWrite job i j o (output_of bytes faults true)) (sym (same_Some jobs.Print _ h.0.1)) h.0.2).output_unsettled
+    finished (subst (λ (job : Job). FailsToWrite inlet outlet (reading_of job) i j o (output_of bytes faults true)) (sym (same_Some jobs.Print _ h.0.1)) h.0.2).output_unsettled
   where
     finished : ⊥ ⊎ (true ≡ false) → ⊥
     finished (inl nothing) = nothing
@@ -79,8 +90,8 @@ returns-clause-write_fault_but_finished c = λ i j o e f bytes faults h.
 pub returns-clause-no_memory_but_read_too_far : goal.returns-clause-no_memory_but_read_too_far
 returns-clause-no_memory_but_read_too_far c = λ text o p e f long h. by text o p long h.0
   where
-    by : (text : List ℕ) (o p : Outlet (Unit {0})) → TEXT_MAX + 2 ≤ length text → ((input_of (drop (TEXT_MAX + 2) text) 0 ≡ input_of text 0) × (p ≡ o)) ⊎ ForJob (codes "check" ∷ []) (λ job. LacksMemory job (input_of text 0) (input_of (drop (TEXT_MAX + 2) text) 0) o p) → ⊥
+    by : (text : List ℕ) (o p : Outlet) → TEXT_MAX + 2 ≤ length text → ((input_of (drop (TEXT_MAX + 2) text) 0 ≡ input_of text 0) × (p ≡ o)) ⊎ ForJob (codes "check" ∷ []) (λ reading. LacksMemory inlet outlet reading (input_of text 0) (input_of (drop (TEXT_MAX + 2) text) 0) o p) → ⊥
     by text o p long (inl same) = apart 0 (TEXT_MAX + 2) text (omega arith) long (ap (λ i. i.left) same.0)
     by text o p long (inr h) =
-        let k = (subst (λ (job : Job). LacksMemory job (input_of text 0) (input_of (drop (TEXT_MAX + 2) text) 0) o p) (sym (same_Some jobs.Check _ h.1)) h.2).input_read in
+        let k = (subst (λ (job : Job). LacksMemory inlet outlet (reading_of job) (input_of text 0) (input_of (drop (TEXT_MAX + 2) text) 0) o p) (sym (same_Some jobs.Check _ h.1)) h.2).input_read in
         apart k.0 (TEXT_MAX + 2) text (omega (arith, k.1)) long k.2

@@ -1,45 +1,29 @@
 use Rattle.std.specs.Prelude.{map}
 use Rattle.std.specs.String.{string_bytes}
-use Rattle.sigma_top.specs.Delivery.{inlet, outlet}
 use Rattle.sigma_top.proofs.TopCall.{within_room, reduced_means, certified_means, complete, reduces_what_reads}
 use Rattle.sigma_top.proofs.frame.sigma.Goals as goal
 
 pub returns-clause-complete : goal.returns-clause-complete
 returns-clause-complete g c = λ job asked read wrote.
-    complete (map string_bytes c.args.words.now)
-    (inlet g.S.Source.left g.S.Source.faults c.args.input.now) (inlet g.S.Source.left g.S.Source.faults c.work.new.input)
-    (outlet g.K.Sink.written g.K.Sink.faults g.K.Sink.settled c.args.output.now) (outlet g.K.Sink.written g.K.Sink.faults g.K.Sink.settled c.work.new.output)
-    (outlet g.E.Sink.written g.E.Sink.faults g.E.Sink.settled c.args.errors.now) (outlet g.E.Sink.written g.E.Sink.faults g.E.Sink.settled c.work.new.errors)
+    complete g.S.Source.seen g.K.Sink.seen g.E.Sink.seen (map string_bytes c.args.words.now) c.args.input.now c.work.new.input c.args.output.now c.work.new.output c.args.errors.now c.work.new.errors
     job asked read wrote c.work.result c.work.ensures
 
 pub returns-clause-always_reduced : goal.returns-clause-always_reduced
 returns-clause-always_reduced g c = λ asked read wrote.
-    reduces_what_reads (map string_bytes c.args.words.now)
-    (inlet g.S.Source.left g.S.Source.faults c.args.input.now) (inlet g.S.Source.left g.S.Source.faults c.work.new.input)
-    (outlet g.K.Sink.written g.K.Sink.faults g.K.Sink.settled c.args.output.now) (outlet g.K.Sink.written g.K.Sink.faults g.K.Sink.settled c.work.new.output)
-    (outlet g.E.Sink.written g.E.Sink.faults g.E.Sink.settled c.args.errors.now) (outlet g.E.Sink.written g.E.Sink.faults g.E.Sink.settled c.work.new.errors)
+    reduces_what_reads g.S.Source.seen g.K.Sink.seen g.E.Sink.seen (map string_bytes c.args.words.now) c.args.input.now c.work.new.input c.args.output.now c.work.new.output c.args.errors.now c.work.new.errors
     c.readable_models_are_reduced.ensures asked read wrote c.work.result c.work.ensures
 
 pub returns-clause-within_room : goal.returns-clause-within_room
 returns-clause-within_room g c = λ until seed events starts room asked is_short.
-    within_room (map string_bytes c.args.words.now)
-    (inlet g.S.Source.left g.S.Source.faults c.args.input.now) (inlet g.S.Source.left g.S.Source.faults c.work.new.input)
-    (outlet g.K.Sink.written g.K.Sink.faults g.K.Sink.settled c.args.output.now) (outlet g.K.Sink.written g.K.Sink.faults g.K.Sink.settled c.work.new.output)
-    (outlet g.E.Sink.written g.E.Sink.faults g.E.Sink.settled c.args.errors.now) (outlet g.E.Sink.written g.E.Sink.faults g.E.Sink.settled c.work.new.errors)
+    within_room g.S.Source.seen g.K.Sink.seen g.E.Sink.seen (map string_bytes c.args.words.now) c.args.input.now c.work.new.input c.args.output.now c.work.new.output c.args.errors.now c.work.new.errors
     until seed events starts room asked c.work.result c.work.ensures is_short
 
 pub returns-clause-reduced : goal.returns-clause-reduced
 returns-clause-reduced g c = λ asked is_done.
-    reduced_means (map string_bytes c.args.words.now)
-    (inlet g.S.Source.left g.S.Source.faults c.args.input.now) (inlet g.S.Source.left g.S.Source.faults c.work.new.input)
-    (outlet g.K.Sink.written g.K.Sink.faults g.K.Sink.settled c.args.output.now) (outlet g.K.Sink.written g.K.Sink.faults g.K.Sink.settled c.work.new.output)
-    (outlet g.E.Sink.written g.E.Sink.faults g.E.Sink.settled c.args.errors.now) (outlet g.E.Sink.written g.E.Sink.faults g.E.Sink.settled c.work.new.errors)
+    reduced_means g.S.Source.seen g.K.Sink.seen g.E.Sink.seen (map string_bytes c.args.words.now) c.args.input.now c.work.new.input c.args.output.now c.work.new.output c.args.errors.now c.work.new.errors
     c.written_models_mean_the_same.ensures c.work.result c.work.ensures asked is_done
 
 pub returns-clause-certified : goal.returns-clause-certified
 returns-clause-certified g c = λ asked is_done.
-    certified_means (map string_bytes c.args.words.now)
-    (inlet g.S.Source.left g.S.Source.faults c.args.input.now) (inlet g.S.Source.left g.S.Source.faults c.work.new.input)
-    (outlet g.K.Sink.written g.K.Sink.faults g.K.Sink.settled c.args.output.now) (outlet g.K.Sink.written g.K.Sink.faults g.K.Sink.settled c.work.new.output)
-    (outlet g.E.Sink.written g.E.Sink.faults g.E.Sink.settled c.args.errors.now) (outlet g.E.Sink.written g.E.Sink.faults g.E.Sink.settled c.work.new.errors)
+    certified_means g.S.Source.seen g.K.Sink.seen g.E.Sink.seen (map string_bytes c.args.words.now) c.args.input.now c.work.new.input c.args.output.now c.work.new.output c.args.errors.now c.work.new.errors
     c.sound_documents_mean_the_same.ensures c.work.result c.work.ensures asked is_done

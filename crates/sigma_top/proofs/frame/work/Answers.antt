@@ -2,31 +2,21 @@
 use Rattle.std.proofs.Common.{Ok, ap, ◌∙◌}
 use Rattle.std.specs.Prelude.{map}
 use Rattle.std.specs.String.{string_bytes}
-use Rattle.sigma_top.specs.Delivery.{inlet, outlet}
 use Rattle.sigma_top.proofs.TopCall.{gave_ends, refused_ends, failure_ends}
 use Rattle.sigma_top.proofs.frame.work.Goals as goal
 
 pub returns-in-Ok-Gave : goal.returns-in-Ok-Gave
 returns-in-Ok-Gave g c =
-    gave_ends (map string_bytes c.args.words.now)
-    (inlet g.S.Source.left g.S.Source.faults c.args.input.now) (inlet g.S.Source.left g.S.Source.faults c.serve.new.input)
-    (outlet g.K.Sink.written g.K.Sink.faults g.K.Sink.settled c.args.output.now) (outlet g.K.Sink.written g.K.Sink.faults g.K.Sink.settled c.serve.new.output)
-    (outlet g.E.Sink.written g.E.Sink.faults g.E.Sink.settled c.args.errors.now)
+    gave_ends g.S.Source.seen g.K.Sink.seen g.E.Sink.seen (map string_bytes c.args.words.now) c.args.input.now c.serve.new.input c.args.output.now c.serve.new.output c.args.errors.now
     c.in-Ok-Gave.end c.serve.result c.status.result (c.in-Ok-Gave.is ∙ ap (λ s. Ok s) c.in-Ok-Gave.field-0-is) c.status.ensures c.serve.ensures
 
 pub returns-in-Ok-Refused : goal.returns-in-Ok-Refused
 returns-in-Ok-Refused g c =
-    refused_ends (map string_bytes c.args.words.now)
-    (inlet g.S.Source.left g.S.Source.faults c.args.input.now) (inlet g.S.Source.left g.S.Source.faults c.serve.new.input)
-    (outlet g.K.Sink.written g.K.Sink.faults g.K.Sink.settled c.args.output.now) (outlet g.K.Sink.written g.K.Sink.faults g.K.Sink.settled c.serve.new.output)
-    (outlet g.E.Sink.written g.E.Sink.faults g.E.Sink.settled c.args.errors.now) (outlet g.E.Sink.written g.E.Sink.faults g.E.Sink.settled c.tell.new.errors)
+    refused_ends g.S.Source.seen g.K.Sink.seen g.E.Sink.seen (map string_bytes c.args.words.now) c.args.input.now c.serve.new.input c.args.output.now c.serve.new.output c.args.errors.now c.tell.new.errors
     c.in-Ok-Refused.why c.in-Ok-Refused.line c.as_slice.result.now c.serve.result c.status-in-Ok-Refused.result
     (c.in-Ok-Refused.is ∙ ap (λ s. Ok s) c.in-Ok-Refused.field-0-is) c.status-in-Ok-Refused.ensures c.as_slice.ensures c.serve.ensures c.tell.ensures
 
 pub returns-in-Err : goal.returns-in-Err
 returns-in-Err g c =
-    failure_ends (map string_bytes c.args.words.now)
-    (inlet g.S.Source.left g.S.Source.faults c.args.input.now) (inlet g.S.Source.left g.S.Source.faults c.serve.new.input)
-    (outlet g.K.Sink.written g.K.Sink.faults g.K.Sink.settled c.args.output.now) (outlet g.K.Sink.written g.K.Sink.faults g.K.Sink.settled c.serve.new.output)
-    (outlet g.E.Sink.written g.E.Sink.faults g.E.Sink.settled c.args.errors.now) (outlet g.E.Sink.written g.E.Sink.faults g.E.Sink.settled c.tell-in-Err.new.errors)
+    failure_ends g.S.Source.seen g.K.Sink.seen g.E.Sink.seen (map string_bytes c.args.words.now) c.args.input.now c.serve.new.input c.args.output.now c.serve.new.output c.args.errors.now c.tell-in-Err.new.errors
     c.in-Err.failure c.line-in-Err.result.now c.serve.result c.status-in-Err.result c.in-Err.is c.status-in-Err.ensures c.line-in-Err.ensures c.serve.ensures c.tell-in-Err.ensures

@@ -1,0 +1,4 @@
+mod DocumentOutcome
+mod FaultLaws
+mod OneAnswer
+mod WhatIsRefused

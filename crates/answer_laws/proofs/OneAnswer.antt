@@ -1,0 +1,90 @@
+-- Each text has one answer: it has one thing to complain of, or it reads as one model or one document, of which there is one
+-- answer.
+use Rattle.std.proofs.Common.{◌≡◌, ◌⊎◌, inl, inr, ℕ, ◌≤◌, List, length, Option, Some, None, refl, sym, ap₂, ◌∙◌, subst, arith}
+use Rattle.std.proofs.lemmas.Bool.{cases_lt}
+use Rattle.command_words.specs.declared.reading.Reading.{Reading}
+use Rattle.command_words.specs.declared.reading.Reading.TheVariants as readings
+use Rattle.command_words.specs.Readings.{limit_of}
+use Rattle.sig_base.specs.declared.limits.TheConstants.{TEXT_MAX}
+use Rattle.model_core.specs.EventGraph.{EventGraph}
+use Rattle.model_core.specs.Static.Reading.{Reads}
+use Rattle.job_answers.specs.declared.answer.Answer.{Answer}
+use Rattle.job_answers.specs.declared.complaint.Complaint.{Complaint}
+use Rattle.job_answers.specs.AnswerForms.{refused, too_long}
+use Rattle.job_answers.specs.AnswerLaws.{DocumentParts, KeepsAnswerLaws}
+use Rattle.job_answers.specs.Answers.{AnswersModel, AnswersDocument, IsRefused, Responds, IsWithin, IsOver, Answers}
+use Rattle.job_answers.specs.Complaints.{IsComplaint, HasComplaint, message_of, byte_line}
+use Rattle.job_answers.specs.DocumentComplaints.{IsDocumentComplaint}
+use Rattle.answer_laws.specs.Unreadable.{HasDocumentComplaint}
+use Rattle.answer_laws.proofs.DocumentOutcome.{ReadDocument, one_document_complaint, no_document_complaint, one_document, document_or_complaint}
+use Rattle.answer_laws.proofs.FaultLaws.{FaultLaws}
+
+-- of each text within its limit there is one thing to complain of, or it reads as a model, and never both
+pub record ComplaintLaws : Type 0 where
+  pub one : (text : List ℕ) (c d : Complaint) (i j : ℕ) → IsComplaint text c i → IsComplaint text d j → (c ≡ d) × (i ≡ j)
+  pub none : (text : List ℕ) (c : Complaint) (i : ℕ) (g : EventGraph) → IsComplaint text c i → Reads text g → ⊥
+  pub some : (text : List ℕ) → length text ≤ TEXT_MAX → HasComplaint text ⊎ ((g : EventGraph) × Reads text g)
+
+over_within : (limit : Option ℕ) (text : List ℕ) → IsOver limit text → IsWithin limit text → ⊥
+over_within None text over within = over
+over_within (Some limit) text over within = omega (arith, over, within)
+
+-- a text is within the limit, or over it
+within_or_over : (limit : Option ℕ) (text : List ℕ) → IsWithin limit text ⊎ IsOver limit text
+within_or_over None text = inl tt
+within_or_over (Some limit) text = elim (cases_lt limit (length text)) [ inl over ↦ inr over | inr within ↦ inl within ]
+
+-- of one thing to complain of there is one refusal
+one_refusal : (IsSo : Complaint → ℕ → Type 0) → ((c d : Complaint) (i j : ℕ) → IsSo c i → IsSo d j → (c ≡ d) × (i ≡ j)) → (a b : Answer) → IsRefused IsSo a → IsRefused IsSo b → a ≡ b
+one_refusal IsSo one a b p q =
+    let (what, at) = one p.what q.what p.at q.at p.complaint q.complaint in
+    p.told ∙ ap₂ (λ i c. refused (byte_line i (message_of c))) at what ∙ sym q.told
+
+module _ (complaints : ComplaintLaws) (faults : FaultLaws) (text : List ℕ) where
+  -- ---- there is one
+
+  refusal : (IsSo : Complaint → ℕ → Type 0) (what : Complaint) (at : ℕ) → IsSo what at → IsRefused IsSo (refused (byte_line at (message_of what)))
+  refusal IsSo what at is = record { what = what; at = at; complaint = is; told = refl }
+
+  text_answered : (reading : Reading) → KeepsAnswerLaws reading → IsWithin (limit_of reading) text → (a : Answer) × Responds reading text a
+  text_answered (readings.Model job) laws within = by (complaints.some text within)
+    where
+      by : HasComplaint text ⊎ ((g : EventGraph) × Reads text g) → (a : Answer) × Responds (readings.Model job) text a
+      by (inl c) = (_, inl (refusal (IsComplaint text) c.0 c.1 c.2))
+      by (inr r) = let w = laws.exists r.0 (text, r.1) in (w.0, inr (r.0, r.1, w.1))
+  text_answered (readings.Document job) laws within = by (document_or_complaint faults text within)
+    where
+      by : ReadDocument faults text ⊎ HasDocumentComplaint text → (a : Answer) × Responds (readings.Document job) text a
+      by (inl r) =
+          let w = laws.exists (r.original, r.applications, r.reduced) tt in
+          (w.0, inr (record { original = r.original; applications = r.applications; reduced = r.reduced; reads = r.reads; told = w.1 }))
+      by (inr c) = (_, inl (refusal (IsDocumentComplaint text) c.0 c.1 c.2))
+
+  answered : (reading : Reading) → KeepsAnswerLaws reading → IsWithin (limit_of reading) text ⊎ IsOver (limit_of reading) text → (a : Answer) × Answers reading text a
+  answered reading laws (inl within) = let w = text_answered reading laws within in (w.0, inr (within, w.1))
+  answered reading laws (inr over) = (refused too_long, inl (over, refl))
+
+  pub has_answer : (reading : Reading) → KeepsAnswerLaws reading → (a : Answer) × Answers reading text a
+  has_answer reading laws = answered reading laws (within_or_over (limit_of reading) text)
+
+  -- ---- and no other
+
+  module _ (one : (text : List ℕ) (g h : EventGraph) → Reads text g → Reads text h → g ≡ h) where
+    one_response : (reading : Reading) → KeepsAnswerLaws reading → (a b : Answer) → Responds reading text a → Responds reading text b → a ≡ b
+    one_response (readings.Model job) laws a b (inl x) (inl y) = one_refusal (IsComplaint text) (complaints.one text) a b x y
+    one_response (readings.Model job) laws a b (inl x) (inr y) = absurd (complaints.none text x.what x.at y.0 x.complaint y.1)
+    one_response (readings.Model job) laws a b (inr x) (inl y) = absurd (complaints.none text y.what y.at x.0 y.complaint x.1)
+    one_response (readings.Model job) laws a b (inr x) (inr y) = laws.one x.0 a b x.2 (subst (λ (g : EventGraph). AnswersModel job g b) (one text y.0 x.0 y.1 x.1) y.2)
+    one_response (readings.Document job) laws a b (inl x) (inl y) = one_refusal (IsDocumentComplaint text) (one_document_complaint faults text) a b x y
+    one_response (readings.Document job) laws a b (inl x) (inr y) = absurd (no_document_complaint faults text x.what x.at y.original y.applications y.reduced x.complaint y.reads)
+    one_response (readings.Document job) laws a b (inr x) (inl y) = absurd (no_document_complaint faults text y.what y.at x.original x.applications x.reduced y.complaint x.reads)
+    one_response (readings.Document job) laws a b (inr x) (inr y) =
+        let same = one_document faults text y.original y.reduced x.original x.reduced y.applications x.applications y.reads x.reads in
+        let parts : ◌≡◌ {A = DocumentParts} (y.original, y.applications, y.reduced) (x.original, x.applications, x.reduced) = λ i. (same.originals i, same.applications i, same.reduced i) in
+        laws.one (x.original, x.applications, x.reduced) a b x.told (subst (λ (d : DocumentParts). AnswersDocument job d.0 d.1 d.2 b) parts y.told)
+
+    pub one_answer : (reading : Reading) → KeepsAnswerLaws reading → (a b : Answer) → Answers reading text a → Answers reading text b → a ≡ b
+    one_answer reading laws a b (inl x) (inl y) = x.1 ∙ sym y.1
+    one_answer reading laws a b (inl x) (inr y) = absurd (over_within (limit_of reading) text x.0 y.0)
+    one_answer reading laws a b (inr x) (inl y) = absurd (over_within (limit_of reading) text y.0 x.0)
+    one_answer reading laws a b (inr x) (inr y) = one_response reading laws a b x.1 y.1

@@ -1,0 +1,3 @@
+-- The code of this crate, restated for its proofs. No public clause cites these, and nobody has to believe them.
+pub mod ArgumentViews
+pub mod Asking

@@ -1,0 +1,78 @@
+-- The jobs: which one the words of the command line ask for.
+use Rattle.std.specs.Prelude.{ℕ, ◌-◌, ◌^◌, ℤ, nat_eq, if◌then◌else◌, List, [], ◌∷◌, codes, Option, Some, None}
+use lib.Pointwise.{pointwise}
+use Rattle.sig_base.specs.declared.limits.TheConstants.{STOP_MAX, EVENTS_MAX}
+use Rattle.command_words.specs.declared.command.Command.{Command}
+use Rattle.command_words.specs.declared.command.Command.TheVariants as commands
+use Rattle.command_words.specs.declared.job.Job.{Job}
+use Rattle.command_words.specs.declared.job.Job.TheVariants as jobs
+use Rattle.command_words.specs.Arguments.{PlainArgument, arguments_of, command_words, values_of, has_only_options}
+use Rattle.command_words.specs.ArgumentValues.{number_within, starting_values, needed, besides}
+
+-- ---- the commands and their options
+
+-- the command that a word names
+abbrev pub command_of : List ℕ → Option Command
+command_of word =
+    if pointwise nat_eq word (codes "check") then Some commands.Check
+    else (if pointwise nat_eq word (codes "print") then Some commands.Print
+    else (if pointwise nat_eq word (codes "reduce") then Some commands.Reduce
+    else (if pointwise nat_eq word (codes "certify") then Some commands.Certify
+    else (if pointwise nat_eq word (codes "uses") then Some commands.Uses
+    else (if pointwise nat_eq word (codes "run") then Some commands.Run else None)))))
+
+-- the options that a command takes
+abbrev pub options_of : Command → List (List ℕ)
+options_of commands.Check = []
+options_of commands.Print = []
+options_of commands.Reduce = []
+options_of commands.Certify = []
+options_of commands.Uses = []
+options_of commands.Run = codes "until" ∷ codes "seed" ∷ codes "events" ∷ codes "start" ∷ codes "room" ∷ []
+
+-- ---- the job of a command and its options
+
+-- the job of a run, where each of these is there
+abbrev pub run_with : Option ℕ → Option ℕ → Option ℕ → Option (List ℤ) → Option ℕ → Option Job
+run_with (Some until) (Some seed) (Some events) (Some starts) (Some room) = Some (jobs.Run until seed events starts room)
+run_with until seed events starts room = None
+
+-- the most pending events for which a run can be asked to have room from its beginning
+abbrev pub greatest_room : ℕ
+greatest_room = 4194304
+
+-- the pending events for which a run has room where none is asked for
+abbrev pub usual_room : ℕ
+usual_room = 4096
+
+-- `run` needs its stop time, seed and event budget, and may have starting values and room
+abbrev pub run_of : List PlainArgument → Option Job
+run_of given = run_with
+    (needed (number_within 0 STOP_MAX) (values_of (codes "until") given))
+    (needed (number_within 0 (2 ^ 64 - 1)) (values_of (codes "seed") given))
+    (needed (number_within 1 EVENTS_MAX) (values_of (codes "events") given))
+    (besides [] starting_values (values_of (codes "start") given))
+    (besides usual_room (number_within 0 greatest_room) (values_of (codes "room") given))
+
+-- the job of a command with these options
+abbrev pub job_with : Command → List PlainArgument → Option Job
+job_with commands.Check given = Some jobs.Check
+job_with commands.Print given = Some jobs.Print
+job_with commands.Reduce given = Some jobs.Reduce
+job_with commands.Certify given = Some jobs.Certify
+job_with commands.Uses given = Some jobs.Uses
+job_with commands.Run given = run_of given
+
+-- there is one command, and no option but those that it takes
+abbrev pub job_asked : Option Command → List PlainArgument → Option Job
+job_asked None given = None
+job_asked (Some command) given = if has_only_options (options_of command) given then job_with command given else None
+
+-- the command that the words name, where there is one word
+abbrev pub only_command : List (List ℕ) → Option Command
+only_command (word ∷ []) = command_of word
+only_command words = None
+
+-- the job of the words, if they are one
+abbrev pub job_of : List (List ℕ) → Option Job
+job_of words = let given = arguments_of words in job_asked (only_command (command_words given)) given

@@ -1,0 +1,5 @@
+pub mod Arguments
+pub mod ArgumentValues
+pub mod Jobs
+pub mod Readings
+pub mod Inner

@@ -1,0 +1,29 @@
+-- What each job reads, and what it asks of that.
+use Rattle.std.specs.Prelude.{◌≤◌, ℕ, Option, Some}
+use Rattle.sig_base.specs.declared.limits.TheConstants.{TEXT_MAX, DOCUMENT_MAX, STOP_MAX, EVENTS_MAX}
+use Rattle.command_words.specs.declared.job.Job.{Job}
+use Rattle.command_words.specs.declared.job.Job.TheVariants as jobs
+use Rattle.command_words.specs.declared.reading.DocumentJob.TheVariants as documents
+use Rattle.command_words.specs.declared.reading.ModelJob.TheVariants as models
+use Rattle.command_words.specs.declared.reading.Reading.{Reading}
+use Rattle.command_words.specs.declared.reading.Reading.TheVariants as readings
+
+-- what a job reads, and what it asks of that
+abbrev pub reading_of : Job → Reading
+reading_of jobs.Check = readings.Model models.Check
+reading_of jobs.Print = readings.Model models.Print
+reading_of jobs.Reduce = readings.Model models.Reduce
+reading_of jobs.Certify = readings.Document documents.Certify
+reading_of jobs.Uses = readings.Model models.Uses
+reading_of (jobs.Run until seed events starts room) =
+    readings.Model (models.Run (record { until = until; seed = seed; events = events; starts = starts; room = room }))
+
+-- the most bytes that the text may have; `None` would be of a job that reads no text
+abbrev pub limit_of : Reading → Option ℕ
+limit_of (readings.Model job) = Some TEXT_MAX
+limit_of (readings.Document job) = Some DOCUMENT_MAX
+
+-- what is asked for keeps its limits: the stop time and the event budget of a run
+abbrev pub KeepsLimits : Reading → Type 0
+KeepsLimits (readings.Model (models.Run options)) = (options.until ≤ STOP_MAX) × (options.events ≤ EVENTS_MAX)
+KeepsLimits reading = Unit {0}

@@ -1,0 +1,64 @@
+//! The jobs of the program.
+
+ghost use Rattle.std.specs.Prelude.{◌≡◌};
+ghost use Rattle.command_words.specs.Readings.{reading_of};
+
+use crate::reading::{DocumentJob, ModelJob, Reading};
+use crate::run_options::RunOptions;
+use sig_base::List;
+
+/// A job of the program.
+#[derive(Drop)]
+pub enum Job {
+    /// Whether the model is accepted.
+    Check,
+    /// The model in its canonical form.
+    Print,
+    /// The model without what it doesn't need, and the certificate of that.
+    Reduce,
+    /// Whether a document's certificate holds between its two models.
+    Certify,
+    /// Who reads and who writes each variable of the model, and whether it is watched.
+    Uses,
+    /// The watched history of a run of the model, as it happens.
+    Run {
+        /// The stop time, in ticks.
+        until: u64,
+        /// The seed of the random streams.
+        seed: u64,
+        /// The event budget: the most steps that are made.
+        events: u64,
+        /// A value for each parameter of the vertex that begins the run, in order.
+        starts: List<i64>,
+        /// The pending events for which there is room from the beginning.
+        room: usize,
+    },
+}
+
+impl Job {
+    /// What the job reads, and what it asks of that.
+    pub fn reading(self) -> Reading
+        ensures { result ≡ reading_of self }
+    {
+        match self {
+            Job::Check => Reading::Model(ModelJob::Check),
+            Job::Print => Reading::Model(ModelJob::Print),
+            Job::Reduce => Reading::Model(ModelJob::Reduce),
+            Job::Certify => Reading::Document(DocumentJob::Certify),
+            Job::Uses => Reading::Model(ModelJob::Uses),
+            Job::Run {
+                until,
+                seed,
+                events,
+                starts,
+                room,
+            } => Reading::Model(ModelJob::Run(RunOptions {
+                until,
+                seed,
+                events,
+                starts,
+                room,
+            })),
+        }
+    }
+}

@@ -1,0 +1,17 @@
+//! The words of the command line: the commands with their options, the job that the words ask for, and what it reads.
+#![tactic(auto)]
+
+mod argument_values;
+mod arguments;
+mod command;
+mod command_line;
+mod job;
+mod reading;
+mod run_options;
+mod words_error;
+
+pub use command_line::words;
+pub use job::Job;
+pub use reading::{DocumentJob, ModelJob, Reading};
+pub use run_options::RunOptions;
+pub use words_error::WordsError;

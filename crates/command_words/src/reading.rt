@@ -1,0 +1,50 @@
+//! What a job reads, and what it asks of that. What goes by it has no case for a job that reads something else.
+
+ghost use Rattle.std.specs.Prelude.{◌≡◌};
+ghost use Rattle.command_words.specs.Readings.{limit_of};
+
+use crate::run_options::RunOptions;
+use sig_base::{DOCUMENT_MAX, TEXT_MAX};
+
+/// What a job reads, and what it asks of that.
+#[derive(Drop)]
+pub enum Reading {
+    /// The text of one model.
+    Model(ModelJob),
+    /// A document: two models and a certificate, one behind the other.
+    Document(DocumentJob),
+}
+
+/// What is asked of a model.
+#[derive(Drop)]
+pub enum ModelJob {
+    /// Whether it is accepted.
+    Check,
+    /// Its canonical form.
+    Print,
+    /// It without what it doesn't need, and the certificate of that.
+    Reduce,
+    /// Who reads and who writes each of its variables, and whether it is watched.
+    Uses,
+    /// The watched history of a run of it, as it happens.
+    Run(RunOptions),
+}
+
+/// What is asked of a document.
+#[derive(Drop)]
+pub enum DocumentJob {
+    /// Whether its certificate holds between its two models.
+    Certify,
+}
+
+impl Reading {
+    /// The most bytes that the text may have; `None` would be of a job that reads none.
+    pub fn limit(&self) -> Option<usize>
+        ensures { result ≡ limit_of self.now }
+    {
+        match self {
+            Reading::Model(_) => Some(TEXT_MAX),
+            Reading::Document(_) => Some(DOCUMENT_MAX),
+        }
+    }
+}

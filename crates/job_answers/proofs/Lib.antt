@@ -1,0 +1,13 @@
+pub mod Complaining
+pub mod StartLaws
+pub mod RunLaws
+pub mod Streaming
+pub mod GivenAnswers
+mod CertifyLaws
+mod CheckLaws
+mod JobLaws
+mod PassedOn
+mod PrintLaws
+mod ReduceLaws
+mod ToldErrors
+mod UsesLaws

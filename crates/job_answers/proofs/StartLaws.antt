@@ -1,0 +1,59 @@
+-- Which starting values are taken: a run begins with exactly those that aren't refused, and of others the line tells why.
+use Rattle.std.proofs.Common.{◌≡◌, ◌≢◌, ◌==◌, inl, inr, ℕ, zero, suc, add-zero, ◌+◌, ◌<◌, ℤ, pos, true, false, List, [], ◌∷◌, length, get_or, Some, None, refl, sym, ap, ap₂, ◌∙◌, subst, arith}
+use Rattle.std.specs.Prelude.{IsTrue, cond}
+use Rattle.std.proofs.lemmas.Bool.{eq-eqb}
+use Rattle.std.proofs.lemmas.Bool.Decides.{eqb_tells}
+use lib.Pointwise.{pointwise}
+use Rattle.model_core.specs.EventGraph.{EventGraph, Variable}
+use Rattle.model_core.proofs.BothTrue.{and_first, and_second}
+use Rattle.model_core.specs.Run.State.{within, no_variable}
+use Rattle.model_core.specs.Run.History.{allowed}
+use Rattle.run_control.specs.declared.begin_error.BeginError.{BeginError}
+use Rattle.run_control.specs.declared.begin_error.BeginError.TheVariants as errors
+use Rattle.run_control.specs.Beginning.{parameters, fits_at, RefusesStart}
+use Rattle.job_answers.specs.StartingValues.{count_line, outside_line, first_outside, start_refusal}
+use Rattle.job_answers.specs.Inner.StartSteps.{RefusalLine}
+
+-- the first value outside its range is the one that is told
+first_told : (place k : ℕ) (vs : List Variable) (xs : List ℤ) → length xs ≡ length vs → k < length xs
+    → within (get_or vs k no_variable).lo (get_or vs k no_variable).hi (get_or xs k (pos 0)) ≡ false
+    → ((j : ℕ) → j < k → fits_at vs xs j) → first_outside place vs xs ≡ Some (outside_line (place + k) (get_or xs k (pos 0)))
+first_told place k [] xs matched below outside first = absurd (omega arith)
+first_told place k (v ∷ vs) [] matched below outside first = absurd (omega arith)
+first_told place zero (v ∷ vs) (x ∷ xs) matched below outside first = rw outside (ap (λ p. Some (outside_line p x)) (sym (add-zero place)))
+first_told place (suc k) (v ∷ vs) (x ∷ xs) matched below outside first =
+    let inside : within v.lo v.hi x ≡ true = first 0 (omega arith) in
+    rw inside (first_told (suc place) k vs xs (omega arith) (omega arith) outside (λ j less. first (suc j) (omega arith)) ∙ ap (λ p. Some (outside_line p (get_or xs k (pos 0)))) (omega arith))
+
+-- of values in their ranges none is told
+none_told : (place : ℕ) (vs : List Variable) (xs : List ℤ) → pointwise (λ v x. within v.lo v.hi x) vs xs ≡ true → (length vs ≡ length xs) × (first_outside place vs xs ≡ None)
+none_told place [] [] all = (refl, refl)
+none_told place [] (x ∷ xs) all = absurd cc
+none_told place (v ∷ vs) [] all = absurd cc
+none_told place (v ∷ vs) (x ∷ xs) all =
+    let inside : within v.lo v.hi x ≡ true = and_first (within v.lo v.hi x) (pointwise (λ v x. within v.lo v.hi x) vs xs) all in
+    let (long, none) = none_told (suc place) vs xs (and_second (within v.lo v.hi x) (pointwise (λ v x. within v.lo v.hi x) vs xs) all) in
+    (omega (arith, long), rw inside none)
+
+not_equal : (a b : ℕ) → a ≢ b → (a == b) ≡ false
+not_equal a b differ = elim (eqb_tells a b) [ inl same ↦ absurd (differ same.1) | inr other ↦ other.0 ]
+
+-- a run that begins has starting values that are taken
+pub taken_start : (g : EventGraph) (starts : List ℤ) → IsTrue (allowed g starts) → start_refusal g starts ≡ None
+taken_start g starts all =
+    let (long, none) = none_told 1 (parameters g) starts all in
+    ap (λ b. cond b (first_outside 1 (parameters g) starts) (Some (count_line (length (parameters g)) (length starts)))) (eq-eqb _ _ long) ∙ none
+
+-- a run that can't begin is refused with the line that is told
+pub refused_start : (g : EventGraph) (starts : List ℤ) (error : BeginError) (line : List ℕ) → RefusesStart g starts error → RefusalLine error line → start_refusal g starts ≡ Some line
+refused_start g starts (errors.StartCount needed given) line refuses told =
+    let differ : length (parameters g) ≢ length starts = λ same. refuses.differ (refuses.needs ∙ same ∙ sym refuses.has) in
+    ap (λ b. cond b (first_outside 1 (parameters g) starts) (Some (count_line (length (parameters g)) (length starts)))) (not_equal _ _ differ)
+    ∙ ap₂ (λ n m. Some (count_line n m)) (sym refuses.needs) (sym refuses.has) ∙ ap (λ l. Some l) (sym told)
+refused_start g starts (errors.StartOutside place value) line refuses told =
+    let found = refuses.2 in
+    let first = first_told 1 refuses.0 (parameters g) starts found.matched found.below (subst (λ x. within (get_or (parameters g) refuses.0 no_variable).lo (get_or (parameters g) refuses.0 no_variable).hi x ≡ false) found.is found.outside) found.first in
+    let one_more : 1 + refuses.0 ≡ place = omega (arith, refuses.1) in
+    ap (λ b. cond b (first_outside 1 (parameters g) starts) (Some (count_line (length (parameters g)) (length starts)))) (eq-eqb _ _ (sym found.matched))
+    ∙ first ∙ ap₂ (λ n x. Some (outside_line n x)) one_more (sym found.is) ∙ ap (λ l. Some l) (sym told)
+refused_start g starts errors.NoMemory line refuses told = absurd told

@@ -1,0 +1,97 @@
+-- From what was written, and how it was finished, to the answer that was delivered; for answers that are written as they
+-- come, and for those that are written at once.
+use Rattle.std.proofs.Common.{◌≡◌, ◌≢◌, ◌⊎◌, inl, inr, ℕ, ◌<◌, false, List, take, length, Option, Some, None, Result, Ok, Err, sym, ap, ◌∙◌, subst, arith}
+use Rattle.std.specs.Prelude.{IfOk, MatchResult}
+use Rattle.std.proofs.lemmas.List.{append-nil}
+use Rattle.std.proofs.Math.Seq.{take-length}
+use Rattle.sig_base.specs.declared.no_memory.NoMemory.{NoMemory}
+use Rattle.sig_base.specs.Faults.{HasRisen}
+use Rattle.sig_base.specs.Sink.{Outlet, GrowsBy}
+use Rattle.sig_base.specs.Source.{Stays}
+use Rattle.job_answers.specs.declared.answer.Answer.{Answer}
+use Rattle.job_answers.specs.declared.answer.Answer.TheVariants.{Given}
+use Rattle.job_answers.specs.declared.delivering.Said.{Said}
+use Rattle.job_answers.specs.declared.delivering.Said.TheVariants as said
+use Rattle.job_answers.specs.declared.status.End.{End}
+use Rattle.job_answers.specs.declared.status.Failure.{Failure}
+use Rattle.job_answers.specs.declared.status.Failure.TheVariants as failures
+use Rattle.job_answers.specs.Delivery.{Delivers, DeliversSome}
+use Rattle.job_answers.specs.FrontWritten.{GrowsByFront}
+use Rattle.job_answers.specs.Inner.Writing.{Written, Streamed, Closed}
+
+-- ---- a piece that was written at once
+
+-- a write that failed left some byte unwritten
+pub some_unwritten : (bytes : List ℕ) (n : ℕ) → n < length bytes → 0 < length bytes
+some_unwritten bytes n front = omega (arith, front)
+
+pub front_of : (o p : Outlet) (bytes : List ℕ) (n : ℕ) → n < length bytes → GrowsBy o.written p.written (take n bytes) → GrowsByFront o p bytes
+front_of o p bytes n front h = (n, omega (arith, front), h)
+
+-- ---- the bytes, and finishing behind them
+
+stays_grown : (old mid new : Option (List ℕ)) (bytes : List ℕ) → GrowsBy old mid bytes → Stays mid new → GrowsBy old new bytes
+stays_grown None mid new bytes h k = tt
+stays_grown (Some before) mid new bytes h k = subst (λ (m : Option (List ℕ)). Stays m new) h k
+
+all_in_front : (o p : Outlet) (bytes : List ℕ) → GrowsBy o.written p.written bytes → GrowsByFront o p bytes
+all_in_front o p bytes h = (length bytes, omega arith, subst (λ (b : List ℕ). GrowsBy o.written p.written b) (sym (take-length bytes)) h)
+
+-- All bytes of an answer are written from o to m, and the output is finished to p.
+pub closed : {K : Type 0} (seen : K → Outlet) (o m p : K) (end : End) (bytes : List ℕ) → GrowsBy (seen o).written (seen m).written bytes → (0 < length bytes → (seen m).settled ≡ false) → (seen m).faults ≡ (seen o).faults
+    → (r : Result Said Failure) → Closed end r (seen m) (seen p) → Delivers seen (Given end bytes) r o p
+closed seen o m p end bytes grows unsettled steady (Ok (said.Gave e)) h =
+    (h.0, record { grown = stays_grown (seen o).written (seen m).written (seen p).written bytes grows h.1; settled = h.2; steady = h.3 ∙ steady })
+closed seen o m p end bytes grows unsettled steady (Ok (said.Refused why line)) h = absurd h
+closed seen o m p end bytes grows unsettled steady (Err failures.WriteFault) h = record {
+  grown = all_in_front (seen o) (seen p) bytes (stays_grown (seen o).written (seen m).written (seen p).written bytes grows h.0);
+  unsettled = λ some. h.1 ∙ unsettled some;
+  failed = subst (λ (n : ℕ). HasRisen n (seen p).faults) steady h.2;
+}
+closed seen o m p end bytes grows unsettled steady (Err failures.NoMemory) h = absurd h
+closed seen o m p end bytes grows unsettled steady (Err failures.Usage) h = absurd h
+closed seen o m p end bytes grows unsettled steady (Err failures.ReadFault) h = absurd h
+
+-- finishing lacks no memory
+pub closed_in_memory : (end : End) (m p : Outlet) (r : Result Said Failure) → Closed end r m p → r ≢ Err failures.NoMemory
+closed_in_memory end m p r h = λ short. subst (λ (x : Result Said Failure). Closed end x m p) short h
+
+module _ {K : Type 0} (seen : K → Outlet) (o p : K) (end : End) (bytes : List ℕ) where
+  -- the bytes could not be written at once
+  pub unwritten : {A : Type 0} (f : Failure) (r : Result A Failure) → r ≡ Err f → Written bytes r (seen o) (seen p) → Delivers seen (Given end bytes) (Err f) o p
+  unwritten {A} f r is h = broken f (subst (λ (x : Result A Failure). Written bytes x (seen o) (seen p)) is h)
+    where
+      broken : (f : Failure) → Written {A = A} bytes (Err f) (seen o) (seen p) → Delivers seen (Given end bytes) (Err f) o p
+      broken failures.WriteFault h = record { grown = h.0; unsettled = λ some. h.1; failed = h.2 }
+      broken failures.NoMemory h = absurd h
+      broken failures.Usage h = absurd h
+      broken failures.ReadFault h = absurd h
+
+  -- nor as they came
+  pub unstreamed : (Short : Type 0) (f : Failure) → Streamed seen end bytes Short (Err f) o p → Delivers seen (Given end bytes) (Err f) o p
+  unstreamed Short failures.WriteFault h = record { grown = h.0; unsettled = λ some. h.1; failed = h.2 }
+  unstreamed Short failures.NoMemory h = record { grown = front h.0; steady = h.1 }
+    where
+      nothing : (q : K) → q ≡ o → GrowsByFront (seen o) (seen q) bytes
+      nothing q same = subst (λ (x : K). GrowsByFront (seen o) (seen x) bytes) (sym same) (0, omega arith, none (seen o).written)
+        where
+          none : (old : Option (List ℕ)) → GrowsBy old old (take 0 bytes)
+          none None = tt
+          none (Some before) = ap Some (sym (append-nil before))
+
+      front : (p ≡ o) ⊎ (Short × GrowsByFront (seen o) (seen p) bytes) → GrowsByFront (seen o) (seen p) bytes
+      front (inl same) = nothing p same
+      front (inr h) = h.1
+  unstreamed Short failures.Usage h = absurd h
+  unstreamed Short failures.ReadFault h = absurd h
+
+  -- where memory was refused the output is as it was, or it is allowed
+  pub stopped_short : (Short : Type 0) (r : Result End Failure) → Streamed seen end bytes Short r o p → r ≡ Err failures.NoMemory → (p ≡ o) ⊎ Short
+  stopped_short Short r h short = elim (subst (λ (x : Result End Failure). Streamed seen end bytes Short x o p) short h).0 [ inl same ↦ inl same | inr more ↦ inr more.0 ]
+
+-- ---- an answer that is made whole
+
+pub delivered : {K : Type 0} (seen : K → Outlet) (P : Answer → Type 0) (Short : Type 0) (o p : K) (made : Result Answer NoMemory) (r : Result Said Failure) → IfOk made P
+    → MatchResult made (λ a. Delivers seen a r o p × (r ≢ Err failures.NoMemory)) (λ e. (r ≡ Err failures.NoMemory) × (p ≡ o)) → DeliversSome seen P Short r o p
+delivered seen P Short o p (Ok a) r holds h = inl (record { answer = a; holds = holds; delivers = h.0; short = λ e. absurd (h.1 e) })
+delivered seen P Short o p (Err e) r holds h = inr h

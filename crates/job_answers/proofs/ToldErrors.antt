@@ -1,0 +1,35 @@
+-- What the error of a step of reading becomes is a complaint only where the step complains, of the same at the same byte.
+use Rattle.std.proofs.Common.{◌≡◌, ℕ, refl, subst}
+use Rattle.model_core.specs.declared.static_kind.StaticKind.{StaticKind}
+use Rattle.model_lex.specs.declared.lex_error.LexError.{LexError}
+use Rattle.model_lex.specs.declared.parse_error.ParseError.{ParseError}
+use Rattle.sig_types.specs.declared.error.StaticError.{StaticError}
+use Rattle.sig_types.specs.declared.error.StaticError.TheVariants as static
+use Rattle.job_answers.specs.declared.complaint.Complaint.{Complaint}
+use Rattle.job_answers.specs.declared.complaint.Complaint.TheVariants as complaints
+use Rattle.job_answers.specs.declared.reading_error.ReadingError.TheVariants.{At}
+use Rattle.job_answers.specs.Inner.Refusals.{uncut, unread, unaccepted}
+
+module _ (IsSo : Complaint → ℕ → Type 0) where
+  same_complaint : (c d : Complaint) (i j : ℕ) → At c i ≡ At d j → IsSo c i → IsSo d j
+  same_complaint c d i j e h =
+      let what : c ≡ d = cc in
+      let at : i ≡ j = cc in
+      subst (λ x. IsSo x j) what (subst (IsSo c) at h)
+
+  pub of_uncut : (error : LexError) → ((i : ℕ) → error ≡ LexError.BadByte i → IsSo complaints.BadByte i)
+      → (what : Complaint) (at : ℕ) → uncut error ≡ At what at → IsSo what at
+  of_uncut (LexError.BadByte i) told what at e = same_complaint complaints.BadByte what i at e (told i refl)
+  of_uncut LexError.NoMemory told what at e = absurd cc
+
+  pub of_unread : (error : ParseError) → ((i : ℕ) → error ≡ ParseError.Unexpected i → IsSo complaints.Unexpected i)
+      → ((i : ℕ) → error ≡ ParseError.TooDeep i → IsSo complaints.TooDeep i)
+      → (what : Complaint) (at : ℕ) → unread error ≡ At what at → IsSo what at
+  of_unread (ParseError.Unexpected i) unexpected deep what at e = same_complaint complaints.Unexpected what i at e (unexpected i refl)
+  of_unread (ParseError.TooDeep i) unexpected deep what at e = same_complaint complaints.TooDeep what i at e (deep i refl)
+  of_unread ParseError.NoMemory unexpected deep what at e = absurd cc
+
+  pub of_unaccepted : (error : StaticError) → ((kind : StaticKind) (i : ℕ) → error ≡ static.Fault kind i → IsSo (complaints.Static kind) i)
+      → (what : Complaint) (at : ℕ) → unaccepted error ≡ At what at → IsSo what at
+  of_unaccepted (static.Fault kind i) told what at e = same_complaint (complaints.Static kind) what i at e (told kind i refl)
+  of_unaccepted static.NoMemory told what at e = absurd cc

@@ -1,0 +1,18 @@
+use Rattle.job_answers.proofs.complaint_law.texts_keep_their_laws.Goals as goal
+
+pub returns : goal.returns
+returns c =
+    let texts = c.texts_have_one_reading.ensures in
+    let openings = c.openings_have_a_limit.ensures in
+    let faults = c.one_fault_is_told.ensures in
+    record {
+      one_model = texts.one_model;
+      spelled_or_not = texts.spelled_or_unexpected;
+      one_place = texts.one_place;
+      none_deep = λ tokens e. openings.none _ tokens e;
+      few_openings = λ tokens h. openings.few _ tokens h;
+      told = λ m f. (faults.told m f).0;
+      told_back = λ m f. (faults.told m f).1;
+      accepted = λ m. (faults.accepted m).0;
+      unaccepted = λ m. (faults.accepted m).1;
+    }

@@ -1,0 +1,6 @@
+use Rattle.std.proofs.Common.{subst}
+use Rattle.job_answers.specs.DocumentComplaints.{IsDocumentComplaint}
+use Rattle.job_answers.proofs.document_reading.written_parts.Goals as goal
+
+pub returns-clause-complaint : goal.returns-clause-complaint
+returns-clause-complaint c = λ what at e. subst (λ t. IsDocumentComplaint t what at) c.in_ok-tokens.ensures.ok.0 (c.parts.ensures.complaint what at e)

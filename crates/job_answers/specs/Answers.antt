@@ -1,0 +1,93 @@
+-- What is answered to a text, by what a job reads and asks. Nothing is said here of where the text comes from or where the
+-- answer goes.
+use Rattle.std.specs.Prelude.{◌≡◌, ◌≤◌, ◌<◌, ◌⊎◌, ℕ, List, [], length, Option, Some, None}
+use Rattle.command_words.specs.declared.reading.DocumentJob.{DocumentJob}
+use Rattle.command_words.specs.declared.reading.DocumentJob.TheVariants as documents
+use Rattle.command_words.specs.declared.reading.ModelJob.{ModelJob}
+use Rattle.command_words.specs.declared.reading.ModelJob.TheVariants as models
+use Rattle.command_words.specs.declared.reading.Reading.{Reading}
+use Rattle.command_words.specs.declared.reading.Reading.TheVariants as readings
+use Rattle.command_words.specs.Readings.{limit_of}
+use Rattle.model_core.specs.EventGraph.{EventGraph}
+use Rattle.model_core.specs.Static.Reading.{Reads, ReadsDocument}
+use Rattle.model_core.specs.Rules.Reduction.{RuleApplication}
+use Rattle.job_answers.specs.declared.answer.Answer.{Answer}
+use Rattle.job_answers.specs.declared.complaint.Complaint.{Complaint}
+use Rattle.job_answers.specs.AnswerForms.{refused, too_long}
+use Rattle.job_answers.specs.Complaints.{IsComplaint, message_of, byte_line}
+use Rattle.job_answers.specs.DocumentComplaints.{IsDocumentComplaint}
+use Rattle.job_answers.specs.CheckAnswer.{check_answer}
+use Rattle.job_answers.specs.PrintAnswer.{print_answer}
+use Rattle.job_answers.specs.ReduceAnswer.{IsReduction}
+use Rattle.job_answers.specs.UsesAnswer.{uses_answer}
+use Rattle.job_answers.specs.RunAnswer.{run_answer, ExceedsRoom}
+use Rattle.job_answers.specs.CertifyAnswer.{certify_answer}
+
+-- ---- what is answered for what was read, job by job
+
+-- `check` says that the model is accepted, `print` writes its canonical text, `reduce` another one that means the same with
+-- its certificate, `uses` who uses each variable, and `run` the history of a run
+abbrev pub AnswersModel : ModelJob → EventGraph → Answer → Type 0
+AnswersModel models.Check g a = a ≡ check_answer g
+AnswersModel models.Print g a = a ≡ print_answer g
+AnswersModel models.Reduce g a = IsReduction g a
+AnswersModel models.Uses g a = a ≡ uses_answer g
+AnswersModel (models.Run options) g a = a ≡ run_answer g options.until options.seed options.events options.starts
+
+-- `certify` says whether the certificate holds
+abbrev pub AnswersDocument : DocumentJob → EventGraph → List RuleApplication → EventGraph → Answer → Type 0
+AnswersDocument documents.Certify original applications reduced a = a ≡ certify_answer original applications reduced
+
+-- A job on a model that writes as it goes may lack memory behind a front of its bytes: `run` where the run needs more room
+-- than was asked for.
+abbrev pub MayFallShort : ModelJob → EventGraph → Type 0
+MayFallShort (models.Run options) g = ExceedsRoom g options.until options.seed options.events options.starts options.room
+MayFallShort job g = ⊥
+
+-- these bytes are none, of a job that may have none: `uses` where the model has no variables
+abbrev pub HasNothingToWrite : Reading → List ℕ → Type 0
+HasNothingToWrite (readings.Model models.Uses) bytes = bytes ≡ []
+HasNothingToWrite reading bytes = ⊥
+
+-- ---- what is answered to a text within its limit, reading by reading
+
+-- the text is refused with a line that tells what there is to complain of
+pub record IsRefused (IsSo : Complaint → ℕ → Type 0) (a : Answer) : Type 0 where
+  pub what : Complaint
+  pub at : ℕ
+  pub complaint : IsSo what at
+  pub told : a ≡ refused (byte_line at (message_of what))
+
+-- the text reads as a document that has this answer
+pub record IsJudged (job : DocumentJob) (text : List ℕ) (a : Answer) : Type 0 where
+  pub original : EventGraph
+  pub applications : List RuleApplication
+  pub reduced : EventGraph
+  pub reads : ReadsDocument text original applications reduced
+  pub told : AnswersDocument job original applications reduced a
+
+-- the text is refused, or it reads as something that has this answer
+abbrev pub Responds : Reading → List ℕ → Answer → Type 0
+Responds (readings.Model job) text a = IsRefused (IsComplaint text) a ⊎ ((g : EventGraph) × Reads text g × AnswersModel job g a)
+Responds (readings.Document job) text a = IsRefused (IsDocumentComplaint text) a ⊎ IsJudged job text a
+
+-- where memory may be refused behind a front of the answer's bytes
+abbrev pub MayStopShort : Reading → List ℕ → Type 0
+MayStopShort (readings.Model job) text = (g : EventGraph) × Reads text g × MayFallShort job g
+MayStopShort (readings.Document job) text = ⊥
+
+-- ---- what is answered to any text
+
+-- the text has at most so many bytes
+abbrev pub IsWithin : Option ℕ → List ℕ → Type 0
+IsWithin None text = Unit {0}
+IsWithin (Some limit) text = length text ≤ limit
+
+-- the text has more bytes than that
+abbrev pub IsOver : Option ℕ → List ℕ → Type 0
+IsOver None text = ⊥
+IsOver (Some limit) text = limit < length text
+
+-- the answer to a text
+abbrev pub Answers : Reading → List ℕ → Answer → Type 0
+Answers reading text a = (IsOver (limit_of reading) text × (a ≡ refused too_long)) ⊎ (IsWithin (limit_of reading) text × Responds reading text a)

@@ -1,0 +1,6 @@
+-- The code of this crate, restated for its proofs. No public clause cites these, and nobody has to believe them.
+pub mod Refusals
+pub mod RunSteps
+pub mod StartSteps
+pub mod TextLaws
+pub mod Writing

@@ -1,0 +1,16 @@
+pub mod Complaints
+pub mod DocumentComplaints
+pub mod AnswerForms
+pub mod CheckAnswer
+pub mod PrintAnswer
+pub mod ReduceAnswer
+pub mod UsesAnswer
+pub mod StartingValues
+pub mod RunAnswer
+pub mod CertifyAnswer
+pub mod Answers
+pub mod Statuses
+pub mod AnswerLaws
+pub mod FrontWritten
+pub mod Delivery
+pub mod Inner

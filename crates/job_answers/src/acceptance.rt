@@ -1,0 +1,22 @@
+//! `check`: that a model is accepted.
+
+ghost use Rattle.std.specs.Prelude.{◌≡◌, IfOk};
+ghost use Rattle.model_core.specs.Code.Views.{graph_of};
+ghost use Rattle.job_answers.specs.CheckAnswer.{check_answer};
+
+use crate::answer::Answer;
+use crate::status::End;
+use model_core::Model;
+use sig_base::{NoMemory, Text, put_bytes};
+use std::alloc::Global;
+
+/// That the model of this name is accepted.
+pub fn acceptance(alloc: Global, model: &Model) -> Result<Answer, NoMemory>
+    ensures { IfOk result (λ a. a ≡ check_answer (graph_of model.now)) }
+{
+    let mut out = Vec::new(alloc);
+    put_bytes(&mut out, b"accepted ")?;
+    put_bytes(&mut out, model.name.as_slice())?;
+    put_bytes(&mut out, b"\n")?;
+    Ok(Answer::Given(End::Done, Text::from_vec(out)))
+}

@@ -1,0 +1,95 @@
+//! Beginning a run of a model, or why it can't begin.
+
+ghost use Rattle.std.specs.Prelude.{◌≡◌, ◌++◌, [], length, IfOk, IfErr, OnOk};
+ghost use Rattle.std.specs.Fmt.{signed_decimal};
+ghost use Rattle.model_core.specs.Static.Reading.{IsValid};
+ghost use Rattle.model_core.specs.Code.Views.{graph_of};
+ghost use Rattle.run_control.specs.Beginning.{BegunRun, RefusesStart};
+ghost use Rattle.job_answers.specs.StartingValues.{count_line, outside_line};
+ghost use Rattle.job_answers.specs.Inner.StartSteps.{RefusalLine, RefusesRun};
+
+use crate::delivering::Said;
+use crate::status::{Failure, Refusal};
+use event_list::Pending;
+use itoa::Buffer;
+use model_core::Model;
+use round_trip::validity_is_by_parts;
+use run_control::{BeginError, Run, kept_models_can_be_run};
+use sig_base::{List, NoMemory, Text, put_bytes, put_number};
+use std::alloc::Global;
+
+/// The line that tells that other starting values are needed.
+fn count_line(alloc: Global, needed: usize, given: usize) -> Result<Text, NoMemory>
+    ensures { IfOk result (λ line. line ≡ count_line needed given) }
+{
+    let mut line = Vec::new(alloc);
+    put_bytes(&mut line, b"sigma: starting values needed ")?;
+    put_number(&mut line, needed as u64)?;
+    put_bytes(&mut line, b" given ")?;
+    put_number(&mut line, given as u64)?;
+    put_bytes(&mut line, b"\n")?;
+    Ok(Text::from_vec(line))
+}
+
+/// Adds a whole number in decimal, without leading zeros.
+fn put_whole(out: &mut Vec<u8>, number: i64) -> Result<(), NoMemory>
+    ensures { OnOk result (out.new.items ≡ out.old.items ++ signed_decimal number) }
+{
+    let mut buffer = Buffer::new();
+    put_bytes(out, buffer.format(number).as_bytes())
+}
+
+/// The line that tells the first starting value outside its range. Places count from 1.
+fn outside_line(alloc: Global, place: usize, value: i64) -> Result<Text, NoMemory>
+    ensures { IfOk result (λ line. line ≡ outside_line place value) }
+{
+    let mut line = Vec::new(alloc);
+    put_bytes(&mut line, b"sigma: starting value ")?;
+    put_number(&mut line, place as u64)?;
+    put_bytes(&mut line, b" outside: ")?;
+    put_whole(&mut line, value)?;
+    put_bytes(&mut line, b"\n")?;
+    Ok(Text::from_vec(line))
+}
+
+/// The line that tells why a run can't begin.
+fn refusal_line(alloc: Global, error: BeginError) -> Result<Text, NoMemory>
+    ensures { IfOk result (λ line. RefusalLine error line) }
+{
+    match error {
+        BeginError::StartCount { needed, given } => count_line(alloc, needed, given),
+        BeginError::StartOutside { place, value } => outside_line(alloc, place, value),
+        BeginError::NoMemory => Err(NoMemory),
+    }
+}
+
+/// The run of a valid model as it begins, over an empty pending list.
+pub fn begin<'m, P: Pending + Drop>(
+    alloc: Global,
+    model: &'m Model,
+    pending: P,
+    seed: u64,
+    starts: &List<i64>,
+    room: usize,
+) -> Result<Run<'m, P>, BeginError>
+    requires valid { IsValid (graph_of model.now) }
+    requires empty { P.entries pending ≡ [] }
+    requires fresh { P.numbered pending ≡ 0 }
+    requires made_for { P.vertices pending ≡ length model.now.vertices }
+    ensures ok { IfOk result (BegunRun model.now seed starts.now room) }
+    ensures err { IfErr result (RefusesStart (graph_of model.now) starts.now) }
+{
+    validity_is_by_parts();
+    kept_models_can_be_run();
+    Run::begin(alloc, model, pending, seed, starts, room)
+}
+
+/// The refusal of starting values that aren't allowed.
+pub fn refuse_start(alloc: Global, error: BeginError) -> Result<Said, Failure>
+    ensures { RefusesRun error result }
+{
+    match refusal_line(alloc, error) {
+        Ok(line) => Ok(Said::Refused(Refusal::BadStart, line)),
+        Err(_) => Err(Failure::NoMemory),
+    }
+}

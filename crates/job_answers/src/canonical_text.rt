@@ -1,0 +1,20 @@
+//! `print`: the canonical text of a model.
+
+ghost use Rattle.std.specs.Prelude.{◌≡◌, IfOk};
+ghost use Rattle.model_core.specs.Code.Views.{graph_of};
+ghost use Rattle.job_answers.specs.PrintAnswer.{print_answer};
+
+use crate::answer::Answer;
+use crate::status::End;
+use model_core::Model;
+use model_print::print;
+use sig_base::NoMemory;
+use std::alloc::Global;
+
+/// The canonical text of the model.
+pub fn canonical_text(alloc: Global, model: &Model) -> Result<Answer, NoMemory>
+    ensures { IfOk result (λ a. a ≡ print_answer (graph_of model.now)) }
+{
+    let out = print(alloc, model)?;
+    Ok(Answer::Given(End::Done, out))
+}

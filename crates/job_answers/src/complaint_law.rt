@@ -1,0 +1,43 @@
+//! Laws of what there is to complain of in texts. The functions do nothing: what they ensure holds of all texts.
+
+ghost use Rattle.std.specs.Prelude.{◌≡◌, ◌≤◌, ◌⊎◌, ℕ, List, length};
+ghost use Rattle.sig_base.specs.declared.limits.TheConstants.{TEXT_MAX};
+ghost use Rattle.command_words.specs.declared.reading.ModelJob.TheVariants.{Reduce};
+ghost use Rattle.command_words.specs.declared.reading.Reading.TheVariants.{Model as OfModel};
+ghost use Rattle.model_core.specs.EventGraph.{EventGraph};
+ghost use Rattle.model_core.specs.Static.Reading.{Reads};
+ghost use Rattle.job_answers.specs.declared.answer.Answer.{Answer};
+ghost use Rattle.job_answers.specs.declared.complaint.Complaint.{Complaint};
+ghost use Rattle.job_answers.specs.declared.status.Status.{Status};
+ghost use Rattle.job_answers.specs.Answers.{Answers};
+ghost use Rattle.job_answers.specs.Complaints.{IsComplaint, HasComplaint};
+ghost use Rattle.job_answers.specs.Statuses.{status_of_answer};
+ghost use Rattle.job_answers.specs.Inner.TextLaws.{TextLaws};
+
+use static_laws::one_fault_is_told;
+use text_laws::{openings_have_a_limit, texts_have_one_reading};
+
+/// What the layers below say of texts.
+fn texts_keep_their_laws()
+    ensures { TextLaws }
+{
+    texts_have_one_reading();
+    openings_have_a_limit();
+    one_fault_is_told();
+}
+
+/// Of each text within its limit there is one thing to complain of, or it reads as a model, and never both.
+pub fn texts_have_one_complaint()
+    ensures one { (text : List ℕ) (c d : Complaint) (i j : ℕ) → IsComplaint text c i → IsComplaint text d j → (c ≡ d) × (i ≡ j) }
+    ensures none { (text : List ℕ) (c : Complaint) (i : ℕ) (g : EventGraph) → IsComplaint text c i → Reads text g → ⊥ }
+    ensures some { (text : List ℕ) → length text ≤ TEXT_MAX → HasComplaint text ⊎ ((g : EventGraph) × Reads text g) }
+{
+    texts_keep_their_laws();
+}
+
+/// `reduce` is done with every text that reads as a model.
+pub fn readable_models_are_reduced()
+    ensures { (text : List ℕ) (g : EventGraph) (a : Answer) → Reads text g → Answers (OfModel Reduce) text a → status_of_answer a ≡ Status.Done }
+{
+    texts_have_one_complaint();
+}

@@ -1,0 +1,15 @@
+//! The law of the answers of all jobs. The function does nothing: what it ensures holds of whatever is read.
+
+ghost use Rattle.command_words.specs.declared.reading.Reading.{Reading};
+ghost use Rattle.job_answers.specs.AnswerLaws.{KeepsAnswerLaws};
+
+use reducer::{strategies_are_determined, strategies_end};
+
+/// Of whatever a job reads there is one answer. What is given has bytes, unless it may have none, and it is no refusal of a
+/// text.
+pub fn answers_keep_their_laws()
+    ensures { (reading : Reading) → KeepsAnswerLaws reading }
+{
+    strategies_are_determined();
+    strategies_end();
+}

@@ -1,0 +1,34 @@
+//! What is answered to a text, job by job: the answers, what there is to complain of, how a call may end, and how an answer
+//! gets to the output. Reading a model and the top call stand above it.
+#![tactic(auto)]
+
+mod acceptance;
+mod answer;
+mod answering;
+mod beginning;
+mod canonical_text;
+mod certifying;
+mod complaint;
+mod complaint_law;
+mod delivering;
+mod document_reading;
+mod job_laws;
+mod reading_error;
+mod reduction;
+mod reduction_law;
+mod running;
+mod status;
+mod uses_table;
+mod written_reading;
+
+pub use answer::{Answer, complaint_answer, too_long_answer};
+pub use answering::{answer_document, answer_model};
+pub use certifying::sound_documents_mean_the_same;
+pub use complaint::Complaint;
+pub use complaint_law::{readable_models_are_reduced, texts_have_one_complaint};
+pub use delivering::{Said, deliver};
+pub use job_laws::answers_keep_their_laws;
+pub use reading_error::ReadingError;
+pub use reduction_law::written_models_mean_the_same;
+pub use status::{End, Failure, Refusal, Status};
+pub use written_reading::read_as_written;

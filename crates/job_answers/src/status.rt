@@ -1,0 +1,136 @@
+//! How the program ends.
+
+ghost use Rattle.std.specs.Prelude.{◌≡◌};
+ghost use Rattle.job_answers.specs.Statuses.{exit_status_of, status_of_end, status_of_refusal, status_of_failure, failure_line};
+
+/// How a call of the program ended.
+#[derive(Clone, Copy, Debug, PartialEq, Eq)]
+pub enum Status {
+    /// The job is done: the input was read to its end, and everything was written and finished.
+    Done,
+    /// The text is too long, or reads as no model, or for `certify` as no document.
+    Refused,
+    /// The words are no job.
+    Usage,
+    /// A read of the input failed.
+    ReadFault,
+    /// A write of the output failed.
+    WriteFault,
+    /// Memory was refused.
+    NoMemory,
+    /// The run was written up to an event that can't be completed.
+    ModelFault,
+    /// The run was written up to its event budget, and goes on.
+    Budget,
+    /// The certificate doesn't hold, and why is written.
+    Rejected,
+    /// The starting values of the run aren't those of the model's first vertex.
+    BadStart,
+}
+
+impl Status {
+    /// The exit status of the program.
+    pub fn number(&self) -> u8
+        ensures { result ≡ exit_status_of self.now }
+    {
+        match self {
+            Status::Done => 0,
+            Status::Refused => 1,
+            Status::Usage => 2,
+            Status::ReadFault => 3,
+            Status::WriteFault => 4,
+            Status::NoMemory => 5,
+            Status::ModelFault => 6,
+            Status::Budget => 7,
+            Status::Rejected => 8,
+            Status::BadStart => 9,
+        }
+    }
+}
+
+/// How a job ends that writes its answer.
+#[derive(Clone, Copy, Debug, PartialEq, Eq)]
+pub enum End {
+    /// It is done.
+    Done,
+    /// The run faulted.
+    ModelFault,
+    /// The run goes on after its last event.
+    Budget,
+    /// The certificate doesn't hold.
+    Rejected,
+}
+
+impl End {
+    /// The status that tells it.
+    pub fn status(self) -> Status
+        ensures { result ≡ status_of_end self }
+    {
+        match self {
+            End::Done => Status::Done,
+            End::ModelFault => Status::ModelFault,
+            End::Budget => Status::Budget,
+            End::Rejected => Status::Rejected,
+        }
+    }
+}
+
+/// Why a job writes nothing.
+#[derive(Clone, Copy, Debug, PartialEq, Eq)]
+pub enum Refusal {
+    /// The text is too long, or reads as no model, or for `certify` as no document.
+    Refused,
+    /// The starting values of the run aren't allowed.
+    BadStart,
+}
+
+impl Refusal {
+    /// The status that tells it.
+    pub fn status(self) -> Status
+        ensures { result ≡ status_of_refusal self }
+    {
+        match self {
+            Refusal::Refused => Status::Refused,
+            Refusal::BadStart => Status::BadStart,
+        }
+    }
+}
+
+/// Why there is no answer.
+#[derive(Clone, Copy, Debug, PartialEq, Eq)]
+pub enum Failure {
+    /// The words are no job.
+    Usage,
+    /// A read of the input failed.
+    ReadFault,
+    /// A write of the output failed.
+    WriteFault,
+    /// Memory was refused.
+    NoMemory,
+}
+
+impl Failure {
+    /// The status that tells it.
+    pub fn status(self) -> Status
+        ensures { result ≡ status_of_failure self }
+    {
+        match self {
+            Failure::Usage => Status::Usage,
+            Failure::ReadFault => Status::ReadFault,
+            Failure::WriteFault => Status::WriteFault,
+            Failure::NoMemory => Status::NoMemory,
+        }
+    }
+
+    /// The line that tells it on the error output.
+    pub fn line(self) -> &'static [u8]
+        ensures { result.now ≡ failure_line self }
+    {
+        match self {
+            Failure::Usage => b"sigma: bad command line\n",
+            Failure::ReadFault => b"sigma: cannot read\n",
+            Failure::WriteFault => b"sigma: cannot write\n",
+            Failure::NoMemory => b"sigma: out of memory\n",
+        }
+    }
+}

@@ -1,0 +1,21 @@
+//! `uses`: who reads and who writes each variable of a model, and whether it is watched.
+
+ghost use Rattle.std.specs.Prelude.{◌≡◌, IfOk};
+ghost use Rattle.model_core.specs.Code.Views.{graph_of};
+ghost use Rattle.job_answers.specs.UsesAnswer.{uses_answer};
+
+use crate::answer::Answer;
+use crate::status::End;
+use model_core::Model;
+use sig_base::{NoMemory, Text};
+use std::alloc::Global;
+use use_analysis::put_uses;
+
+/// A line for each variable.
+pub fn uses_table(alloc: Global, model: &Model) -> Result<Answer, NoMemory>
+    ensures { IfOk result (λ a. a ≡ uses_answer (graph_of model.now)) }
+{
+    let mut out = Vec::new(alloc);
+    put_uses(alloc, &mut out, model)?;
+    Ok(Answer::Given(End::Done, Text::from_vec(out)))
+}

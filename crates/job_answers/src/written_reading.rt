@@ -1,0 +1,25 @@
+//! From the tokens of a text to the model that it reads as, by way of the model as it is written: of this each fault is told.
+
+ghost use Rattle.std.specs.Prelude.{◌≡◌, ◌≤◌, ℕ, length, IfOk};
+ghost use Rattle.model_core.specs.Static.Reading.{Reads};
+ghost use Rattle.model_core.specs.Code.Views.{graph_of};
+ghost use Rattle.job_answers.specs.declared.complaint.Complaint.{Complaint as Complained};
+ghost use Rattle.job_answers.specs.Complaints.{IsComplaint};
+
+use crate::reading_error::ReadingError;
+use model_core::Model;
+use model_lex::Tokens;
+use model_read::parse;
+use sig_base::TEXT_MAX;
+use sig_types::check;
+use std::alloc::Global;
+
+/// The model that the tokens read as.
+pub fn read_as_written(alloc: Global, tokens: &Tokens<'_>) -> Result<Model, ReadingError>
+    requires { length tokens.now.text.now ≤ TEXT_MAX }
+    ensures ok { IfOk result (λ model. Reads tokens.now.text.now (graph_of model)) }
+    ensures complaint { (what : Complained) (at : ℕ) → result ≡ Err (ReadingError.At what at) → IsComplaint tokens.now.text.now what at }
+{
+    let raw = parse(alloc, tokens)?;
+    Ok(check(alloc, raw)?)
+}

@@ -1,6 +1,0 @@
-use Rattle.std.proofs.Common.{subst}
-use Rattle.sigma_top.specs.DocumentComplaints.{IsDocumentComplaint}
-use Rattle.sigma_top.proofs.document_reading.spelled.Goals as goal
-
-pub returns-clause-complaint : goal.returns-clause-complaint
-returns-clause-complaint c = λ what at e. subst (λ t. IsDocumentComplaint t what at) c.in_ok-tokens.ensures.ok.0 (c.parts.ensures.complaint what at e)

@@ -1,8 +1,0 @@
-use Rattle.model_core.specs.Code.Views.{graph_of}
-use Rattle.sigma_top.proofs.run_job.begin.Goals as goal
-
--- a valid model can be run
-pub begin-requires-clause-possible : goal.begin-requires-clause-possible
-begin-requires-clause-possible g c =
-    let kept = (c.validity_is_by_parts.ensures.by_parts (graph_of c.args.model.now)).0 c.requires.valid in
-    c.kept_models_can_be_run.ensures (graph_of c.args.model.now) kept.0 kept.1

@@ -1,0 +1,134 @@
+-- How the answer to the input gets to the output, and what is left where it doesn't: the table of statuses. Nothing is
+-- said here of what the jobs answer.
+use Rattle.std.specs.Prelude.{◌≡◌, ◌≤◌, ◌⊎◌, ℕ, ◌+◌, true, false, List, drop, [], Option, Some, None, IfSome}
+use Rattle.sig_base.specs.Faults.{HasRisen}
+use Rattle.sig_base.specs.Sink.{Outlet, GrowsBy}
+use Rattle.sig_base.specs.Source.{Inlet}
+use Rattle.command_words.specs.declared.job.Job.{Job}
+use Rattle.command_words.specs.declared.reading.Reading.{Reading}
+use Rattle.command_words.specs.Jobs.{job_of}
+use Rattle.command_words.specs.Readings.{reading_of, limit_of}
+use Rattle.job_answers.specs.declared.answer.Answer.{Answer}
+use Rattle.job_answers.specs.declared.answer.Answer.TheVariants.{Given, Refused}
+use Rattle.job_answers.specs.declared.status.Status.{Status}
+use Rattle.job_answers.specs.declared.status.Status.TheVariants as statuses
+use Rattle.job_answers.specs.declared.status.End.{End}
+use Rattle.job_answers.specs.declared.status.End.TheVariants as ends
+use Rattle.job_answers.specs.declared.status.Refusal.{Refusal}
+use Rattle.job_answers.specs.declared.status.Refusal.TheVariants as refusals
+use Rattle.job_answers.specs.declared.status.Failure.TheVariants as failures
+use Rattle.job_answers.specs.Answers.{Answers, MayStopShort, HasNothingToWrite}
+use Rattle.job_answers.specs.FrontWritten.{GrowsByFront}
+use Rattle.job_answers.specs.Statuses.{failure_line}
+
+-- ---- reading, up to a limit; a job that reads no text has none, and leaves the input alone
+
+-- the text: all that the input has left
+abbrev pub text_of : Option ℕ → Option (List ℕ) → Option (List ℕ)
+text_of None left = Some []
+text_of (Some limit) left = left
+
+-- the job reads a text
+abbrev pub HasLimit : Option ℕ → Type 0
+HasLimit None = ⊥
+HasLimit (Some limit) = Unit {0}
+
+-- the input was read to its end
+abbrev pub IsReadToEnd : {S : Type 0} → (S → Inlet) → Option ℕ → S → S → Type 0
+IsReadToEnd seen None old new = new ≡ old
+IsReadToEnd seen (Some limit) old new = IfSome (seen old).left (λ bytes. (seen new).left ≡ Some [])
+
+-- the input was read to its end, or else to exactly one byte past the limit
+abbrev pub IsReadThrough : {S : Type 0} → (S → Inlet) → Option ℕ → S → S → Type 0
+IsReadThrough seen None old new = new ≡ old
+IsReadThrough seen (Some limit) old new = IfSome (seen old).left (λ bytes. (seen new).left ≡ Some (drop (limit + 1) bytes))
+
+-- bytes were taken from the front of the input, never more than one past the limit, and the rest is left
+abbrev pub IsReadInPart : {S : Type 0} → (S → Inlet) → Option ℕ → S → S → Type 0
+IsReadInPart seen None old new = new ≡ old
+IsReadInPart seen (Some limit) old new = IfSome (seen old).left (λ bytes. (n : ℕ) × (n ≤ limit + 1) × ((seen new).left ≡ Some (drop n bytes)))
+
+-- ---- the ways to end: with the input from i to j and the output from o to p, of which this is seen
+
+-- this is the answer to the input's text, or to some text where the input tells none
+pub record RepliesToInput (reading : Reading) (i : Inlet) (a : Answer) : Type 0 where
+  pub text : List ℕ
+  pub told : IfSome (text_of (limit_of reading) i.left) (λ bytes. text ≡ bytes)
+  pub answers : Answers reading text a
+
+module _ {S K : Type 0} (source : S → Inlet) (sink : K → Outlet) (reading : Reading) where
+  -- All of the answer's bytes are written, and finished.
+  pub record WritesAnswer (end : End) (i j : S) (o p : K) : Type 0 where
+    pub bytes : List ℕ
+    pub answer : RepliesToInput reading (source i) (Given end bytes)
+    pub input_read : IsReadToEnd source (limit_of reading) i j
+    pub input_steady : (source j).faults ≡ (source i).faults
+    pub output_grown : GrowsBy (sink o).written (sink p).written bytes
+    pub output_settled : (sink p).settled ≡ true
+    pub output_steady : (sink p).faults ≡ (sink o).faults
+
+  -- The text is refused. Nothing is written.
+  pub record Refuses (why : Refusal) (line : List ℕ) (i j : S) (o p : K) : Type 0 where
+    pub answer : RepliesToInput reading (source i) (Refused why line)
+    pub input_read : IsReadThrough source (limit_of reading) i j
+    pub input_steady : (source j).faults ≡ (source i).faults
+    pub output_untouched : p ≡ o
+
+  -- A read failed. Nothing is written.
+  pub record FailsToRead (i j : S) (o p : K) : Type 0 where
+    pub reads_text : HasLimit (limit_of reading)
+    pub input_read : IsReadInPart source (limit_of reading) i j
+    pub input_failed : HasRisen (source i).faults (source j).faults
+    pub output_untouched : p ≡ o
+
+  -- A write failed, or finishing did. The input was read, and a front of its answer was written; the output isn't finished,
+  -- unless there was nothing to write.
+  pub record FailsToWrite (i j : S) (o p : K) : Type 0 where
+    pub end : End
+    pub bytes : List ℕ
+    pub answer : RepliesToInput reading (source i) (Given end bytes)
+    pub input_read : IsReadToEnd source (limit_of reading) i j
+    pub input_steady : (source j).faults ≡ (source i).faults
+    pub output_grown : GrowsByFront (sink o) (sink p) bytes
+    pub output_unsettled : HasNothingToWrite reading bytes ⊎ ((sink p).settled ≡ false)
+    pub output_failed : HasRisen (sink o).faults (sink p).faults
+
+  -- a job that writes as it goes has written a front of its answer
+  pub record HasBegun (i : S) (o p : K) : Type 0 where
+    pub end : End
+    pub bytes : List ℕ
+    pub answer : RepliesToInput reading (source i) (Given end bytes)
+    pub short : MayStopShort reading answer.text
+    pub output_grown : GrowsByFront (sink o) (sink p) bytes
+
+  -- Memory was refused.
+  pub record LacksMemory (i j : S) (o p : K) : Type 0 where
+    pub input_read : IsReadInPart source (limit_of reading) i j
+    pub input_steady : (source j).faults ≡ (source i).faults
+    pub output_grown : (p ≡ o) ⊎ HasBegun i o p
+    pub output_steady : (sink p).faults ≡ (sink o).faults
+
+-- ---- the table of statuses
+
+-- the words ask for a job, and this holds of what it reads and asks
+abbrev pub ForJob : List (List ℕ) → (Reading → Type 0) → Type 0
+ForJob words Holds = (job : Job) × (job_of words ≡ Some job) × Holds (reading_of job)
+
+-- the error output grew by this line, unless a write of it failed
+abbrev pub Told : Outlet → Outlet → List ℕ → Type 0
+Told old new line = HasRisen old.faults new.faults ⊎ GrowsBy old.written new.written line
+
+-- What a call with these words that ends with this status did: to the input from i to j, to the output from o to p, and to
+-- the error output from e to f, of which this is seen.
+module _ {S K E : Type 0} (source : S → Inlet) (sink : K → Outlet) (errors : E → Outlet) where
+  abbrev pub Ends : Status → List (List ℕ) → S → S → K → K → E → E → Type 0
+  Ends statuses.Done words i j o p e f = ForJob words (λ reading. WritesAnswer source sink reading ends.Done i j o p) × (f ≡ e)
+  Ends statuses.Refused words i j o p e f = (line : List ℕ) × ForJob words (λ reading. Refuses source sink reading refusals.Refused line i j o p) × Told (errors e) (errors f) line
+  Ends statuses.Usage words i j o p e f = (job_of words ≡ None) × (j ≡ i) × (p ≡ o) × Told (errors e) (errors f) (failure_line failures.Usage)
+  Ends statuses.ReadFault words i j o p e f = ForJob words (λ reading. FailsToRead source sink reading i j o p) × Told (errors e) (errors f) (failure_line failures.ReadFault)
+  Ends statuses.WriteFault words i j o p e f = ForJob words (λ reading. FailsToWrite source sink reading i j o p) × Told (errors e) (errors f) (failure_line failures.WriteFault)
+  Ends statuses.NoMemory words i j o p e f = (((j ≡ i) × (p ≡ o)) ⊎ ForJob words (λ reading. LacksMemory source sink reading i j o p)) × Told (errors e) (errors f) (failure_line failures.NoMemory)
+  Ends statuses.ModelFault words i j o p e f = ForJob words (λ reading. WritesAnswer source sink reading ends.ModelFault i j o p) × (f ≡ e)
+  Ends statuses.Budget words i j o p e f = ForJob words (λ reading. WritesAnswer source sink reading ends.Budget i j o p) × (f ≡ e)
+  Ends statuses.Rejected words i j o p e f = ForJob words (λ reading. WritesAnswer source sink reading ends.Rejected i j o p) × (f ≡ e)
+  Ends statuses.BadStart words i j o p e f = (line : List ℕ) × ForJob words (λ reading. Refuses source sink reading refusals.BadStart line i j o p) × Told (errors e) (errors f) line
