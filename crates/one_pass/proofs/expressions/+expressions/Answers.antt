@@ -1,12 +1,14 @@
 -- A level is read as its format is, and operators one after another.
-use Rattle.std.proofs.Common.{refl, sym, ◌∙◌, arith}
-use Rattle.model_core.specs.Code.Views.{operator_of}
-use Rattle.model_core.specs.Text.Expressions.{Whole, Unary, Primary, joining, level_format}
+use Rattle.std.proofs.Common.{refl, sym, ap, ◌∙◌, arith, Some, None}
+use Rattle.model_core.specs.Code.Views.{operator_of, expression_of}
+use Rattle.model_core.specs.Text.Written as written
+use Rattle.model_core.specs.Text.Expressions.{Whole, Unary, Primary, moved, of_name, joining, level_format}
 use Rattle.model_core.specs.Static.Meanings.{meaning_of}
 use Rattle.text_laws.specs.Ladder.{climb}
 use Rattle.model_read.specs.Infixes.{infix_of}
+use Rattle.model_read.specs.Spelled.{spelled_name}
 use Rattle.text_laws.proofs.OperatorsInTurn.{not-taken-is, one-more}
-use Rattle.one_pass.proofs.SureOperands.{joined_operand}
+use Rattle.one_pass.proofs.SureOperands.{joined_operand, called_operand, negated_operand, negative_operand, scalar_operand, cell_operand, chosen_operand, moved_operand}
 use Rattle.one_pass.proofs.OperandsInTurn.{by_level, first_comes, behind_first}
 use Rattle.one_pass.proofs.expressions.+expressions.Goals as goal
 
@@ -55,4 +57,78 @@ others-returns-clause-reads t c = λ e is.
       written = so_far.0;
       is_read = sym so_far.2 ∙ not-taken-is c.args.under c.loop-infix.least so_far.0 c.loop-infix.cursor c.infix.new.self c.requires c.in_default.ensures.takes c.infix.ensures.leaves;
       operand = so_far.1;
+    }
+
+pub bracketed-returns-clause-reads : goal.bracketed-returns-clause-reads
+bracketed-returns-clause-reads t c =
+    let read = c.in_ok-index.ensures.reads in
+    record { written = read.written; is_read = rw (c.in_ok-symbol.ensures.reads, read.is_read, c.in_ok-symbol-2.ensures.reads) refl; operand = read.operand }
+
+pub enclosed-returns-clause-reads : goal.enclosed-returns-clause-reads
+enclosed-returns-clause-reads t c =
+    let read = c.in_ok-inner.ensures.reads in
+    record {
+      written = moved c.in_ok-at.at read.written;
+      is_read = rw (c.in_ok-at.ensures.reads, read.is_read, c.in_ok-symbol.ensures.reads) refl;
+      operand = moved_operand (meaning_of c.args.names.now) c.in_ok-at.at read.written _ _ _ read.operand;
+    }
+
+pub negated-returns-clause-reads : goal.negated-returns-clause-reads
+negated-returns-clause-reads t c =
+    let read = c.in_ok-operand.ensures.reads in
+    record {
+      written = written.Not c.in_ok-at.at read.written;
+      is_read = rw (c.in_ok-at.ensures.reads, read.is_read) refl;
+      operand = negated_operand (meaning_of c.args.names.now) c.in_ok-at.at read.written _ _ _ _ read.operand c.in_ok-expect.ensures (ap expression_of (c.in_ok-new.ensures.ok ∙ c.into_expr.ensures));
+    }
+
+pub negative-returns-clause-reads : goal.negative-returns-clause-reads
+negative-returns-clause-reads t c =
+    let read = c.in_ok-operand.ensures.reads in
+    record {
+      written = written.Negative c.in_ok-at.at read.written;
+      is_read = rw (c.in_ok-at.ensures.reads, read.is_read) refl;
+      operand = negative_operand (meaning_of c.args.names.now) c.in_ok-at.at read.written _ _ _ _ read.operand c.in_ok-expect.ensures (ap expression_of (c.in_ok-new.ensures.ok ∙ c.into_expr.ensures));
+    }
+
+pub called-returns-clause-reads : goal.called-returns-clause-reads
+called-returns-clause-reads t c =
+    let op = operator_of c.args.op in
+    let first = c.in_ok-first.ensures.reads in
+    let second = c.in_ok-second.ensures.reads in
+    record {
+      written = written.Binary c.in_ok-at.at op first.written second.written;
+      is_read = rw (c.in_ok-at.ensures.reads, c.in_ok-symbol.ensures.reads, first.is_read, c.in_ok-symbol-2.ensures.reads, second.is_read, c.in_ok-symbol-3.ensures.reads) refl;
+      operand = called_operand (meaning_of c.args.names.now) c.in_ok-at.at op first.written second.written _ _ _ _ _ _ _ _ first.operand second.operand (rw c.operand_kind.ensures at c.in_ok-expect.ensures) (rw c.right_kind.ensures at c.in_ok-expect-2.ensures) c.in_ok-both.ensures.expr c.in_ok-both.ensures.kind;
+    }
+
+pub branches-returns-clause-reads : goal.branches-returns-clause-reads
+branches-returns-clause-reads t c =
+    let test = c.in_ok-test.ensures.reads in
+    let yes = c.in_ok-yes.ensures.reads in
+    let no = c.in_ok-no.ensures.reads in
+    record {
+      written = written.If c.in_ok-at.at test.written yes.written no.written;
+      is_read = rw (c.in_ok-at.ensures.reads, test.is_read, c.in_ok-word.ensures.reads, yes.is_read, c.in_ok-word-2.ensures.reads, no.is_read) refl;
+      operand = chosen_operand (meaning_of c.args.names.now) c.in_ok-at.at test.written yes.written no.written _ _ _ _ _ _ _ _ _ _ _ test.operand yes.operand no.operand c.in_ok-expect.ensures c.in_ok-expect-2.ensures
+          (rw (c.into_expr.ensures, c.into_expr-2.ensures, c.into_expr-3.ensures) at c.in_ok-conditional.ensures) c.known_or-kind.ensures;
+    }
+
+pub named-returns-then-not-begins_symbol-clause-reads : goal.named-returns-then-not-begins_symbol-clause-reads
+named-returns-then-not-begins_symbol-clause-reads t c =
+    let name = spelled_name c.in_ok-name.name in
+    record {
+      written = of_name name None;
+      is_read = rw (c.in_ok-name.ensures.reads, ← c.begins_symbol.ensures, c.if-not-begins_symbol.true) refl;
+      operand = scalar_operand (meaning_of c.args.names.now) name c.in_ok-var.var.part c.in_ok-var.var.kind c.in_ok-var.ensures.unbroken c.in_ok-var.ensures.numbers c.in_ok-var.ensures.kind;
+    }
+
+pub named-returns-clause-reads : goal.named-returns-clause-reads
+named-returns-clause-reads t c =
+    let name = spelled_name c.in_ok-name.name in
+    let index = c.in_ok-index.ensures.reads in
+    record {
+      written = of_name name (Some index.written);
+      is_read = rw (c.in_ok-name.ensures.reads, ← c.begins_symbol.ensures, c.if-not-begins_symbol.false, index.is_read) refl;
+      operand = cell_operand (meaning_of c.args.names.now) name index.written c.in_ok-var-2.var.part _ _ c.in_ok-var-2.var.kind _ _ c.in_ok-var-2.ensures.unbroken c.in_ok-var-2.ensures.numbers c.in_ok-var-2.ensures.kind index.operand c.in_ok-index.ensures.ranged (ap expression_of (c.in_ok-new.ensures.ok ∙ c.into_expr.ensures));
     }
