@@ -83,28 +83,55 @@ fn history(
     Ok((outcomes?, sink))
 }
 
+/// How many calls of a sink the history of a model's run makes.
+fn calls(alloc: Global, text: &[u8], until: u16) -> Result<u64, Refused> {
+    let sink = MemorySink::begin(alloc, 1000, 1000, List::new(alloc))?;
+    let (_, sink) = history(alloc, text, until, 1000, sink)?;
+    let calls = sink.calls();
+    forget(sink);
+    Ok(calls)
+}
+
 #[test]
 fn each_line_is_one_call(rt: HostRuntime) -> Result<(), Fail> {
-    let alloc = rt.alloc();
-    let sink = MemorySink::begin(alloc, 1000, 1000, List::new(alloc))?;
-    let (_, sink) = history(alloc, CLOCK, 12, 1000, sink)?;
-    assert_eq!(rt; sink.calls(), 4);
-    let sink = MemorySink::begin(alloc, 1000, 1000, List::new(alloc))?;
-    let (_, sink) = history(alloc, CUT, 100, 1000, sink)?;
-    assert_eq!(rt; sink.calls(), 6);
+    assert_eq!(rt; calls(rt.alloc(), CLOCK, 12)?, 4);
+    assert_eq!(rt; calls(rt.alloc(), CUT, 100)?, 6);
     Ok(())
+}
+
+/// Whether the history of the clock up to 12, a hundred events at most after so many, comes to this, and is written so.
+fn is_followed_on(
+    alloc: Global,
+    events: u64,
+    outcomes: (Outcome, Outcome, u64),
+    written: &[u8],
+) -> Result<bool, Refused>
+    requires { events ≤ 1000 }
+{
+    let sink = MemorySink::begin(alloc, 1000, 1000, List::new(alloc))?;
+    let (found, sink) = history(alloc, CLOCK, 12, events, sink)?;
+    let is_so = found == outcomes && sink.written() == written;
+    forget(sink);
+    Ok(is_so)
 }
 
 #[test]
 fn a_run_is_followed_on_from_its_budget(rt: HostRuntime) -> Result<(), Fail> {
-    let sink = MemorySink::begin(rt.alloc(), 1000, 1000, List::new(rt.alloc()))?;
-    let (outcomes, sink) = history(rt.alloc(), CLOCK, 12, 2, sink)?;
-    assert_eq!(rt; outcomes, (Outcome::Budget, Outcome::Stopped, 3));
-    assert_eq!(rt;
-        sink.written(),
-        b"at 0 N=1\nbudget 2\nat 5 N=2\nat 10 N=3\nstopped 12\n".as_slice()
-    );
+    let outcomes = (Outcome::Budget, Outcome::Stopped, 3);
+    let written: &[u8] = b"at 0 N=1\nbudget 2\nat 5 N=2\nat 10 N=3\nstopped 12\n";
+    assert!(rt; is_followed_on(rt.alloc(), 2, outcomes, written)?);
     Ok(())
+}
+
+/// Whether a run of the clock up to 12, of whose history this call fails, ends there, with so many steps made and these
+/// bytes taken.
+fn ends_at_call(alloc: Global, failing: u64, turns: u64, written: &[u8]) -> Result<bool, Refused> {
+    let sink = MemorySink::begin(alloc, 1000, 1, List::of_one(alloc, failing)?)?;
+    let (outcomes, sink) = history(alloc, CLOCK, 12, 1000, sink)?;
+    let ended = outcomes.0 == Outcome::WriteFault && outcomes.2 == turns;
+    let as_wanted = ended && sink.calls() == failing && sink.written() == written;
+    forget(sink);
+    Ok(as_wanted)
 }
 
 /// The history of the clock up to 12 takes 39 calls of one byte each. Where a call fails, what the calls before it
@@ -115,12 +142,12 @@ fn no_call_is_made_after_one_that_failed(rt: HostRuntime) -> Result<(), Fail> {
     let alloc = rt.alloc();
     let whole: &[u8] = b"at 0 N=1\nat 5 N=2\nat 10 N=3\nstopped 12\n";
     for failing in 1..40 {
-        let sink = MemorySink::begin(alloc, 1000, 1, List::of_one(alloc, failing)?)?;
-        let (outcomes, sink) = history(alloc, CLOCK, 12, 1000, sink)?;
-        assert_eq!(rt; outcomes.0, Outcome::WriteFault);
-        assert_eq!(rt; outcomes.2, if failing < 10 { 2 } else { 3 });
-        assert_eq!(rt; sink.calls(), failing);
-        assert_eq!(rt; sink.written(), &whole[..failing as usize - 1]);
+        let turns = if failing < 10 { 2 } else { 3 };
+        let written = &whole[..failing as usize - 1];
+        assert!(rt;
+            ends_at_call(alloc, failing, turns, written)?,
+            "at call {failing}"
+        );
     }
     Ok(())
 }

@@ -55,7 +55,11 @@ fn saved<L: Ledger>(
             forget(tracer);
             Ok(snapshot?)
         }
-        _ => Err(Refused::Over),
+        _ => {
+            forget(run);
+            forget(tracer);
+            Err(Refused::Over)
+        }
     }
 }
 

@@ -11,10 +11,10 @@ follow-first-requires-clause-one_model g c = ap (λ (t : Tracing). t.model) c.in
 pub follow-first-requires-clause-goes_on : goal.follow-first-requires-clause-goes_on
 follow-first-requires-clause-goes_on g c = c.in_ok-run.ensures.goes_on
 
-pub follow-requires-clause-budget : goal.follow-requires-clause-budget
-follow-requires-clause-budget g c = omega (arith, c.follow-first.ensures.keeps.counted, c.in_ok-run.ensures.fresh, c.requires.few)
+pub follow-last-requires-clause-budget : goal.follow-last-requires-clause-budget
+follow-last-requires-clause-budget g c = omega (arith, c.follow-first.ensures.keeps.counted, c.in_ok-run.ensures.fresh, c.requires.few)
 
-pub follow-requires-clause-one_model : goal.follow-requires-clause-one_model
-follow-requires-clause-one_model g c =
+pub follow-last-requires-clause-one_model : goal.follow-last-requires-clause-one_model
+follow-last-requires-clause-one_model g c =
     c.follow-first.ensures.keeps.traced ∙ ap (λ (t : Tracing). t.model) c.in_ok-tracer.ensures ∙ sym c.in_ok-run.ensures.model
     ∙ sym c.follow-first.ensures.keeps.model

@@ -11,5 +11,5 @@ begun-requires g c = c.kept_models_can_be_run.ensures (graph_of c.args.model.now
 pub returns-in-Budget : goal.returns-in-Budget
 returns-in-Budget g c =
     let followed = c.in-Budget.ensures in
-    subst (IsGood (graph_of c.args.model.now)) (sym c.in_ok-save-in-Budget.ensures)
+    subst (IsGood (graph_of c.args.model.now)) (sym c.in_ok-snapshot-in-Budget.ensures)
     (good-then c.saved_runs_resume.ensures c.args.model.now c.in_ok-run.run' c.follow.new.run c.in_ok-tracer.tracer c.follow.new.tracer 2 12 2 c.requires.kept c.requires.spellable c.in_ok-run.ensures c.in_ok-tracer.ensures (omega arith) (omega arith) followed.writes.stands followed.stands)
