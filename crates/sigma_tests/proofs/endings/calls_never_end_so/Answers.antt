@@ -8,7 +8,6 @@ use Rattle.sig_base.specs.Sink.{Outlet}
 use Rattle.sig_base.specs.Source.{Inlet}
 use Rattle.command_words.specs.declared.job.Job.{Job}
 use Rattle.command_words.specs.declared.job.Job.TheVariants as jobs
-use Rattle.command_words.specs.declared.reading.Reading.{Reading}
 use Rattle.command_words.specs.Readings.{reading_of}
 use Rattle.job_answers.specs.declared.status.End.TheVariants as ends
 use Rattle.job_answers.specs.declared.status.Refusal.TheVariants as refusals
