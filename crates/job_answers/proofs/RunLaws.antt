@@ -39,7 +39,7 @@ use Rattle.job_answers.specs.FrontWritten.{GrowsByFront}
 use Rattle.job_answers.specs.RunAnswer.{end_of, told_of, refused_or, run_answer, ExceedsRoom}
 use Rattle.job_answers.specs.StartingValues.{start_refusal}
 use Rattle.job_answers.specs.Statuses.{status_of_answer}
-use Rattle.job_answers.specs.Inner.Writing.{Streamed, Closed}
+use Rattle.job_answers.specs.Inner.WritingSteps.{Streamed, Closed}
 use Rattle.job_answers.specs.Inner.RunSteps.{ending, StreamsRun}
 use Rattle.job_answers.specs.Inner.StartSteps.{RefusesRun}
 use Rattle.job_answers.proofs.GivenAnswers.{given_is_no_refusal, some_bytes, end_unrefused}

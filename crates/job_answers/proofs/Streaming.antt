@@ -17,7 +17,7 @@ use Rattle.job_answers.specs.declared.status.Failure.{Failure}
 use Rattle.job_answers.specs.declared.status.Failure.TheVariants as failures
 use Rattle.job_answers.specs.Delivery.{Delivers, DeliversSome}
 use Rattle.job_answers.specs.FrontWritten.{GrowsByFront}
-use Rattle.job_answers.specs.Inner.Writing.{Written, Streamed, Closed}
+use Rattle.job_answers.specs.Inner.WritingSteps.{Written, Streamed, Closed}
 
 -- ---- a piece that was written at once
 

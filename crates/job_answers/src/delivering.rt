@@ -2,7 +2,7 @@
 
 ghost use Rattle.std.specs.Prelude.{◌≡◌, ◌≢◌, Err, MatchResult};
 ghost use Rattle.job_answers.specs.Delivery.{Delivers};
-ghost use Rattle.job_answers.specs.Inner.Writing.{Written, Closed};
+ghost use Rattle.job_answers.specs.Inner.WritingSteps.{Written, Closed};
 
 use crate::answer::Answer;
 use crate::status::{End, Failure, Refusal};

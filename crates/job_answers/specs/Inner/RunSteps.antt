@@ -13,7 +13,7 @@ use Rattle.job_answers.specs.declared.status.End.TheVariants as ends
 use Rattle.job_answers.specs.declared.status.Failure.{Failure}
 use Rattle.job_answers.specs.declared.status.Failure.TheVariants as failures
 use Rattle.job_answers.specs.RunAnswer.{end_of, ExceedsRoom}
-use Rattle.job_answers.specs.Inner.Writing.{Streamed}
+use Rattle.job_answers.specs.Inner.WritingSteps.{Streamed}
 
 -- how a job ends whose run came to this
 abbrev pub ending : Outcome → Result End Failure
