@@ -24,7 +24,7 @@ use Rattle.watch_trace.specs.declared.outcome.Outcome.{Outcome}
 use Rattle.watch_trace.specs.declared.outcome.Outcome.TheVariants as outcomes
 use Rattle.watch_trace.specs.Tracing.{Tracing, moment_of}
 use Rattle.watch_trace.specs.Following.{outcome_of, seen_from, Writes, WritesAll, Stands}
-use Rattle.watch_trace.proofs.HistoryBytes.{history_has_bytes}
+use Rattle.run_laws.proofs.HistoryBytes.{history_has_bytes}
 use Rattle.job_answers.specs.declared.answer.Answer.TheVariants.{Given, Refused}
 use Rattle.job_answers.specs.declared.delivering.Said.{Said}
 use Rattle.job_answers.specs.declared.delivering.Said.TheVariants as said
