@@ -193,15 +193,15 @@ module _ (laws : FaultLaws) (text : List ℕ) where
   complaint_outcome what at (of_bytes is cut) = ap (cut_outcome text) cut ∙ ap (λ w. Err (w, at)) (sym is)
   complaint_outcome what at (of_tokens tokens cut h) = ap (cut_outcome text) cut ∙ ap (and_then static_outcome) (grammar_complained text tokens what at h)
   complaint_outcome what at (of_first first second applications s kind is told) =
-      spelled_outcome text first second applications s ∙ ap (λ o. unless_fault o (unless_fault (told_fault second) (Ok (first, applications, second)))) (laws.told_back first (record { at = at; kind = kind }) told) ∙ ap (λ w. Err (w, at)) (sym is)
+      spelled_outcome text first second applications s ∙ ap (λ o. unless_fault o (unless_fault (told_fault second) (Ok (first, applications, second)))) ((laws.told first (record { at = at; kind = kind })).1 told) ∙ ap (λ w. Err (w, at)) (sym is)
   complaint_outcome what at (of_second first second applications s g accepted kind is told) =
-      spelled_outcome text first second applications s ∙ ap (λ o. unless_fault o (unless_fault (told_fault second) (Ok (first, applications, second)))) (laws.unaccepted first (g, accepted))
-      ∙ ap (λ o. unless_fault o (Ok (first, applications, second))) (laws.told_back second (record { at = at; kind = kind }) told) ∙ ap (λ w. Err (w, at)) (sym is)
+      spelled_outcome text first second applications s ∙ ap (λ o. unless_fault o (unless_fault (told_fault second) (Ok (first, applications, second)))) ((laws.accepted first).1 (g, accepted))
+      ∙ ap (λ o. unless_fault o (Ok (first, applications, second))) ((laws.told second (record { at = at; kind = kind })).1 told) ∙ ap (λ w. Err (w, at)) (sym is)
 
   reads_outcome : (g : EventGraph) (applications : List RuleApplication) (h : EventGraph) → (r : ReadsDocument text g applications h) → document_outcome text ≡ Ok (r.first, applications, r.second)
   reads_outcome g applications h r =
-      spelled_outcome text r.first r.second applications r.spells ∙ ap (λ o. unless_fault o (unless_fault (told_fault r.second) (Ok (r.first, applications, r.second)))) (laws.unaccepted r.first (g, r.first_accepted))
-      ∙ ap (λ o. unless_fault o (Ok (r.first, applications, r.second))) (laws.unaccepted r.second (h, r.second_accepted))
+      spelled_outcome text r.first r.second applications r.spells ∙ ap (λ o. unless_fault o (unless_fault (told_fault r.second) (Ok (r.first, applications, r.second)))) ((laws.accepted r.first).1 (g, r.first_accepted))
+      ∙ ap (λ o. unless_fault o (Ok (r.first, applications, r.second))) ((laws.accepted r.second).1 (h, r.second_accepted))
 
   -- ---- there is one
 
@@ -246,13 +246,13 @@ module _ (laws : FaultLaws) (text : List ℕ) where
   module _ (within : length text ≤ DOCUMENT_MAX) where
     by_second : (first second : WrittenModel) (applications : List RuleApplication) → SpellsDocument text first applications second → (g : EventGraph) → Accepted first g → (o : Option StaticFault) → told_fault second ≡ o → ReadDocument ⊎ HasDocumentComplaint text
     by_second first second applications s g accepted None e =
-        let (h, is) = laws.accepted second e in
+        let (h, is) = (laws.accepted second).0 e in
         inl (record { original = g; applications = applications; reduced = h; reads = record { fits = within; first = first; second = second; spells = s; first_accepted = accepted; second_accepted = is } })
-    by_second first second applications s g accepted (Some f) e = inr (complaints.Static f.kind, f.at, of_second first second applications s g accepted f.kind refl (laws.told second f e))
+    by_second first second applications s g accepted (Some f) e = inr (complaints.Static f.kind, f.at, of_second first second applications s g accepted f.kind refl ((laws.told second f).0 e))
 
     by_first : (first second : WrittenModel) (applications : List RuleApplication) → SpellsDocument text first applications second → (o : Option StaticFault) → told_fault first ≡ o → ReadDocument ⊎ HasDocumentComplaint text
-    by_first first second applications s None e = let (g, is) = laws.accepted first e in by_second first second applications s g is (told_fault second) refl
-    by_first first second applications s (Some f) e = inr (complaints.Static f.kind, f.at, of_first first second applications s f.kind refl (laws.told first f e))
+    by_first first second applications s None e = let (g, is) = (laws.accepted first).0 e in by_second first second applications s g is (told_fault second) refl
+    by_first first second applications s (Some f) e = inr (complaints.Static f.kind, f.at, of_first first second applications s f.kind refl ((laws.told first f).0 e))
 
     by_certificate : (tokens : List Lexeme) → tokens_of text ≡ Ok tokens → (a : FrontModel tokens) (b : FrontModel a.left) → CertificateDecision text b.left → ReadDocument ⊎ HasDocumentComplaint text
     by_certificate tokens cut a b (inl spelled) =

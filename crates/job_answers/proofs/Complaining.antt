@@ -15,7 +15,7 @@ use Rattle.model_core.specs.Static.Reading.{Reads}
 use Rattle.job_answers.specs.declared.complaint.Complaint.{Complaint}
 use Rattle.job_answers.specs.declared.complaint.Complaint.TheVariants as complaints
 use Rattle.job_answers.specs.Complaints.{IsComplaint, HasComplaint}
-use Rattle.job_answers.specs.Inner.LawsOfTexts.{LawsOfTexts}
+use Rattle.job_answers.specs.Inner.TextFacts.{TextFacts}
 
 -- a text has one list of tokens
 same_tokens : (text : List ℕ) (a b : List Lexeme) → tokens_of text ≡ Ok a → tokens_of text ≡ Ok b → a ≡ b
@@ -25,7 +25,7 @@ same_tokens text a b e f = cc
 abbrev pub SameComplaint : Complaint → ℕ → Complaint → ℕ → Type 0
 SameComplaint c i d j = (c ≡ d) × (i ≡ j)
 
-module _ (laws : LawsOfTexts) (text : List ℕ) where
+module _ (laws : TextFacts) (text : List ℕ) where
   -- ---- how far a text goes
 
   record HasTokens : Type 0 where

@@ -11,7 +11,7 @@ use Rattle.job_answers.specs.declared.status.Failure.TheVariants as failures
 use Rattle.job_answers.specs.FrontWritten.{GrowsByFront}
 
 -- all of the bytes were written and finished
-pub record WritesWhole (bytes : List ℕ) (old new : Outlet) : Type 0 where
+pub record Finishes (bytes : List ℕ) (old new : Outlet) : Type 0 where
   pub grown : GrowsBy old.written new.written bytes
   pub settled : new.settled ≡ true
   pub steady : new.faults ≡ old.faults
@@ -30,7 +30,7 @@ pub record StopsShort (bytes : List ℕ) (old new : Outlet) : Type 0 where
 -- What delivering an answer, as it came or at once, did to the output: its bytes were written, or the first of them; of a
 -- refusal nothing is written.
 abbrev pub Delivers : {K : Type 0} → (K → Outlet) → Answer → Result Said Failure → K → K → Type 0
-Delivers seen (Given end bytes) (Ok (said.Gave other)) o p = (other ≡ end) × WritesWhole bytes (seen o) (seen p)
+Delivers seen (Given end bytes) (Ok (said.Gave other)) o p = (other ≡ end) × Finishes bytes (seen o) (seen p)
 Delivers seen (Given end bytes) (Err failures.WriteFault) o p = BreaksOff bytes (seen o) (seen p)
 Delivers seen (Given end bytes) (Err failures.NoMemory) o p = StopsShort bytes (seen o) (seen p)
 Delivers seen (Refused why line) (Ok (said.Refused other told)) o p = (other ≡ why) × (told ≡ line) × (p ≡ o)

@@ -2,5 +2,5 @@
 pub mod Refusals
 pub mod RunSteps
 pub mod StartSteps
-pub mod LawsOfTexts
+pub mod TextFacts
 pub mod WritingSteps

@@ -12,14 +12,14 @@ ghost use Rattle.job_answers.specs.declared.status.Status.{Status};
 ghost use Rattle.job_answers.specs.Answers.{Answers};
 ghost use Rattle.job_answers.specs.Complaints.{IsComplaint, HasComplaint};
 ghost use Rattle.job_answers.specs.Statuses.{status_of_answer};
-ghost use Rattle.job_answers.specs.Inner.LawsOfTexts.{LawsOfTexts};
+ghost use Rattle.job_answers.specs.Inner.TextFacts.{TextFacts};
 
 use static_laws::one_fault_is_told;
 use text_laws::{openings_have_a_limit, texts_have_one_reading};
 
 /// What the layers below say of texts.
 fn texts_keep_their_laws()
-    ensures { LawsOfTexts }
+    ensures { TextFacts }
 {
     texts_have_one_reading();
     openings_have_a_limit();

@@ -8,12 +8,7 @@ returns c =
     let told = c.texts_have_one_complaint.ensures in
     let complaints : ComplaintLaws = record { one = told.one; none = told.none; some = told.some } in
     let fault = c.one_fault_is_told.ensures in
-    let faults : FaultLaws = record {
-      told = λ m f. (fault.told m f).0;
-      told_back = λ m f. (fault.told m f).1;
-      accepted = λ m. (fault.accepted m).0;
-      unaccepted = λ m. (fault.accepted m).1;
-    } in
+    let faults : FaultLaws = record { told = fault.told; accepted = fault.accepted } in
     let laws = c.answers_keep_their_laws.ensures in
     record {
       answer = λ job text a b x y. one_answer complaints faults text c.texts_read_as_one_model.ensures (reading_of job) (laws (reading_of job)) a b x y;

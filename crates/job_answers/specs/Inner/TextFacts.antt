@@ -12,7 +12,7 @@ use Rattle.model_core.specs.Static.FaultOrder.{StaticFault}
 use Rattle.model_core.specs.Static.ModelFaults.{IsTold, told_fault, Accepted}
 
 -- what the layers below say of texts
-pub record LawsOfTexts : Type 0 where
+pub record TextFacts : Type 0 where
   pub one_model : (text : List ℕ) (m n : WrittenModel) → SpellsText text m → SpellsText text n → m ≡ n
   pub spelled_or_not : (text : List ℕ) (tokens : List Lexeme) → ((m : WrittenModel) × IsText tokens m) ⊎ ((at : ℕ) × IsUnexpectedAt text tokens at)
   pub one_place : (text : List ℕ) (tokens : List Lexeme) (i j : ℕ) → IsUnexpectedAt text tokens i → IsUnexpectedAt text tokens j → i ≡ j
