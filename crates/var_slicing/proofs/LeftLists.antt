@@ -2,7 +2,7 @@
 use Rattle.std.proofs.Common.{◌≡◌, ℕ, zero, suc, Bool, true, false, cond, List, [], ◌∷◌, ◌++◌, map, drop, refl, sym, ap, ◌∙◌, append_assoc}
 use Rattle.model_core.specs.EventGraph.{Expression}
 use Rattle.model_core.specs.Rules.MarkedPlaces.{rank, is_marked, marked_of}
-use Rattle.model_core.specs.Rules.Slice.{expression_renumbered, kept_beside, values_left}
+use Rattle.model_core.specs.Rules.Slice.{expression_renumbered, kept_beside, values_left, parameters_left}
 use Rattle.var_slicing.specs.Inner.Beside.{keeps_beside}
 
 -- ---- any list, of which an element is put behind those before it where it stays
@@ -28,6 +28,14 @@ values-more marks vars xs i x is = ap (values_left marks (drop i vars)) is ∙ v
 pub values-none : (marks : List Bool) (vars : List ℕ) → values_left marks vars [] ≡ []
 values-none marks [] = refl
 values-none marks (v ∷ vs) = refl
+
+-- ---- parameters
+
+pub parameters-more : (marks : List Bool) (params : List ℕ) (i v : ℕ) → drop i params ≡ v ∷ drop (suc i) params → parameters_left marks (drop i params) ≡ cond (is_marked marks v) (rank marks v ∷ []) [] ++ parameters_left marks (drop (suc i) params)
+parameters-more marks params i v is = ap (parameters_left marks) is ∙ tested (is_marked marks v) where
+  tested : (b : Bool) → cond b (rank marks v ∷ parameters_left marks (drop (suc i) params)) (parameters_left marks (drop (suc i) params)) ≡ cond b (rank marks v ∷ []) [] ++ parameters_left marks (drop (suc i) params)
+  tested true = refl
+  tested false = refl
 
 -- ---- marked elements
 
