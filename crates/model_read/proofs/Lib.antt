@@ -1,5 +1,5 @@
 mod FirstToken
 mod LevelCalls
 mod OpeningSteps
-mod WholeText
+pub mod WholeText
 mod PlacedReads

@@ -1,5 +1,5 @@
 -- What a call that reads a text told is so: what it read is spelled, and where it stopped is where no text goes on.
-use Rattle.std.proofs.Common.{◌≡◌, ℕ, ◌+◌, ◌-◌, ◌≤◌, List, ◌++◌, length, map, take, drop, Some, sym, ap, ◌∙◌, subst, arith}
+use Rattle.std.proofs.Common.{◌≡◌, ℕ, Bool, true, false, ◌+◌, ◌-◌, ◌≤◌, List, [], ◌∷◌, ◌++◌, length, map, take, drop, Some, refl, sym, ap, ◌∙◌, subst, arith}
 use Rattle.std.specs.Prelude.{Option, Result, Ok, Err, IfOk}
 use Rattle.std.proofs.lemmas.List.{length-drop, length-append, drop-drop}
 use Rattle.std.proofs.Math.Seq.{drop-append_seam}
@@ -7,16 +7,16 @@ use Rattle.model_core.specs.declared.raw.RawModel.{RawModel}
 use Rattle.model_core.specs.declared.token.Token.{Token}
 use Rattle.model_core.specs.Text.Lexing.{Lexeme}
 use Rattle.model_core.specs.Text.Written.{WrittenModel}
-use Rattle.model_core.specs.Text.Language.{IsText, BeginsWithText}
-use Rattle.model_core.specs.Text.FirstWrong.{IsUnexpectedAt}
-use Rattle.model_core.specs.Text.Openings.{front_to_end, too_deep_at, HasFewOpenings}
+use Rattle.model_core.specs.Text.Language.{text_format, IsText, BeginsWithText}
+use Rattle.model_core.specs.Text.FirstWrong.{told_place, IsUnexpectedAt}
+use Rattle.model_core.specs.Text.Openings.{is_end_word, front_to_end, too_deep_at, HasFewOpenings}
 use Rattle.model_core.specs.Code.WrittenViews.{written_model}
 use Rattle.model_core.specs.Code.TokenViews.{lexeme_of}
-use Rattle.text_laws.specs.FormatReader.{took}
+use Rattle.text_laws.specs.FormatReader.{took, stuck}
 use Rattle.text_laws.specs.LanguageReader.{text_and_rest, text_read}
-use Rattle.text_laws.proofs.Formats.TextLaws.{read-is_spelled, whole-is_spelled, refused-is_unexpected}
-use Rattle.text_laws.proofs.Formats.EndWord.{front-is_text}
-use Rattle.text_laws.proofs.FrontReads.{front-unexpected}
+use Rattle.text_laws.proofs.Formats.TextLaws.{read-is_spelled, spelled-is_read, stuck-is_wrong, whole-is_spelled, refused-is_unexpected}
+use Rattle.text_laws.proofs.Formats.EndWord.{front-is_text, text-is_front, wrong-in_front}
+use Rattle.text_laws.proofs.Formats.OneTokenDecides.{text-fine}
 use Rattle.text_laws.proofs.TokensFrom.{some-are}
 use Rattle.model_lex.specs.declared.parse_error.ParseError.{ParseError}
 use Rattle.model_lex.specs.declared.parse_error.ParseError.TheVariants as errors
@@ -65,6 +65,33 @@ front-ok all left from size limit m s i e few =
     let d : BeginsWithText (drop from all) m left = read-is_spelled (drop from all) m left e in
     let p = left-place all left from (front_to_end (drop from all)) h (front-is_text (drop from all) m left d).0 in
     (subst (λ (l : List Lexeme). BeginsWithText (drop from all) m l) (sym p.1 ∙ ap (λ (n : ℕ). drop (n - length left) all) (sym s)) d, few)
+
+split : (tokens : List Lexeme) → (left : List Lexeme) × (tokens ≡ front_to_end tokens ++ left)
+split [] = ([], refl)
+split (t ∷ tokens) = go (is_end_word t.kind) refl (split tokens)
+  where
+    go : (b : Bool) → is_end_word t.kind ≡ b → (left : List Lexeme) × (tokens ≡ front_to_end tokens ++ left) → (left : List Lexeme) × (t ∷ tokens ≡ front_to_end (t ∷ tokens) ++ left)
+    go true e s = (tokens, rw e refl)
+    go false e s = (s.0, rw e (ap (λ (l : List Lexeme). t ∷ l) s.1))
+
+no_front : (tokens rest : List Lexeme) → text_and_rest tokens ≡ stuck rest → (m : WrittenModel) → IsText (front_to_end tokens) m → ⊥
+no_front tokens rest e m d =
+    let s = split tokens in
+    let f : text_and_rest tokens ≡ took m s.0 = spelled-is_read tokens m s.0 (text-is_front tokens m s.0 s.1 d) in
+    absurd cc
+
+same_place : (text : List ℕ) (rest : List Lexeme) → told_place text (front_to_end rest) ≡ told_place text rest
+same_place text [] = refl
+same_place text (t ∷ rest) = refl
+
+-- where the reader is stuck, so is the front
+pub front-unexpected : (text : List ℕ) (tokens rest : List Lexeme) (at : ℕ) → (text_and_rest tokens ≡ stuck rest) × (told_place text rest ≡ at) → IsUnexpectedAt text (front_to_end tokens) at
+front-unexpected text tokens rest at (e, told) = record {
+  none = no_front tokens rest e;
+  rest = front_to_end rest;
+  wrong = wrong-in_front tokens rest (no_front tokens rest e) (stuck-is_wrong text_format text-fine tokens rest e);
+  told = same_place text rest ∙ told;
+}
 
 -- ---- what is counted of the front
 

@@ -9,10 +9,9 @@ use Rattle.model_core.specs.Text.Numbering.{Declared, each_numbered}
 use Rattle.model_core.specs.Static.FaultOrder.{StaticFault}
 use Rattle.model_core.specs.Static.Meanings.{Meaning}
 use Rattle.text_laws.specs.FirstTokens.{nullable, first_sorts, begins_among}
-use Rattle.text_laws.specs.FormatReader.{took}
+use Rattle.text_laws.specs.FormatReader.{took, with_front}
 use Rattle.text_laws.specs.LanguageReader.{level_lookahead, language_reader}
 use Rattle.static_laws.proofs.StaticTwins.Twins.{both_empty}
-use Rattle.text_laws.specs.FormatReader.{with_front}
 use Rattle.text_laws.proofs.ReadLoop.{goes_on, is_done, front-none}
 use Rattle.static_laws.specs.Checked.{NumberedAs}
 use Rattle.static_laws.proofs.ListChecks.{one_numbered_more}

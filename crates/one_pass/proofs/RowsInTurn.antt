@@ -6,9 +6,8 @@ use Rattle.model_core.specs.Text.Lexing.{Lexeme}
 use Rattle.model_core.specs.Text.Format.{TokenSort, ASymbol, Single, Many, mark, ◌*>◌, separated}
 use Rattle.model_core.specs.Text.Expressions.{LanguageFormat}
 use Rattle.text_laws.specs.FirstTokens.{begins_as}
-use Rattle.text_laws.specs.FormatReader.{took}
+use Rattle.text_laws.specs.FormatReader.{took, with_front}
 use Rattle.text_laws.specs.LanguageReader.{language_reader}
-use Rattle.text_laws.specs.FormatReader.{with_front}
 use Rattle.text_laws.proofs.ReadLoop.{begins-one, goes_on, is_done}
 use Rattle.one_pass.specs.Inner.ReadRows.{AllAre, ReadRow}
 

@@ -13,12 +13,11 @@ use Rattle.model_core.specs.Static.Meanings.{Meaning}
 use Rattle.model_core.specs.Static.RuleTable.{value_count}
 use Rattle.model_core.specs.Static.PartFaults.{expression_faults, kind_faults, operand_faults, values_faults}
 use Rattle.text_laws.specs.FirstTokens.{begins_as}
-use Rattle.text_laws.specs.FormatReader.{took}
+use Rattle.text_laws.specs.FormatReader.{took, with_front}
 use Rattle.text_laws.specs.LanguageReader.{language_reader}
 use Rattle.model_core.proofs.EmptyLists.{left_empty, right_empty}
 use Rattle.static_laws.proofs.StaticTwins.RowTwins.{same_count}
 use Rattle.static_laws.proofs.StaticTwins.Twins.{both_empty}
-use Rattle.text_laws.specs.FormatReader.{with_front}
 use Rattle.text_laws.proofs.ReadLoop.{begins-one, goes_on, is_done, front-none}
 use Rattle.static_laws.specs.Checked.{NumberedAs}
 use Rattle.static_laws.specs.Wanted.{wanted}

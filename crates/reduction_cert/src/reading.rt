@@ -5,11 +5,10 @@ ghost use Rattle.model_core.specs.Code.Views.{application_of};
 ghost use Rattle.model_core.specs.Text.Format.{Many, at_least_one};
 ghost use Rattle.model_core.specs.Text.CertificateText.{edge_number, plain_name_format, edge_number_format, prune_format, settle_format, drop_format, merge_format, slice_format, application_format, certificate_format, IsCertificate, IsNoCertificateAt};
 ghost use Rattle.text_laws.specs.FirstTokens.{first_sorts, begins_among};
-ghost use Rattle.text_laws.specs.FormatReader.{and_next, whole_read};
+ghost use Rattle.text_laws.specs.FormatReader.{and_next, with_front, whole_read};
 ghost use Rattle.text_laws.specs.LanguageReader.{level_lookahead, language_reader};
 ghost use Rattle.model_lex.specs.Lexemes.{lexemes};
 ghost use Rattle.model_read.specs.ReadCalls.{Returned};
-ghost use Rattle.text_laws.specs.FormatReader.{with_front};
 
 use model_core::{Application, Word};
 use model_lex::{ParseError, Tokens, tokens_stand_in_order};

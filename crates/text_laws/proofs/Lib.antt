@@ -5,6 +5,4 @@ mod FirstOperator
 pub mod OperandLevels
 mod LevelOperators
 pub mod OperatorsInTurn
-pub mod FrontReads
 pub mod TokensFrom
-pub mod DigitsTaken

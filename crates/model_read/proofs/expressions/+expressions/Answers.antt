@@ -5,9 +5,8 @@ use Rattle.model_core.specs.Code.WrittenViews.{written_expression}
 use Rattle.text_laws.specs.Ladder.{climb}
 use Rattle.model_read.specs.Infixes.{infix_of}
 use Rattle.model_core.specs.Text.Expressions.{Whole, Unary, Primary, level_format}
-use Rattle.model_read.proofs.LevelCalls.{by_format, stops_first, gives_others}
+use Rattle.model_read.proofs.LevelCalls.{by_format, stops_first, gives_others, gives_alone}
 use Rattle.text_laws.proofs.OperandLevels.{from-not, from-unary}
-use Rattle.model_read.proofs.LevelCalls.{gives_alone}
 use Rattle.text_laws.proofs.OperatorsInTurn.{taken-is, not-taken-is, one-more}
 use Rattle.model_read.proofs.expressions.+expressions.Goals as goal
 
