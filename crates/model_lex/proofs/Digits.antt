@@ -4,9 +4,9 @@ use Rattle.std.specs.Prelude.{Some, None}
 use Rattle.std.specs.List.{AllPass, prefix_len}
 use Rattle.std.specs.Int.Digits.{number_from_digits_after}
 use Rattle.std.proofs.lemmas.Bool.{le-ltb}
-use Rattle.std.proofs.lemmas.List.{get_or-take, length-take-le, at_drop_more}
+use Rattle.std.proofs.lemmas.List.{get_or-take, length-take-le}
 use Rattle.std.proofs.lemmas.List.Sums.{prefix_len_passes, prefix_len-le-length}
-use Rattle.std.proofs.lemmas.Int.Digits.{number_after_ge}
+use Rattle.sig_base.proofs.DigitsTaken.{digit-le-number}
 use Rattle.model_core.specs.Text.Lexing.{literal_value}
 
 -- the elements up to the first that fails all pass
@@ -21,11 +21,6 @@ AllPass-prefix p xs k d below =
 abbrev pub number_on : ℕ → List ℕ → ℕ
 number_on value digits = number_from_digits_after 10 value (map (λ c. c - 48) digits)
 
--- one digit taken in makes no number larger than all of them do
-pub digit-le-number : (digits : List ℕ) (i value : ℕ) → i < length digits → value * 10 + (get_or digits i 0 - 48) ≤ number_on value (drop i digits)
-digit-le-number digits i value i_in =
-    rw (at_drop_more (number_on value) digits i 0 i_in) (number_after_ge 10 (value * 10 + (get_or digits i 0 - 48)) (map (λ c. c - 48) (drop (i + 1) digits)) (omega arith))
-
 -- digits of a number of 2^63 or more have no value
 pub literal_value-large : (digits : List ℕ) → 2 ^ 63 ≤ number_on 0 digits → literal_value digits ≡ None
 literal_value-large digits large = ap (λ b. cond b (Some (pos (number_on 0 digits))) None) (le-ltb (number_on 0 digits) (2 ^ 63) large)
@@ -33,5 +28,5 @@ literal_value-large digits large = ap (λ b. cond b (Some (pos (number_on 0 digi
 -- where the value so far and one digit more are too large, so are all of the digits
 pub no_value : (digits : List ℕ) (i value : ℕ) → i < length digits → number_on value (drop i digits) ≡ number_on 0 digits → 2 ^ 63 ≤ value * 10 + (get_or digits i 0 - 48) → literal_value digits ≡ None
 no_value digits i value i_in same large =
-    let more = digit-le-number digits i value i_in in
+    let more : value * 10 + (get_or digits i 0 - 48) ≤ number_on value (drop i digits) = digit-le-number digits i value i_in in
     literal_value-large digits (omega arith)

@@ -1,3 +1,4 @@
 pub mod Lists
 pub mod SinkLemmas
 pub mod SourceLemmas
+pub mod DigitsTaken
