@@ -1,5 +1,5 @@
 mod FirstToken
 mod LevelCalls
 mod OpeningSteps
-pub mod WholeText
+mod WholeText
 mod PlacedReads
