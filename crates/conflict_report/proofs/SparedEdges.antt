@@ -5,7 +5,7 @@ use Rattle.model_core.specs.EventGraph.{EventGraph, Expression, EventEdge, EdgeK
 use Rattle.model_core.specs.Run.State.{State}
 use Rattle.model_core.specs.Run.Value.{OrFault, ◌>>=◌, in_turn, value_of, is_one}
 use Rattle.model_core.specs.Run.Edges.{Waiting, delay_ticks, delay_of, carried_values}
-use Rattle.model_core.specs.Rules.Uses.{variables_in, delay_reads, edge_reads, delay_streams, edge_streams}
+use Rattle.model_core.specs.Rules.Uses.{variables_in, timing_reads, edge_reads, timing_streams, edge_streams}
 use Rattle.model_core.proofs.EachOne.{every-front, every-behind, every-flat_map}
 use Rattle.run_laws.proofs.Spared.SetPlaces.{sets, Spares}
 use Rattle.run_laws.proofs.Spared.InTurn.{result_by, bind-after, bind-within}
@@ -25,13 +25,13 @@ pub record EdgeSpared (us : List (ℕ × List ℤ)) (ws : List (ℕ × ℕ)) (e 
   pub streams : AllByRecursion (Spares ws) (edge_streams e)
 
 module _ (g : EventGraph) (us : List (ℕ × List ℤ)) (ws : List (ℕ × ℕ)) (seed : ℕ) (s : State) (clk : ℕ) where
-  delay-spared : (delay : Expression) (priority : ℕ) → AllByRecursion (Spares us) (delay_reads (Schedule delay priority)) → AllByRecursion (Spares ws) (delay_streams (Schedule delay priority)) → (taken : List ℕ) → delay_of g seed (sets us s) clk delay (sets ws taken) ≡ result_by (wait_beside ws) (delay_of g seed s clk delay taken)
+  delay-spared : (delay : Expression) (priority : ℕ) → AllByRecursion (Spares us) (timing_reads (Schedule delay priority)) → AllByRecursion (Spares ws) (timing_streams (Schedule delay priority)) → (taken : List ℕ) → delay_of g seed (sets us s) clk delay (sets ws taken) ≡ result_by (wait_beside ws) (delay_of g seed s clk delay taken)
   delay-spared delay priority reads streams taken =
       ap (λ (r : OrFault ℤ). r >>= λ wait. delay_ticks wait >>= λ n. let r : OrFault Waiting = Ok (record { ticks = n; taken = sets ws taken }) in r) (value-spared g clk us s delay reads) ∙
       bind-within (wait_beside ws) (value_of g s clk delay) _ _ (λ wait a.
       bind-within (wait_beside ws) (delay_ticks wait) _ _ (λ n b. refl))
 
-  act-spared : (e : EventEdge) (kind : EdgeKind) → AllByRecursion (Spares us) (delay_reads kind) → AllByRecursion (λ e. AllByRecursion (Spares us) (variables_in e)) e.values → AllByRecursion (Spares ws) (delay_streams kind) → (p : Plan) → plan_act g seed (sets us s) clk e kind (plan_beside ws p) ≡ result_by (plan_beside ws) (plan_act g seed s clk e kind p)
+  act-spared : (e : EventEdge) (kind : EdgeKind) → AllByRecursion (Spares us) (timing_reads kind) → AllByRecursion (λ e. AllByRecursion (Spares us) (variables_in e)) e.values → AllByRecursion (Spares ws) (timing_streams kind) → (p : Plan) → plan_act g seed (sets us s) clk e kind (plan_beside ws p) ≡ result_by (plan_beside ws) (plan_act g seed s clk e kind p)
   act-spared e (Schedule delay priority) reads values streams p =
       let next : Waiting → OrFault Plan = λ wait. carried_values g (sets us s) clk e >>= λ values. Ok (and_deed p.deeds (AddsEvent (record { time = clk + wait.ticks; priority = priority; vertex = e.target; values = values })) wait.taken) in
       ap (λ (r : OrFault Waiting). r >>= next) (delay-spared delay priority reads streams p.taken) ∙
@@ -49,10 +49,10 @@ module _ (g : EventGraph) (us : List (ℕ × List ℤ)) (ws : List (ℕ × ℕ))
 
   plan-spared : (e : EventEdge) → EdgeSpared us ws e → (p : Plan) → plan g seed (sets us s) clk e (plan_beside ws p) ≡ result_by (plan_beside ws) (plan g seed s clk e p)
   plan-spared e spared p =
-      let front = every-front (Spares us) (variables_in e.condition ++ delay_reads e.kind) (flat_map variables_in e.values) spared.reads in
-      let values = every-flat_map (Spares us) variables_in e.values (every-behind (Spares us) (variables_in e.condition ++ delay_reads e.kind) (flat_map variables_in e.values) spared.reads) in
-      let delay = every-behind (Spares us) (variables_in e.condition) (delay_reads e.kind) front in
-      ap (λ (r : OrFault ℤ). r >>= λ c. cond (is_one c) (plan_act g seed (sets us s) clk e e.kind (plan_beside ws p)) (Ok (plan_beside ws p))) (value-spared g clk us s e.condition (every-front (Spares us) (variables_in e.condition) (delay_reads e.kind) front)) ∙
+      let front = every-front (Spares us) (variables_in e.condition ++ timing_reads e.kind) (flat_map variables_in e.values) spared.reads in
+      let values = every-flat_map (Spares us) variables_in e.values (every-behind (Spares us) (variables_in e.condition ++ timing_reads e.kind) (flat_map variables_in e.values) spared.reads) in
+      let delay = every-behind (Spares us) (variables_in e.condition) (timing_reads e.kind) front in
+      ap (λ (r : OrFault ℤ). r >>= λ c. cond (is_one c) (plan_act g seed (sets us s) clk e e.kind (plan_beside ws p)) (Ok (plan_beside ws p))) (value-spared g clk us s e.condition (every-front (Spares us) (variables_in e.condition) (timing_reads e.kind) front)) ∙
       bind-within (plan_beside ws) (value_of g s clk e.condition) _ _ (λ c is. tested (is_one c) (act-spared e e.kind delay values spared.streams p)) where
         tested : (b : Bool) → plan_act g seed (sets us s) clk e e.kind (plan_beside ws p) ≡ result_by (plan_beside ws) (plan_act g seed s clk e e.kind p) → cond b (plan_act g seed (sets us s) clk e e.kind (plan_beside ws p)) (Ok (plan_beside ws p)) ≡ result_by (plan_beside ws) (cond b (plan_act g seed s clk e e.kind p) (Ok p))
         tested true same = same

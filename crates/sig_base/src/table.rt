@@ -1,11 +1,12 @@
 //! Tables of weighted values, and the values that an event carries.
 
+use crate::limits::PARAMETERS_MAX;
 use crate::list::List;
 use crate::name::Name;
 use arrayvec::ArrayVec;
 
 /// The values that an event carries for its vertex's parameters.
-pub type Carried = ArrayVec<i64, 8>;
+pub type Carried = ArrayVec<i64, PARAMETERS_MAX>;
 
 /// A value that a draw by table gives, and how often.
 #[derive(Clone, Copy, Debug, PartialEq, Eq)]

@@ -3,7 +3,7 @@
 ghost use Rattle.std.specs.Prelude.{◌≡◌, ◌++◌, map, OnOk};
 ghost use Rattle.std.specs.List.{flat_map};
 ghost use Rattle.model_core.specs.EventGraph.{Location};
-ghost use Rattle.model_core.specs.Rules.Uses.{variables_in, location_reads, change_reads, change_writes, delay_reads, edge_reads, vertex_reads, vertex_writes};
+ghost use Rattle.model_core.specs.Rules.Uses.{variables_in, location_reads, change_reads, change_writes, timing_reads, edge_reads, vertex_reads, vertex_writes};
 ghost use Rattle.model_core.specs.Rules.Needed.{deciding_reads};
 ghost use Rattle.model_core.specs.Code.Views.{expression_of, location_of, change_of, edge_kind_of, edge_of, vertex_of};
 
@@ -94,7 +94,7 @@ fn add_all_change_reads(out: &mut Vec<usize>, changes: &[Change]) -> Result<(), 
 
 /// Adds the variables that stand in the delay of an edge of this form.
 fn add_delay_reads(out: &mut Vec<usize>, form: &EdgeForm) -> Result<(), NoMemory>
-    ensures { OnOk result (out.new.items ≡ out.old.items ++ delay_reads (edge_kind_of form.now)) }
+    ensures { OnOk result (out.new.items ≡ out.old.items ++ timing_reads (edge_kind_of form.now)) }
 {
     match form {
         EdgeForm::Schedule { delay, priority: _ } => add_variables(out, delay),

@@ -5,7 +5,7 @@ ghost use Rattle.std.specs.Prelude.{◌≡◌, map, Some};
 ghost use Rattle.std.specs.List.{flat_map};
 ghost use Rattle.model_core.specs.EventGraph.{Location};
 ghost use Rattle.model_core.specs.Rules.MarkedPlaces.{is_among};
-ghost use Rattle.model_core.specs.Rules.Uses.{variables_in, location_reads, change_reads, change_writes, delay_reads, edge_reads, vertex_reads, vertex_writes};
+ghost use Rattle.model_core.specs.Rules.Uses.{variables_in, location_reads, change_reads, change_writes, timing_reads, edge_reads, vertex_reads, vertex_writes};
 ghost use Rattle.model_core.specs.Code.Views.{expression_of, location_of, change_of, edge_kind_of, edge_of, vertex_of};
 
 use model_core::{Change, Edge, EdgeForm, Expr, Target, Vertex};
@@ -78,7 +78,7 @@ pub fn reads_of_change(change: &Change, var: usize) -> bool
 
 /// Whether a variable stands in the delay of an edge of this form.
 fn delays(form: &EdgeForm, var: usize) -> bool
-    ensures { result ≡ is_among (delay_reads (edge_kind_of form.now)) var }
+    ensures { result ≡ is_among (timing_reads (edge_kind_of form.now)) var }
 {
     match form {
         EdgeForm::Schedule { delay, priority: _ } => stands_in(delay, var),

@@ -8,7 +8,7 @@ use Rattle.model_core.specs.Text.Spellable.{extent, SpellableExpression, Spellab
 use Rattle.model_core.specs.Static.OwnRules.{KeepsChange, KeepsVertex, parameters_of, KeepsParts}
 use Rattle.model_core.specs.Rules.BoundsOfParts.{quiet_set, quiet_change}
 use Rattle.model_core.specs.Rules.MarkedPlaces.{is_marked}
-use Rattle.model_core.specs.Rules.Uses.{variables_in, index_reads, location_reads, delay_reads}
+use Rattle.model_core.specs.Rules.Uses.{variables_in, index_reads, location_reads, timing_reads}
 use Rattle.model_core.specs.Rules.Needed.{all_changes, all_edges, carried_pairs, is_scheduling, compares_values, watched_variables, compared_parameters, deciding_reads, faulting_target, faulting_writes, faulting_parameters, needed_by_edge, needed_at_once, each_beside, needed_by_targets, needed_by_parameters, streams_drawn, needed_by_streams, needed_beside}
 use Rattle.model_core.proofs.Among.{Among, among-map, among-front, among-back, among-flat_map, of-among, each-among, any-among, among-any}
 use Rattle.mark_laws.proofs.Marks.{Marked}
@@ -270,7 +270,7 @@ module _ (g : EventGraph) (s : IsSpellable g) (keeps : KeepsParts g) (marks : Li
   delay-marked : (e : EventEdge) → Among e (all_edges g) → SpellableEdge (extent g) e → (delay : Expression) (priority : ℕ) → e.kind ≡ Schedule delay priority → ReadsMarked marks delay
   delay-marked e there spelled delay priority is =
       let written = subst (SpellableKind (extent g)) is spelled.kind in
-      deciding-marked e there (variables_in delay) (variables-below count delay written.0) (λ w h. among-back (variables_in e.condition) (delay_reads e.kind) w (subst (λ (k : EdgeKind). Among w (delay_reads k)) (sym is) h))
+      deciding-marked e there (variables_in delay) (variables-below count delay written.0) (λ w h. among-back (variables_in e.condition) (timing_reads e.kind) w (subst (λ (k : EdgeKind). Among w (timing_reads k)) (sym is) h))
 
   kind-needs : (e : EventEdge) → Among e (all_edges g) → SpellableEdge (extent g) e → (kind : EdgeKind) → e.kind ≡ kind → KindNeeds g marks e kind
   kind-needs e there spelled (Schedule delay priority) is = (delay-marked e there spelled delay priority is, quiet-carried e there spelled (ap is_scheduling is))
@@ -280,7 +280,7 @@ module _ (g : EventGraph) (s : IsSpellable g) (keeps : KeepsParts g) (marks : Li
   kind-needs e there spelled CancelAll is = tt
 
   edge-needs : (e : EventEdge) → Among e (all_edges g) → SpellableEdge (extent g) e → EdgeNeeds g marks e
-  edge-needs e there spelled = (deciding-marked e there (variables_in e.condition) (variables-below count e.condition spelled.condition) (λ w h. among-front (variables_in e.condition) (delay_reads e.kind) w h), kind-needs e there spelled e.kind refl)
+  edge-needs e there spelled = (deciding-marked e there (variables_in e.condition) (variables-below count e.condition spelled.condition) (λ w h. among-front (variables_in e.condition) (timing_reads e.kind) w h), kind-needs e there spelled e.kind refl)
 
   -- ---- all parts
 
