@@ -1,12 +1,12 @@
 -- Edges take words only from the streams from which they draw, and have deeds only on events of vertices that they name.
 use Rattle.std.proofs.Common.{◌≡◌, ℕ, ◌+◌, Bool, true, false, cond, List, [], ◌∷◌, inl, Ok, refl, sym, ap, subst}
 use Rattle.std.specs.List.{AllByRecursion}
-use Rattle.model_core.specs.EventGraph.{EventGraph, Expression, EventEdge, EdgeKind, Schedule, Urgent, CancelNext, CancelEqual, CancelAll}
+use Rattle.model_core.specs.EventGraph.{EventGraph, EventEdge, Delay, Fixed, EdgeKind, Schedule, Urgent, CancelNext, CancelEqual, CancelAll}
 use Rattle.model_core.specs.Run.State.{State}
 use Rattle.model_core.specs.Run.Value.{value_of, is_one}
 use Rattle.model_core.specs.Run.Edges.{Waiting, delay_ticks, delay_of, carried_values}
 use Rattle.model_core.specs.Rules.Merge.{is_cancelling}
-use Rattle.model_core.specs.Rules.Uses.{timing_streams, edge_streams}
+use Rattle.model_core.specs.Rules.Uses.{delay_streams, timing_streams, edge_streams}
 use Rattle.model_core.specs.Conflicts.Conflict.{edge_cancelled}
 use Rattle.model_core.proofs.Results.{bind_ok}
 use Rattle.model_core.proofs.EachOne.{every-append}
@@ -27,12 +27,12 @@ pub record EdgeWritten (streams names cuts : List ℕ) (p q : Plan) : Type 0 whe
   pub deeds : AllByRecursion (DeedOn names cuts) p.deeds → AllByRecursion (DeedOn names cuts) q.deeds
 
 module _ (g : EventGraph) (seed : ℕ) (s : State) (clk : ℕ) where
-  delay-written : (delay : Expression) (priority : ℕ) (taken : List ℕ) (w : Waiting) → delay_of g seed s clk delay taken ≡ Ok w → ChangedWithin (timing_streams (Schedule delay priority)) taken w.taken
-  delay-written delay priority taken w done =
-      let (wait, at_wait, after_wait) = bind_ok (value_of g s clk delay) _ w done in
+  delay-written : (delay : Delay) (taken : List ℕ) (w : Waiting) → delay_of g seed s clk delay taken ≡ Ok w → ChangedWithin (delay_streams delay) taken w.taken
+  delay-written (Fixed e) taken w done =
+      let (wait, at_wait, after_wait) = bind_ok (value_of g s clk e) _ w done in
       let (n, at_ticks, end) = bind_ok (delay_ticks wait) (λ n. Ok (record { ticks = n; taken = taken })) w after_wait in
       let same : record { ticks = n; taken = taken } ≡ w = cc in
-      written-none (timing_streams (Schedule delay priority)) taken w.taken (ap (λ (w : Waiting). w.taken) same)
+      written-none (delay_streams (Fixed e)) taken w.taken (ap (λ (w : Waiting). w.taken) same)
 
   module _ (names cuts : List ℕ) (e : EventEdge) (on_named : Among e.target names) (p : Plan) where
     with_one : (streams : List ℕ) (x : Deed) (taken : List ℕ) → DeedOn names cuts x → ChangedWithin streams p.taken taken → EdgeWritten streams names cuts p (and_deed p.deeds x taken)
@@ -49,7 +49,7 @@ module _ (g : EventGraph) (seed : ℕ) (s : State) (clk : ℕ) where
         let (wait, at_delay, after_delay) = bind_ok (delay_of g seed s clk delay p.taken) _ q done in
         let (values, at_values, end) = bind_ok (carried_values g s clk e) (λ values. Ok (and_deed p.deeds (AddsEvent (record { time = clk + wait.ticks; priority = priority; vertex = e.target; values = values })) wait.taken)) q after_delay in
         let same : and_deed p.deeds (AddsEvent (record { time = clk + wait.ticks; priority = priority; vertex = e.target; values = values })) wait.taken ≡ q = cc in
-        subst (EdgeWritten (timing_streams (Schedule delay priority)) names cuts p) same (with_one (timing_streams (Schedule delay priority)) (AddsEvent (record { time = clk + wait.ticks; priority = priority; vertex = e.target; values = values })) wait.taken on_named (delay-written delay priority p.taken wait at_delay))
+        subst (EdgeWritten (delay_streams delay) names cuts p) same (with_one (delay_streams delay) (AddsEvent (record { time = clk + wait.ticks; priority = priority; vertex = e.target; values = values })) wait.taken on_named (delay-written delay p.taken wait at_delay))
     act-written Urgent on_cancelled q done =
         let (values, at_values, end) = bind_ok (carried_values g s clk e) (λ values. Ok (and_deed p.deeds (AddsEvent (record { time = clk; priority = 0; vertex = e.target; values = values })) p.taken)) q done in
         let same : and_deed p.deeds (AddsEvent (record { time = clk; priority = 0; vertex = e.target; values = values })) p.taken ≡ q = cc in

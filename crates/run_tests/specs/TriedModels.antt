@@ -1,7 +1,7 @@
 -- The models over which values, stores, changes and runs are tried.
 use Rattle.std.specs.Prelude.{pos, true, false, [], ◌∷◌, None}
 use Rattle.model_core.specs.declared.model.Kind.TheVariants as kinds
-use Rattle.model_core.specs.EventGraph.{EventGraph, EventVertex, Variable, Number, Truth, Scalar, Binary, Add, Set, Schedule}
+use Rattle.model_core.specs.EventGraph.{EventGraph, EventVertex, Variable, Number, Truth, Scalar, Binary, Add, Set, Fixed, Schedule}
 
 -- an array of three cells, a scalar that faults outside 0..3, one that is clipped to 0..3, and one from 1 to 6
 abbrev pub tried : EventGraph
@@ -28,7 +28,7 @@ tick = record {
   name = [];
   parameters = [];
   changes = Set (record { variable = 0; index = None } ∷ []) (Binary Add (Scalar 0) (Number (pos 1)) ∷ []) ∷ [];
-  edges = record { target = 0; values = []; condition = Truth true; kind = Schedule (Number (pos 5)) 5 } ∷ [];
+  edges = record { target = 0; values = []; condition = Truth true; kind = Schedule (Fixed (Number (pos 5))) 5 } ∷ [];
 }
 
 -- a model of that variable and that event

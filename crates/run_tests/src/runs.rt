@@ -1,12 +1,12 @@
 //! A run of a small model over the plain list, with ample memory.
 
 ghost use Rattle.std.specs.Prelude.{◌≡◌, ◌<◌, ◌≤◌, ◌^◌, pos, true, [], ◌∷◌, None, IfOk};
-ghost use Rattle.model_core.specs.EventGraph.{Set, Binary, Add, Scalar, Number, Truth, Schedule};
+ghost use Rattle.model_core.specs.EventGraph.{Set, Binary, Add, Scalar, Number, Truth, Fixed, Schedule};
 ghost use Rattle.model_core.specs.Code.Views.{graph_of, variable_of, vertex_of, change_of, edge_of};
 ghost use Rattle.run_tests.specs.TriedModels.{clipped_scalar, tick, ticking};
 
 use event_list::{Pending, PlainPending};
-use model_core::{Change, Edge, EdgeForm, Expr, Kind, Model, Op, Target, Var, Vertex};
+use model_core::{Change, Delay, Edge, EdgeForm, Expr, Kind, Model, Op, Target, Var, Vertex};
 use run_control::{BeginError, Run, Turn};
 use sig_base::{List, Name, NoMemory, Steps};
 use std::alloc::Global;
@@ -38,14 +38,14 @@ fn raising(alloc: Global) -> Result<Change, NoMemory>
 
 /// The event again, after 5 ticks.
 fn again(alloc: Global) -> Edge
-    ensures { edge_of result ≡ record { target = 0; values = []; condition = Truth true; kind = Schedule (Number (pos 5)) 5 } }
+    ensures { edge_of result ≡ record { target = 0; values = []; condition = Truth true; kind = Schedule (Fixed (Number (pos 5))) 5 } }
 {
     Edge {
         target: 0,
         values: List::new(alloc),
         condition: Expr::Truth(true),
         form: EdgeForm::Schedule {
-            delay: Expr::Int(5),
+            delay: Delay::Fixed(Expr::Int(5)),
             priority: 5,
         },
     }

@@ -1,6 +1,7 @@
 -- Which expressions and changes a model could have, as far as computing them asks: their variables and tables are there,
 -- `not` is given truth values alone, and a draw has a stream and some values.
 use Rattle.std.specs.Prelude.{◌≡◌, ℕ, ◌^◌, ◌<◌, ◌≤◌, ℤ, pos, ◌-ℤ◌, ◌≤ℤ◌, ◌<ℤ◌, All, List, length, map, sum, slice_index_or, Option, Some, None}
+use Rattle.sig_base.specs.declared.limits.TheConstants.{TARGETS_MAX}
 use Rattle.model_core.specs.EventGraph.{EventGraph, Variable, Expression, Number, Truth, Clock, Scalar, Cell, Negative, Not, Binary, If, Operator, Add, Subtract, Multiply, Divide, Remainder, Least, Greatest, And, Or, Location, Choice, Uniform, ByTable, StateChange, Set, Draw}
 use Rattle.model_core.specs.Run.State.{variable_at}
 use Rattle.model_core.specs.Run.Changes.{no_table}
@@ -83,7 +84,7 @@ PossibleChoice g (ByTable t) = PossibleTable g t
 
 -- a `set` has as many targets as right sides, and few of them
 pub record PossibleSet (g : EventGraph) (targets : List Location) (rights : List Expression) : Type 0 where
-  pub few : length rights ≤ 8
+  pub few : length rights ≤ TARGETS_MAX
   pub matched : length targets ≡ length rights
   pub locations : All (PossibleLocation g) targets
   pub expressions : All (PossibleExpression g) rights

@@ -1,6 +1,7 @@
 //! What the changes of an event do to the state, and which words they take.
 
 ghost use Rattle.std.specs.Prelude.{◌≡◌, ℕ, [], ◌∷◌, ◌+◌, ◌<◌, ◌≤◌, ◌^◌, All, IsTrue, length, map};
+ghost use Rattle.sig_base.specs.declared.limits.TheConstants.{CHANGES_MAX};
 ghost use Rattle.random_streams.specs.Draws.{next_word, after_word};
 ghost use Rattle.model_core.specs.EventGraph.{Set, Draw};
 ghost use Rattle.model_core.specs.Run.State.{in_range};
@@ -17,7 +18,7 @@ use crate::storing::{store_all, store_at};
 use arrayvec::ArrayVec;
 use model_core::{Change, Choice, Expr, Model, Target};
 use random_streams::Streams;
-use sig_base::{Carried, FaultKind, List};
+use sig_base::{FaultKind, List, TARGETS_MAX};
 
 /// Makes a `set` of one target.
 fn set_one(
@@ -68,7 +69,7 @@ fn set_two(
     store_at(model, there, other, state)
 }
 
-/// Makes a `set` of at most eight targets: all right sides, then all indexes, then the stores.
+/// Makes a `set` of several targets: all right sides, then all indexes, then the stores.
 fn set_several(
     model: &Model,
     targets: &[Target],
@@ -83,7 +84,7 @@ fn set_several(
     ensures left { state.new ≡ left_by_set (graph_of model.now) clk (map location_of targets.now) (map expression_of rights.now) state.old }
     ensures stays { IsTrue (in_range (graph_of model.now) state.new) }
 {
-    let mut values = Carried::new();
+    let mut values: ArrayVec<i64, TARGETS_MAX> = ArrayVec::new();
     put_values(model, rights, state, clk, &mut values)?;
     let mut places = ArrayVec::new();
     put_places(model, targets, state, clk, &mut places)?;
@@ -200,7 +201,7 @@ pub fn apply(
     streams: &mut Streams,
     clk: u64,
 ) -> Result<(), FaultKind>
-    requires few { length changes.now ≤ 1000 }
+    requires few { length changes.now ≤ CHANGES_MAX }
     requires possible { All (PossibleChange (graph_of model.now)) (map change_of changes.now) }
     requires inside { IsTrue (in_range (graph_of model.now) state.old) }
     requires countable { (stream : ℕ) → taken_from streams.old.taken stream < 2 ^ 61 }

@@ -1,6 +1,7 @@
 //! The values of several expressions, and the places that several targets name.
 
 ghost use Rattle.std.specs.Prelude.{◌≡◌, [], ◌<◌, ◌≤◌, ◌^◌, All, IsTrue, length, map};
+ghost use Rattle.sig_base.specs.declared.limits.TheConstants.{TARGETS_MAX};
 ghost use Rattle.model_core.specs.Run.State.{in_range};
 ghost use Rattle.model_core.specs.Run.Value.{each, value_of, place_of};
 ghost use Rattle.model_core.specs.Code.Views.{graph_of, expression_of, location_of};
@@ -12,18 +13,19 @@ use crate::place::Place;
 use crate::state::State;
 use arrayvec::ArrayVec;
 use model_core::{Expr, Model, Target};
-use sig_base::{Carried, FaultKind};
+use sig_base::{FaultKind, TARGETS_MAX};
 
-/// Puts the values of at most eight expressions, at a clock's time in ticks, into an empty list, up to the first that faults.
-pub fn put_values(
+/// Puts the values of expressions, at a clock's time in ticks, into an empty list that has room for them, up to the first
+/// that faults.
+pub fn put_values<const N: usize>(
     model: &Model,
     exprs: &[Expr],
     state: &State,
     clk: u64,
-    values: &mut Carried,
+    values: &mut ArrayVec<i64, N>,
 ) -> Result<(), FaultKind>
     requires empty { values.old.items ≡ [] }
-    requires few { length exprs.now ≤ 8 }
+    requires few { length exprs.now ≤ N }
     requires possible { All (PossibleExpression (graph_of model.now)) (map expression_of exprs.now) }
     requires inside { IsTrue (in_range (graph_of model.now) state.now) }
     requires soon { clk ≤ 2 ^ 48 }
@@ -52,16 +54,16 @@ pub fn place(model: &Model, target: &Target, state: &State, clk: u64) -> Result<
     }
 }
 
-/// Puts the places that at most eight targets name into an empty list, up to the first that faults.
+/// Puts the places that the targets of a `set` name into an empty list, up to the first that faults.
 pub fn put_places(
     model: &Model,
     targets: &[Target],
     state: &State,
     clk: u64,
-    places: &mut ArrayVec<Place, 8>,
+    places: &mut ArrayVec<Place, TARGETS_MAX>,
 ) -> Result<(), FaultKind>
     requires empty { places.old.items ≡ [] }
-    requires few { length targets.now ≤ 8 }
+    requires few { length targets.now ≤ TARGETS_MAX }
     requires possible { All (PossibleLocation (graph_of model.now)) (map location_of targets.now) }
     requires inside { IsTrue (in_range (graph_of model.now) state.now) }
     requires soon { clk ≤ 2 ^ 48 }

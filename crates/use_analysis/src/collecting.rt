@@ -3,11 +3,11 @@
 ghost use Rattle.std.specs.Prelude.{◌≡◌, ◌++◌, map, OnOk};
 ghost use Rattle.std.specs.List.{flat_map};
 ghost use Rattle.model_core.specs.EventGraph.{Location};
-ghost use Rattle.model_core.specs.Rules.Uses.{variables_in, location_reads, change_reads, change_writes, timing_reads, edge_reads, vertex_reads, vertex_writes};
+ghost use Rattle.model_core.specs.Rules.Uses.{variables_in, location_reads, change_reads, change_writes, delay_reads, timing_reads, edge_reads, vertex_reads, vertex_writes};
 ghost use Rattle.model_core.specs.Rules.Needed.{deciding_reads};
-ghost use Rattle.model_core.specs.Code.Views.{expression_of, location_of, change_of, edge_kind_of, edge_of, vertex_of};
+ghost use Rattle.model_core.specs.Code.Views.{expression_of, location_of, change_of, edge_delay_of, edge_kind_of, edge_of, vertex_of};
 
-use model_core::{Change, Edge, EdgeForm, Expr, Target, Vertex};
+use model_core::{Change, Delay, Edge, EdgeForm, Expr, Target, Vertex};
 use sig_base::NoMemory;
 
 /// Adds the variables that stand in an expression.
@@ -92,12 +92,21 @@ fn add_all_change_reads(out: &mut Vec<usize>, changes: &[Change]) -> Result<(), 
     Ok(())
 }
 
-/// Adds the variables that stand in the delay of an edge of this form.
-fn add_delay_reads(out: &mut Vec<usize>, form: &EdgeForm) -> Result<(), NoMemory>
+/// Adds what a delay reads.
+fn add_delay_reads(out: &mut Vec<usize>, delay: &Delay) -> Result<(), NoMemory>
+    ensures { OnOk result (out.new.items ≡ out.old.items ++ delay_reads (edge_delay_of delay.now)) }
+{
+    match delay {
+        Delay::Fixed(expr) => add_variables(out, expr),
+    }
+}
+
+/// Adds what the delay of an edge of this form reads.
+fn add_timing_reads(out: &mut Vec<usize>, form: &EdgeForm) -> Result<(), NoMemory>
     ensures { OnOk result (out.new.items ≡ out.old.items ++ timing_reads (edge_kind_of form.now)) }
 {
     match form {
-        EdgeForm::Schedule { delay, priority: _ } => add_variables(out, delay),
+        EdgeForm::Schedule { delay, priority: _ } => add_delay_reads(out, delay),
         EdgeForm::Urgent | EdgeForm::CancelNext | EdgeForm::CancelEqual | EdgeForm::CancelAll => {
             Ok(())
         }
@@ -109,7 +118,7 @@ pub fn add_deciding_reads(out: &mut Vec<usize>, edge: &Edge) -> Result<(), NoMem
     ensures { OnOk result (out.new.items ≡ out.old.items ++ deciding_reads (edge_of edge.now)) }
 {
     add_variables(out, &edge.condition)?;
-    add_delay_reads(out, &edge.form)
+    add_timing_reads(out, &edge.form)
 }
 
 /// Adds what an edge reads.
@@ -117,7 +126,7 @@ fn add_edge_reads(out: &mut Vec<usize>, edge: &Edge) -> Result<(), NoMemory>
     ensures { OnOk result (out.new.items ≡ out.old.items ++ edge_reads (edge_of edge.now)) }
 {
     add_variables(out, &edge.condition)?;
-    add_delay_reads(out, &edge.form)?;
+    add_timing_reads(out, &edge.form)?;
     add_all_variables(out, edge.values.as_slice())
 }
 

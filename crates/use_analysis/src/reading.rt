@@ -5,10 +5,10 @@ ghost use Rattle.std.specs.Prelude.{◌≡◌, map, Some};
 ghost use Rattle.std.specs.List.{flat_map};
 ghost use Rattle.model_core.specs.EventGraph.{Location};
 ghost use Rattle.model_core.specs.Rules.MarkedPlaces.{is_among};
-ghost use Rattle.model_core.specs.Rules.Uses.{variables_in, location_reads, change_reads, change_writes, timing_reads, edge_reads, vertex_reads, vertex_writes};
-ghost use Rattle.model_core.specs.Code.Views.{expression_of, location_of, change_of, edge_kind_of, edge_of, vertex_of};
+ghost use Rattle.model_core.specs.Rules.Uses.{variables_in, location_reads, change_reads, change_writes, delay_reads, timing_reads, edge_reads, vertex_reads, vertex_writes};
+ghost use Rattle.model_core.specs.Code.Views.{expression_of, location_of, change_of, edge_delay_of, edge_kind_of, edge_of, vertex_of};
 
-use model_core::{Change, Edge, EdgeForm, Expr, Target, Vertex};
+use model_core::{Change, Delay, Edge, EdgeForm, Expr, Target, Vertex};
 
 /// Whether a variable stands in an expression.
 fn stands_in(expr: &Expr, var: usize) -> bool
@@ -76,12 +76,21 @@ pub fn reads_of_change(change: &Change, var: usize) -> bool
     }
 }
 
-/// Whether a variable stands in the delay of an edge of this form.
-fn delays(form: &EdgeForm, var: usize) -> bool
+/// Whether a delay reads a variable.
+fn reads_of_delay(delay: &Delay, var: usize) -> bool
+    ensures { result ≡ is_among (delay_reads (edge_delay_of delay.now)) var }
+{
+    match delay {
+        Delay::Fixed(expr) => stands_in(expr, var),
+    }
+}
+
+/// Whether the delay of an edge of this form reads a variable.
+fn reads_of_timing(form: &EdgeForm, var: usize) -> bool
     ensures { result ≡ is_among (timing_reads (edge_kind_of form.now)) var }
 {
     match form {
-        EdgeForm::Schedule { delay, priority: _ } => stands_in(delay, var),
+        EdgeForm::Schedule { delay, priority: _ } => reads_of_delay(delay, var),
         EdgeForm::Urgent | EdgeForm::CancelNext | EdgeForm::CancelEqual | EdgeForm::CancelAll => {
             false
         }
@@ -93,7 +102,7 @@ pub fn reads_of_edge(edge: &Edge, var: usize) -> bool
     ensures { result ≡ is_among (edge_reads (edge_of edge.now)) var }
 {
     stands_in(&edge.condition, var)
-        || delays(&edge.form, var)
+        || reads_of_timing(&edge.form, var)
         || stands_in_one(edge.values.as_slice(), var)
 }
 

@@ -1,7 +1,7 @@
 -- Words for writing down event graphs, and what is seen of their runs.
 use Rattle.std.specs.Prelude.{ℕ, ℤ, pos, true, false, List, [], ◌∷◌, map, Some, None}
 use Rattle.model_core.specs.declared.model.Kind.TheVariants as kinds
-use Rattle.model_core.specs.EventGraph.{Variable, Location, Expression, Number, Scalar, Negative, Binary, Add, Subtract, Divide, Above, Equal, Truth, StateChange, Set, Draw, Uniform, EventEdge, EdgeKind, Schedule, Urgent, EventVertex, Watched, WatchedVariable}
+use Rattle.model_core.specs.EventGraph.{Variable, Location, Expression, Number, Scalar, Negative, Binary, Add, Subtract, Divide, Above, Equal, Truth, StateChange, Set, Draw, Uniform, EventEdge, EdgeKind, Fixed, Schedule, Urgent, EventVertex, Watched, WatchedVariable}
 use Rattle.model_core.specs.Run.Machine.{Note, Standing, Look}
 
 -- a range variable lo..hi that is a scalar, and begins with this value
@@ -36,10 +36,10 @@ abbrev pub plain_edge : EdgeKind → ℕ → List Expression → EventEdge
 plain_edge kind target values = record { target = target; values = values; condition = Truth true; kind = kind }
 
 abbrev pub schedule : ℕ → Expression → EventEdge
-schedule target delay = plain_edge (Schedule delay 5) target []
+schedule target delay = plain_edge (Schedule (Fixed delay) 5) target []
 
 abbrev pub schedule_with : ℕ → ℕ → ℕ → EventEdge
-schedule_with target carried delay = plain_edge (Schedule (whole delay) 5) target (whole carried ∷ [])
+schedule_with target carried delay = plain_edge (Schedule (Fixed (whole delay)) 5) target (whole carried ∷ [])
 
 -- to the second vertex, after 2 ticks
 abbrev pub forward : EventEdge

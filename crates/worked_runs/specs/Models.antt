@@ -1,6 +1,6 @@
 -- The models whose runs are worked out.
 use Rattle.std.specs.Prelude.{ℕ, ℤ, pos, List, [], ◌∷◌, ◌++◌, codes}
-use Rattle.model_core.specs.EventGraph.{EventGraph, Variable, Expression, Scalar, Binary, Add, Subtract, Set, StateChange, Draw, ByTable, CancelEqual, CancelAll, EventEdge, EventVertex, WatchedVariable, WatchedVertex, Schedule}
+use Rattle.model_core.specs.EventGraph.{EventGraph, Variable, Expression, Scalar, Binary, Add, Subtract, Set, StateChange, Draw, ByTable, CancelEqual, CancelAll, EventEdge, EventVertex, WatchedVariable, WatchedVertex, Fixed, Schedule}
 use Rattle.model_core.specs.Run.State.{initial_state}
 use Rattle.model_core.specs.Run.Value.{OrFault, value_of}
 use Rattle.worked_runs.specs.Building.{ranged, clipped, array, whole, at_variable, at_cell, set, draw, plain_edge, schedule, schedule_with, urgent, only_if, event, takes, plus_one, minus_one, positive, one_over_zero}
@@ -127,7 +127,7 @@ cancel_three = plain_edge CancelEqual 1 (whole 3 ∷ [])
 
 -- B(1 / 0) after 0 - 1 ticks
 abbrev pub late_and_bad : EventEdge
-late_and_bad = plain_edge (Schedule (Binary Subtract (whole 0) (whole 1)) 5) 1 (one_over_zero ∷ [])
+late_and_bad = plain_edge (Schedule (Fixed (Binary Subtract (whole 0) (whole 1))) 5) 1 (one_over_zero ∷ [])
 
 -- each B is cancelled
 abbrev pub cancel_all : EventEdge

@@ -1,7 +1,7 @@
 -- Models of two variables, of which one is needed for one reason, or none is; and the bank without the variable that it
 -- doesn't need.
 use Rattle.std.specs.Prelude.{ℕ, List, [], ◌∷◌, codes}
-use Rattle.model_core.specs.EventGraph.{EventGraph, Variable, StateChange, EventEdge, Watched, Schedule, Scalar, Set, CancelEqual, Urgent}
+use Rattle.model_core.specs.EventGraph.{EventGraph, Variable, StateChange, EventEdge, Watched, Fixed, Schedule, Scalar, Set, CancelEqual, Urgent}
 use Rattle.worked_runs.specs.Building.{ranged, clipped, array, whole, plain_edge, event, takes, set, at_variable, plus_one, draw, schedule, schedule_with, x_watched}
 use Rattle.worked_runs.specs.Models.{bank, bank_run, bank_start, bank_leave, entering, two_draws}
 
@@ -35,7 +35,7 @@ with_cells watch changes = two_variables (array 3 (clipped_one (codes "X"))) (cl
 
 -- the edge to A carries the value of a variable
 abbrev pub carrying_variable : ℕ → EventEdge
-carrying_variable v = plain_edge (Schedule (whole 5) 5) 1 (Scalar v ∷ [])
+carrying_variable v = plain_edge (Schedule (Fixed (whole 5)) 5) 1 (Scalar v ∷ [])
 
 -- X and Y grow by 1, each by what it is
 abbrev pub both_grow : StateChange

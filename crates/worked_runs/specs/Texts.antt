@@ -1,7 +1,7 @@
 -- A model with each part of the language, and its canonical text.
 use Rattle.std.specs.Prelude.{ℕ, pos, negsuc, true, false, List, [], ◌∷◌, ◌++◌, codes}
 use Rattle.model_core.specs.declared.model.Kind.TheVariants as kinds
-use Rattle.model_core.specs.EventGraph.{Expression, Truth, Scalar, Not, Binary, Add, Subtract, Multiply, WatchedVariable, WatchedVertex, Uniform, ByTable, Set, Draw, EventEdge, EdgeKind, Schedule, Urgent, CancelNext, CancelEqual, CancelAll, EventVertex, EventGraph}
+use Rattle.model_core.specs.EventGraph.{Expression, Truth, Scalar, Not, Binary, Add, Subtract, Multiply, WatchedVariable, WatchedVertex, Uniform, ByTable, Set, Draw, EventEdge, EdgeKind, Fixed, Schedule, Urgent, CancelNext, CancelEqual, CancelAll, EventVertex, EventGraph}
 use Rattle.worked_runs.specs.Building.{whole, at_variable, at_cell}
 
 -- the expressions that stand in the texts: `n` is the variable N, and `is_open` is OPEN
@@ -32,8 +32,8 @@ serve = record {
       ∷ Draw (at_variable 0) 54 (Uniform (negsuc 0) (pos 6))
       ∷ Draw (at_cell 2 (whole 3)) 0 (ByTable 0) ∷ [];
   edges =
-      edge_when (Schedule (whole 0) 5) 0 [] (Truth true)
-      ∷ edge_when (Schedule (whole 7) 3) 1 (n ∷ Truth false ∷ []) (Not is_open)
+      edge_when (Schedule (Fixed (whole 0)) 5) 0 [] (Truth true)
+      ∷ edge_when (Schedule (Fixed (whole 7)) 3) 1 (n ∷ Truth false ∷ []) (Not is_open)
       ∷ edge_when Urgent 0 [] (Truth false)
       ∷ edge_when CancelNext 1 [] (Truth true)
       ∷ edge_when CancelEqual 1 (n ∷ is_open ∷ []) (Truth true)

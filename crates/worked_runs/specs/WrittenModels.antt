@@ -2,7 +2,7 @@
 use Rattle.std.specs.Prelude.{List, ℕ, true, false, [], ◌∷◌, Some, None, codes, replicate}
 use Rattle.model_core.specs.EventGraph as graph
 use Rattle.model_core.specs.EventGraph.{Operator}
-use Rattle.model_core.specs.Text.Written.{Number, Truth, Negative, Not, Cell, Binary, If, SignedLiteral, TruthLiteral, Uniform, ByTable, Set, Draw, Schedule, Urgent, CancelNext, CancelEqual, CancelAll, WrittenVariable, WrittenVertex, WrittenModel}
+use Rattle.model_core.specs.Text.Written.{Number, Truth, Negative, Not, Cell, Binary, If, SignedLiteral, TruthLiteral, Uniform, ByTable, Set, Draw, Fixed, Schedule, Urgent, CancelNext, CancelEqual, CancelAll, WrittenVariable, WrittenVertex, WrittenModel}
 use Rattle.model_core.specs.Text.Language.{row_written}
 use Rattle.worked_runs.specs.WrittenParts.{spelled, figure, huge, plain_figure, minus_figure, plain_huge, minus_huge, constant, reading, ranging, ranging_clip, truth_valued, sized, tabled, storing, to_index, leading, with_carried, with_condition, occurring, run_at, with_parameters, composed, with_tables, with_watch, with_own_name}
 
@@ -118,7 +118,7 @@ mismatches = composed
     ∷ Set 161 (storing (codes "N") 165 ∷ []) (If 170 (reading (codes "N") 173) (reading (codes "N") 180) (reading (codes "B") 187) ∷ [])
     ∷ Set 190 (storing (codes "B") 194 ∷ []) (Binary 199 graph.Below (Binary 199 graph.Least (reading (codes "B") 203) (reading (codes "N") 206)) (constant 1 211) ∷ [])
     ∷ Draw 214 (storing (codes "B") 219) (figure 0 226) (Uniform (plain_figure 0 231) (plain_figure 1 234)) ∷ [])
-    (with_condition (reading (codes "N") 266) (with_carried (reading (codes "B") 250 ∷ []) (leading 237 (spelled (codes "RUN") 246) (Schedule (Some (reading (codes "B") 259)) None))) ∷ [])) ∷ [])
+    (with_condition (reading (codes "N") 266) (with_carried (reading (codes "B") 250 ∷ []) (leading 237 (spelled (codes "RUN") 246) (Schedule (Some (Fixed (reading (codes "B") 259))) None))) ∷ [])) ∷ [])
     271
 
 -- model M; var N : 0..3 = 0; var B : bool = true; vertex RUN { set N := Q; set B := Q = N; set B := not Q; set Q := true; schedule RUN after Q when Q; } end
@@ -130,7 +130,7 @@ unknown_kinds = composed
     ∷ Set 73 (storing (codes "B") 77 ∷ []) (Binary 82 graph.Equal (reading (codes "Q") 82) (reading (codes "N") 86) ∷ [])
     ∷ Set 89 (storing (codes "B") 93 ∷ []) (Not 98 (reading (codes "Q") 102) ∷ [])
     ∷ Set 105 (storing (codes "Q") 109 ∷ []) (Truth 114 true ∷ []) ∷ [])
-    (with_condition (reading (codes "Q") 146) (leading 120 (spelled (codes "RUN") 129) (Schedule (Some (reading (codes "Q") 139)) None)) ∷ []) ∷ [])
+    (with_condition (reading (codes "Q") 146) (leading 120 (spelled (codes "RUN") 129) (Schedule (Some (Fixed (reading (codes "Q") 139))) None)) ∷ []) ∷ [])
     151
 
 -- model M; var N : 0..3 = 0; var B : bool = true; vertex RUN { set N := if B then Q else true; } end
@@ -386,7 +386,7 @@ serve_written = with_parameters (spelled (codes "N") 161 ∷ spelled (codes "OPE
     ∷ Draw 206 (storing (codes "N") 211) (figure 54 218) (Uniform (minus_figure 1 224) (plain_figure 6 228))
     ∷ Draw 233 (to_index (spelled (codes "CELLS") 238) (constant 3 244)) (figure 0 252) (ByTable (spelled (codes "GAP") 257)) ∷ [])
     (leading 264 (spelled (codes "COME") 273) (Schedule None None)
-    ∷ with_condition (Not 330 (reading (codes "OPEN") 334)) (with_carried (reading (codes "N") 296 ∷ Truth 299 false ∷ []) (leading 281 (spelled (codes "SERVE") 290) (Schedule (Some (constant 7 312)) (Some (figure 3 323)))))
+    ∷ with_condition (Not 330 (reading (codes "OPEN") 334)) (with_carried (reading (codes "N") 296 ∷ Truth 299 false ∷ []) (leading 281 (spelled (codes "SERVE") 290) (Schedule (Some (Fixed (constant 7 312))) (Some (figure 3 323)))))
     ∷ with_condition (Truth 359 false) (leading 342 (spelled (codes "COME") 349) Urgent)
     ∷ leading 368 (spelled (codes "SERVE") 375) CancelNext
     ∷ with_carried (reading (codes "N") 397 ∷ reading (codes "OPEN") 400 ∷ []) (leading 384 (spelled (codes "SERVE") 391) CancelEqual)

@@ -1,7 +1,7 @@
 //! The text of the conflicts in a model.
 
 ghost use Rattle.std.specs.Prelude.{◌≡◌, ◌++◌, ◌∷◌, [], codes};
-ghost use Rattle.model_core.specs.EventGraph.{Schedule};
+ghost use Rattle.model_core.specs.EventGraph.{Fixed, Schedule};
 ghost use Rattle.worked_runs.specs.Building.{whole, plain_edge, schedule};
 ghost use Rattle.worked_runs.specs.Models.{bank, cut, cancel_three, ordering};
 ghost use Rattle.conflict_report.specs.ConflictText.{conflict_text};
@@ -22,5 +22,5 @@ pub fn conflicts_have_texts()
         ≡ codes "RUN RUN cancels\n"
         ++ codes "RUN B cancels\n"
         ++ codes "B B variables\n" }
-    ensures of_none { conflict_text (ordering (plain_edge (Schedule (whole 2) 7) 1 [] ∷ schedule 2 (whole 2) ∷ [])) ≡ [] }
+    ensures of_none { conflict_text (ordering (plain_edge (Schedule (Fixed (whole 2)) 7) 1 [] ∷ schedule 2 (whole 2) ∷ [])) ≡ [] }
 {}

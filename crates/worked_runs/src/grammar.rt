@@ -2,7 +2,7 @@
 
 ghost use Rattle.std.specs.Prelude.{true, false, [], ◌∷◌, Some, None, codes};
 ghost use Rattle.model_core.specs.EventGraph.{Subtract, Divide, Add, Multiply, Equal, Below, And, Or, Least, Greatest};
-ghost use Rattle.model_core.specs.Text.Written.{Truth, Clock, Scalar, Cell, Negative, Not, Binary, If, TruthKind, TruthLiteral, Set, Draw, Uniform, Schedule, Urgent, CancelNext, CancelEqual, CancelAll};
+ghost use Rattle.model_core.specs.Text.Written.{Truth, Clock, Scalar, Cell, Negative, Not, Binary, If, TruthKind, TruthLiteral, Set, Draw, Uniform, Fixed, Schedule, Urgent, CancelNext, CancelEqual, CancelAll};
 ghost use Rattle.model_core.specs.Text.Expressions.{expression_format};
 ghost use Rattle.model_core.specs.Text.Language.{variable_format, change_format, edge_format, text_format};
 ghost use Rattle.worked_runs.specs.GrammarTexts.{IsSpelled, IsModelText, IsRefusedAt, IsFrontRefusedAt};
@@ -37,7 +37,7 @@ pub fn lines_are_spelled()
     ensures truth_variable { IsSpelled variable_format (codes "var B : bool = true;") (record { at = 0; name = spelled (codes "B") 4; size = None; kind = TruthKind; initial = TruthLiteral 15 true }) }
     ensures set { IsSpelled change_format (codes "set X, Y[1] := 2, clk;") (Set 0 (storing (codes "X") 4 ∷ to_index (spelled (codes "Y") 7) (constant 1 9) ∷ []) (constant 2 15 ∷ Clock 18 ∷ [])) }
     ensures draw { IsSpelled change_format (codes "draw X from 3 in 0..5;") (Draw 0 (storing (codes "X") 5) (figure 3 12) (Uniform (plain_figure 0 17) (plain_figure 5 20))) }
-    ensures schedule { IsSpelled edge_format (codes "schedule A(1) after 2 priority 3 when X;") (with_carried (constant 1 11 ∷ []) (with_condition (reading (codes "X") 38) (leading 0 (spelled (codes "A") 9) (Schedule (Some (constant 2 20)) (Some (figure 3 31)))))) }
+    ensures schedule { IsSpelled edge_format (codes "schedule A(1) after 2 priority 3 when X;") (with_carried (constant 1 11 ∷ []) (with_condition (reading (codes "X") 38) (leading 0 (spelled (codes "A") 9) (Schedule (Some (Fixed (constant 2 20))) (Some (figure 3 31)))))) }
     ensures bare_schedule { IsSpelled edge_format (codes "schedule A;") (leading 0 (spelled (codes "A") 9) (Schedule None None)) }
     ensures urgent { IsSpelled edge_format (codes "urgent A(1);") (with_carried (constant 1 9 ∷ []) (leading 0 (spelled (codes "A") 7) Urgent)) }
     ensures cancel_next { IsSpelled edge_format (codes "cancel A;") (leading 0 (spelled (codes "A") 7) CancelNext) }

@@ -2,7 +2,7 @@
 
 ghost use Rattle.std.specs.Prelude.{◌≡◌, [], ◌∷◌};
 ghost use Rattle.sig_base.specs.declared.fault.FaultKind.TheVariants as faults;
-ghost use Rattle.model_core.specs.EventGraph.{Schedule, CancelNext, CancelEqual, CancelAll};
+ghost use Rattle.model_core.specs.EventGraph.{Fixed, Schedule, CancelNext, CancelEqual, CancelAll};
 ghost use Rattle.model_core.specs.Run.Machine.{At, On, Ended, Faulted};
 ghost use Rattle.model_core.specs.Run.History.{look};
 ghost use Rattle.worked_runs.specs.Building.{scalars, showing, whole, plain_edge, schedule, schedule_with, two_numbers, urgent};
@@ -10,15 +10,15 @@ ghost use Rattle.worked_runs.specs.Models.{cut, cancel_three, cancel_all, late_a
 
 /// Events come by time, then by priority, then in the order of scheduling.
 pub fn events_come_in_order()
-    ensures lesser_priority_first { look (ordering (plain_edge (Schedule (whole 2) 7) 1 [] ∷ schedule 2 (whole 2) ∷ [])) 42 [] 100 1000
+    ensures lesser_priority_first { look (ordering (plain_edge (Schedule (Fixed (whole 2)) 7) 1 [] ∷ schedule 2 (whole 2) ∷ [])) 42 [] 100 1000
         ≡ showing (At 0 [] ∷ On 2 1 [] ∷ On 2 0 [] ∷ []) (Ended 2) }
     ensures first_scheduled_first { look (ordering (schedule 1 (whole 2) ∷ schedule 2 (whole 2) ∷ [])) 42 [] 100 1000
         ≡ showing (At 0 [] ∷ On 2 0 [] ∷ On 2 1 [] ∷ []) (Ended 2) }
     ensures urgent_first { look (ordering (schedule 1 (whole 0) ∷ urgent 2 ∷ [])) 42 [] 100 1000
         ≡ showing (On 0 1 [] ∷ On 0 0 [] ∷ At 0 [] ∷ []) (Ended 0) }
-    ensures earlier_time_first { look (ordering (plain_edge (Schedule (whole 3) 1) 1 [] ∷ plain_edge (Schedule (whole 2) 9) 2 [] ∷ [])) 42 [] 100 1000
+    ensures earlier_time_first { look (ordering (plain_edge (Schedule (Fixed (whole 3)) 1) 1 [] ∷ plain_edge (Schedule (Fixed (whole 2)) 9) 2 [] ∷ [])) 42 [] 100 1000
         ≡ showing (At 0 [] ∷ On 2 1 [] ∷ On 3 0 [] ∷ []) (Ended 3) }
-    ensures urgent_before_priority_1 { look (ordering (plain_edge (Schedule (whole 0) 1) 1 [] ∷ urgent 2 ∷ [])) 42 [] 100 1000
+    ensures urgent_before_priority_1 { look (ordering (plain_edge (Schedule (Fixed (whole 0)) 1) 1 [] ∷ urgent 2 ∷ [])) 42 [] 100 1000
         ≡ showing (On 0 1 [] ∷ On 0 0 [] ∷ At 0 [] ∷ []) (Ended 0) }
     ensures cancel_takes_the_next { look (ordering (schedule 2 (whole 3) ∷ schedule 2 (whole 2) ∷ plain_edge CancelNext 2 [] ∷ [])) 42 [] 100 1000
         ≡ showing (At 0 [] ∷ On 3 1 [] ∷ []) (Ended 3) }
@@ -44,8 +44,8 @@ pub fn others_stay()
     ensures by_cancel { look (ordering (schedule 1 (whole 2) ∷ schedule 2 (whole 3) ∷ plain_edge CancelNext 2 [] ∷ [])) 42 [] 100 1000
         ≡ showing (At 0 [] ∷ On 2 0 [] ∷ []) (Ended 2) }
     ensures by_cancel_with_values { look
-        (carrying (plain_edge (Schedule (whole 2) 5) 1 (two_numbers 3 4) ∷ plain_edge (Schedule (whole 3) 5) 2 (two_numbers 3 5)
-        ∷ plain_edge (Schedule (whole 4) 5) 2 (two_numbers 3 4) ∷ plain_edge CancelEqual 2 (two_numbers 3 4) ∷ [])) 42 [] 100 1000
+        (carrying (plain_edge (Schedule (Fixed (whole 2)) 5) 1 (two_numbers 3 4) ∷ plain_edge (Schedule (Fixed (whole 3)) 5) 2 (two_numbers 3 5)
+        ∷ plain_edge (Schedule (Fixed (whole 4)) 5) 2 (two_numbers 3 4) ∷ plain_edge CancelEqual 2 (two_numbers 3 4) ∷ [])) 42 [] 100 1000
         ≡ showing (At 0 [] ∷ On 2 0 [] ∷ On 3 1 [] ∷ []) (Ended 3) }
     ensures by_cancel_all { look
         (ordering (schedule 2 (whole 1) ∷ schedule 1 (whole 2) ∷ schedule 2 (whole 3) ∷ schedule 1 (whole 4) ∷ plain_edge CancelAll 2 [] ∷ []))

@@ -2,7 +2,7 @@
 #![tactic(auto, unfolding(model_core::specs::Rules::BoundsTable::exact_bounds))]
 
 ghost use Rattle.std.specs.Prelude.{◌≡◌, pos, neg_ℤ, true, false, [], ◌∷◌};
-ghost use Rattle.model_core.specs.EventGraph.{Binary, Divide, Least, Set, Draw, Uniform, ByTable, Schedule, Urgent, CancelNext};
+ghost use Rattle.model_core.specs.EventGraph.{Binary, Divide, Least, Set, Draw, Uniform, ByTable, Fixed, Schedule, Urgent, CancelNext};
 ghost use Rattle.model_core.specs.Run.State.{variable_at};
 ghost use Rattle.model_core.specs.Rules.BoundsOfParts.{quiet_store, choice_bounds, quiet_change, quiet_edge};
 ghost use Rattle.worked_runs.specs.Building.{whole, at_variable, at_cell, set, plain_edge, only_if};
@@ -35,9 +35,9 @@ pub fn changes_may_be_quiet()
 
 /// An edge is quiet where its condition, its values and its delay are, and the delay is never below 0.
 pub fn edges_may_be_quiet()
-    ensures scheduled { quiet_edge bounded (only_if b (plain_edge (Schedule x 5) 0 (y ∷ []))) ≡ true }
-    ensures delay_below { quiet_edge bounded (plain_edge (Schedule y 5) 0 []) ≡ false }
-    ensures delay_is_a_fault { quiet_edge bounded (plain_edge (Schedule (Binary Divide (whole 1) x) 5) 0 []) ≡ false }
+    ensures scheduled { quiet_edge bounded (only_if b (plain_edge (Schedule (Fixed x) 5) 0 (y ∷ []))) ≡ true }
+    ensures delay_below { quiet_edge bounded (plain_edge (Schedule (Fixed y) 5) 0 []) ≡ false }
+    ensures delay_is_a_fault { quiet_edge bounded (plain_edge (Schedule (Fixed (Binary Divide (whole 1) x)) 5) 0 []) ≡ false }
     ensures condition_is_a_fault { quiet_edge bounded (only_if over_x_is_1 (plain_edge Urgent 0 [])) ≡ false }
     ensures value_is_a_fault { quiet_edge bounded (plain_edge Urgent 0 (x ∷ over_x_is_1 ∷ [])) ≡ false }
     ensures cancelled { quiet_edge bounded (plain_edge CancelNext 0 []) ≡ true }
