@@ -1,5 +1,5 @@
 -- Changes: nothing of one is broken exactly where what it is numbered as keeps the rules.
-use Rattle.std.proofs.Common.{◌≡◌, ◌↔◌, ℕ, suc, ◌<◌, ℤ, true, false, List, [], ◌∷◌, ◌++◌, map, length, Option, Some, None, refl, sym, ap, subst, ◌∙◌, append_assoc, arith}
+use Rattle.std.proofs.Common.{◌≡◌, ◌↔◌, ℕ, suc, ◌<◌, ℤ, true, false, List, [], ◌∷◌, ◌++◌, map, length, Option, Some, None, refl, sym, ap, subst, ◌∙◌, arith}
 use Rattle.std.specs.List.{flat_map, AllZip}
 use Rattle.std.specs.Option.{option_map}
 use Rattle.std.proofs.lemmas.Option.{same_Some}
@@ -7,7 +7,7 @@ use Rattle.sig_base.specs.declared.limits.TheConstants.{TARGETS_MAX}
 use Rattle.model_core.specs.declared.model.Kind.{Kind}
 use Rattle.model_core.specs.declared.model.Kind.TheVariants as kinds
 use Rattle.model_core.specs.EventGraph as graph
-use Rattle.model_core.specs.EventGraph.{Variable, Expression, Location}
+use Rattle.model_core.specs.EventGraph.{Variable, Expression, Location, Choice}
 use Rattle.model_core.specs.Text.Written as written
 use Rattle.model_core.specs.Text.Written.{WrittenName, WrittenNumber, WrittenExpression, WrittenTarget, WrittenChoice, WrittenChange}
 use Rattle.model_core.specs.Text.Numbering as numbering
@@ -15,12 +15,12 @@ use Rattle.model_core.specs.Text.Numbering.{◌>>=◌, each_numbered, declared_p
 use Rattle.model_core.specs.Static.FaultOrder.{StaticFault}
 use Rattle.model_core.specs.Static.Meanings.{Meaning, AsScalar, AsArray, AsTable}
 use Rattle.model_core.specs.Static.RuleTable.{value_count, kind_mismatch, number_too_large, literal_too_large, empty_range, draw_outside, stream_outside, too_many}
-use Rattle.model_core.specs.Static.PartFaults.{use_faults, operand_faults, values_faults, target_kind, target_faults, target_place, choice_faults, change_faults}
+use Rattle.model_core.specs.Static.PartFaults.{use_faults, operand_faults, values_faults, target_kind, target_faults, target_place, choice_faults, source_faults, change_faults}
 use Rattle.model_core.specs.Static.HasKind.{HasKind}
-use Rattle.model_core.specs.Static.OwnRules.{TakesKind, KeepsChoice, KeepsChange}
+use Rattle.model_core.specs.Static.OwnRules.{TakesKind, KeepsChoice, KeepsSource, KeepsChange}
 use Rattle.model_core.proofs.EmptyLists.{left_empty, right_empty}
 use Rattle.static_laws.proofs.StaticTwins.MadeOf.{of_one, of_two, of_each, each_cons, each_length}
-use Rattle.static_laws.proofs.StaticTwins.Twins.{both_empty, Twin, twin_map, twin_three}
+use Rattle.static_laws.proofs.StaticTwins.Twins.{both_empty, Twin, twin_map, twin_two, twin_then}
 use Rattle.static_laws.proofs.StaticTwins.RowTwins.{same_count, same_kind, stream_twin, literal_twin, in_order, few_drawn}
 use Rattle.static_laws.proofs.StaticTwins.DeclarationTwins.{few_items}
 use Rattle.static_laws.proofs.StaticTwins.Zips.{zip_length}
@@ -204,12 +204,21 @@ module _ (means : List ℕ → Option Meaning) (d : Declared) (variables : List 
           (both_empty both (empty_range lo hi) (both_empty (literal_too_large lo) (literal_too_large hi) ((literal_twin lo).unbroken a is_a k.0) ((literal_twin hi).unbroken b is_b k.1)) ((in_order lo hi a b is_a is_b).1 k.2))
           ((few_drawn lo hi a b is_a is_b).1 k.3)
 
+  -- the source of a draw, and what is made of it
+  pub source_twin : {B : Type 0} (h : ℕ → Choice → B) (R : B → Type 0)
+      → ((k : ℕ) (c : Choice) → KeepsSource variables tables takes k c → R (h k c)) → ((k : ℕ) (c : Choice) → R (h k c) → KeepsSource variables tables takes k c)
+      → (stream : WrittenNumber) (c : WrittenChoice) → Twin (source_faults means stream c) (natural stream >>= λ number. numbering.choice d c >>= λ choice. Some (h number choice)) R
+  source_twin h R to from stream c =
+      twin_two h (number_too_large stream ++ stream_outside stream) (choice_faults means c) (natural stream) (numbering.choice d c) _ _ R
+      (λ k ch p q. to k ch (p.1, q)) (λ k ch r. let s = from k ch r in ((omega arith, s.0), s.1))
+      (stream_twin stream) (choice_twin c)
+
   draw_twin : (at : ℕ) (target : WrittenTarget) (stream : WrittenNumber) (c : WrittenChoice) → Twin (change_faults means (written.Draw at target stream c)) (numbering.change d (written.Draw at target stream c)) (KeepsChange variables tables takes)
   draw_twin at target stream c =
-      subst (λ (xs : List StaticFault). Twin (xs ++ choice_faults means c) (numbering.change d (written.Draw at target stream c)) (KeepsChange variables tables takes)) (sym (append_assoc drawn (number_too_large stream) (stream_outside stream)))
-      (twin_three graph.Draw drawn (number_too_large stream ++ stream_outside stream) (choice_faults means c) (numbering.location d target) (natural stream) (numbering.choice d c) _ _ _ (KeepsChange variables tables takes)
-      (λ l k ch p q r. (p, q.1, r)) (λ l k ch s. (s.0, (omega arith, s.1), s.2))
-      (drawn_twin target target.name.at) (stream_twin stream) (choice_twin c))
+      twin_then drawn (source_faults means stream c) (numbering.location d target) _ _ (KeepsChange variables tables takes)
+      (λ l p. source_twin (graph.Draw l) (KeepsChange variables tables takes) (λ k ch q. (p, q)) (λ k ch s. s.1) stream c)
+      (λ l y s q. let p = of_two (graph.Draw l) (natural stream) (numbering.choice d c) y s in (subst (KeepsChange variables tables takes) (sym p.made) q).0)
+      (drawn_twin target target.name.at)
     where
       drawn : List StaticFault
       drawn = target_faults means target ++ kind_mismatch (Some kinds.Range) (target_kind means target) target.name.at

@@ -7,7 +7,6 @@ use Rattle.model_core.specs.declared.static_kind.StaticKind.{StaticKind}
 use Rattle.model_core.specs.Text.Numbering.{◌>>=◌, each_numbered, written_or}
 use Rattle.model_core.specs.Static.FaultOrder.{StaticFault, fault_where}
 use Rattle.model_core.specs.Static.PartFaults.{if_written}
-use Rattle.static_laws.proofs.StaticTwins.MadeOf.{of_three}
 use Rattle.model_core.proofs.EmptyLists.{left_empty, right_empty}
 
 -- two lists are empty together
@@ -59,21 +58,16 @@ twin_two h fs gs (Some a) (Some b) P Q R to from t u = record {
   unbroken = λ y s r. let both = from a b (subst R (sym (same_Some (h a b) y s)) r) in both_empty fs gs (t.unbroken a refl both.0) (u.unbroken b refl both.1);
 }
 
--- three parts of which one is made
-pub twin_three : {A B C D : Type 0} (h : A → B → C → D) (fs gs hs : List StaticFault) (o : Option A) (p : Option B) (q : Option C) (P : A → Type 0) (Q : B → Type 0) (R : C → Type 0) (S : D → Type 0)
-    → ((a : A) (b : B) (c : C) → P a → Q b → R c → S (h a b c)) → ((a : A) (b : B) (c : C) → S (h a b c) → P a × Q b × R c)
-    → Twin fs o P → Twin gs p Q → Twin hs q R → Twin (fs ++ gs ++ hs) (o >>= λ a. p >>= λ b. q >>= λ c. Some (h a b c)) S
-twin_three h fs gs hs o p q P Q R S to from t u w = record {
-  kept = λ e.
-      let front = left_empty (fs ++ gs) hs e in
-      let (a, is_a, k) = t.kept (left_empty fs gs front) in
-      let (b, is_b, l) = u.kept (right_empty fs gs front) in
-      let (c, is_c, n) = w.kept (right_empty (fs ++ gs) hs e) in
-      (h a b c, rw (is_a, is_b, is_c) refl, to a b c k l n);
-  unbroken = λ y s r.
-      let m = of_three h o p q y s in
-      let parts = from m.a m.b m.c (subst S (sym m.made) r) in
-      both_empty (fs ++ gs) hs (both_empty fs gs (t.unbroken m.a m.is_a parts.0) (u.unbroken m.b m.is_b parts.1)) (w.unbroken m.c m.is_c parts.2);
+-- a part, and what follows it and may tell of it
+pub twin_then : {A B : Type 0} (fs gs : List StaticFault) (o : Option A) (f : A → Option B) (P : A → Type 0) (R : B → Type 0)
+    → ((a : A) → P a → Twin gs (f a) R) → ((a : A) (y : B) → f a ≡ Some y → R y → P a) → Twin fs o P → Twin (fs ++ gs) (o >>= f) R
+twin_then fs gs None f P R next from t = record {
+  kept = λ e. let (a, s, p) = t.kept (left_empty fs gs e) in cc;
+  unbroken = λ y s r. cc;
+}
+twin_then fs gs (Some a) f P R next from t = record {
+  kept = λ e. let (b, s, p) = t.kept (left_empty fs gs e) in (next a (subst P (sym (same_Some a b s)) p)).kept (right_empty fs gs e);
+  unbroken = λ y s r. let p = from a y s r in both_empty fs gs (t.unbroken a refl p) ((next a p).unbroken y s r);
 }
 
 -- further faults, which tell of what the part is numbered as

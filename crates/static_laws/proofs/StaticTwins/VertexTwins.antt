@@ -11,19 +11,19 @@ use Rattle.model_core.specs.EventGraph as graph
 use Rattle.model_core.specs.EventGraph.{Variable, Expression, EdgeKind, EventEdge, EventVertex}
 use Rattle.model_core.specs.Text.Lexing.{same_bytes}
 use Rattle.model_core.specs.Text.Written as written
-use Rattle.model_core.specs.Text.Written.{WrittenName, WrittenExpression, WrittenEdgeKind, WrittenEdge, WrittenVertex}
+use Rattle.model_core.specs.Text.Written.{WrittenName, WrittenExpression, WrittenDelay, WrittenEdgeKind, WrittenEdge, WrittenVertex}
 use Rattle.model_core.specs.Text.Numbering as numbering
 use Rattle.model_core.specs.Text.Numbering.{◌>>=◌, each_numbered, written_or, declared_place, Declared, natural}
 use Rattle.model_core.specs.Static.FaultOrder.{StaticFault}
 use Rattle.model_core.specs.Static.Meanings.{Meaning, MeansVertex, AsScalar, AsVertex}
 use Rattle.model_core.specs.Static.RuleTable.{name_too_long, value_count, too_many}
-use Rattle.model_core.specs.Static.PartFaults.{if_written, written_items, repeated_names, name_place, change_place, edge_place, use_faults, operand_faults, values_faults, count_faults, priority_faults, change_faults, parameter_kind, kinds_taken, target_takes, carried_faults, schedule_faults, edge_faults, parameters_faults, vertex_faults}
+use Rattle.model_core.specs.Static.PartFaults.{if_written, written_items, repeated_names, name_place, change_place, edge_place, use_faults, operand_faults, values_faults, count_faults, priority_faults, change_faults, parameter_kind, kinds_taken, target_takes, carried_faults, delay_faults, schedule_faults, edge_faults, parameters_faults, vertex_faults}
 use Rattle.model_core.specs.Static.HasKind.{IsVariable, HasKind}
-use Rattle.model_core.specs.Static.OwnRules.{TakeCarried, CarriesValues, KeepsTiming, KeepsEdge, KeepsVertex, KeepsChange}
+use Rattle.model_core.specs.Static.OwnRules.{TakeCarried, CarriesValues, KeepsDelay, KeepsTiming, KeepsEdge, KeepsVertex, KeepsChange}
 use Rattle.model_core.proofs.EmptyLists.{left_empty, right_empty}
 use Rattle.static_laws.proofs.StaticTwins.MadeOf.{of_two, of_three, of_four, of_each, each_length}
 use Rattle.static_laws.proofs.StaticTwins.Zips.{zip_length}
-use Rattle.static_laws.proofs.StaticTwins.Twins.{both_empty, Twin, twin_two, twin_each, twin_or}
+use Rattle.static_laws.proofs.StaticTwins.Twins.{both_empty, Twin, twin_map, twin_two, twin_each, twin_or}
 use Rattle.static_laws.proofs.StaticTwins.RowTwins.{short_name, same_count, priority_twin}
 use Rattle.static_laws.proofs.StaticTwins.DeclarationTwins.{few_items}
 use Rattle.static_laws.proofs.StaticTwins.NamesAgree.{NamesAgree, one_shape, variable_kept, variable_unbroken, vertex_kept, vertex_unbroken}
@@ -183,18 +183,21 @@ module _ (means : List ℕ → Option Meaning) (d : Declared) (variables : List 
 
       edge_values : (kind : WrittenEdgeKind) (k : EdgeKind) → numbering.edge_kind d kind ≡ Some k → Twin (count_faults kind (length (map Some ks)) given at ++ values_faults means (map Some ks) (written_items o)) (written_or (each_numbered (numbering.expression d)) [] o) (CarriesValues variables tables takes k ps)
       edge_values (written.Schedule after priority) k s =
-          let p = of_two graph.Schedule (written_or (numbering.expression d) (graph.Number (pos 0)) after) (written_or natural 5 priority) k s in
+          let p = of_two graph.Schedule (written_or (numbering.delay d) (graph.Fixed (graph.Number (pos 0))) after) (written_or natural 5 priority) k s in
           subst (λ j. Twin (value_count (length (map Some ks)) given at ++ values_faults means (map Some ks) (written_items o)) (written_or (each_numbered (numbering.expression d)) [] o) (CarriesValues variables tables takes j ps)) p.made carried_twin
       edge_values written.Urgent k s = subst (λ j. Twin (value_count (length (map Some ks)) given at ++ values_faults means (map Some ks) (written_items o)) (written_or (each_numbered (numbering.expression d)) [] o) (CarriesValues variables tables takes j ps)) (same_Some graph.Urgent k s) carried_twin
       edge_values written.CancelEqual k s = subst (λ j. Twin (value_count (length (map Some ks)) given at ++ values_faults means (map Some ks) (written_items o)) (written_or (each_numbered (numbering.expression d)) [] o) (CarriesValues variables tables takes j ps)) (same_Some graph.CancelEqual k s) carried_twin
       edge_values written.CancelNext k s = subst (λ j. Twin (value_count 0 given at ++ values_faults means (map Some ks) (written_items o)) (written_or (each_numbered (numbering.expression d)) [] o) (CarriesValues variables tables takes j ps)) (same_Some graph.CancelNext k s) none_twin
       edge_values written.CancelAll k s = subst (λ j. Twin (value_count 0 given at ++ values_faults means (map Some ks) (written_items o)) (written_or (each_numbered (numbering.expression d)) [] o) (CarriesValues variables tables takes j ps)) (same_Some graph.CancelAll k s) none_twin
 
+    delay_twin : (w : WrittenDelay) → Twin (delay_faults means taken w) (numbering.delay d w) (KeepsDelay variables tables takes)
+    delay_twin (written.Fixed e) = twin_map graph.Fixed (operand_faults means (Some kinds.Range) e) (numbering.expression d e) (λ y. HasKind variables y kinds.Range) (KeepsDelay variables tables takes) (λ y k. k) (λ y k. k) (operand_twin means d variables tables vertices agree kinds.Range e)
+
     timing_twin : (kind : WrittenEdgeKind) → Twin (schedule_faults means taken kind) (numbering.edge_kind d kind) (KeepsTiming variables tables takes)
     timing_twin (written.Schedule after priority) =
-        twin_two graph.Schedule (if_written (operand_faults means (Some kinds.Range)) after) (if_written priority_faults priority) (written_or (numbering.expression d) (graph.Number (pos 0)) after) (written_or natural 5 priority) _ _ _
-        (λ e k p q. (p, q.0, q.1)) (λ e k r. (r.0, (r.1, r.2)))
-        (twin_or (operand_faults means (Some kinds.Range)) (numbering.expression d) (graph.Number (pos 0)) (λ y. HasKind variables y kinds.Range) refl (operand_twin means d variables tables vertices agree kinds.Range) after)
+        twin_two graph.Schedule (if_written (delay_faults means taken) after) (if_written priority_faults priority) (written_or (numbering.delay d) (graph.Fixed (graph.Number (pos 0))) after) (written_or natural 5 priority) _ _ _
+        (λ w k p q. (p, q.0, q.1)) (λ w k r. (r.0, (r.1, r.2)))
+        (twin_or (delay_faults means taken) (numbering.delay d) (graph.Fixed (graph.Number (pos 0))) (KeepsDelay variables tables takes) refl delay_twin after)
         (twin_or priority_faults natural 5 (λ k. (1 ≤ k) × (k ≤ 255)) (lit≤ tt, lit≤ tt) priority_twin priority)
     timing_twin written.Urgent = record { kept = λ e. (graph.Urgent, refl, tt); unbroken = λ y s q. refl }
     timing_twin written.CancelNext = record { kept = λ e. (graph.CancelNext, refl, tt); unbroken = λ y s q. refl }
