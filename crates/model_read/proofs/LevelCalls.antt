@@ -12,7 +12,7 @@ use Rattle.text_laws.specs.Ladder.{infix_at, climb, at_levels}
 use Rattle.text_laws.proofs.OperandLevels.{of_level, level-is}
 use Rattle.text_laws.proofs.OperatorsInTurn.{no_operator}
 use Rattle.model_read.specs.declared.stop.Stop.{Stop}
-use Rattle.model_read.specs.ReadCalls.{Stops, Returned, stops-too}
+use Rattle.model_read.specs.ReadCalls.{Stops, Returned}
 
 -- a level's call is that of its format
 pub by_format : (l : Level) (r : Result RawExpr Stop) (tokens left : List Lexeme) → Returned written_expression r left (language_reader (level_format l) tokens) → Returned written_expression r left (of_level l tokens)
@@ -20,7 +20,7 @@ by_format l r tokens left g = subst (λ (p : Parse WrittenExpression). Returned 
 
 -- the first operand can't be read
 pub stops_first : (others : WrittenExpression → Parser WrittenExpression) (whole first : Parse WrittenExpression) (error : Stop) (rest : List Lexeme) → whole ≡ and_next others first → Stops error rest first → Stops error rest whole
-stops_first others whole first error rest e g = stops-too error rest first whole (λ stuck_first. e ∙ ap (and_next others) stuck_first) g
+stops_first others whole first error rest e g = λ is. e ∙ ap (and_next others) (g is)
 
 -- the first operand is read, and then what stands behind it
 pub gives_others : (others : WrittenExpression → Parser WrittenExpression) (whole first : Parse WrittenExpression) (r : Result RawExpr Stop) (a : WrittenExpression) (between left : List Lexeme) → whole ≡ and_next others first → first ≡ took a between

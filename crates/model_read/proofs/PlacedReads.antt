@@ -19,7 +19,7 @@ Tells view text (Err errors.NoMemory) left parse = Unit {0}
 
 tells_at : {A B : Type 0} (view : A → B) (text : List ℕ) (read : Result A Stop) (left : List Lexeme) (parse : Parse B) → Returned view read left parse → Tells view text (placed_at (told_place text left) read) left parse
 tells_at view text (Ok x) left parse e = e
-tells_at view text (Err stops.Unexpected) left parse e = (e, refl)
+tells_at view text (Err stops.Unexpected) left parse e = (e refl, refl)
 tells_at view text (Err stops.NoMemory) left parse e = tt
 
 pub placed-tells : {A B : Type 0} (view : A → B) (text : List ℕ) (read : Result A Stop) (left : List Lexeme) (parse : Parse B) (result : Result A ParseError) → result ≡ placed_at (told_place text left) read → Returned view read left parse → Tells view text result left parse

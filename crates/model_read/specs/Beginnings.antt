@@ -5,15 +5,15 @@ use Rattle.model_core.specs.declared.token.Symbol.TheVariants as symbols
 use Rattle.model_core.specs.Text.Written.{WrittenChange, WrittenEdge, WrittenVertex, WrittenModel}
 use Rattle.model_core.specs.Text.Format.{Yields, Many, reserved, mark, any_name, ◌<*>◌, ◌<*◌, ◌*>◌, maybe, separated}
 use Rattle.model_core.specs.Text.Expressions.{LanguageFormat}
-use Rattle.model_core.specs.Text.Language.{variable_format, table_format, watch_format}
+use Rattle.model_core.specs.Text.Language.{variable_format, table_format, watch_format, text_written}
 
 -- a vertex that begins as another one does
 abbrev pub with_body : WrittenVertex → List WrittenChange → List WrittenEdge → WrittenVertex
-with_body v changes edges = record { at = v.at; name = v.name; parameters = v.parameters; changes = changes; edges = edges }
+with_body v changes edges = record v { changes = changes; edges = edges }
 
 -- a model that begins as another one does
 abbrev pub with_vertices : WrittenModel → List WrittenVertex → ℕ → WrittenModel
-with_vertices m vertices end_at = record { at = m.at; name = m.name; variables = m.variables; tables = m.tables; watch = m.watch; vertices = vertices; end_at = end_at }
+with_vertices m vertices end_at = record m { vertices = vertices; end_at = end_at }
 
 -- `vertex`, the name and the parameters, up to the opening brace
 unfoldable pub vertex_beginning : LanguageFormat (List WrittenChange → List WrittenEdge → WrittenVertex)
@@ -25,5 +25,5 @@ vertex_beginning =
 -- `model`, the name, and the declarations up to the first vertex
 unfoldable pub model_beginning : LanguageFormat (List WrittenVertex → ℕ → WrittenModel)
 model_beginning =
-    Yields (λ at called variables tables watch vertices end_at. record { at = at; name = called; variables = variables; tables = tables; watch = watch; vertices = vertices; end_at = end_at })
+    Yields text_written
     <*> reserved words.Model <*> any_name <* mark symbols.Semicolon <*> Many variable_format <*> Many table_format <*> maybe watch_format

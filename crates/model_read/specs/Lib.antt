@@ -3,4 +3,5 @@ pub mod Beginnings
 pub mod ReadCalls
 pub mod Infixes
 pub mod Spelled
+pub mod Sources
 pub mod Inner

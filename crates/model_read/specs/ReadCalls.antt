@@ -9,18 +9,12 @@ use Rattle.model_read.specs.declared.stop.Stop.TheVariants as stops
 
 -- a call that stopped left the tokens from the first that can't stand where it stands, unless memory ran out
 abbrev pub Stops : {B : Type 0} → Stop → List Lexeme → Parse B → Type 0
-Stops stops.Unexpected left parse = parse ≡ stuck left
-Stops stops.NoMemory left parse = Unit {0}
+Stops e left parse = e ≡ stops.Unexpected → parse ≡ stuck left
 
 -- What a call returned, seen by view, is what was taken, and the call left the same tokens.
 abbrev pub Returned : {A B : Type 0} → (A → B) → Result A Stop → List Lexeme → Parse B → Type 0
 Returned view (Ok x) left parse = parse ≡ took (view x) left
 Returned view (Err e) left parse = Stops e left parse
-
--- where a part that stopped leaves the whole stuck, the whole stops as the part did
-pub stops-too : {A B : Type 0} (e : Stop) (left : List Lexeme) (part : Parse A) (whole : Parse B) → (part ≡ stuck left → whole ≡ stuck left) → Stops e left part → Stops e left whole
-stops-too stops.Unexpected left part whole h s = h s
-stops-too stops.NoMemory left part whole h s = tt
 
 -- what was read, or why not, with the place of the token that was left
 abbrev pub placed_at : {A : Type 0} → ℕ → Result A Stop → Result A ParseError

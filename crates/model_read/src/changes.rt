@@ -4,10 +4,11 @@ ghost use Rattle.std.specs.Prelude.{refl};
 ghost use Rattle.model_core.specs.Code.WrittenViews.{written_expression, written_target, written_choice, written_change};
 ghost use Rattle.model_core.specs.Text.Written.{WrittenExpression, WrittenTarget, WrittenChange};
 ghost use Rattle.model_core.specs.Text.Expressions.{expression_format};
-ghost use Rattle.model_core.specs.Text.Language.{target_format, choice_format, change_format};
+ghost use Rattle.model_core.specs.Text.Language.{target_format, choice_format, source_format, change_format};
 ghost use Rattle.text_laws.specs.LanguageReader.{language_reader};
 ghost use Rattle.model_read.specs.ReadCalls.{Returned};
 ghost use Rattle.model_read.specs.Inner.LineFormats.{set_format, draw_format};
+ghost use Rattle.model_read.specs.Sources.{written_source};
 ghost use Rattle.text_laws.specs.SomeTokens.{target-some, change-some};
 
 use crate::cursor::Cursor;
@@ -15,7 +16,7 @@ use crate::expressions::{expression, index};
 use crate::phrase::{Phrase, Repeated, separated};
 use crate::signed::signed;
 use crate::stop::Stop;
-use model_core::{RawChange, RawChoice, RawExpr, RawTarget, Symbol, Word};
+use model_core::{RawChange, RawChoice, RawExpr, RawNumber, RawTarget, Symbol, Word};
 use sig_base::Held;
 use std::alloc::Global;
 
@@ -67,6 +68,24 @@ fn choice(alloc: Global, cursor: &mut Cursor<'_>) -> Result<RawChoice, Stop>
     Ok(RawChoice::ByTable { table })
 }
 
+/// The source of a draw: a random stream, and what is drawn from it.
+#[derive(Drop)]
+pub struct RawSource {
+    pub stream: RawNumber,
+    pub choice: RawChoice,
+}
+
+/// Reads the source of a draw.
+#[tactic(auto, unfolding(model_core::specs::Text::Language::source_format))]
+pub fn source(alloc: Global, cursor: &mut Cursor<'_>) -> Result<RawSource, Stop>
+    ensures { Returned written_source result cursor.new (language_reader source_format cursor.old) }
+{
+    cursor.word(Word::From)?;
+    let stream = cursor.number()?;
+    let choice = choice(alloc, cursor)?;
+    Ok(RawSource { stream, choice })
+}
+
 /// Reads a change that draws a value.
 #[tactic(auto, unfolding(crate::specs::Inner::LineFormats::draw_format))]
 fn draw(alloc: Global, cursor: &mut Cursor<'_>) -> Result<RawChange, Stop>
@@ -74,15 +93,14 @@ fn draw(alloc: Global, cursor: &mut Cursor<'_>) -> Result<RawChange, Stop>
 {
     let at = cursor.word(Word::Draw)?;
     let target = Held::of(target(alloc, cursor)?);
-    cursor.word(Word::From)?;
-    let stream = cursor.number()?;
-    let choice = Held::of(choice(alloc, cursor)?);
+    let source = Held::of(source(alloc, cursor)?);
     cursor.symbol(Symbol::Semicolon)?;
+    let RawSource { stream, choice } = source.free();
     Ok(RawChange::Draw {
         at,
         target: target.free(),
         stream,
-        choice: choice.free(),
+        choice,
     })
 }
 

@@ -3,11 +3,10 @@
 ghost use Rattle.std.specs.Prelude.{map};
 ghost use Rattle.std.specs.Option.{option_map};
 ghost use Rattle.model_core.specs.declared.token.Word.TheVariants.{After, Priority};
-ghost use Rattle.model_core.specs.Code.WrittenViews.{written_number, written_expression, written_edge_kind, written_edge};
+ghost use Rattle.model_core.specs.Code.WrittenViews.{written_number, written_expression, written_delay, written_edge_kind, written_edge};
 ghost use Rattle.model_core.specs.Text.Written.{WrittenEdge};
 ghost use Rattle.model_core.specs.Text.Format.{reserved, any_number, ◌*>◌, maybe};
-ghost use Rattle.model_core.specs.Text.Expressions.{expression_format};
-ghost use Rattle.model_core.specs.Text.Language.{values_format, when_format, timing_format, schedule_format, urgent_format, cancelled_format, cancel_format, edge_format};
+ghost use Rattle.model_core.specs.Text.Language.{values_format, when_format, delay_format, timing_format, schedule_format, urgent_format, cancelled_format, cancel_format, edge_format};
 ghost use Rattle.text_laws.specs.LanguageReader.{language_reader};
 ghost use Rattle.model_read.specs.ReadCalls.{Returned};
 ghost use Rattle.model_read.specs.Inner.Cancels.{written_cancel};
@@ -17,7 +16,7 @@ use crate::cursor::Cursor;
 use crate::expressions::expression;
 use crate::phrase::{Phrase, Repeated, separated};
 use crate::stop::Stop;
-use model_core::{RawEdge, RawEdgeForm, RawExpr, RawName, RawNumber, Symbol, Word};
+use model_core::{RawDelay, RawEdge, RawEdgeForm, RawExpr, RawName, RawNumber, Symbol, Word};
 use sig_base::{Held, List};
 use std::alloc::Global;
 
@@ -47,15 +46,24 @@ fn condition(alloc: Global, cursor: &mut Cursor<'_>) -> Result<Option<RawExpr>, 
     Ok(Some(expression(alloc, cursor)?))
 }
 
+/// Reads a delay.
+#[tactic(auto, unfolding(model_core::specs::Text::Language::delay_format))]
+fn delay(alloc: Global, cursor: &mut Cursor<'_>) -> Result<RawDelay, Stop>
+    ensures { Returned written_delay result cursor.new (language_reader delay_format cursor.old) }
+{
+    Ok(RawDelay::Fixed(expression(alloc, cursor)?))
+}
+
 /// Reads the delay of an edge, where one is written.
-fn delay(alloc: Global, cursor: &mut Cursor<'_>) -> Result<Option<RawExpr>, Stop>
-    ensures { Returned (option_map written_expression) result cursor.new (language_reader (maybe (reserved After *> expression_format)) cursor.old) }
+#[tactic(auto, unfolding(model_core::specs::Text::Language::delay_format))]
+fn after(alloc: Global, cursor: &mut Cursor<'_>) -> Result<Option<RawDelay>, Stop>
+    ensures { Returned (option_map written_delay) result cursor.new (language_reader (maybe (reserved After *> delay_format)) cursor.old) }
 {
     if !cursor.begins_word(Word::After) {
         return Ok(None);
     }
     cursor.word(Word::After)?;
-    Ok(Some(expression(alloc, cursor)?))
+    Ok(Some(delay(alloc, cursor)?))
 }
 
 /// Reads the priority of an edge, where one is written.
@@ -74,7 +82,7 @@ fn priority(cursor: &mut Cursor<'_>) -> Result<Option<RawNumber>, Stop>
 fn timing(alloc: Global, cursor: &mut Cursor<'_>) -> Result<RawEdgeForm, Stop>
     ensures { Returned written_edge_kind result cursor.new (language_reader timing_format cursor.old) }
 {
-    let delay = Held::of(delay(alloc, cursor)?);
+    let delay = Held::of(after(alloc, cursor)?);
     let priority = priority(cursor)?;
     Ok(RawEdgeForm::Schedule {
         delay: delay.free(),

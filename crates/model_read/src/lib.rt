@@ -14,6 +14,7 @@ mod stop;
 mod text;
 mod vertices;
 
+pub use changes::{RawSource, source};
 pub use cursor::{Cursor, Spelling};
 pub use openings::first_too_deep;
 pub use operators::{CONJUNCTIONS, Infix, LEVELS, next_level};

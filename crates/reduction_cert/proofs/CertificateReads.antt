@@ -17,7 +17,7 @@ use Rattle.text_laws.proofs.Formats.TextLaws.{all-is_spelled, all-is_wrong}
 use Rattle.model_lex.specs.declared.parse_error.ParseError.TheVariants as errors
 use Rattle.model_read.specs.declared.stop.Stop.{Stop}
 use Rattle.model_read.specs.declared.stop.Stop.TheVariants as stops
-use Rattle.model_read.specs.ReadCalls.{Stops, Returned, placed_at, stops-too}
+use Rattle.model_read.specs.ReadCalls.{Stops, Returned, placed_at}
 use Rattle.text_laws.proofs.ReadLoop.{begins-one, goes_on, ends, is_done}
 
 -- ---- names and applications have a token at least
@@ -46,8 +46,7 @@ name-goes_on names name tokens left total begun e so_far =
 pub name-ends : (names : List (List ℕ)) (tokens rest : List Lexeme) (total : Parse (List (List ℕ))) (error : Stop) → begins_as AName tokens ≡ true
     → Stops error rest (language_reader plain_name_format tokens) → with_front names (language_reader (Many plain_name_format) tokens) ≡ total → Stops error rest total
 name-ends names tokens rest total error begun e so_far =
-    stops-too error rest (language_reader plain_name_format tokens) total
-    (ends (λ (n : List ℕ). n) plain_name_format name-some names tokens rest total (name-begins tokens true begun) (rw (map-id names) so_far)) e
+    λ is. ends (λ (n : List ℕ). n) plain_name_format name-some names tokens rest total (name-begins tokens true begun) (rw (map-id names) so_far) (e is)
 
 pub name-done : (names : List (List ℕ)) (tokens : List Lexeme) (total : Parse (List (List ℕ))) → begins_as AName tokens ≡ false
     → with_front names (language_reader (Many plain_name_format) tokens) ≡ total → total ≡ took names tokens
@@ -68,7 +67,7 @@ pub certificate-unexpected : (text : List ℕ) (tokens left : List Lexeme) (r : 
 certificate-unexpected text tokens left (Ok applications) at g e = absurd cc
 certificate-unexpected text tokens left (Err stops.Unexpected) at g e =
     let same : told_place text left ≡ at = cc in
-    subst (λ (n : ℕ). IsNoCertificateAt text tokens n) same (all-is_wrong certificate_format certificate-fine text tokens left g)
+    subst (λ (n : ℕ). IsNoCertificateAt text tokens n) same (all-is_wrong certificate_format certificate-fine text tokens left (g refl))
 certificate-unexpected text tokens left (Err stops.NoMemory) at g e = absurd cc
 
 pub certificate-never_deep : (place : ℕ) (r : Result (List Application) Stop) (at : ℕ) → placed_at place r ≡ Err (errors.TooDeep at) → ⊥

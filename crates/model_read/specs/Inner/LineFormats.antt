@@ -1,10 +1,10 @@
 -- Parts of rules that have a function of their own.
 use Rattle.model_core.specs.declared.token.Word.TheVariants as words
 use Rattle.model_core.specs.declared.token.Symbol.TheVariants as symbols
-use Rattle.model_core.specs.Text.Written.{WrittenChange, Set, Draw}
-use Rattle.model_core.specs.Text.Format.{Yields, reserved, mark, any_number, ◌<*>◌, ◌<*◌, separated}
+use Rattle.model_core.specs.Text.Written.{WrittenSource, WrittenChange, Set, Draw}
+use Rattle.model_core.specs.Text.Format.{Yields, reserved, mark, ◌<*>◌, ◌<*◌, separated}
 use Rattle.model_core.specs.Text.Expressions.{LanguageFormat, expression_format}
-use Rattle.model_core.specs.Text.Language.{target_format, choice_format}
+use Rattle.model_core.specs.Text.Language.{target_format, source_format}
 
 -- a change that computes values
 unfoldable pub set_format : LanguageFormat WrittenChange
@@ -15,5 +15,5 @@ set_format =
 -- a change that draws a value
 unfoldable pub draw_format : LanguageFormat WrittenChange
 draw_format =
-    Yields (λ at target stream choice. Draw at target stream choice)
-    <*> reserved words.Draw <*> target_format <* reserved words.From <*> any_number <*> choice_format <* mark symbols.Semicolon
+    Yields (λ at target (source : WrittenSource). Draw at target source.stream source.choice)
+    <*> reserved words.Draw <*> target_format <*> source_format <* mark symbols.Semicolon

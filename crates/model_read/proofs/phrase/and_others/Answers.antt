@@ -4,14 +4,13 @@ use Rattle.std.proofs.lemmas.Result.{err_from_is_err_and}
 use Rattle.model_core.specs.declared.token.Symbol.TheVariants.{Comma}
 use Rattle.model_core.specs.Text.Format.{ASymbol, mark, ◌*>◌}
 use Rattle.text_laws.proofs.ReadLoop.{shorter, begins-one, goes_on, ends, is_done}
-use Rattle.model_read.specs.ReadCalls.{stops-too}
 use Rattle.model_read.proofs.phrase.and_others.Goals as goal
 
 pub returns-in_err-next : goal.returns-in_err-next
 returns-in_err-next g c =
     let p = err_from_is_err_and c.from_residual.result c.from_residual.ensures.1 in
-    rw (p.1, p.2) (stops-too c.in_err-next.field-0.0 c.next.new.cursor _ _ (ends g.T.Phrase.plain (mark Comma *> g.T.Phrase.format) refl c.loop-alloc.all c.loop-alloc.cursor c.next.new.cursor _
-    (begins-one (ASymbol Comma) c.loop-alloc.cursor _ (sym c.loop-alloc-test.ensures)) c.loop-alloc.invariant) c.in_err-next.ensures)
+    rw (p.1, p.2) (λ is. ends g.T.Phrase.plain (mark Comma *> g.T.Phrase.format) refl c.loop-alloc.all c.loop-alloc.cursor c.next.new.cursor _
+    (begins-one (ASymbol Comma) c.loop-alloc.cursor _ (sym c.loop-alloc-test.ensures)) c.loop-alloc.invariant (c.in_err-next.ensures is))
 
 pub loop-alloc-smaller : goal.loop-alloc-smaller
 loop-alloc-smaller g c = let s = shorter (mark Comma *> g.T.Phrase.format) refl c.loop-alloc.cursor _ c.next.new.cursor c.in_ok-next.ensures in omega arith
