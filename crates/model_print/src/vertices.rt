@@ -2,14 +2,14 @@
 
 ghost use Rattle.std.specs.Prelude.{◌++◌, map, option_map};
 ghost use Rattle.std.specs.List.{flat_map};
-ghost use Rattle.model_core.specs.Text.Canonical.{index_text, location_text, choice_text, change_line, delay_text, priority_text, edge_word, timing_text, condition_text, edge_line, vertex_lines, variable_name, joined, in_parentheses};
+ghost use Rattle.model_core.specs.Text.Canonical.{index_text, location_text, choice_text, source_text, change_line, delay_text, priority_text, edge_word, timing_text, condition_text, edge_line, vertex_lines, variable_name, joined, in_parentheses};
 ghost use Rattle.model_core.specs.Rules.Merge.{set_parameters};
-ghost use Rattle.model_core.specs.Code.Views.{graph_of, expression_of, location_of, choice_of, change_of, edge_kind_of, edge_of, vertex_of};
+ghost use Rattle.model_core.specs.Code.Views.{graph_of, expression_of, location_of, choice_of, change_of, edge_delay_of, edge_kind_of, edge_of, vertex_of};
 
 use crate::expressions::{put_expression, put_expressions, put_passed};
 use crate::names::{put_table_name, put_variable_name, put_vertex_name};
 use crate::pen::{Pen, put_comma, put_number, put_signed};
-use model_core::{Change, Choice, Edge, EdgeForm, Expr, Model, Target, Vertex};
+use model_core::{Change, Choice, Delay, Edge, EdgeForm, Expr, Model, Target, Vertex};
 
 /// The priority that an edge has where none is written.
 const PLAIN_PRIORITY: u8 = 5;
@@ -66,6 +66,15 @@ fn put_choice<P: Pen>(out: &mut P, model: &Model, choice: Choice)
     }
 }
 
+/// Puts the source of a draw: its stream, and what it takes its value from.
+fn put_source<P: Pen>(out: &mut P, model: &Model, stream: u8, choice: Choice)
+    ensures { P.adds out.old out.new (source_text (graph_of model.now) stream (choice_of choice)) }
+{
+    out.put_bytes(b" from ");
+    put_number(out, u64::from(stream));
+    put_choice(out, model, choice);
+}
+
 /// Puts the line of a change.
 pub(crate) fn put_change<P: Pen>(out: &mut P, model: &Model, change: &Change)
     ensures { P.adds out.old out.new (change_line (graph_of model.now) (change_of change.now)) }
@@ -85,23 +94,25 @@ pub(crate) fn put_change<P: Pen>(out: &mut P, model: &Model, change: &Change)
         } => {
             out.put_bytes(b"  draw ");
             put_target(out, model, target);
-            out.put_bytes(b" from ");
-            put_number(out, u64::from(*stream));
-            put_choice(out, model, *choice);
+            put_source(out, model, *stream, *choice);
             out.put_bytes(b";\n");
         }
     }
 }
 
 /// Puts a delay, or nothing where it is the number 0.
-fn put_delay<P: Pen>(out: &mut P, model: &Model, delay: &Expr)
-    ensures { P.adds out.old out.new (delay_text (graph_of model.now) (expression_of delay.now)) }
+fn put_delay<P: Pen>(out: &mut P, model: &Model, delay: &Delay)
+    ensures { P.adds out.old out.new (delay_text (graph_of model.now) (edge_delay_of delay.now)) }
 {
-    if let Expr::Int(0) = delay {
-        return;
+    match delay {
+        Delay::Fixed(expr) => {
+            if let Expr::Int(0) = expr {
+                return;
+            }
+            out.put_bytes(b" after ");
+            put_expression(out, model, expr);
+        }
     }
-    out.put_bytes(b" after ");
-    put_expression(out, model, delay);
 }
 
 /// Puts a priority, or nothing where it is the plain one.
