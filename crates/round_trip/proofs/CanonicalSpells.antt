@@ -11,7 +11,7 @@ use Rattle.model_core.specs.Text.Numbering.{numbered}
 use Rattle.model_core.specs.Text.Canonical.{canonical, variable_line, table_line, vertex_lines}
 use Rattle.model_core.specs.Text.Spellable.{extent, IsSpellable, ReadsBack, SpellableVariable, SpellableTable, SpellableVertex, BeginsAsWritten}
 use Rattle.model_core.specs.Static.WrittenByKind.{IsWrittenByKind, VariablesByKind}
-use Rattle.model_core.specs.Text.Language.{text_format}
+use Rattle.model_core.specs.Text.Language.{text_written, text_format}
 use Rattle.model_core.specs.Text.ModelText.{SpellsText}
 use Rattle.text_laws.proofs.OpeningLaws.{deep-is_counted, none-is_few}
 use Rattle.round_trip.proofs.TokenSteps.{Lexes-nil, Lexes-text, tokens_from_Lexes}
@@ -48,7 +48,7 @@ module _ (g : EventGraph) (h : IsSpellable g) (back : ReadsBack g) where
 
   model_so : (at : ℕ) (n : WrittenName) (vs : List WrittenVariable) (ts : List WrittenTable) (o : Option (List WrittenName)) (ws : List WrittenVertex) (end_at : ℕ) → n.name ≡ g.name
       → Pairs IsVariable g.variables vs → Pairs IsTable g.tables ts → IsWatch g (names_of g) named g.watch o → Pairs (IsVertex g (names_of g) named) g.vertices ws
-      → IsModel (record { at = at; name = n; variables = vs; tables = ts; watch = o; vertices = ws; end_at = end_at })
+      → IsModel (text_written at n vs ts o ws end_at)
   unfolding IsModel
   model_so at n vs ts o ws end_at called v t watched x =
       let variables : map (λ (w : WrittenVariable). w.name.name) vs ≡ map (λ (y : Variable). y.name) g.variables = names-same (λ (y : Variable). y.name) (λ (w : WrittenVariable). w.name.name) g.variables vs (pairs-into IsVariable _ (λ y w k. k.0) g.variables vs v) in
@@ -70,7 +70,7 @@ module _ (g : EventGraph) (h : IsSpellable g) (back : ReadsBack g) where
   text-writes : Writes text_format (canonical g) Any OPENINGS_MAX OPENINGS_MAX IsModel
   unfolding text_format
   text-writes =
-      writes-then (writes-then (writes-then (writes-then (writes-then (writes-before (writes-then (writes-made (λ at called variables tables watch vertices end_at. record { at = at; name = called; variables = variables; tables = tables; watch = watch; vertices = vertices; end_at = end_at })
+      writes-then (writes-then (writes-then (writes-then (writes-then (writes-before (writes-then (writes-made text_written
       {J = Takes (λ n. n.name ≡ g.name) (Takes (Pairs IsVariable g.variables) (Takes (Pairs IsTable g.tables) (Takes (IsWatch g (names_of g) named g.watch) (Takes (Pairs (IsVertex g (names_of g) named) g.vertices) (Takes (λ at. Unit {0}) IsModel)))))}
       (blank_behind (λ rest. refl) (a_word 109 (codes "odel") words.Model (is_word refl refl refl) refl)) (λ at u. takes (λ n called. takes (λ vs v. takes (λ ts t. takes (λ o w. takes (λ ws x. takes (λ e u. model_so at n vs ts o ws e called v t w x))))))))
       (λ rest i. tt) (writes-name g.name h.name))
