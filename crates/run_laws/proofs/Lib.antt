@@ -4,6 +4,8 @@ pub mod Leaving
 pub mod MappedPending
 pub mod LockStep
 pub mod Keeping
+pub mod MadeEntries
+pub mod OnTime
 pub mod EdgesAlike
 pub mod InRange
 pub mod SameLaws

@@ -17,10 +17,10 @@ use Rattle.model_core.proofs.Results.{bind_ok}
 use Rattle.model_core.proofs.EachOne.{every-both, every-map}
 use Rattle.static_laws.proofs.StaticTwins.Zips.{zip_length}
 use Rattle.model_core.specs.Rules.RangesHold.{TruthsAreDeclared, ZeroToOne}
+use Rattle.run_laws.proofs.MadeEntries.{SchedulesOnly}
 use Rattle.bound_laws.proofs.Soundness.DeclaredRanges.{declared_sound}
 use Rattle.model_core.specs.Saved.SavedRun.{IsWide, IsGoodEntry}
 use Rattle.run_snapshot.proofs.WideValues.{WideRange, value-wide}
-use Rattle.run_snapshot.proofs.MadeEntries.{SchedulesOnly}
 
 -- what holds of each element, and of what stands for none, holds at each place
 pub every-place : {A : Type 0} (P : A → Type 0) (xs : List A) (d : A) (k : ℕ) → AllByRecursion P xs → P d → P (slice_index_or xs k d)

@@ -17,14 +17,14 @@ use Rattle.model_core.proofs.EachOne.{every-both, every-map}
 use Rattle.model_core.proofs.BothTrue.{and_first, and_second}
 use Rattle.run_laws.proofs.InRange.{replicate-get, in_range-kept}
 use Rattle.bound_laws.proofs.BeginsInRange.{kept_models_begin_in_range}
-use Rattle.run_laws.proofs.Keeping.{occur-keeps}
+use Rattle.run_laws.proofs.Keeping.{occur-keeps, faulted-ok}
+use Rattle.run_laws.proofs.MadeEntries.{occur-every}
 use Rattle.run_laws.proofs.MappedPending.{next_among-every}
+use Rattle.run_laws.proofs.OnTime.{others_later}
 use Rattle.model_core.specs.Saved.Cells.{variables_watched}
 use Rattle.model_core.specs.Saved.SavedRun.{IsWide, IsGoodEntry}
 use Rattle.run_snapshot.proofs.CellLists.{each_in_range, watched-in_range}
 use Rattle.run_snapshot.proofs.GoodEntries.{every-place, ranges-wide, edges-good}
-use Rattle.run_snapshot.proofs.MadeEntries.{occur-every}
-use Rattle.run_snapshot.proofs.OnTime.{others_later, faulted_ok}
 use Rattle.run_snapshot.proofs.GoingMoves.{move-by, reached-keeps}
 use Rattle.run_snapshot.proofs.WideValues.{WideRange, between-wide}
 use Rattle.run_snapshot.proofs.TakenWords.{occur-few}
@@ -64,7 +64,7 @@ module _ (g : EventGraph) (parts : KeepsParts g) (spelled : IsSpellable g) (seed
   step-sound : (n : ℕ) (m later : Moment) (notes : List Note) → IsSound g n m → next_move g seed until m ≡ Goes notes later → IsSound g (suc n) later
   step-sound n m later notes sound goes =
       let (k, by) = move-by g seed until m notes later goes in
-      let done : occur g seed (vertex_at g k.entry.vertex) k m.now.state m.now.taken ≡ Ok later.now = faulted_ok k.entry.time _ later.now by.steps in
+      let done : occur g seed (vertex_at g k.entry.vertex) k m.now.state m.now.taken ≡ Ok later.now = faulted-ok k.entry.time _ later.now by.steps in
       let few = occur-few g seed (vertex_at g k.entry.vertex) k m.now.state m.now.taken later.now done in
       let (first, others) = next_among-every (IsGoodEntry g m.now.clock) (λ e. true) m.now.pending sound.pending k by.due in
       let (time, pending) = occur-every (IsGoodEntry g k.entry.time) g seed (λ s. IsTrue (in_range g s)) (in_range-kept g) (vertex_at g k.entry.vertex) k m.now.state m.now.taken later.now sound.inside

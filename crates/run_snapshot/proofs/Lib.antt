@@ -5,8 +5,6 @@ pub mod SortedTakenOff
 pub mod InDueOrder
 pub mod AlikeSteps
 pub mod AlikeRuns
-pub mod MadeEntries
-pub mod OnTime
 pub mod GoingMoves
 pub mod OtherStops
 pub mod WholeRuns

@@ -4,7 +4,8 @@ use Rattle.model_core.specs.EventGraph.{EventGraph}
 use Rattle.model_core.specs.Run.Machine.{Reached, ahead}
 use Rattle.model_core.specs.Run.History.{Moment, start, look, look_from, reached_from}
 use Rattle.model_core.specs.Saved.Resuming.{GoesOn}
-use Rattle.run_snapshot.proofs.OtherStops.{forwards, reached-too, starts-on_time}
+use Rattle.run_laws.proofs.OnTime.{starts-on_time}
+use Rattle.run_snapshot.proofs.OtherStops.{forwards, reached-too}
 
 -- as the laws of runs say it
 abbrev pub Onward : EventGraph → ℕ → Type 0
