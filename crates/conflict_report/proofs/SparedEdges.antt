@@ -1,21 +1,20 @@
 -- The deeds of edges that read none of the variables that are set, and that draw from none of the streams that are: the same.
-use Rattle.std.proofs.Common.{◌≡◌, ℕ, ◌+◌, ℤ, Bool, true, false, cond, List, [], ◌∷◌, ◌++◌, Ok, refl, ◌∙◌, ap}
+use Rattle.std.proofs.Common.{◌≡◌, ℕ, ◌+◌, ℤ, Bool, true, false, cond, List, [], ◌∷◌, ◌++◌, Ok, refl, sym, ◌∙◌, ap}
 use Rattle.std.specs.List.{AllByRecursion, flat_map}
-use Rattle.model_core.specs.EventGraph.{EventGraph, EventEdge, Delay, Fixed, EdgeKind, Schedule, Urgent, CancelNext, CancelEqual, CancelAll}
+use Rattle.model_core.specs.EventGraph.{EventGraph, EventEdge, Delay, EdgeKind, Schedule, Urgent, CancelNext, CancelEqual, CancelAll}
 use Rattle.model_core.specs.Run.State.{State}
 use Rattle.model_core.specs.Run.Value.{OrFault, ◌>>=◌, in_turn, value_of, is_one}
-use Rattle.model_core.specs.Run.Edges.{Waiting, delay_ticks, delay_of, carried_values}
+use Rattle.model_core.specs.Run.Edges.{Waiting, delay_of, carried_values}
 use Rattle.model_core.specs.Rules.Uses.{variables_in, delay_reads, timing_reads, edge_reads, delay_streams, timing_streams, edge_streams}
-use Rattle.model_core.proofs.EachOne.{every-front, every-behind, every-flat_map}
-use Rattle.run_laws.proofs.Spared.SetPlaces.{sets, Spares}
+use Rattle.model_core.proofs.EachOne.{every-map, every-front, every-behind, every-flat_map}
+use Rattle.run_laws.proofs.Spared.SetPlaces.{sets, Spares, sets-spared, sets-set}
+use Rattle.run_laws.proofs.Spared.HeldEdges.{delay-held}
+use Rattle.run_laws.proofs.Spared.WordsApart.{WordsApart, wait_changed, delay-apart}
 use Rattle.run_laws.proofs.Spared.InTurn.{result_by, bind-after, bind-within}
-use Rattle.run_laws.proofs.Spared.SparedValues.{value-spared, values-spared}
+use Rattle.run_laws.proofs.Spared.SparedValues.{held, value-spared, values-spared}
 use Rattle.conflict_report.proofs.Deeds.{AddsEvent, CutsEqual, Plan, and_deed, plan_act, plan}
 
--- streams, set in what a delay and a plan leave of them
-abbrev pub wait_beside : List (ℕ × ℕ) → Waiting → Waiting
-wait_beside ws w = record w { taken = sets ws w.taken }
-
+-- streams, set in what a plan leaves of them
 abbrev pub plan_beside : List (ℕ × ℕ) → Plan → Plan
 plan_beside ws p = record p { taken = sets ws p.taken }
 
@@ -24,18 +23,21 @@ pub record EdgeSpared (us : List (ℕ × List ℤ)) (ws : List (ℕ × ℕ)) (e 
   pub reads : AllByRecursion (Spares us) (edge_reads e)
   pub streams : AllByRecursion (Spares ws) (edge_streams e)
 
+-- what sets other streams leaves one as it is
+sets-apart : (ws : List (ℕ × ℕ)) (k : ℕ) → Spares ws k → WordsApart (sets ws) k
+sets-apart ws k spared = record { taken_from_it = λ taken. sets-spared ws taken k 0 spared; set_after = λ taken x. sets-set ws taken k x spared }
+
 module _ (g : EventGraph) (us : List (ℕ × List ℤ)) (ws : List (ℕ × ℕ)) (seed : ℕ) (s : State) (clk : ℕ) where
-  delay-spared : (delay : Delay) → AllByRecursion (Spares us) (delay_reads delay) → AllByRecursion (Spares ws) (delay_streams delay) → (taken : List ℕ) → delay_of g seed (sets us s) clk delay (sets ws taken) ≡ result_by (wait_beside ws) (delay_of g seed s clk delay taken)
-  delay-spared (Fixed e) reads streams taken =
-      ap (λ (r : OrFault ℤ). r >>= λ wait. delay_ticks wait >>= λ n. let r : OrFault Waiting = Ok (record { ticks = n; taken = sets ws taken }) in r) (value-spared g clk us s e reads) ∙
-      bind-within (wait_beside ws) (value_of g s clk e) _ _ (λ wait a.
-      bind-within (wait_beside ws) (delay_ticks wait) _ _ (λ n b. refl))
+  delay-spared : (delay : Delay) → AllByRecursion (Spares us) (delay_reads delay) → AllByRecursion (Spares ws) (delay_streams delay) → (taken : List ℕ) → delay_of g seed (sets us s) clk delay (sets ws taken) ≡ result_by (wait_changed (sets ws)) (delay_of g seed s clk delay taken)
+  delay-spared delay reads streams taken =
+      sym (delay-held g seed s (sets us s) clk delay (held g clk us s (delay_reads delay) reads) (sets ws taken)) ∙
+      delay-apart g seed s clk (sets ws) delay (every-map (Spares ws) (WordsApart (sets ws)) (λ k spared. sets-apart ws k spared) (delay_streams delay) streams) taken
 
   act-spared : (e : EventEdge) (kind : EdgeKind) → AllByRecursion (Spares us) (timing_reads kind) → AllByRecursion (λ e. AllByRecursion (Spares us) (variables_in e)) e.values → AllByRecursion (Spares ws) (timing_streams kind) → (p : Plan) → plan_act g seed (sets us s) clk e kind (plan_beside ws p) ≡ result_by (plan_beside ws) (plan_act g seed s clk e kind p)
   act-spared e (Schedule delay priority) reads values streams p =
       let next : Waiting → OrFault Plan = λ wait. carried_values g (sets us s) clk e >>= λ values. Ok (and_deed p.deeds (AddsEvent (record { time = clk + wait.ticks; priority = priority; vertex = e.target; values = values })) wait.taken) in
       ap (λ (r : OrFault Waiting). r >>= next) (delay-spared delay reads streams p.taken) ∙
-      bind-after (wait_beside ws) (plan_beside ws) (delay_of g seed s clk delay p.taken) _ next (λ wait a.
+      bind-after (wait_changed (sets ws)) (plan_beside ws) (delay_of g seed s clk delay p.taken) _ next (λ wait a.
       ap (λ (q : OrFault (List ℤ)). q >>= λ values. let r : OrFault Plan = Ok (and_deed p.deeds (AddsEvent (record { time = clk + wait.ticks; priority = priority; vertex = e.target; values = values })) (sets ws wait.taken)) in r) (values-spared g clk us s e.values values) ∙
       bind-within (plan_beside ws) (carried_values g s clk e) _ _ (λ values b. refl))
   act-spared e Urgent reads values streams p =

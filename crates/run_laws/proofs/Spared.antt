@@ -3,6 +3,8 @@ pub mod SetPlaces
 pub mod InTurn
 pub mod NamedVariables
 pub mod HeldValues
+pub mod HeldEdges
+pub mod WordsApart
 pub mod SparedValues
 pub mod SparedChanges
 pub mod WrittenChanges

@@ -13,7 +13,8 @@ module _ (g : EventGraph) (clk : ℕ) (us : List (ℕ × List ℤ)) (s : State) 
   abbrev AllSpared : List ℕ → Type 0
   AllSpared vs = AllByRecursion (Spares us) vs
 
-  held : (vs : List ℕ) → AllSpared vs → AllByRecursion (Holds s (sets us s)) vs
+  -- what is spared holds what it held
+  pub held : (vs : List ℕ) → AllSpared vs → AllByRecursion (Holds s (sets us s)) vs
   held vs spared = every-map (Spares us) (Holds s (sets us s)) (λ v apart. sets-spared us s v [] apart) vs spared
 
   pub value-spared : (e : Expression) → AllSpared (variables_in e) → value_of g (sets us s) clk e ≡ value_of g s clk e

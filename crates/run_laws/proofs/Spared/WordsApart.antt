@@ -1,0 +1,47 @@
+-- An edge does the same, whatever words were taken from the streams from which it doesn't draw.
+use Rattle.std.proofs.Common.{◌≡◌, ℕ, ◌+◌, Bool, true, false, cond, List, slice_set, Ok, refl, ◌∙◌, ap}
+use Rattle.std.specs.List.{AllByRecursion}
+use Rattle.model_core.specs.EventGraph.{EventGraph, Expression, EventEdge, EdgeKind, Schedule, Urgent, CancelNext, CancelEqual, CancelAll}
+use Rattle.model_core.specs.Run.State.{State}
+use Rattle.model_core.specs.Run.Value.{OrFault, ◌>>=◌, value_of, is_one}
+use Rattle.model_core.specs.Run.Changes.{taken_from}
+use Rattle.model_core.specs.Run.Edges.{Planned, Waiting, delay_ticks, delay_of, carried_values, scheduled, act, treat}
+use Rattle.model_core.specs.Rules.Uses.{delay_streams, edge_streams}
+use Rattle.run_laws.proofs.Spared.InTurn.{result_by, bind-after, bind-within}
+
+-- a change of the words taken that leaves this stream as it is, before and after a word of it is taken
+pub record WordsApart (u : List ℕ → List ℕ) (stream : ℕ) : Type 0 where
+  pub taken_from_it : (taken : List ℕ) → taken_from (u taken) stream ≡ taken_from taken stream
+  pub set_after : (taken : List ℕ) (k : ℕ) → slice_set (u taken) stream k ≡ u (slice_set taken stream k)
+
+module _ (u : List ℕ → List ℕ) where
+  -- the words changed in what a delay and a plan leave of them
+  abbrev pub wait_changed : Waiting → Waiting
+  wait_changed w = record w { taken = u w.taken }
+
+  abbrev pub words_changed : Planned → Planned
+  words_changed p = record p { taken = u p.taken }
+
+module _ (g : EventGraph) (seed : ℕ) (s : State) (clk : ℕ) (u : List ℕ → List ℕ) where
+  -- a delay, which is that of an edge of some priority
+  pub delay-apart : (delay : Expression) (priority : ℕ) → AllByRecursion (WordsApart u) (delay_streams (Schedule delay priority)) → (taken : List ℕ) → delay_of g seed s clk delay (u taken) ≡ result_by (wait_changed u) (delay_of g seed s clk delay taken)
+  delay-apart delay priority streams taken =
+      bind-within (wait_changed u) (value_of g s clk delay) _ _ (λ wait a.
+      bind-within (wait_changed u) (delay_ticks wait) _ _ (λ n b. refl))
+
+  act-apart : (e : EventEdge) (kind : EdgeKind) → AllByRecursion (WordsApart u) (delay_streams kind) → (p : Planned) → act g seed s clk e kind (words_changed u p) ≡ result_by (words_changed u) (act g seed s clk e kind p)
+  act-apart e (Schedule delay priority) streams p =
+      let next : Waiting → OrFault Planned = λ wait. carried_values g s clk e >>= λ values. Ok (record { pending = scheduled (clk + wait.ticks) priority e.target p.pending values; taken = wait.taken }) in
+      ap (λ (r : OrFault Waiting). r >>= next) (delay-apart delay priority streams p.taken) ∙
+      bind-after (wait_changed u) (words_changed u) (delay_of g seed s clk delay p.taken) next next (λ wait a.
+      bind-within (words_changed u) (carried_values g s clk e) _ _ (λ values b. refl))
+  act-apart e Urgent streams p = bind-within (words_changed u) (carried_values g s clk e) _ _ (λ values b. refl)
+  act-apart e CancelNext streams p = refl
+  act-apart e CancelEqual streams p = bind-within (words_changed u) (carried_values g s clk e) _ _ (λ values b. refl)
+  act-apart e CancelAll streams p = refl
+
+  pub treat-apart : (e : EventEdge) → AllByRecursion (WordsApart u) (edge_streams e) → (p : Planned) → treat g seed s clk e (words_changed u p) ≡ result_by (words_changed u) (treat g seed s clk e p)
+  treat-apart e streams p = bind-within (words_changed u) (value_of g s clk e.condition) _ _ (λ c is. tested (is_one c)) where
+    tested : (b : Bool) → cond b (act g seed s clk e e.kind (words_changed u p)) (Ok (words_changed u p)) ≡ result_by (words_changed u) (cond b (act g seed s clk e e.kind p) (Ok p))
+    tested true = act-apart e e.kind streams p
+    tested false = refl
