@@ -18,6 +18,11 @@ pub inserted-append : (b : Entry) {xs ys : List Entry} → Inserted b xs ys → 
 inserted-append b (front xs) zs = front (xs ++ zs)
 inserted-append b (behind x i) zs = behind x (inserted-append b i zs)
 
+-- what holds of all in the second list holds of all in the first one
+pub every-inserted : (P : Entry → Type 0) (b : Entry) {xs ys : List Entry} → Inserted b xs ys → AllByRecursion P ys → AllByRecursion P xs
+every-inserted P b (front xs) (here, all) = all
+every-inserted P b (behind x i) (here, all) = (here, every-inserted P b i all)
+
 abbrev pub DueBefore : Entry → Entry → Type 0
 DueBefore b x = sooner b x ≡ true
 

@@ -1,7 +1,7 @@
 pub mod AnyOfParts
 pub mod FirstOfSeven
 pub mod AllButOne
-pub mod EdgesOnLists
+pub mod UndrawnEdges
 pub mod InsertedEntry
 pub mod EdgesAside
 pub mod UrgentEvents

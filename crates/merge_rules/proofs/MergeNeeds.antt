@@ -19,14 +19,15 @@ use Rattle.model_core.specs.Rules.MarkedPlaces.{is_among}
 use Rattle.model_core.specs.Rules.Uses.{edge_reads, vertex_writes}
 use Rattle.model_core.specs.Rules.UrgentEdges.{is_urgent}
 use Rattle.model_core.specs.Rules.Merge.{cancels, is_watched_vertex, reads_none_of, is_unwatched, happens_unseen, set_parameters, values_at_once, other_edges}
+use Rattle.sig_base.proofs.Lists.{every-always}
 use Rattle.model_core.proofs.BothTrue.{and_first, and_second}
 use Rattle.run_laws.proofs.InRange.{in_range-kept}
 use Rattle.model_core.proofs.Results.{bind_ok}
 use Rattle.run_laws.proofs.Keeping.{received}
 use Rattle.bound_laws.proofs.Soundness.NumberRows.{not_true}
 use Rattle.model_core.proofs.EachOne.{every-map, every-front, every-behind, every-both, every-passes, every-fails, either_false}
-use Rattle.merge_rules.proofs.EdgesOnLists.{list_treat, with_words, treat_lists}
-use Rattle.merge_rules.proofs.EdgesAside.{Aside, Calm, urgent_edge}
+use Rattle.merge_rules.proofs.UndrawnEdges.{Undrawn}
+use Rattle.merge_rules.proofs.EdgesAside.{Aside, Calm, edges-calm, urgent_edge}
 use Rattle.merge_rules.proofs.UrgentEvents.{PriorityOk}
 use Rattle.merge_rules.proofs.TwoInOne.{set_parameters-receives}
 use Rattle.merge_rules.proofs.Unwritten.{UnwrittenBy}
@@ -70,18 +71,8 @@ module _ (g : EventGraph) (keeps : KeepsParts g) (never : NeverBoth g) (quiet : 
       let (f, later, end) = changes_fine seed clk early cs keep calm e there in
       (f, ap (λ (r : OrFault Drawn). r >>= in_turn (make_change g seed clk) cs) first ∙ later, end)
 
-  edges_fine : (seed clk : ℕ) → clk ≤ 2 ^ 48 → (s : State) → Inside s → (es : List EventEdge) → AllByRecursion Keeps es → AllByRecursion (λ e. quiet_edge g e ≡ true) es → (p : Planned) → (q : Planned) × (in_turn (treat g seed s clk) es p ≡ Ok q)
-  edges_fine seed clk early s inside [] keep calm p = (p, refl)
-  edges_fine seed clk early s inside (e ∷ es) (here, keep) (now, calm) p =
-      let (q, first) = quiet.edge seed clk s e p here inside early now in
-      let (r, later) = edges_fine seed clk early s inside es keep calm q in
-      (r, ap (λ (r : OrFault Planned). r >>= in_turn (treat g seed s clk) es) first ∙ later)
-
-  calm_edge : (s : State) → Inside s → (clk : ℕ) → clk ≤ 2 ^ 48 → (e : EventEdge) → Keeps e → quiet_edge g e ≡ true → Calm g s clk e
-  calm_edge s inside clk early e keep calm = λ p.
-      let (q, is) = quiet.edge 0 clk s e (record { pending = p; taken = [] }) keep inside early calm in
-      let (r, at, rest) = bind_ok (list_treat g s clk e p) (with_words []) q (sym (treat_lists g 0 s clk e p []) ∙ is) in
-      (r, at)
+  all_calm : (seed : ℕ) (s : State) → Inside s → (clk : ℕ) → clk ≤ 2 ^ 48 → (es : List EventEdge) → AllByRecursion Keeps es → AllByRecursion (λ e. quiet_edge g e ≡ true) es → AllByRecursion (Calm g seed s clk) es
+  all_calm seed s inside clk early es keep quiet_ones = every-both Keeps (λ e. quiet_edge g e ≡ true) (Calm g seed s clk) (λ e keeps calm. λ p. quiet.edge seed clk s e p keeps inside early calm) es keep quiet_ones
 
   module _ (first second : ℕ) (h : Mergeable g first second) where
     abbrev a : EventVertex
@@ -107,8 +98,12 @@ module _ (g : EventGraph) (keeps : KeepsParts g) (never : NeverBoth g) (quiet : 
         (λ e (some, calm) apart. aside_of second e.target e.kind some calm apart) rest
         (every-both (λ (e : EventEdge). PriorityOk e.kind) (λ e. is_urgent e ≡ false) (λ (e : EventEdge). PriorityOk e.kind × (is_urgent e ≡ false)) (λ e some calm. (some, calm)) rest priorities h.edge.calm) apart
 
-    rest_calm : (s : State) → Inside s → (clk : ℕ) → clk ≤ 2 ^ 48 → AllByRecursion (Calm g s clk) rest
-    rest_calm s inside clk early = every-both Keeps _ (Calm g s clk) (λ e keep passes. calm_edge s inside clk early e keep (and_first (quiet_edge g e) _ passes)) rest (rest_keep g keeps first second h) rest_passes
+    rest_calm : (seed : ℕ) (s : State) → Inside s → (clk : ℕ) → clk ≤ 2 ^ 48 → AllByRecursion (Calm g seed s clk) rest
+    rest_calm seed s inside clk early = all_calm seed s inside clk early rest (rest_keep g keeps first second h) (every-map _ (λ e. quiet_edge g e ≡ true) (λ e passes. and_first (quiet_edge g e) _ passes) rest rest_passes)
+
+    -- no edge draws a delay
+    rest_undrawn : AllByRecursion Undrawn rest
+    rest_undrawn = every-always Undrawn (λ e. refl) rest
 
     rest_unread : AllByRecursion (λ e. AllByRecursion (UnwrittenBy b) (edge_reads e)) rest
     rest_unread = every-map _ (λ e. AllByRecursion (UnwrittenBy b) (edge_reads e)) (λ e passes. none_among (edge_reads e) (vertex_writes b) (every-fails (is_among (edge_reads e)) (vertex_writes b) (not_true _ (and_second (quiet_edge g e) _ passes)))) rest rest_passes
@@ -139,7 +134,8 @@ module _ (g : EventGraph) (keeps : KeepsParts g) (never : NeverBoth g) (quiet : 
         let (t, got) = receives seed clk due s inside n.entry.values are (and_second (list_all (is_unwatched (vertex_writes b)) g.watch) _ two) in
         let there = received g Inside (in_range-kept g) b.parameters n.entry.values s t inside got in
         let (d, made, end) = changes_fine seed clk due b.changes (changes_keep g keeps first second h) (every-passes (quiet_change g) b.changes (and_second (list_all (is_unwatched (vertex_writes b)) g.watch && list_all (quiet_change g) (set_parameters b.parameters h.edge.values)) _ three)) (record { state = t; taken = taken }) there in
-        let (p, treated) = edges_fine seed clk due d.state end b.edges (edges_keep g keeps second) (every-passes (quiet_edge g) b.edges (and_second (list_all (is_unwatched (vertex_writes b)) g.watch && list_all (quiet_change g) (set_parameters b.parameters h.edge.values) && list_all (quiet_change g) b.changes) _ unseen)) (record { pending = n.others; taken = d.taken }) in
+        let calm = all_calm seed d.state end clk due b.edges (edges_keep g keeps second) (every-passes (quiet_edge g) b.edges (and_second (list_all (is_unwatched (vertex_writes b)) g.watch && list_all (quiet_change g) (set_parameters b.parameters h.edge.values) && list_all (quiet_change g) b.changes) _ unseen)) in
+        let (p, treated) = edges-calm g seed d.state clk b.edges calm (record { pending = n.others; taken = d.taken }) in
         let fine : occur g seed b n s taken ≡ Ok (record { clock = clk; state = d.state; taken = p.taken; pending = p.pending }) = rw (got, made, treated) refl in
         let no : Ok (let c : Configuration = record { clock = clk; state = d.state; taken = p.taken; pending = p.pending } in c) ≡ Err k = sym fine ∙ faults in
         cc
@@ -162,7 +158,8 @@ module _ (g : EventGraph) (keeps : KeepsParts g) (never : NeverBoth g) (quiet : 
       none = values_none g keeps first second h;
       aside_before = every-front (λ (e : EventEdge). Aside second e.target e.kind) h.edge.before h.edge.after rest_aside;
       aside_after = every-behind (λ (e : EventEdge). Aside second e.target e.kind) h.edge.before h.edge.after rest_aside;
-      calm = λ s inside clk early. (every-front (Calm g s clk) h.edge.before h.edge.after (rest_calm s inside clk early), every-behind (Calm g s clk) h.edge.before h.edge.after (rest_calm s inside clk early));
+      calm = λ seed s inside clk early. (every-front (Calm g seed s clk) h.edge.before h.edge.after (rest_calm seed s inside clk early), every-behind (Calm g seed s clk) h.edge.before h.edge.after (rest_calm seed s inside clk early));
+      undrawn = rest_undrawn;
       unread = rest_unread;
       priorities = priorities_above_zero g keeps;
       exclusive = λ k s inside clk early. exclusive_vertices g keeps never h.single k s inside clk early;

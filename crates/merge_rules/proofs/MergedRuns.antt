@@ -12,7 +12,6 @@ use Rattle.model_core.specs.Run.History.{Moment, Noting, leave, leave_for, compl
 use Rattle.model_core.specs.Run.Same.{SameLooks}
 use Rattle.run_laws.proofs.Simulation.{rests, fails, goes, Joined, one, two_fail, two_go, two_for_one}
 use Rattle.run_laws.proofs.EdgesAlike.{with_vertices}
-use Rattle.merge_rules.proofs.EdgesOnLists.{occur_lists}
 use Rattle.merge_rules.proofs.TwoInOne.{Split, faults, goes_on}
 
 -- what of the two models makes two steps into one
@@ -53,7 +52,7 @@ module _ (g : EventGraph) (seed first second : ℕ) (rights : List Expression) (
 
   split-joined : (vertex t : ℕ) → (vertex == first) ≡ true → nat_lt until t ≡ false → (left : Noting) (x y : OrFault Configuration) → Split g seed second rights t x y → ((c : Configuration) → x ≡ Ok c → Inv c) → Joined f Level (stepped g vertex left (faulted_at t x)) (stepped h vertex left (faulted_at t y))
   split-joined vertex t is_first in_time left x y (faults k) inv = one (fails left.notes (Faulted t k))
-  split-joined vertex t is_first in_time left x y (goes_on c n clock are next to_second time r then) inv = second-step r (occur_lists g seed (vertex_at g second) n c.state c.taken ∙ then) where
+  split-joined vertex t is_first in_time left x y (goes_on c n clock are next to_second time r then) inv = second-step r then where
     m1 : Moment
     m1 = record { now = c; noted = left.noted }
 

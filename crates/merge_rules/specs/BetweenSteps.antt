@@ -11,13 +11,13 @@ abbrev pub urgent_count : List Entry → ℕ
 urgent_count [] = 0
 urgent_count (e ∷ es) = cond (e.priority == 0) (suc (urgent_count es)) (urgent_count es)
 
--- no entry is earlier than the clock, at most one has priority 0, and that one has the clock's time
+-- at most one entry has priority 0, and that one has the clock's time
 pub record AtMostOneUrgent (clock : ℕ) (pending : List Entry) : Type 0 where
-  pub late : AllByRecursion (λ (e : Entry). clock ≤ e.time) pending
   pub one : urgent_count pending ≤ 1
   pub now : AllByRecursion (λ (e : Entry). e.priority ≡ 0 → e.time ≡ clock) pending
 
--- the same of a configuration, whose state is in range besides
+-- so it is of a configuration, and besides, as in each run, no entry is earlier than the clock, and the state is in range
 pub record IsSettled (g : EventGraph) (c : Configuration) : Type 0 where
-  pub pending : AtMostOneUrgent c.clock c.pending
+  pub urgent : AtMostOneUrgent c.clock c.pending
+  pub late : AllByRecursion (λ (e : Entry). c.clock ≤ e.time) c.pending
   pub inside : IsTrue (in_range g c.state)
