@@ -148,16 +148,16 @@ one_urgent-stays t = record {
 
 module _ (g : EventGraph) (seed : ℕ) (s : State) (clk : ℕ) where
   -- an edge that isn't urgent schedules no urgent event
-  kind-calm : (e : EventEdge) (kind : EdgeKind) → PriorityOk kind → (kind ≡ Urgent → ⊥) → SchedulesOnly NotUrgent g seed s clk e kind
-  kind-calm e (Schedule delay priority) some calm = λ taken wait values at_delay at_values. some
-  kind-calm e Urgent some calm = absurd (calm refl)
-  kind-calm e CancelNext some calm = tt
-  kind-calm e CancelEqual some calm = tt
-  kind-calm e CancelAll some calm = tt
+  kind-not_urgent : (e : EventEdge) (kind : EdgeKind) → PriorityOk kind → (kind ≡ Urgent → ⊥) → SchedulesOnly NotUrgent g seed s clk e kind
+  kind-not_urgent e (Schedule delay priority) some calm = λ taken wait values at_delay at_values. some
+  kind-not_urgent e Urgent some calm = absurd (calm refl)
+  kind-not_urgent e CancelNext some calm = tt
+  kind-not_urgent e CancelEqual some calm = tt
+  kind-not_urgent e CancelAll some calm = tt
 
   -- nor does one that doesn't fire
-  edge-calm : (e : EventEdge) → PriorityOk e.kind → (Fires g s clk e → ⊥) → IsTaken g s clk e → SchedulesOnly NotUrgent g seed s clk e e.kind
-  edge-calm e some quiet taken = kind-calm e e.kind some (λ urgent. quiet (urgent, taken))
+  edge-not_urgent : (e : EventEdge) → PriorityOk e.kind → (Fires g s clk e → ⊥) → IsTaken g s clk e → SchedulesOnly NotUrgent g seed s clk e e.kind
+  edge-not_urgent e some quiet taken = kind-not_urgent e e.kind some (λ urgent. quiet (urgent, taken))
 
   urgent_kind : (kind : EdgeKind) → (kind ≡ Urgent) ⊎ (kind ≡ Urgent → ⊥)
   urgent_kind (Schedule delay priority) = inr (λ e. let no : ⊥ = cc in no)
@@ -169,7 +169,7 @@ module _ (g : EventGraph) (seed : ℕ) (s : State) (clk : ℕ) where
   -- where none fires
   rest-one_urgent : (es : List EventEdge) → AllByRecursion (λ (e : EventEdge). PriorityOk e.kind) es → AllByRecursion (λ e. Fires g s clk e → ⊥) es → (p q : Planned) → OneUrgent clk p.pending → in_turn (treat g seed s clk) es p ≡ Ok q → OneUrgent clk q.pending
   rest-one_urgent es some quiet p q urgent done =
-      edges-stay (OneUrgent clk) NotUrgent (one_urgent-stays clk) g seed s clk es p q (every-both (λ (e : EventEdge). PriorityOk e.kind) (λ e. Fires g s clk e → ⊥) _ edge-calm es some quiet) urgent done
+      edges-stay (OneUrgent clk) NotUrgent (one_urgent-stays clk) g seed s clk es p q (every-both (λ (e : EventEdge). PriorityOk e.kind) (λ e. Fires g s clk e → ⊥) _ edge-not_urgent es some quiet) urgent done
 
   acts-urgent : (e : EventEdge) (kind : EdgeKind) → kind ≡ Urgent → (p q : Planned) → AllByRecursion NotUrgent p.pending → act g seed s clk e kind p ≡ Ok q → OneUrgent clk q.pending
   acts-urgent e (Schedule delay priority) is p q all done = cc
@@ -195,7 +195,7 @@ module _ (g : EventGraph) (seed : ℕ) (s : State) (clk : ℕ) where
             let (c, is, then) = bind_ok (value_of g s clk e.condition) (λ c. cond (is_one c) (act g seed s clk e e.kind p) (Ok p)) p1 first in
             fires_or_not c is (is_one c) refl (urgent_kind e.kind) where
               goes_on : (Fires g s clk e → ⊥) → OneUrgent clk q.pending
-              goes_on quiet = rest (treat-stays (AllByRecursion NotUrgent) NotUrgent (every-stays NotUrgent) g seed s clk e p p1 (edge-calm e now quiet) all first) later
+              goes_on quiet = rest (treat-stays (AllByRecursion NotUrgent) NotUrgent (every-stays NotUrgent) g seed s clk e p p1 (edge-not_urgent e now quiet) all first) later
 
               fires_or_not : (c : ℤ) → value_of g s clk e.condition ≡ Ok c → (b : Bool) → is_one c ≡ b → (e.kind ≡ Urgent) ⊎ (e.kind ≡ Urgent → ⊥) → OneUrgent clk q.pending
               fires_or_not c is true one (inl urgent) =
