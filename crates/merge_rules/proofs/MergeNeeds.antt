@@ -26,6 +26,7 @@ use Rattle.model_core.proofs.Results.{bind_ok}
 use Rattle.run_laws.proofs.Keeping.{received}
 use Rattle.bound_laws.proofs.Soundness.NumberRows.{not_true}
 use Rattle.model_core.proofs.EachOne.{every-map, every-front, every-behind, every-both, every-passes, every-fails, either_false}
+use Rattle.run_laws.proofs.Spared.WordsApart.{edge-undrawn}
 use Rattle.merge_rules.proofs.UndrawnEdges.{Undrawn}
 use Rattle.merge_rules.proofs.EdgesAside.{Aside, Calm, edges-calm, urgent_edge}
 use Rattle.merge_rules.proofs.UrgentEvents.{PriorityOk}
@@ -103,7 +104,7 @@ module _ (g : EventGraph) (keeps : KeepsParts g) (never : NeverBoth g) (quiet : 
 
     -- no edge draws a delay
     rest_undrawn : AllByRecursion Undrawn rest
-    rest_undrawn = every-always Undrawn (λ e. refl) rest
+    rest_undrawn = every-always Undrawn edge-undrawn rest
 
     rest_unread : AllByRecursion (λ e. AllByRecursion (UnwrittenBy b) (edge_reads e)) rest
     rest_unread = every-map _ (λ e. AllByRecursion (UnwrittenBy b) (edge_reads e)) (λ e passes. none_among (edge_reads e) (vertex_writes b) (every-fails (is_among (edge_reads e)) (vertex_writes b) (not_true _ (and_second (quiet_edge g e) _ passes)))) rest rest_passes

@@ -1,12 +1,12 @@
 -- An edge does the same, whatever words were taken from the streams from which it doesn't draw.
-use Rattle.std.proofs.Common.{◌≡◌, ℕ, ◌+◌, Bool, true, false, cond, List, slice_set, Ok, refl, ◌∙◌, ap}
+use Rattle.std.proofs.Common.{◌≡◌, ℕ, ◌+◌, Bool, true, false, cond, List, [], slice_set, Ok, refl, ◌∙◌, ap}
 use Rattle.std.specs.List.{AllByRecursion}
-use Rattle.model_core.specs.EventGraph.{EventGraph, Expression, EventEdge, EdgeKind, Schedule, Urgent, CancelNext, CancelEqual, CancelAll}
+use Rattle.model_core.specs.EventGraph.{EventGraph, EventEdge, Delay, Fixed, EdgeKind, Schedule, Urgent, CancelNext, CancelEqual, CancelAll}
 use Rattle.model_core.specs.Run.State.{State}
 use Rattle.model_core.specs.Run.Value.{OrFault, ◌>>=◌, value_of, is_one}
 use Rattle.model_core.specs.Run.Changes.{taken_from}
 use Rattle.model_core.specs.Run.Edges.{Planned, Waiting, delay_ticks, delay_of, carried_values, scheduled, act, treat}
-use Rattle.model_core.specs.Rules.Uses.{delay_streams, edge_streams}
+use Rattle.model_core.specs.Rules.Uses.{delay_streams, timing_streams, edge_streams}
 use Rattle.run_laws.proofs.Spared.InTurn.{result_by, bind-after, bind-within}
 
 -- a change of the words taken that leaves this stream as it is, before and after a word of it is taken
@@ -23,16 +23,15 @@ module _ (u : List ℕ → List ℕ) where
   words_changed p = record p { taken = u p.taken }
 
 module _ (g : EventGraph) (seed : ℕ) (s : State) (clk : ℕ) (u : List ℕ → List ℕ) where
-  -- a delay, which is that of an edge of some priority
-  pub delay-apart : (delay : Expression) (priority : ℕ) → AllByRecursion (WordsApart u) (delay_streams (Schedule delay priority)) → (taken : List ℕ) → delay_of g seed s clk delay (u taken) ≡ result_by (wait_changed u) (delay_of g seed s clk delay taken)
-  delay-apart delay priority streams taken =
-      bind-within (wait_changed u) (value_of g s clk delay) _ _ (λ wait a.
+  pub delay-apart : (delay : Delay) → AllByRecursion (WordsApart u) (delay_streams delay) → (taken : List ℕ) → delay_of g seed s clk delay (u taken) ≡ result_by (wait_changed u) (delay_of g seed s clk delay taken)
+  delay-apart (Fixed e) streams taken =
+      bind-within (wait_changed u) (value_of g s clk e) _ _ (λ wait a.
       bind-within (wait_changed u) (delay_ticks wait) _ _ (λ n b. refl))
 
-  act-apart : (e : EventEdge) (kind : EdgeKind) → AllByRecursion (WordsApart u) (delay_streams kind) → (p : Planned) → act g seed s clk e kind (words_changed u p) ≡ result_by (words_changed u) (act g seed s clk e kind p)
+  act-apart : (e : EventEdge) (kind : EdgeKind) → AllByRecursion (WordsApart u) (timing_streams kind) → (p : Planned) → act g seed s clk e kind (words_changed u p) ≡ result_by (words_changed u) (act g seed s clk e kind p)
   act-apart e (Schedule delay priority) streams p =
       let next : Waiting → OrFault Planned = λ wait. carried_values g s clk e >>= λ values. Ok (record { pending = scheduled (clk + wait.ticks) priority e.target p.pending values; taken = wait.taken }) in
-      ap (λ (r : OrFault Waiting). r >>= next) (delay-apart delay priority streams p.taken) ∙
+      ap (λ (r : OrFault Waiting). r >>= next) (delay-apart delay streams p.taken) ∙
       bind-after (wait_changed u) (words_changed u) (delay_of g seed s clk delay p.taken) next next (λ wait a.
       bind-within (words_changed u) (carried_values g s clk e) _ _ (λ values b. refl))
   act-apart e Urgent streams p = bind-within (words_changed u) (carried_values g s clk e) _ _ (λ values b. refl)
@@ -45,3 +44,18 @@ module _ (g : EventGraph) (seed : ℕ) (s : State) (clk : ℕ) (u : List ℕ →
     tested : (b : Bool) → cond b (act g seed s clk e e.kind (words_changed u p)) (Ok (words_changed u p)) ≡ result_by (words_changed u) (cond b (act g seed s clk e e.kind p) (Ok p))
     tested true = act-apart e e.kind streams p
     tested false = refl
+
+-- ---- no edge draws
+
+delay-undrawn : (d : Delay) → delay_streams d ≡ []
+delay-undrawn (Fixed e) = refl
+
+timing-undrawn : (kind : EdgeKind) → timing_streams kind ≡ []
+timing-undrawn (Schedule delay priority) = delay-undrawn delay
+timing-undrawn Urgent = refl
+timing-undrawn CancelNext = refl
+timing-undrawn CancelEqual = refl
+timing-undrawn CancelAll = refl
+
+pub edge-undrawn : (e : EventEdge) → edge_streams e ≡ []
+edge-undrawn e = timing-undrawn e.kind
