@@ -1,29 +1,24 @@
 -- The graph of the marked vertices keeps the static rules, can be written, and has no longer text, where the marks hold what
 -- is reached.
-use Rattle.std.proofs.Common.{◌≡◌, inl, inr, ℕ, zero, suc, ◌+◌, ◌<◌, ◌≤◌, Bool, true, false, List, [], ◌∷◌, ◌++◌, map, length, slice_get, slice_index_or, Option, refl, sym, ap, ap₂, subst, arith, ◌∙◌, le_trans}
+use Rattle.std.proofs.Common.{◌≡◌, inl, inr, ℕ, zero, suc, ◌<◌, Bool, true, false, List, [], ◌∷◌, ◌++◌, map, length, slice_get, slice_index_or, Option, refl, sym, ap, ap₂, subst, arith, ◌∙◌, le_trans}
 use Rattle.std.specs.Prelude.{codes}
-use Rattle.std.specs.List.{AllByRecursion, flat_map, IsDistinct}
+use Rattle.std.specs.List.{AllByRecursion, flat_map}
 use Rattle.std.specs.Option.{option_map_or}
-use Rattle.std.proofs.lemmas.List.{length-map}
 use Rattle.std.proofs.lemmas.Simd.{map-map}
-use Rattle.sig_base.specs.declared.limits.TheConstants.{EDGES_MAX}
-use Rattle.model_core.specs.EventGraph.{EventGraph, EventVertex, EventEdge, Variable, WeightTable, Watched, WatchedVariable, WatchedVertex}
+use Rattle.model_core.specs.EventGraph.{EventGraph, EventVertex, EventEdge, Watched, WatchedVariable, WatchedVertex}
 use Rattle.model_core.specs.Run.Step.{no_vertex, vertex_at}
-use Rattle.model_core.specs.Text.Lexing.{same_bytes}
 use Rattle.model_core.specs.Text.Canonical.{vertex_name, vertex_lines, variable_name, change_line, edge_line, edge_word, expression_texts, timing_text, condition_text, in_parentheses, variable_line, table_line, watched_name, watch_names_line, watch_line, canonical}
 use Rattle.model_core.specs.Text.Spellable.{HasOne, Extent, extent, SpellableEdge, SpellableVertex, SpellableWatched, IsSpellable}
-use Rattle.model_core.specs.Static.OwnRules.{KeepsChange, KeepsEdge, KeepsVertex, IsWatchable, parameters_of, KeepsParts, KeepsStaticRules}
+use Rattle.model_core.specs.Static.OwnRules.{parameters_of, KeepsStaticRules}
 use Rattle.model_core.specs.Rules.MarkedPlaces.{rank, marked_of}
 use Rattle.model_core.specs.Rules.Drop.{edge_renumbered, vertex_renumbered, watched_renumbered, only_marked}
 use Rattle.mark_laws.proofs.Marks.{Marked, rank-apart}
-use Rattle.round_trip.proofs.MadeAgain.{VertexFrom, EdgeFrom, ChangeFrom, made-spellable, same_change, same_edge}
-use Rattle.model_core.proofs.Among.{Among, contained-among, of-among, each-among, all-map, all-contained}
+use Rattle.round_trip.proofs.FewerVertices.{Stay, kept-spellable, kept-parts}
+use Rattle.model_core.proofs.Among.{Among, of-among, each-among}
 use Rattle.model_core.proofs.Images.{shown-map, flat_map-map}
-use Rattle.model_core.proofs.WatchedApart.{WatchedItem, watch_apart}
 use Rattle.mark_laws.proofs.MarksBelow.{marked-among}
-use Rattle.model_core.proofs.SomeOfAList.{some-marked_of, some-behind, some-distinct, some-few}
+use Rattle.model_core.proofs.SomeOfAList.{some-marked_of}
 use Rattle.edge_pruning.proofs.DropMarks.{marked_of-map}
-use Rattle.model_core.proofs.OtherTakes.{change_still, carries_still, timing_still}
 use Rattle.model_core.proofs.NoLongerTexts.{NoLonger, no_longer-behind, no_longer-before, no_longer-same, no_longer-both}
 use Rattle.edge_pruning.proofs.ReachedMarks.{watched-begins, HoldReached}
 use Rattle.edge_pruning.proofs.DropSame.{NamesVertices}
@@ -60,22 +55,11 @@ flat_map-alike : {A C : Type 0} (f h : A → List C) (xs : List A) → ((x : A) 
 flat_map-alike f h [] same = refl
 flat_map-alike f h (x ∷ xs) same = ap₂ (λ y ys. y ++ ys) (same x (inl refl)) (flat_map-alike f h xs (λ y there. same y (inr there)))
 
-among-of_marked : {A : Type 0} (marks : List Bool) (xs : List A) (x : A) → Among x (marked_of marks xs) → Among x xs
-among-of_marked [] xs x h = absurd h
-among-of_marked (b ∷ bs) [] x h = absurd h
-among-of_marked (true ∷ bs) (y ∷ xs) x (inl e) = inl e
-among-of_marked (true ∷ bs) (y ∷ xs) x (inr h) = inr (among-of_marked bs xs x h)
-among-of_marked (false ∷ bs) (y ∷ xs) x h = inr (among-of_marked bs xs x h)
-
 some-marked : {A : Type 0} (marks : List Bool) (xs : List A) → Marked marks 0 → 0 < length xs → HasOne (marked_of marks xs)
 some-marked [] xs marked some = cc
 some-marked (b ∷ bs) [] marked some = absurd (omega arith)
 some-marked (true ∷ bs) (x ∷ xs) marked some = tt
 some-marked (false ∷ bs) (x ∷ xs) marked some = cc
-
-has_one-map : {A B : Type 0} (f : A → B) (xs : List A) → HasOne xs → HasOne (map f xs)
-has_one-map f [] one = absurd one
-has_one-map f (x ∷ xs) one = tt
 
 -- ---- the graph of the marked vertices
 
@@ -89,20 +73,15 @@ module _ (g : EventGraph) (marks : List Bool) (hold : HoldReached g marks) (name
   abbrev kept : List EventVertex
   kept = marked_of marks g.vertices
 
-  -- where the edges of a marked vertex lead
-  record LiveTarget (e : EventEdge) : Type 0 where
-    marked : Marked marks e.target
-    within : e.target < length g.vertices
-
-  live_edge : (v : EventVertex) → Among v kept → (e : EventEdge) → Among e v.edges → LiveTarget e
-  live_edge v there e among =
+  -- the edges of a marked vertex lead to marked vertices, and those that are watched are marked
+  edge_marked : (v : EventVertex) → Among v kept → (e : EventEdge) → Among e v.edges → Marked marks e.target
+  edge_marked v there e among =
       let (k, marked, same) = marked-among marks g.vertices v no_vertex there in
       let among_there : Among e (vertex_at g k).edges = subst (λ (v : EventVertex). Among e v.edges) (sym same) among in
-      let below = of-among (λ (e : EventEdge). e.target < length g.vertices) (vertex_at g k).edges e (names.edges k) among_there in
-      record { marked = hold.leads k marked e among_there below; within = below }
+      hold.leads k marked e among_there (of-among (λ (e : EventEdge). e.target < length g.vertices) (vertex_at g k).edges e (names.edges k) among_there)
 
-  within_h : (k : ℕ) → Marked marks k → k < length g.vertices → f k < length h.vertices
-  within_h k marked below = subst (λ n. f k < n) (sym (length-map kept (vertex_renumbered f))) (rank-within marks g.vertices k marked below)
+  watched_marked : (v : ℕ) → Among (WatchedVertex v) g.watch → Marked marks v
+  watched_marked v there = hold.begins v (watched-begins g v there) (names.watch v there)
 
   name_same : (k : ℕ) → Marked marks k → vertex_name h (f k) ≡ vertex_name g k
   name_same k marked =
@@ -112,36 +91,19 @@ module _ (g : EventGraph) (marks : List Bool) (hold : HoldReached g marks) (name
 
   -- ---- it can be written
 
-  watched_spellable : IsSpellable g → AllByRecursion (SpellableWatched (extent h)) h.watch
-  watched_spellable s = all-map (SpellableWatched (extent h)) (watched_renumbered f) g.watch one where
-    one : (w : Watched) → Among w g.watch → SpellableWatched (extent h) (watched_renumbered f w)
-    one (WatchedVariable v) there = of-among (SpellableWatched (extent g)) g.watch (WatchedVariable v) s.watch there
-    one (WatchedVertex v) there = let below = names.watch v there in within_h v (hold.begins v (watched-begins g v there) below) below
-
-  vertex_made : IsSpellable g → (v : EventVertex) → Among v kept → VertexFrom g (extent h) (vertex_renumbered f v)
-  vertex_made s v there =
-      let is_old = contained-among g.vertices v (among-of_marked marks g.vertices v there) in
-      let old = of-among (SpellableVertex (extent g)) g.vertices v s.vertices (among-of_marked marks g.vertices v there) in
-      record {
-        old = v;
-        is_old = is_old;
-        name = refl;
-        parameters = old.parameters;
-        changes = each-among (ChangeFrom g (extent h)) v.changes (λ c among. same_change g s v is_old (extent h) refl refl c (contained-among v.changes c among));
-        edges = all-map (EdgeFrom g (extent h)) (edge_renumbered f) v.edges (λ e among.
-            let live = live_edge v there e among in
-            same_edge g s v is_old (extent h) refl e (contained-among v.edges e among) (f e.target) (within_h e.target live.marked live.within));
-      }
+  stay : Stay g kept f (Marked marks) (Marked marks)
+  stay = record {
+    some = some-marked_of marks g.vertices;
+    has_one = some-marked marks g.vertices first names.some;
+    edges = edge_marked;
+    watched = λ v there. (watched_marked v there, watched_marked v there);
+    within = λ v marked below. rank-within marks g.vertices v marked below;
+    takes = λ v ps marked is. ap (λ (all : List (List ℕ)). slice_get all (f v)) (sym (marked_of-map (λ (v : EventVertex). v.parameters) marks g.vertices)) ∙ (get-marked marks (parameters_of g) v marked ∙ is);
+    apart = rank-apart marks;
+  }
 
   pub dropped_spellable : IsSpellable g → IsSpellable h
-  dropped_spellable s = made-spellable g h s (record {
-    name = refl;
-    variables = all-contained g.variables;
-    tables = all-contained g.tables;
-    watch = watched_spellable s;
-    has_vertex = has_one-map (vertex_renumbered f) kept (some-marked marks g.vertices first names.some);
-    vertices = all-map (VertexFrom g (extent h)) (vertex_renumbered f) kept (vertex_made s);
-  })
+  dropped_spellable s = kept-spellable g kept f (Marked marks) (Marked marks) stay s
 
   -- ---- its text is no longer
 
@@ -151,11 +113,11 @@ module _ (g : EventGraph) (marks : List Bool) (hold : HoldReached g marks) (name
   lines_same : (v : EventVertex) → Among v kept → vertex_lines h (vertex_renumbered f v) ≡ vertex_lines g v
   lines_same v there =
       ap (λ (lines : List ℕ). codes "vertex " ++ v.name ++ in_parentheses (map (variable_name g) v.parameters) ++ codes " {\n" ++ flat_map (change_line g) v.changes ++ lines ++ codes "}\n")
-      (flat_map-map (edge_renumbered f) (edge_line h) v.edges ∙ flat_map-alike (λ e. edge_line h (edge_renumbered f e)) (edge_line g) v.edges (λ e among. edge_same e (live_edge v there e among).marked))
+      (flat_map-map (edge_renumbered f) (edge_line h) v.edges ∙ flat_map-alike (λ e. edge_line h (edge_renumbered f e)) (edge_line g) v.edges (λ e among. edge_same e (edge_marked v there e among)))
 
   watched_same : (w : Watched) → Among w g.watch → watched_name h (watched_renumbered f w) ≡ watched_name g w
   watched_same (WatchedVariable v) there = refl
-  watched_same (WatchedVertex v) there = name_same v (hold.begins v (watched-begins g v there) (names.watch v there))
+  watched_same (WatchedVertex v) there = name_same v (watched_marked v there)
 
   watch_same : watch_line h ≡ watch_line g
   watch_same = ap watch_names_line (map-map (watched_name h) (watched_renumbered f) g.watch ∙ map-alike (λ w. watched_name h (watched_renumbered f w)) (watched_name g) g.watch watched_same)
@@ -173,68 +135,8 @@ module _ (g : EventGraph) (marks : List Bool) (hold : HoldReached g marks) (name
 
   -- ---- it keeps the rules
 
-  parameters_same : parameters_of h ≡ marked_of marks (parameters_of g)
-  parameters_same = map-map (λ (v : EventVertex). v.parameters) (vertex_renumbered f) kept ∙ sym (marked_of-map (λ (v : EventVertex). v.parameters) marks g.vertices)
-
-  takes_same : (k : ℕ) → Marked marks k → slice_get (parameters_of h) (f k) ≡ slice_get (parameters_of g) k
-  takes_same k marked = ap (λ (ps : List (List ℕ)). slice_get ps (f k)) parameters_same ∙ get-marked marks (parameters_of g) k marked
-
-  keeps_edge : (e : EventEdge) → Marked marks e.target → KeepsEdge g.variables (length g.tables) (parameters_of g) e → KeepsEdge g.variables (length g.tables) (parameters_of h) (edge_renumbered f e)
-  keeps_edge e marked k = record { parameters = k.parameters; target = takes_same e.target marked ∙ k.target; carries = carries_still g.variables (length g.tables) (parameters_of g) (parameters_of h) e.kind k.parameters e.values k.carries; timing = timing_still g.variables (length g.tables) (parameters_of g) (parameters_of h) e.kind k.timing; condition = k.condition }
-
-  keeps_vertex : (v : EventVertex) → Among v kept → KeepsVertex g.variables (length g.tables) (parameters_of g) v → KeepsVertex g.variables (length g.tables) (parameters_of h) (vertex_renumbered f v)
-  keeps_vertex v there k = record {
-    name = k.name;
-    parameters = k.parameters;
-    each_once = k.each_once;
-    few_parameters = k.few_parameters;
-    changes = each-among (KeepsChange g.variables (length g.tables) (parameters_of h)) v.changes (λ c among.
-        change_still g.variables (length g.tables) (parameters_of g) (parameters_of h) c (of-among (KeepsChange g.variables (length g.tables) (parameters_of g)) v.changes c k.changes among));
-    few_changes = k.few_changes;
-    edges = all-map (KeepsEdge g.variables (length g.tables) (parameters_of h)) (edge_renumbered f) v.edges (λ e among.
-        keeps_edge e (live_edge v there e among).marked (of-among (KeepsEdge g.variables (length g.tables) (parameters_of g)) v.edges e k.edges among));
-    few_edges = subst (λ n. n ≤ EDGES_MAX) (sym (length-map v.edges (edge_renumbered f))) k.few_edges;
-  }
-
-  watch_keeps : KeepsParts g → AllByRecursion (IsWatchable (length g.variables) (length h.vertices)) h.watch
-  watch_keeps k = all-map (IsWatchable (length g.variables) (length h.vertices)) (watched_renumbered f) g.watch one where
-    one : (w : Watched) → Among w g.watch → IsWatchable (length g.variables) (length h.vertices) (watched_renumbered f w)
-    one (WatchedVariable v) there = of-among (IsWatchable (length g.variables) (length g.vertices)) g.watch (WatchedVariable v) k.watch there
-    one (WatchedVertex v) there = let below = names.watch v there in within_h v (hold.begins v (watched-begins g v there) below) below
-
-  items_live : KeepsParts g → AllByRecursion (WatchedItem (length g.variables) (Marked marks)) g.watch
-  items_live k = each-among (WatchedItem (length g.variables) (Marked marks)) g.watch one where
-    one : (w : Watched) → Among w g.watch → WatchedItem (length g.variables) (Marked marks) w
-    one (WatchedVariable v) there = of-among (IsWatchable (length g.variables) (length g.vertices)) g.watch (WatchedVariable v) k.watch there
-    one (WatchedVertex v) there = hold.begins v (watched-begins g v there) (names.watch v there)
-
-  names_kept : map (λ (v : EventVertex). v.name) h.vertices ≡ marked_of marks (map (λ (v : EventVertex). v.name) g.vertices)
-  names_kept = map-map (λ (v : EventVertex). v.name) (vertex_renumbered f) kept ∙ sym (marked_of-map (λ (v : EventVertex). v.name) marks g.vertices)
-
-  names_distinct : KeepsParts g → IsDistinct same_bytes (map (λ (v : Variable). v.name) g.variables ++ map (λ (t : WeightTable). t.name) g.tables ++ map (λ (v : EventVertex). v.name) h.vertices)
-  names_distinct k =
-      let front = map (λ (v : Variable). v.name) g.variables ++ map (λ (t : WeightTable). t.name) g.tables in
-      let last : List (List ℕ) = map (λ (v : EventVertex). v.name) g.vertices in
-      subst (λ (ns : List (List ℕ)). IsDistinct same_bytes (map (λ (v : Variable). v.name) g.variables ++ map (λ (t : WeightTable). t.name) g.tables ++ ns)) (sym names_kept)
-      (some-distinct same_bytes (some-behind front (some-marked_of marks last)) k.declared_once)
-
-  dropped_parts : KeepsParts g → KeepsParts h
-  dropped_parts k = record {
-    name = k.name;
-    declared_once = names_distinct k;
-    variables = k.variables;
-    few_variables = k.few_variables;
-    tables = k.tables;
-    few_tables = k.few_tables;
-    watch = watch_keeps k;
-    watched_once = watch_apart (length g.variables) (rank marks) (Marked marks) (rank-apart marks) g.watch (items_live k) k.watched_once;
-    vertices = all-map (KeepsVertex g.variables (length g.tables) (parameters_of h)) (vertex_renumbered f) kept (λ v there.
-        keeps_vertex v there (of-among (KeepsVertex g.variables (length g.tables) (parameters_of g)) g.vertices v k.vertices (among-of_marked marks g.vertices v there)));
-    few_vertices = le_trans (subst (λ n. n ≤ length g.vertices) (sym (length-map kept (vertex_renumbered f))) (some-few (some-marked_of marks g.vertices))) k.few_vertices;
-  }
-
   pub dropped_rules : KeepsStaticRules g → KeepsStaticRules h
-  dropped_rules k = record { parts = dropped_parts k.parts; short = le_trans canonical_shorter.at_most k.short }
+  dropped_rules k = record { parts = kept-parts g kept f (Marked marks) (Marked marks) stay k.parts; short = le_trans canonical_shorter.at_most k.short }
 
 -- ---- a valid model names vertices
 
