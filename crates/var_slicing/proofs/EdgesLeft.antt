@@ -3,14 +3,15 @@ use Rattle.std.proofs.Common.{◌≡◌, ℕ, ◌+◌, ℤ, ◌==◌, Bool, true
 use Rattle.std.proofs.lemmas.List.{map-append}
 use Rattle.std.specs.List.{AllByRecursion}
 use Rattle.sig_base.proofs.Lists.{every-always}
-use Rattle.model_core.specs.EventGraph.{EventGraph, Expression, EventEdge, EdgeKind, Schedule, Urgent, CancelNext, CancelEqual, CancelAll}
+use Rattle.model_core.specs.EventGraph.{EventGraph, EventEdge, Delay, Fixed, EdgeKind, Schedule, Urgent, CancelNext, CancelEqual, CancelAll}
 use Rattle.model_core.specs.Run.State.{State}
 use Rattle.model_core.specs.Run.Value.{OrFault, ◌>>=◌, in_turn, value_of, is_one}
 use Rattle.model_core.specs.Run.Pending.{Entry, is_of, is_with, same_values, without_next}
 use Rattle.model_core.specs.Run.Edges.{Planned, Waiting, delay_ticks, delay_of, scheduled, act, treat}
 use Rattle.model_core.specs.Run.Step.{vertex_at}
 use Rattle.model_core.specs.Rules.MarkedPlaces.{rank}
-use Rattle.model_core.specs.Rules.Slice.{expression_renumbered, kept_beside, kind_left, edge_left, of_marked_variables}
+use Rattle.model_core.specs.Rules.Uses.{delay_reads}
+use Rattle.model_core.specs.Rules.Slice.{delay_renumbered, kept_beside, kind_left, edge_left, of_marked_variables}
 use Rattle.model_core.proofs.Alongside.{Alongside, both_go, bind-alongside, bind-alongside-same, in_turn-alongside}
 use Rattle.run_laws.proofs.MappedPending.{KeepsDue, without_next-mapped, without_all-mapped, without_next-every, without_all-every}
 use Rattle.run_laws.proofs.LockStep.{entry_mapped}
@@ -48,8 +49,12 @@ with-left g marks target xs all e = one (e.vertex == target) refl where
 abbrev pub CarriedFit : EventGraph → List Bool → State → ℕ → EventEdge → Type 0
 CarriedFit g marks s clk e = ValuesFit g marks s clk (vertex_at g e.target).parameters e.values
 
+-- a delay reads marked variables alone
+abbrev pub DelayReadsMarked : List Bool → Delay → Type 0
+DelayReadsMarked marks delay = AllByRecursion (Marked marks) (delay_reads delay)
+
 abbrev pub KindFits : EventGraph → List Bool → State → ℕ → EventEdge → EdgeKind → Type 0
-KindFits g marks s clk e (Schedule delay priority) = ReadsMarked marks delay × CarriedFit g marks s clk e
+KindFits g marks s clk e (Schedule delay priority) = DelayReadsMarked marks delay × CarriedFit g marks s clk e
 KindFits g marks s clk e Urgent = CarriedFit g marks s clk e
 KindFits g marks s clk e CancelNext = Unit {0}
 KindFits g marks s clk e CancelEqual = AllByRecursion (Marked marks) (vertex_at g e.target).parameters × CarriedFit g marks s clk e
@@ -84,10 +89,10 @@ module _ (g : EventGraph) (marks live : List Bool) (seed : ℕ) (s t : State) (l
   abbrev Waits : Waiting → Waiting → Type 0
   Waits a b = (a.ticks ≡ b.ticks) × (words_left live a.taken ≡ b.taken)
 
-  delay-left : (delay : Expression) → ReadsMarked marks delay → (taken : List ℕ) → Alongside Waits (delay_of g seed s clk delay taken) (delay_of h seed t clk (expression_renumbered (rank marks) delay) (words_left live taken))
-  delay-left delay reads taken =
-      subst (λ (r : OrFault ℤ). Alongside Waits (delay_of g seed s clk delay taken) (r >>= λ wait. delay_ticks wait >>= λ n. Ok (record { ticks = n; taken = words_left live taken }))) (sym (value-left g marks s t left clk delay reads))
-      (bind-alongside-same Waits (value_of g s clk delay) _ _ (λ wait a.
+  delay-left : (delay : Delay) → DelayReadsMarked marks delay → (taken : List ℕ) → Alongside Waits (delay_of g seed s clk delay taken) (delay_of h seed t clk (delay_renumbered (rank marks) delay) (words_left live taken))
+  delay-left (Fixed e) reads taken =
+      subst (λ (r : OrFault ℤ). Alongside Waits (delay_of g seed s clk (Fixed e) taken) (r >>= λ wait. delay_ticks wait >>= λ n. Ok (record { ticks = n; taken = words_left live taken }))) (sym (value-left g marks s t left clk e reads))
+      (bind-alongside-same Waits (value_of g s clk e) _ _ (λ wait a.
       bind-alongside-same Waits (delay_ticks wait) _ _ (λ n b. both_go (refl, refl))))
 
   act-left : (e : EventEdge) (kind : EdgeKind) → KindFits g marks s clk e kind → (p : Planned) → AllByRecursion (EntryFits g marks) p.pending → Alongside Plans (act g seed s clk e kind p) (act h seed t clk (edge_left g marks e) (kind_left marks kind) (planned_left g marks live p))

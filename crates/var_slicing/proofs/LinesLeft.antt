@@ -1,18 +1,18 @@
 -- Changes and edges that are left where variables go: they keep the static rules, a text can write them, and their lines are
 -- no longer.
 use Rattle.std.proofs.Common.{◌≡◌, le_trans, ℕ, zero, suc, ◌<◌, ◌≤◌, Bool, true, false, cond, List, [], ◌∷◌, ◌++◌, map, length, slice_get, Some, Contains, refl, sym, ap, ap₂, subst, arith, ◌∙◌, length-append}
-use Rattle.std.specs.Prelude.{codes, decimal}
+use Rattle.std.specs.Prelude.{codes}
 use Rattle.std.specs.Option.{option_map_or}
 use Rattle.std.specs.List.{AllByRecursion, AllZip, flat_map}
 use Rattle.std.proofs.lemmas.List.{length-map}
 use Rattle.model_core.specs.declared.model.Kind.{Kind}
 use Rattle.model_core.specs.declared.model.Kind.TheVariants as kinds
-use Rattle.model_core.specs.EventGraph.{EventGraph, EventVertex, EventEdge, EdgeKind, Schedule, Urgent, CancelNext, CancelEqual, CancelAll, StateChange, Set, Draw, Choice, Uniform, ByTable, Location, Expression}
+use Rattle.model_core.specs.EventGraph.{EventGraph, EventVertex, EventEdge, EdgeKind, Schedule, Urgent, CancelNext, CancelEqual, CancelAll, StateChange, Set, Draw, Location, Expression}
 use Rattle.model_core.specs.Run.Step.{vertex_at}
-use Rattle.model_core.specs.Text.Canonical.{vertex_name, expression_texts, choice_text, change_line, priority_text, timing_text, edge_word, edge_line}
-use Rattle.model_core.specs.Text.Spellable.{HasOne, extent, SpellableChoice, SpellableKind, CarriesAsWritten, SpellableEdge, SpellableParts, kind_openings, edge_openings}
+use Rattle.model_core.specs.Text.Canonical.{vertex_name, expression_texts, change_line, priority_text, timing_text, edge_word, edge_line}
+use Rattle.model_core.specs.Text.Spellable.{HasOne, extent, SpellableKind, CarriesAsWritten, SpellableEdge, SpellableParts, kind_openings, edge_openings}
 use Rattle.model_core.specs.Static.HasKind.{IsVariable, HasKind}
-use Rattle.model_core.specs.Static.OwnRules.{TakesKind, TakeCarried, KeepsChoice, KeepsChange, CarriesValues, KeepsTiming, KeepsEdge, parameters_of}
+use Rattle.model_core.specs.Static.OwnRules.{TakesKind, TakeCarried, KeepsChange, CarriesValues, KeepsTiming, KeepsEdge, parameters_of}
 use Rattle.model_core.specs.Rules.MarkedPlaces.{rank, is_marked}
 use Rattle.model_core.specs.Rules.Slice.{expression_renumbered, location_renumbered, kept_beside, values_left, parameters_left, targets_left, set_or_nothing, change_left, kind_left, edge_left, vertex_left, of_marked_variables}
 use Rattle.mark_laws.proofs.Marks.{Marked}
@@ -22,10 +22,10 @@ use Rattle.var_slicing.proofs.ValuesLeft.{all-kept_beside}
 use Rattle.var_slicing.proofs.NeedsClosed.{ChangeNeeds, CarriedNeed, KindNeeds, EdgeNeeds}
 use Rattle.var_slicing.proofs.QuietStores.{takes-parameters}
 use Rattle.model_core.proofs.SomeOfAList.{some-kept_beside, some-few, some-texts, some-in_parentheses}
-use Rattle.var_slicing.proofs.RenumberedTexts.{openings-renumbered, delay_text-renumbered, condition_text-renumbered}
+use Rattle.var_slicing.proofs.RenumberedTexts.{openings-renumbered, delay_openings-renumbered, delay_text-renumbered, condition_text-renumbered}
 use Rattle.var_slicing.proofs.KeptBeside.{variables_of, targets-kept, TargetMarked, TargetsRead, ValuesRead, targets-marked, parameters-kept, parameters-marked, zip-kept, zip-mapped, set-reads, carried-reads}
 use Rattle.model_core.proofs.NoLongerTexts.{NoLonger, no_longer-behind, no_longer-before, no_longer-both, no_longer-same}
-use Rattle.var_slicing.proofs.PartsLeft.{all-declared, variable-of_left, kind-of_left, spellable-left, takes-left, location_text-left, location-spellable, location_openings-left, target-texts, targets-spellable, target-openings, value-texts, values-spellable, value-openings, values_openings-left, values-given}
+use Rattle.var_slicing.proofs.PartsLeft.{all-declared, variable-of_left, kind-of_left, spellable-left, delay-keeps, delay-spellable, source-keeps, source-spellable, source_text-left, takes-left, location_text-left, location-spellable, location_openings-left, target-texts, targets-spellable, target-openings, value-texts, values-spellable, value-openings, values_openings-left, values-given}
 
 -- a `set` is left, or none where nothing of it stays
 set-cases : (P : List StateChange → Type 0) (R : Location → Kind → Type 0) (S : Expression → Kind → Type 0) (ls : List Location) (es : List Expression) (ks : List Kind) → AllZip R ls ks → AllZip S es ks → P [] → (HasOne ls → HasOne es → P (Set ls es ∷ [])) → P (set_or_nothing ls es)
@@ -113,10 +113,6 @@ module _ (g : EventGraph) (marks live : List Bool) where
         given = values-given g marks (variables_of targets) rights ks reads.1 keep.1.given;
       }
 
-  choice-keeps : (choice : Choice) → KeepsChoice g.variables tables (parameters_of g) choice → KeepsChoice h.variables tables (parameters_of h) choice
-  choice-keeps (Uniform lo hi) k = k
-  choice-keeps (ByTable t) k = k
-
   pub change-keeps : (c : StateChange) → Keeps c → ChangeNeeds g marks live c → AllByRecursion KeepsLeft (change_left marks c)
   change-keeps (Set targets rights) keep needs =
       let read = set_read targets rights keep needs in
@@ -124,7 +120,7 @@ module _ (g : EventGraph) (marks live : List Bool) where
       (λ one too. ((le_trans (targets-few targets) keep.0, record { kinds = read.kinds_left; taken = read.taken; given = read.given }), tt))
   change-keeps (Draw target stream choice) keep needs = tested (is_marked marks target.variable) refl where
     tested : (b : Bool) → is_marked marks target.variable ≡ b → AllByRecursion KeepsLeft (cond b (Draw (location_renumbered f target) stream choice ∷ []) [])
-    tested true marked = ((takes-left g marks tables (parameters_of g) (parameters_of h) target kinds.Range (marked, (needs.0 marked).0) keep.0, keep.1, choice-keeps choice keep.2), tt)
+    tested true marked = ((takes-left g marks tables (parameters_of g) (parameters_of h) target kinds.Range (marked, (needs.0 marked).0) keep.0, source-keeps g marks tables (parameters_of g) (parameters_of h) stream choice keep.1), tt)
     tested false unmarked = tt
 
   pub change-few : (c : StateChange) → length (change_left marks c) ≤ 1
@@ -154,24 +150,16 @@ module _ (g : EventGraph) (marks live : List Bool) where
           tt,
         ))
     change-made (Draw target stream choice) is_change parts keep needs = tested (is_marked marks target.variable) refl where
-      choice-spellable : (choice : Choice) → SpellableChoice (extent g) choice → SpellableChoice (extent h) choice
-      choice-spellable (Uniform lo hi) s = s
-      choice-spellable (ByTable t) s = s
-
       tested : (b : Bool) → is_marked marks target.variable ≡ b → AllByRecursion (ChangeFrom g (extent h)) (cond b (Draw (location_renumbered f target) stream choice ∷ []) [])
       tested true marked =
           let same = location_openings-left g marks target in (
             record {
-              parts = (location-spellable g marks target ((marked, (needs.0 marked).0), parts.0), parts.1, choice-spellable choice parts.2);
+              parts = (location-spellable g marks target ((marked, (needs.0 marked).0), parts.0), source-spellable g marks stream choice parts.1);
               openings = than_change v (Draw target stream choice) is_vertex is_change (omega (arith, same));
             },
             tt,
           )
       tested false unmarked = tt
-
-  choice_text-left : (choice : Choice) → choice_text h choice ≡ choice_text g choice
-  choice_text-left (Uniform lo hi) = refl
-  choice_text-left (ByTable t) = refl
 
   pub change-line : (c : StateChange) → Keeps c × ChangeNeeds g marks live c → NoLonger (flat_map (change_line h) (change_left marks c)) (change_line g c)
   change-line (Set targets rights) (keep, needs) =
@@ -186,7 +174,7 @@ module _ (g : EventGraph) (marks live : List Bool) where
   change-line (Draw target stream choice) (keep, needs) = tested (is_marked marks target.variable) refl where
     tested : (b : Bool) → is_marked marks target.variable ≡ b → NoLonger (flat_map (change_line h) (cond b (Draw (location_renumbered f target) stream choice ∷ []) [])) (change_line g (Draw target stream choice))
     tested true marked = one_line (change_line h) (Draw (location_renumbered f target) stream choice) (change_line g (Draw target stream choice)) (no_longer-same _ _
-        (ap₂ (λ (l c : List ℕ). codes "  draw " ++ l ++ codes " from " ++ decimal stream ++ c ++ codes ";\n") (location_text-left g marks target (marked, (needs.0 marked).0)) (choice_text-left choice)))
+        (ap₂ (λ (l s : List ℕ). codes "  draw " ++ l ++ s ++ codes ";\n") (location_text-left g marks target (marked, (needs.0 marked).0)) (source_text-left g marks stream choice)))
     tested false unmarked = record { at_most = omega arith }
 
   -- ---- edges
@@ -248,7 +236,7 @@ module _ (g : EventGraph) (marks live : List Bool) where
   kind-carries e CancelAll carries needs = nothing-left (takes_of e) e.values carries
 
   timing-keeps : (e : EventEdge) (kind : EdgeKind) → KeepsTiming g.variables tables (parameters_of g) kind → KindNeeds g marks e kind → KeepsTiming h.variables tables (parameters_of h) (kind_left marks kind)
-  timing-keeps e (Schedule delay priority) k needs = (kind-of_left g marks delay kinds.Range needs.0 k.0, k.1, k.2)
+  timing-keeps e (Schedule delay priority) k needs = (delay-keeps g marks tables (parameters_of g) (parameters_of h) delay needs.0 k.0, k.1, k.2)
   timing-keeps e Urgent k needs = tt
   timing-keeps e CancelNext k needs = tt
   timing-keeps e CancelEqual k needs = tt
@@ -277,14 +265,14 @@ module _ (g : EventGraph) (marks live : List Bool) where
   kind-written e CancelAll written needs = nothing-left (takes_of e) e.values written
 
   kind-spellable : (e : EventEdge) (kind : EdgeKind) → SpellableKind (extent g) kind → KindNeeds g marks e kind → SpellableKind (extent h) (kind_left marks kind)
-  kind-spellable e (Schedule delay priority) s needs = (spellable-left g marks delay needs.0 s.0, s.1)
+  kind-spellable e (Schedule delay priority) s needs = (delay-spellable g marks delay needs.0 s.0, s.1)
   kind-spellable e Urgent s needs = tt
   kind-spellable e CancelNext s needs = tt
   kind-spellable e CancelEqual s needs = tt
   kind-spellable e CancelAll s needs = tt
 
   kind_openings-left : (kind : EdgeKind) → kind_openings (kind_left marks kind) ≡ kind_openings kind
-  kind_openings-left (Schedule delay priority) = openings-renumbered f delay
+  kind_openings-left (Schedule delay priority) = delay_openings-renumbered f delay
   kind_openings-left Urgent = refl
   kind_openings-left CancelNext = refl
   kind_openings-left CancelEqual = refl

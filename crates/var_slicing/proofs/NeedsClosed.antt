@@ -2,13 +2,13 @@
 use Rattle.std.proofs.Common.{◌≡◌, inl, inr, ℕ, ◌<◌, ◌≤◌, ◌==◌, Bool, true, false, ◌&&◌, cond, List, [], ◌∷◌, ◌++◌, length, map, zip, Option, Some, None, refl, sym, ap, subst, arith}
 use Rattle.std.specs.Prelude.{IfSome}
 use Rattle.std.specs.List.{AllByRecursion, flat_map, list_any, range_with_len}
-use Rattle.model_core.specs.EventGraph.{EventGraph, Expression, Number, Truth, Clock, Scalar, Cell, Negative, Not, Binary, If, Location, Choice, StateChange, Set, Draw, EdgeKind, Schedule, Urgent, CancelNext, CancelEqual, CancelAll, EventEdge, EventVertex, Watched, WatchedVariable, WatchedVertex, scalar_location}
+use Rattle.model_core.specs.EventGraph.{EventGraph, Expression, Number, Truth, Clock, Scalar, Cell, Negative, Not, Binary, If, Location, Choice, StateChange, Set, Draw, Delay, Fixed, EdgeKind, Schedule, Urgent, CancelNext, CancelEqual, CancelAll, EventEdge, EventVertex, Watched, WatchedVariable, WatchedVertex, scalar_location}
 use Rattle.model_core.specs.Run.Step.{no_vertex, vertex_at}
-use Rattle.model_core.specs.Text.Spellable.{extent, SpellableExpression, SpellableLocation, SpellableChange, SpellableKind, SpellableEdge, SpellableVertex, SpellableWatched, IsSpellable}
+use Rattle.model_core.specs.Text.Spellable.{Extent, extent, SpellableExpression, SpellableLocation, SpellableChange, SpellableDelay, SpellableKind, SpellableEdge, SpellableVertex, SpellableWatched, IsSpellable}
 use Rattle.model_core.specs.Static.OwnRules.{KeepsChange, KeepsVertex, parameters_of, KeepsParts}
 use Rattle.model_core.specs.Rules.BoundsOfParts.{quiet_set, quiet_change}
 use Rattle.model_core.specs.Rules.MarkedPlaces.{is_marked}
-use Rattle.model_core.specs.Rules.Uses.{variables_in, index_reads, location_reads, timing_reads}
+use Rattle.model_core.specs.Rules.Uses.{variables_in, index_reads, location_reads, delay_reads, timing_reads}
 use Rattle.model_core.specs.Rules.Needed.{all_changes, all_edges, carried_pairs, is_scheduling, compares_values, watched_variables, compared_parameters, deciding_reads, faulting_target, faulting_writes, faulting_parameters, needed_by_edge, needed_at_once, each_beside, needed_by_targets, needed_by_parameters, streams_drawn, needed_by_streams, needed_beside}
 use Rattle.model_core.proofs.Among.{Among, among-map, among-front, among-back, among-flat_map, of-among, each-among, any-among, among-any}
 use Rattle.mark_laws.proofs.Marks.{Marked}
@@ -21,6 +21,7 @@ use Rattle.var_slicing.proofs.HeldByAll.{held-at}
 use Rattle.var_slicing.proofs.LeadingLaws.{among-of_flat_map, one_stream-streams}
 use Rattle.var_slicing.proofs.ValuesLeft.{ReadsMarked, both_marks}
 use Rattle.var_slicing.proofs.ChangesLeft.{IndexReadsMarked}
+use Rattle.var_slicing.proofs.EdgesLeft.{DelayReadsMarked}
 use Rattle.var_slicing.proofs.SlicedRuns.{WatchedMarked}
 
 -- ---- what the parts need
@@ -43,7 +44,7 @@ abbrev pub CarriedNeed : EventGraph → List Bool → EventEdge → Type 0
 CarriedNeed g marks e = AllByRecursion (ParameterNeeds g marks) (carried_pairs g e)
 
 abbrev pub KindNeeds : EventGraph → List Bool → EventEdge → EdgeKind → Type 0
-KindNeeds g marks e (Schedule delay priority) = ReadsMarked marks delay × CarriedNeed g marks e
+KindNeeds g marks e (Schedule delay priority) = DelayReadsMarked marks delay × CarriedNeed g marks e
 KindNeeds g marks e Urgent = CarriedNeed g marks e
 KindNeeds g marks e CancelNext = Unit {0}
 KindNeeds g marks e CancelEqual = AllByRecursion (Marked marks) (vertex_at g e.target).parameters × CarriedNeed g marks e
@@ -121,6 +122,9 @@ variables-below n (Not a) s = variables-below n a s
 variables-below n (Binary op a b) s = every-joined (λ v. v < n) (variables_in a) (variables_in b) (variables-below n a s.0) (variables-below n b s.1)
 variables-below n (If c a b) s =
     every-joined (λ v. v < n) (variables_in c ++ variables_in a) (variables_in b) (every-joined (λ v. v < n) (variables_in c) (variables_in a) (variables-below n c s.0) (variables-below n a s.1)) (variables-below n b s.2)
+
+delay-below : (x : Extent) (delay : Delay) → SpellableDelay x delay → AllBelow x.variables (delay_reads delay)
+delay-below x (Fixed e) s = variables-below x.variables e s
 
 location-below : (n : ℕ) (l : Location) → SpellableLocation n l → AllBelow n (location_reads l)
 location-below n l s = index l.index s.index where
@@ -213,7 +217,7 @@ module _ (g : EventGraph) (s : IsSpellable g) (keeps : KeepsParts g) (marks : Li
   change-needs (Set targets rights) there spelled rules = each-among (SetNeeds g marks) (zip targets rights) (set-needs targets rights there spelled.parts.1 spelled.parts.3)
   change-needs (Draw target stream choice) there spelled rules =
       let location = spelled.parts.0 in (
-        (λ marked. (led-marked target.variable marked (location_reads target) (location-below count target location) (λ w h. beside-target (Draw target stream choice) there (target.variable, w) (among-map (λ w. (target.variable, w)) (location_reads target) w h)), draw-live target stream choice there rules.1 marked)),
+        (λ marked. (led-marked target.variable marked (location_reads target) (location-below count target location) (λ w h. beside-target (Draw target stream choice) there (target.variable, w) (among-map (λ w. (target.variable, w)) (location_reads target) w h)), draw-live target stream choice there rules.1.0 marked)),
         λ unmarked. (draw-dead target stream choice there location.variable unmarked, true_unless (quiet_change g (Draw target stream choice)) target.variable (λ faults. both_marks marks target.variable (hold.begins target.variable (of-write (Draw target stream choice) there target.variable faults) location.variable) unmarked)),
       )
 
@@ -267,10 +271,10 @@ module _ (g : EventGraph) (s : IsSpellable g) (keeps : KeepsParts g) (marks : Li
   deciding-marked e there xs below into = begin-marked xs below (λ w h.
       of-edge e there w (among-front (compared_parameters g e ++ deciding_reads e) (faulting_parameters g e) w (among-back (compared_parameters g e) (deciding_reads e) w (into w h))))
 
-  delay-marked : (e : EventEdge) → Among e (all_edges g) → SpellableEdge (extent g) e → (delay : Expression) (priority : ℕ) → e.kind ≡ Schedule delay priority → ReadsMarked marks delay
+  delay-marked : (e : EventEdge) → Among e (all_edges g) → SpellableEdge (extent g) e → (delay : Delay) (priority : ℕ) → e.kind ≡ Schedule delay priority → DelayReadsMarked marks delay
   delay-marked e there spelled delay priority is =
       let written = subst (SpellableKind (extent g)) is spelled.kind in
-      deciding-marked e there (variables_in delay) (variables-below count delay written.0) (λ w h. among-back (variables_in e.condition) (timing_reads e.kind) w (subst (λ (k : EdgeKind). Among w (timing_reads k)) (sym is) h))
+      deciding-marked e there (delay_reads delay) (delay-below (extent g) delay written.0) (λ w h. among-back (variables_in e.condition) (timing_reads e.kind) w (subst (λ (k : EdgeKind). Among w (timing_reads k)) (sym is) h))
 
   kind-needs : (e : EventEdge) → Among e (all_edges g) → SpellableEdge (extent g) e → (kind : EdgeKind) → e.kind ≡ kind → KindNeeds g marks e kind
   kind-needs e there spelled (Schedule delay priority) is = (delay-marked e there spelled delay priority is, quiet-carried e there spelled (ap is_scheduling is))

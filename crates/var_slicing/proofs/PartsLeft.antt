@@ -1,22 +1,23 @@
 -- Expressions, locations and values that are left where variables go: kinds, texts, openings and what a text can write.
 use Rattle.std.proofs.Common.{◌≡◌, ℕ, ◌+◌, ◌<◌, ◌≤◌, Bool, true, false, List, [], ◌∷◌, ◌++◌, map, length, Option, Some, None, option_map, refl, sym, ap, ap₂, subst, arith, ◌∙◌}
-use Rattle.std.specs.Prelude.{IfSome}
+use Rattle.std.specs.Prelude.{IfSome, codes, decimal}
 use Rattle.std.specs.List.{AllByRecursion, AllZip}
 use Rattle.model_core.specs.declared.model.Kind.{Kind}
 use Rattle.model_core.specs.declared.model.Kind.TheVariants as kinds
-use Rattle.model_core.specs.EventGraph.{EventGraph, Expression, Location}
-use Rattle.model_core.specs.Text.Canonical.{variable_name, expression_text, expression_texts, location_text}
-use Rattle.model_core.specs.Text.Spellable.{SpellableExpression, SpellableLocation, expression_openings, openings_together, location_openings, values_openings}
+use Rattle.model_core.specs.EventGraph.{EventGraph, Expression, Location, Choice, Uniform, ByTable, Delay, Fixed}
+use Rattle.model_core.specs.Text.Canonical.{variable_name, expression_text, expression_texts, location_text, choice_text, source_text}
+use Rattle.model_core.specs.Text.Spellable.{extent, SpellableExpression, SpellableLocation, SpellableSource, SpellableDelay, expression_openings, openings_together, location_openings, values_openings}
 use Rattle.model_core.specs.Static.HasKind.{IsVariable, HasKind}
-use Rattle.model_core.specs.Static.OwnRules.{TakesKind}
+use Rattle.model_core.specs.Static.OwnRules.{TakesKind, KeepsSource, KeepsDelay}
 use Rattle.model_core.specs.Rules.MarkedPlaces.{rank}
 use Rattle.model_core.specs.Rules.Uses.{variables_in}
-use Rattle.model_core.specs.Rules.Slice.{expression_renumbered, location_renumbered, kept_beside, values_left, parameters_left, targets_left, of_marked_variables}
+use Rattle.model_core.specs.Rules.Slice.{expression_renumbered, delay_renumbered, location_renumbered, kept_beside, values_left, parameters_left, targets_left, of_marked_variables}
 use Rattle.mark_laws.proofs.Marks.{Marked}
 use Rattle.model_core.proofs.EachOne.{every-map}
 use Rattle.var_slicing.proofs.HeldByAll.{held-both}
 use Rattle.var_slicing.proofs.ValuesLeft.{ReadsMarked}
 use Rattle.var_slicing.proofs.ChangesLeft.{IndexReadsMarked}
+use Rattle.var_slicing.proofs.EdgesLeft.{DelayReadsMarked}
 use Rattle.var_slicing.proofs.NeedsClosed.{variables-below}
 use Rattle.model_core.proofs.SomeOfAList.{SomeOf, some-kept_beside, some-map, some-hold, some-few, some-openings}
 use Rattle.var_slicing.proofs.RenumberedTexts.{openings-renumbered, index_openings-renumbered, spellable-renumbered, IsDeclared, variable-declared, kind-renumbered, name-renumbered, text-renumbered, index_text-renumbered}
@@ -77,6 +78,31 @@ module _ (g : EventGraph) (marks : List Bool) where
 
   pub spellable-left : (e : Expression) → ReadsMarked marks e → SpellableExpression count e → SpellableExpression left_count (expression_renumbered f e)
   spellable-left e reads s = spellable-renumbered f left_count count e (all-below_left (variables_in e) reads (variables-below count e s)) s
+
+  -- ---- delays
+
+  pub delay-keeps : (tables : ℕ) (old new : List (List ℕ)) (delay : Delay) → DelayReadsMarked marks delay → KeepsDelay g.variables tables old delay → KeepsDelay h.variables tables new (delay_renumbered f delay)
+  delay-keeps tables old new (Fixed e) reads k = kind-of_left e kinds.Range reads k
+
+  pub delay-spellable : (delay : Delay) → DelayReadsMarked marks delay → SpellableDelay (extent g) delay → SpellableDelay (extent h) (delay_renumbered f delay)
+  delay-spellable (Fixed e) reads s = spellable-left e reads s
+
+  -- ---- sources of draws
+
+  pub source-keeps : (tables : ℕ) (old new : List (List ℕ)) (stream : ℕ) (choice : Choice) → KeepsSource g.variables tables old stream choice → KeepsSource h.variables tables new stream choice
+  source-keeps tables old new stream (Uniform lo hi) k = k
+  source-keeps tables old new stream (ByTable t) k = k
+
+  pub source-spellable : (stream : ℕ) (choice : Choice) → SpellableSource (extent g) stream choice → SpellableSource (extent h) stream choice
+  source-spellable stream (Uniform lo hi) s = s
+  source-spellable stream (ByTable t) s = s
+
+  choice_text-left : (choice : Choice) → choice_text h choice ≡ choice_text g choice
+  choice_text-left (Uniform lo hi) = refl
+  choice_text-left (ByTable t) = refl
+
+  pub source_text-left : (stream : ℕ) (choice : Choice) → source_text h stream choice ≡ source_text g stream choice
+  source_text-left stream choice = ap (λ t. codes " from " ++ decimal stream ++ t) (choice_text-left choice)
 
   -- ---- locations
 

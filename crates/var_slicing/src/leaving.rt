@@ -4,13 +4,13 @@ ghost use Rattle.std.specs.Prelude.{◌≡◌, ◌++◌, map, OnOk, IfOk};
 ghost use Rattle.std.specs.List.{flat_map};
 ghost use Rattle.std.specs.Option.{option_map};
 ghost use Rattle.model_core.specs.Rules.MarkedPlaces.{rank};
-ghost use Rattle.model_core.specs.Rules.Slice.{expression_renumbered, location_renumbered, values_left, parameters_left, targets_left, set_or_nothing, change_left, kind_left, edge_left, vertex_left};
-ghost use Rattle.model_core.specs.Code.Views.{graph_of, vertex_of, edge_of, expression_of, location_of, edge_kind_of, change_of};
+ghost use Rattle.model_core.specs.Rules.Slice.{expression_renumbered, location_renumbered, values_left, parameters_left, targets_left, set_or_nothing, change_left, delay_renumbered, kind_left, edge_left, vertex_left};
+ghost use Rattle.model_core.specs.Code.Views.{graph_of, vertex_of, edge_of, expression_of, location_of, edge_delay_of, edge_kind_of, change_of};
 ghost use Rattle.var_slicing.specs.Inner.Beside.{keeps_beside};
 
 use crate::needs::parameters_at;
 use marked_walks::Staying;
-use model_core::{Change, Edge, EdgeForm, Expr, Model, Target, Vertex, copy_name};
+use model_core::{Change, Delay, Edge, EdgeForm, Expr, Model, Target, Vertex, copy_name};
 use sig_base::{List, NoMemory};
 use std::alloc::Global;
 use use_analysis::add_target_vars;
@@ -77,13 +77,22 @@ fn target_left(alloc: Global, staying: &Staying, target: &Target) -> Result<Targ
     })
 }
 
+/// A delay with the new numbers.
+fn delay_left(alloc: Global, staying: &Staying, delay: &Delay) -> Result<Delay, NoMemory>
+    ensures { IfOk result (λ left. edge_delay_of left ≡ delay_renumbered (rank staying.now) (edge_delay_of delay.now)) }
+{
+    match delay {
+        Delay::Fixed(expr) => Ok(Delay::Fixed(expr_left(alloc, staying, expr)?)),
+    }
+}
+
 /// What an edge does, with the new numbers.
 fn form_left(alloc: Global, staying: &Staying, form: &EdgeForm) -> Result<EdgeForm, NoMemory>
     ensures { IfOk result (λ left. edge_kind_of left ≡ kind_left staying.now (edge_kind_of form.now)) }
 {
     match form {
         EdgeForm::Schedule { delay, priority } => Ok(EdgeForm::Schedule {
-            delay: expr_left(alloc, staying, delay)?,
+            delay: delay_left(alloc, staying, delay)?,
             priority: *priority,
         }),
         EdgeForm::Urgent => Ok(EdgeForm::Urgent),
