@@ -12,9 +12,9 @@ use Rattle.model_core.specs.Text.Numbering as numbering
 use Rattle.model_core.specs.Text.Numbering.{each_numbered, written_or, declared_place, expression, location, natural, signed}
 use Rattle.model_core.specs.Static.FaultOrder.{StaticFault, earliest_fault}
 use Rattle.model_core.specs.Static.Meanings.{Meaning}
-use Rattle.model_core.specs.Static.RuleTable.{kind_mismatch, value_count, number_too_large, literal_too_large, empty_range, draw_outside, stream_outside, too_many}
-use Rattle.model_core.specs.Static.PartFaults.{if_written, use_faults, operand_faults, values_faults, target_place, target_role, target_kind, target_faults, choice_faults, change_faults}
-use Rattle.static_laws.specs.Checked.{CheckedPart, CheckedPlain}
+use Rattle.model_core.specs.Static.RuleTable.{kind_mismatch, value_count, literal_too_large, empty_range, draw_outside, too_many}
+use Rattle.model_core.specs.Static.PartFaults.{if_written, use_faults, operand_faults, values_faults, target_place, target_role, target_kind, target_faults, choice_faults, source_faults, change_faults}
+use Rattle.static_laws.specs.Checked.{Checked, NumberedAs, CheckedPart, CheckedPlain}
 use Rattle.static_laws.specs.Roles.{variable_role}
 use Rattle.sig_types.specs.Inner.Stored.{stored_faults}
 use Rattle.static_laws.proofs.Checks.{told_both, both, made, before, behind, two_numbered, three_numbered}
@@ -66,17 +66,15 @@ module _ (means : List ℕ → Option Meaning) where
       rw (append_assoc lists (flat_map (target_faults means) ts) (values_faults means (map (target_kind means) ts) es))
       (behind t0 lists (told_both t0 t1 t2 (value_count (length ts) (length es) at) (too_many TARGETS_MAX (map target_place ts)) counted short) c)
 
-  pub draw_checked : (t0 t1 t2 t3 t4 : Option StaticFault) (at : ℕ) (t : WrittenTarget) (s : WrittenNumber) (from : WrittenChoice) (x : graph.Location) (n : ℕ) (y : graph.Choice)
+  pub draw_checked : (t0 t1 t2 t3 : Option StaticFault) (at : ℕ) (t : WrittenTarget) (s : WrittenNumber) (from : WrittenChoice) (x : graph.Location) (n : ℕ) (y : graph.Choice)
       → CheckedPart means t0 t1 (target_faults means t) (λ d. location d t) x
       → t2 ≡ earliest_fault t1 (kind_mismatch (Some kinds.Range) (target_kind means t) t.name.at)
-      → CheckedPlain t2 t3 (number_too_large s ++ stream_outside s) (natural s) n
-      → CheckedPart means t3 t4 (choice_faults means from) (λ d. numbering.choice d from) y
-      → CheckedPart means t0 t4 (change_faults means (written.Draw at t s from)) (λ d. numbering.change d (written.Draw at t s from)) (graph.Draw x n y)
-  draw_checked t0 t1 t2 t3 t4 at t s from x n y c kind stream choice =
+      → Checked t2 t3 (source_faults means s from) ((natural s ≡ Some n) × NumberedAs means (λ d. numbering.choice d from) y)
+      → CheckedPart means t0 t3 (change_faults means (written.Draw at t s from)) (λ d. numbering.change d (written.Draw at t s from)) (graph.Draw x n y)
+  draw_checked t0 t1 t2 t3 at t s from x n y c kind source =
       let mismatch = kind_mismatch (Some kinds.Range) (target_kind means t) t.name.at in
-      rw (append_assoc (target_faults means t ++ mismatch) (number_too_large s) (stream_outside s))
-      (made (λ h. three_numbered means graph.Draw (λ d. location d t) (λ d. natural s) (λ d. numbering.choice d from) h.0.0 (λ d p. h.0.1) h.1)
-      (both (both (before t2 mismatch c kind) stream) choice))
+      made (λ h. three_numbered means graph.Draw (λ d. location d t) (λ d. natural s) (λ d. numbering.choice d from) h.0 (λ d p. h.1.0) h.1.1)
+      (both (before t2 mismatch c kind) source)
 
   pub uniform_checked : (t0 t1 t2 t3 t4 : Option StaticFault) (lo hi : WrittenSigned) (x y : ℤ)
       → CheckedPlain t0 t1 (literal_too_large lo) (signed lo) x → CheckedPlain t1 t2 (literal_too_large hi) (signed hi) y

@@ -5,12 +5,12 @@ use Rattle.model_core.specs.declared.model.Kind.{Kind}
 use Rattle.model_core.specs.declared.model.Kind.TheVariants as kinds
 use Rattle.model_core.specs.EventGraph as graph
 use Rattle.model_core.specs.Text.Written as written
-use Rattle.model_core.specs.Text.Written.{WrittenNumber, WrittenExpression, WrittenEdge}
+use Rattle.model_core.specs.Text.Written.{WrittenNumber, WrittenExpression, WrittenDelay, WrittenEdge}
 use Rattle.model_core.specs.Text.Numbering as numbering
 use Rattle.model_core.specs.Text.Numbering.{each_numbered, written_or, declared_place, expression, natural}
 use Rattle.model_core.specs.Static.FaultOrder.{StaticFault}
 use Rattle.model_core.specs.Static.Meanings.{Meaning, MeansVariable, MeansTable, MeansVertex, AsVertex}
-use Rattle.model_core.specs.Static.PartFaults.{if_written, use_faults, operand_faults, priority_faults, target_takes, carried_faults, schedule_faults, edge_faults}
+use Rattle.model_core.specs.Static.PartFaults.{if_written, use_faults, operand_faults, priority_faults, target_takes, carried_faults, delay_faults, schedule_faults, edge_faults}
 use Rattle.static_laws.specs.Checked.{CheckedPart, CheckedPlain}
 use Rattle.static_laws.specs.Roles.{vertex_meant}
 use Rattle.sig_types.specs.Inner.Stored.{taken_by}
@@ -23,12 +23,17 @@ takes_by_place means taken (Some (MeansTable k)) = refl
 takes_by_place means taken (Some (MeansVertex k)) = refl
 
 module _ (means : List ℕ → Option Meaning) (taken : List (List (Option Kind))) where
-  pub schedule_checked : (t0 t1 t2 : Option StaticFault) (after : Option WrittenExpression) (priority : Option WrittenNumber) (x : graph.Expression) (n : ℕ)
-      → CheckedPart means t0 t1 (if_written (operand_faults means (Some kinds.Range)) after) (λ d. written_or (expression d) (graph.Number (pos 0)) after) x
+  pub fixed_checked : (t0 t1 : Option StaticFault) (e : WrittenExpression) (x : graph.Expression)
+      → CheckedPart means t0 t1 (operand_faults means (Some kinds.Range) e) (λ d. expression d e) x
+      → CheckedPart means t0 t1 (delay_faults means taken (written.Fixed e)) (λ d. numbering.delay d (written.Fixed e)) (graph.Fixed x)
+  fixed_checked t0 t1 e x c = made (λ h d p. ap (option_map graph.Fixed) (h d p)) c
+
+  pub schedule_checked : (t0 t1 t2 : Option StaticFault) (after : Option WrittenDelay) (priority : Option WrittenNumber) (x : graph.Delay) (n : ℕ)
+      → CheckedPart means t0 t1 (if_written (delay_faults means taken) after) (λ d. written_or (numbering.delay d) (graph.Fixed (graph.Number (pos 0))) after) x
       → CheckedPlain t1 t2 (if_written priority_faults priority) (written_or natural 5 priority) n
       → CheckedPart means t0 t2 (schedule_faults means taken (written.Schedule after priority)) (λ d. numbering.edge_kind d (written.Schedule after priority)) (graph.Schedule x n)
   schedule_checked t0 t1 t2 after priority x n c p =
-      made (λ h. two_numbered means graph.Schedule (λ d. written_or (expression d) (graph.Number (pos 0)) after) (λ d. written_or natural 5 priority) h.0 (λ d q. h.1)) (both c p)
+      made (λ h. two_numbered means graph.Schedule (λ d. written_or (numbering.delay d) (graph.Fixed (graph.Number (pos 0))) after) (λ d. written_or natural 5 priority) h.0 (λ d q. h.1)) (both c p)
 
   there : (o : Option ℕ) (k : Option ℕ) (n : ℕ) → option_map (λ j. Some j) o ≡ Some k → n ≡ unwrap_or k 0 → o ≡ Some n
   there None k n e h = cc

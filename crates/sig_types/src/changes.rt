@@ -8,10 +8,10 @@ ghost use Rattle.model_core.specs.Code.Views.{expression_of, location_of, choice
 ghost use Rattle.model_core.specs.Code.WrittenViews.{written_expression, written_number, written_target, written_choice, written_change};
 ghost use Rattle.model_core.specs.Text.Written as written;
 ghost use Rattle.model_core.specs.Text.Numbering as numbering;
-ghost use Rattle.model_core.specs.Text.Numbering.{each_numbered, written_or};
+ghost use Rattle.model_core.specs.Text.Numbering.{each_numbered, written_or, natural};
 ghost use Rattle.model_core.specs.Static.Meanings.{meaning_of};
-ghost use Rattle.model_core.specs.Static.PartFaults.{if_written, operand_faults, values_faults, target_kind, target_faults, choice_faults, change_faults};
-ghost use Rattle.static_laws.specs.Checked.{CheckedPart};
+ghost use Rattle.model_core.specs.Static.PartFaults.{if_written, operand_faults, values_faults, target_kind, target_faults, choice_faults, source_faults, change_faults};
+ghost use Rattle.static_laws.specs.Checked.{Checked, NumberedAs, CheckedPart};
 ghost use Rattle.static_laws.specs.Wanted.{wanted};
 ghost use Rattle.sig_types.specs.Inner.Stored.{stored_faults};
 
@@ -210,25 +210,33 @@ fn choice(names: &Names, raw: &RawChoice, told: &mut Told) -> Choice
     }
 }
 
+/// The source of a draw: the number of a random stream, 0 to 63, and what is drawn from it.
+pub fn source(names: &Names, stream: &RawNumber, from: &RawChoice, told: &mut Told) -> (u8, Choice)
+    ensures { Checked told.old told.new (source_faults (meaning_of names.now) (written_number stream.now) (written_choice from.now)) ((natural (written_number stream.now) ≡ Some result.0) × NumberedAs (meaning_of names.now) (λ d. numbering.choice d (written_choice from.now)) (choice_of result.1)) }
+{
+    let stream = bounded(stream, 0, 63, StaticKind::StreamOutside, told);
+    let choice = choice(names, from, told);
+    (stream as u8, choice)
+}
+
 /// A `draw`.
 fn draw(
     alloc: Global,
     names: &Names,
     raw: &RawTarget,
     stream: &RawNumber,
-    source: &RawChoice,
+    from: &RawChoice,
     told: &mut Told,
 ) -> Result<Change, NoMemory>
-    ensures { IfOk result (λ c. CheckedPart (meaning_of names.now) told.old told.new (change_faults (meaning_of names.now) (written.Draw 0 (written_target raw.now) (written_number stream.now) (written_choice source.now))) (λ d. numbering.change d (written.Draw 0 (written_target raw.now) (written_number stream.now) (written_choice source.now))) (change_of c)) }
+    ensures { IfOk result (λ c. CheckedPart (meaning_of names.now) told.old told.new (change_faults (meaning_of names.now) (written.Draw 0 (written_target raw.now) (written_number stream.now) (written_choice from.now))) (λ d. numbering.change d (written.Draw 0 (written_target raw.now) (written_number stream.now) (written_choice from.now))) (change_of c)) }
 {
     let drawn = target(alloc, names, raw, told)?;
     let differs = kinds_differ(Some(Kind::Range), drawn.kind);
     told.note(differs, StaticKind::KindMismatch, raw.name.at);
-    let stream = bounded(stream, 0, 63, StaticKind::StreamOutside, told);
-    let choice = choice(names, source, told);
+    let (stream, choice) = source(names, stream, from, told);
     Ok(Change::Draw {
         target: drawn.part,
-        stream: stream as u8,
+        stream,
         choice,
     })
 }

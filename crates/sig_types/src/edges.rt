@@ -1,17 +1,18 @@
 //! Edges: their targets, the values that they carry, their delays, priorities and conditions.
 
-ghost use Rattle.std.specs.Prelude.{◌≡◌, [], Some, None, IfOk, map, List, Option};
+ghost use Rattle.std.specs.Prelude.{◌≡◌, pos, true, [], Some, None, IfOk, map, List, Option};
 ghost use Rattle.std.specs.List.{flat_map};
 ghost use Rattle.std.specs.Option.{option_map};
 ghost use Rattle.model_core.specs.declared.model.Kind.{Kind as KnownKind};
 ghost use Rattle.model_core.specs.declared.model.Kind.TheVariants as kinds;
-ghost use Rattle.model_core.specs.Code.Views.{expression_of, edge_kind_of, edge_of};
-ghost use Rattle.model_core.specs.Code.WrittenViews.{written_expression, written_number, written_edge_kind, written_edge};
+ghost use Rattle.model_core.specs.EventGraph.{Fixed, Number, Truth};
+ghost use Rattle.model_core.specs.Code.Views.{expression_of, edge_delay_of, edge_kind_of, edge_of};
+ghost use Rattle.model_core.specs.Code.WrittenViews.{written_expression, written_number, written_delay, written_edge_kind, written_edge};
 ghost use Rattle.model_core.specs.Text.Numbering as numbering;
 ghost use Rattle.model_core.specs.Text.Numbering.{each_numbered, written_or, natural};
 ghost use Rattle.model_core.specs.Static.FaultOrder.{earliest_fault};
 ghost use Rattle.model_core.specs.Static.Meanings.{meaning_of};
-ghost use Rattle.model_core.specs.Static.PartFaults.{if_written, written_items, operand_faults, count_faults, priority_faults, carried_faults, schedule_faults, edge_faults};
+ghost use Rattle.model_core.specs.Static.PartFaults.{if_written, written_items, operand_faults, count_faults, priority_faults, carried_faults, delay_faults, schedule_faults, edge_faults};
 ghost use Rattle.static_laws.specs.Checked.{CheckedPart, CheckedPlain};
 ghost use Rattle.sig_types.specs.Inner.Stored.{taken_by};
 
@@ -22,7 +23,8 @@ use crate::numbers::bounded;
 use crate::told::Told;
 use crate::uses::vertex;
 use model_core::{
-    Edge, EdgeForm, Expr, Kind, RawEdge, RawEdgeForm, RawExpr, RawNumber, StaticKind,
+    Delay, Edge, EdgeForm, Expr, Kind, RawDelay, RawEdge, RawEdgeForm, RawExpr, RawNumber,
+    StaticKind,
 };
 use sig_base::{List, NoMemory};
 use std::alloc::Global;
@@ -37,22 +39,48 @@ pub fn items<T>(list: &Option<List<T>>) -> &[T]
     }
 }
 
-/// An expression of this kind, or the default where none is written.
-fn operand_or(
+/// The condition of an edge: true where none is written.
+fn condition(
     alloc: Global,
     names: &Names,
-    kind: Kind,
     raw: &Option<RawExpr>,
-    default: Expr,
     told: &mut Told,
 ) -> Result<Expr, NoMemory>
-    ensures { IfOk result (λ e. CheckedPart (meaning_of names.now) told.old told.new (if_written (operand_faults (meaning_of names.now) (Some kind)) (option_map written_expression raw.now)) (λ d. written_or (numbering.expression d) (expression_of default) (option_map written_expression raw.now)) (expression_of e)) }
+    ensures { IfOk result (λ e. CheckedPart (meaning_of names.now) told.old told.new (if_written (operand_faults (meaning_of names.now) (Some kinds.Truth)) (option_map written_expression raw.now)) (λ d. written_or (numbering.expression d) (Truth true) (option_map written_expression raw.now)) (expression_of e)) }
 {
     let Some(raw) = raw else {
-        return Ok(default);
+        return Ok(Expr::Truth(true));
     };
-    let expr = operand(alloc, names, Some(kind), raw, told)?;
+    let expr = operand(alloc, names, Some(Kind::Truth), raw, told)?;
     Ok(expr.part)
+}
+
+/// A delay.
+#[tactic(auto, using(crate::proofs::EdgeParts::fixed_checked))]
+fn delay(alloc: Global, names: &Names, raw: &RawDelay, told: &mut Told) -> Result<Delay, NoMemory>
+    ensures { IfOk result (λ w. (taken : List (List (Option KnownKind))) → CheckedPart (meaning_of names.now) told.old told.new (delay_faults (meaning_of names.now) taken (written_delay raw.now)) (λ d. numbering.delay d (written_delay raw.now)) (edge_delay_of w)) }
+{
+    match raw {
+        RawDelay::Fixed(raw) => {
+            let expr = operand(alloc, names, Some(Kind::Range), raw, told)?;
+            Ok(Delay::Fixed(expr.part))
+        }
+    }
+}
+
+/// The delay of an edge: 0 where none is written.
+fn after(
+    alloc: Global,
+    names: &Names,
+    raw: &Option<RawDelay>,
+    told: &mut Told,
+) -> Result<Delay, NoMemory>
+    ensures { IfOk result (λ w. (taken : List (List (Option KnownKind))) → CheckedPart (meaning_of names.now) told.old told.new (if_written (delay_faults (meaning_of names.now) taken) (option_map written_delay raw.now)) (λ d. written_or (numbering.delay d) (Fixed (Number (pos 0))) (option_map written_delay raw.now)) (edge_delay_of w)) }
+{
+    match raw {
+        Some(raw) => delay(alloc, names, raw, told),
+        None => Ok(Delay::Fixed(Expr::Int(0))),
+    }
 }
 
 /// A priority: 5 where none is written.
@@ -76,7 +104,7 @@ fn form(
 {
     match raw {
         RawEdgeForm::Schedule { delay, priority } => {
-            let delay = operand_or(alloc, names, Kind::Range, delay, Expr::Int(0), told)?;
+            let delay = after(alloc, names, delay, told)?;
             let priority = priority_of(priority, told);
             Ok(EdgeForm::Schedule { delay, priority })
         }
@@ -145,14 +173,7 @@ pub fn edge(
     let target = vertex(names, &raw.target, told);
     let values = carried(alloc, names, taken, target, raw, told)?;
     let form = form(alloc, names, &raw.form, told)?;
-    let condition = operand_or(
-        alloc,
-        names,
-        Kind::Truth,
-        &raw.condition,
-        Expr::Truth(true),
-        told,
-    )?;
+    let condition = condition(alloc, names, &raw.condition, told)?;
     Ok(Edge {
         target: target.unwrap_or(0),
         values,

@@ -11,8 +11,11 @@ ghost use Rattle.sig_types.specs.Seen.{bytes_of};
 use crate::told::Told;
 use indexmap::IndexSet;
 use model_core::{RawName, StaticKind};
-use sig_base::{NoMemory, PARAMETERS_MAX};
+use sig_base::NoMemory;
 use std::alloc::Global;
+
+/// How many names a list may have and still count as short: its names are compared with one another, without a table.
+const SHORT_LIST: usize = 8;
 
 /// Whether these bytes are among some names.
 fn is_among(raws: &[RawName], name: &[u8]) -> bool
@@ -56,7 +59,7 @@ pub(crate) fn tell_repeated(
 ) -> Result<(), NoMemory>
     ensures { OnOk result (told.new ≡ earliest_fault told.old (repeated_names [] (map written_name raws.now))) }
 {
-    if raws.len() <= PARAMETERS_MAX {
+    if raws.len() <= SHORT_LIST {
         tell_few(raws, told);
         return Ok(());
     }
