@@ -61,7 +61,7 @@ module _ (g : EventGraph) (ranges : List VarRange) (fitting : Fitting g ranges) 
   same_change seed clk early (Draw target stream choice) d inside known =
       let w = word seed stream (taken_from d.taken stream) in
       let x = picked g choice w in
-      let drawn : NumberIn (choice_bounds g choice) x = choice_in g choice (length g.tables) (parameters_of g) w keeps.tables known.keeps.2 (word_small seed stream (taken_from d.taken stream)) in
+      let drawn : NumberIn (choice_bounds g choice) x = choice_in g choice (length g.tables) (parameters_of g) w keeps.tables known.keeps.1.1 (word_small seed stream (taken_from d.taken stream)) in
       let next : OrFault State → OrFault Drawn = λ r. r >>= λ s. Ok (record { state = s; taken = one_more d.taken stream }) in
       bind_same (place_of g d.state clk target) _ _ (λ p at_place.
       let named = place-variable g d.state clk target.variable target.index p at_place in

@@ -4,7 +4,7 @@ use Rattle.std.proofs.lemmas.Int.{ints}
 use Rattle.std.specs.List.{AllByRecursion}
 use Rattle.model_core.specs.declared.model.Kind.{Kind}
 use Rattle.model_core.specs.declared.model.Kind.TheVariants as kinds
-use Rattle.model_core.specs.EventGraph.{EventGraph, EventEdge, EdgeKind, Schedule, Urgent, CancelNext, CancelEqual, CancelAll, Expression}
+use Rattle.model_core.specs.EventGraph.{EventGraph, EventEdge, Delay, Fixed, EdgeKind, Schedule, Urgent, CancelNext, CancelEqual, CancelAll, Expression}
 use Rattle.model_core.specs.Run.State.{State, Place, scalar, in_range}
 use Rattle.model_core.specs.Run.Value.{OrFault, ◌>>=◌, number_of, is_one, each, value_of}
 use Rattle.model_core.specs.Run.Pending.{Entry, is_of, is_with, without_next, without_all}
@@ -44,13 +44,13 @@ module _ (g : EventGraph) (ranges : List VarRange) (fitting : Fitting g ranges) 
 
   -- ---- the same
 
-  same_delay : (seed : ℕ) (s : State) (clk : ℕ) (delay : Expression) (taken : List ℕ) → delay_of g seed s clk delay taken ≡ delay_of h seed s clk delay taken
-  same_delay seed s clk delay taken =
-      ap (λ (r : OrFault ℤ). r >>= λ w. delay_ticks w >>= λ n. let wait : Waiting = record { ticks = n; taken = taken } in Ok wait) (same_value g ranges s clk delay)
+  same_wait : (seed : ℕ) (s : State) (clk : ℕ) (delay : Delay) (taken : List ℕ) → delay_of g seed s clk delay taken ≡ delay_of h seed s clk delay taken
+  same_wait seed s clk (Fixed e) taken =
+      ap (λ (r : OrFault ℤ). r >>= λ w. delay_ticks w >>= λ n. let wait : Waiting = record { ticks = n; taken = taken } in Ok wait) (same_value g ranges s clk e)
 
   same_act : (seed : ℕ) (s : State) (clk : ℕ) (e : EventEdge) (kind : EdgeKind) (p : Planned) → act g seed s clk e kind p ≡ act h seed s clk e kind p
   same_act seed s clk e (Schedule delay priority) p =
-      ap₂ (λ (wait : OrFault Waiting) (value : Expression → OrFault ℤ). wait >>= λ wait. each value e.values >>= λ values. Ok (record { pending = scheduled (clk + wait.ticks) priority e.target p.pending values; taken = wait.taken })) (same_delay seed s clk delay p.taken) (λ i x. same_value g ranges s clk x i)
+      ap₂ (λ (wait : OrFault Waiting) (value : Expression → OrFault ℤ). wait >>= λ wait. each value e.values >>= λ values. Ok (record { pending = scheduled (clk + wait.ticks) priority e.target p.pending values; taken = wait.taken })) (same_wait seed s clk delay p.taken) (λ i x. same_value g ranges s clk x i)
   same_act seed s clk e Urgent p =
       ap (λ (value : Expression → OrFault ℤ). each value e.values >>= λ values. Ok (record p { pending = scheduled clk 0 e.target p.pending values })) (λ i x. same_value g ranges s clk x i)
   same_act seed s clk e CancelNext p = refl

@@ -5,13 +5,13 @@ use Rattle.std.proofs.lemmas.Int.{ints}
 use Rattle.sig_base.specs.declared.limits.TheConstants.{TEXT_MAX, VARIABLES_MAX}
 use Rattle.model_core.specs.declared.model.Kind.{Kind}
 use Rattle.model_core.specs.declared.model.Kind.TheVariants as kinds
-use Rattle.model_core.specs.EventGraph.{EventGraph, EventVertex, EventEdge, EdgeKind, Schedule, Urgent, CancelNext, CancelEqual, CancelAll, StateChange, Set, Draw, Choice, Uniform, ByTable, Location, Expression, Variable, WeightTable}
+use Rattle.model_core.specs.EventGraph.{EventGraph, EventVertex, EventEdge, Delay, Fixed, EdgeKind, Schedule, Urgent, CancelNext, CancelEqual, CancelAll, StateChange, Set, Draw, Choice, Uniform, ByTable, Location, Expression, Variable, WeightTable}
 use Rattle.model_core.specs.Run.State.{no_variable, variable_at}
 use Rattle.model_core.specs.Text.Lexing.{same_bytes}
 use Rattle.model_core.specs.Text.Canonical.{canonical}
 use Rattle.model_core.specs.Text.Spellable.{Extent, extent, IsSigned, HasWrittenRange, SpellableVariable, SpellableVertex, SpellableWatched, IsSpellable}
 use Rattle.model_core.specs.Static.HasKind.{IsVariable, HasKind}
-use Rattle.model_core.specs.Static.OwnRules.{IsLiteral, FitsKind, KeepsVariable, TakesKind, IsParameter, TakeCarried, KeepsChoice, KeepsChange, CarriesValues, KeepsTiming, KeepsEdge, KeepsVertex, IsWatchable, watch_number, parameters_of, KeepsParts, KeepsStaticRules}
+use Rattle.model_core.specs.Static.OwnRules.{IsLiteral, FitsKind, KeepsVariable, TakesKind, IsParameter, TakeCarried, KeepsSource, KeepsChange, CarriesValues, KeepsDelay, KeepsTiming, KeepsEdge, KeepsVertex, IsWatchable, watch_number, parameters_of, KeepsParts, KeepsStaticRules}
 use Rattle.model_core.proofs.EachOne.{every-map, every-both}
 use Rattle.model_core.specs.declared.var_range.VarRange.{VarRange}
 use Rattle.model_core.specs.Ranges.OtherRanges.{LiesIn, declared_range, with_range, with_ranges, model_with_ranges, range_at}
@@ -93,13 +93,13 @@ module _ (vs : List Variable) (rs : List VarRange) (tables : ℕ) (takes : List 
   given : (es : List Expression) (ks : List Kind) → AllZip (HasKind vs) es ks → AllZip (HasKind ws) es ks
   given es ks all = zip-map (HasKind vs) (HasKind ws) (has_kind vs rs) es ks all
 
-  choice_keeps : (c : Choice) → KeepsChoice vs tables takes c → KeepsChoice ws tables takes c
-  choice_keeps (Uniform lo hi) k = k
-  choice_keeps (ByTable t) k = k
+  source_keeps : (stream : ℕ) (choice : Choice) → KeepsSource vs tables takes stream choice → KeepsSource ws tables takes stream choice
+  source_keeps stream (Uniform lo hi) k = k
+  source_keeps stream (ByTable t) k = k
 
   change_keeps : (c : StateChange) → KeepsChange vs tables takes c → KeepsChange ws tables takes c
   change_keeps (Set targets values) k = (k.0, record { kinds = k.1.kinds; taken = zip-map (TakesKind vs tables takes) (TakesKind ws tables takes) takes_kind targets k.1.kinds k.1.taken; given = given values k.1.kinds k.1.given })
-  change_keeps (Draw target stream choice) k = (takes_kind target kinds.Range k.0, k.1, choice_keeps choice k.2)
+  change_keeps (Draw target stream choice) k = (takes_kind target kinds.Range k.0, source_keeps stream choice k.1)
 
   carried : (parameters : List ℕ) (values : List Expression) → TakeCarried vs tables takes parameters values → TakeCarried ws tables takes parameters values
   carried parameters values t = record { kinds = t.kinds; taken = zip-map (λ v k. IsVariable vs v false k) (λ v k. IsVariable ws v false k) (λ v k. is_variable vs rs v false k) parameters t.kinds t.taken; given = given values t.kinds t.given }
@@ -111,8 +111,11 @@ module _ (vs : List Variable) (rs : List VarRange) (tables : ℕ) (takes : List 
   carries CancelEqual parameters values c = carried parameters values c
   carries CancelAll parameters values c = c
 
+  delay_keeps : (delay : Delay) → KeepsDelay vs tables takes delay → KeepsDelay ws tables takes delay
+  delay_keeps (Fixed e) k = has_kind vs rs e kinds.Range k
+
   timing : (kind : EdgeKind) → KeepsTiming vs tables takes kind → KeepsTiming ws tables takes kind
-  timing (Schedule delay priority) t = (has_kind vs rs delay kinds.Range t.0, t.1, t.2)
+  timing (Schedule delay priority) t = (delay_keeps delay t.0, t.1, t.2)
   timing Urgent t = tt
   timing CancelNext t = tt
   timing CancelEqual t = tt
