@@ -242,7 +242,7 @@ fn draw(
 }
 
 /// A change.
-pub fn change(
+fn change(
     alloc: Global,
     names: &Names,
     raw: &RawChange,

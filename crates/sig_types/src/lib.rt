@@ -20,7 +20,7 @@ mod variables;
 mod vertices;
 mod watch;
 
-pub use changes::{change, source, wanted_at};
+pub use changes::{source, wanted_at};
 pub use checking::{check, declared, tell_too_long};
 pub use edges::{edge, items};
 pub use error::StaticError;
