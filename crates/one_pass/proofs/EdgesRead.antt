@@ -1,5 +1,6 @@
 -- An edge without faults, from its parts.
-use Rattle.std.proofs.Common.{◌≡◌, ℕ, pos, Bool, true, false, List, [], ◌++◌, length, Option, Some, refl}
+use Rattle.std.proofs.Common.{◌≡◌, ℕ, pos, Bool, true, false, List, [], ◌++◌, length, Option, Some, refl, ap}
+use Rattle.std.specs.Option.{option_map}
 use Rattle.std.specs.Prelude.{nat_eq, not}
 use Rattle.model_core.specs.declared.model.Kind.{Kind}
 use Rattle.model_core.specs.declared.model.Kind.TheVariants as kinds
@@ -12,13 +13,13 @@ use Rattle.model_core.specs.Text.Format.{AWord, Yields, reserved, mark, any_name
 use Rattle.model_core.specs.Text.Written as written
 use Rattle.model_core.specs.Text.Written.{WrittenExpression, WrittenEdgeKind}
 use Rattle.model_core.specs.Text.Expressions.{LanguageFormat, expression_format}
-use Rattle.model_core.specs.Text.Language.{edge_written, values_format, when_format, timing_format, schedule_format, urgent_format, edge_format}
+use Rattle.model_core.specs.Text.Language.{edge_written, values_format, when_format, delay_format, timing_format, schedule_format, urgent_format, edge_format}
 use Rattle.model_core.specs.Text.Numbering as numbering
 use Rattle.model_core.specs.Text.Numbering.{written_or, declared_place, each_numbered, expression, natural}
 use Rattle.model_core.specs.Static.FaultOrder.{fault_where}
 use Rattle.model_core.specs.Static.Meanings.{Meaning, AsVertex}
 use Rattle.model_core.specs.Static.RuleTable.{value_count}
-use Rattle.model_core.specs.Static.PartFaults.{if_written, written_items, use_faults, operand_faults, values_faults, count_faults, priority_faults, carried_faults, schedule_faults, target_takes, edge_faults}
+use Rattle.model_core.specs.Static.PartFaults.{if_written, written_items, use_faults, operand_faults, values_faults, count_faults, priority_faults, carried_faults, delay_faults, schedule_faults, target_takes, edge_faults}
 use Rattle.text_laws.specs.FirstTokens.{begins_as}
 use Rattle.text_laws.specs.FormatReader.{took}
 use Rattle.text_laws.specs.LanguageReader.{language_reader}
@@ -72,10 +73,15 @@ module _ (means : List ℕ → Option Meaning) (taken : List (List (Option Kind)
       (λ d. declared_place c.name.name d.vertices) (λ d. written_or (each_numbered (expression d)) [] c.given.written) (λ d. written_or (expression d) (graph.Truth true) condition) (λ d. numbering.edge_kind d kind)
       c.vertex.numbers c.given.numbers holds timing
 
-  pub schedule_read : (at semicolon : ℕ) (t0 t1 t2 t3 t4 t5 t6 : List Lexeme) (k p : ℕ) (xs : List graph.Expression) (x y : graph.Expression)
+  pub fixed_read : (before after : List Lexeme) (x : graph.Expression) → ReadSure expression_format means (operand_faults means (Some kinds.Range)) expression before after x
+      → ReadSure delay_format means (delay_faults means taken) numbering.delay before after (graph.Fixed x)
+  unfolding delay_format
+  fixed_read before after x r = record { written = written.Fixed r.written; read = rw r.read refl; unbroken = r.unbroken; numbers = λ d p. ap (option_map graph.Fixed) (r.numbers d p) }
+
+  pub schedule_read : (at semicolon : ℕ) (t0 t1 t2 t3 t4 t5 t6 : List Lexeme) (k p : ℕ) (xs : List graph.Expression) (x : graph.Delay) (y : graph.Expression)
       → language_reader (reserved words.Schedule) t0 ≡ took at t1
       → ReadCarried means taken t1 t2 k xs
-      → ReadSure (maybe (reserved words.After *> expression_format)) means (if_written (operand_faults means (Some kinds.Range))) (λ d. written_or (expression d) (graph.Number (pos 0))) t2 t3 x
+      → ReadSure (maybe (reserved words.After *> delay_format)) means (if_written (delay_faults means taken)) (λ d. written_or (numbering.delay d) (graph.Fixed (graph.Number (pos 0)))) t2 t3 x
       → ReadSure (maybe (reserved words.Priority *> any_number)) means (if_written priority_faults) (λ d. written_or natural 5) t3 t4 p
       → ReadSure (maybe when_format) means (if_written (operand_faults means (Some kinds.Truth))) (λ d. written_or (expression d) (graph.Truth true)) t4 t5 y
       → language_reader (mark symbols.Semicolon) t5 ≡ took semicolon t6
@@ -87,12 +93,12 @@ module _ (means : List ℕ → Option Meaning) (taken : List (List (Option Kind)
         written = edge_written kind at c.name c.given.written condition.written;
         read = five-read (λ at' target values kind' condition'. edge_written kind' at' target values condition') (reserved words.Schedule) any_name (maybe values_format) timing_format (maybe when_format) (mark symbols.Semicolon)
             t0 t1 c.between t2 t4 t5 t6 at c.name c.given.written kind condition.written semicolon begun c.named c.given.read
-            (two-read (λ d q. written.Schedule d q) (maybe (reserved words.After *> expression_format)) (maybe (reserved words.Priority *> any_number)) t2 t3 t4 delay.written priority.written delay.read priority.read)
+            (two-read (λ d q. written.Schedule d q) (maybe (reserved words.After *> delay_format)) (maybe (reserved words.Priority *> any_number)) t2 t3 t4 delay.written priority.written delay.read priority.read)
             condition.read closed;
         unbroken = edge-unbroken t1 t2 k xs c kind at condition.written (λ wanted given place. refl)
-            (both_empty (if_written (operand_faults means (Some kinds.Range)) delay.written) (if_written priority_faults priority.written) delay.unbroken priority.unbroken) condition.unbroken;
+            (both_empty (if_written (delay_faults means taken) delay.written) (if_written priority_faults priority.written) delay.unbroken priority.unbroken) condition.unbroken;
         numbers = edge-numbers t1 t2 k xs c kind at condition.written (graph.Schedule x p) y
-            (two_numbered means graph.Schedule (λ d. written_or (expression d) (graph.Number (pos 0)) delay.written) (λ d. written_or natural 5 priority.written) delay.numbers priority.numbers) condition.numbers;
+            (two_numbered means graph.Schedule (λ d. written_or (numbering.delay d) (graph.Fixed (graph.Number (pos 0))) delay.written) (λ d. written_or natural 5 priority.written) delay.numbers priority.numbers) condition.numbers;
       }
 
   pub urgent_read : (at semicolon : ℕ) (t0 t1 t2 t3 t4 : List Lexeme) (k : ℕ) (xs : List graph.Expression) (y : graph.Expression)

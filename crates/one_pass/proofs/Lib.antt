@@ -10,6 +10,7 @@ mod TargetsRead
 mod RowsInTurn
 mod ValuesRead
 mod SetsRead
+mod DrawsRead
 mod FormatReads
 mod CarriedRead
 mod EdgesRead

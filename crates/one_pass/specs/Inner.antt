@@ -2,6 +2,7 @@
 pub mod ReadParts
 pub mod ReadOperands
 pub mod ReadTargets
+pub mod ReadSources
 pub mod ReadValues
 pub mod ReadRows
 pub mod ReadCarried

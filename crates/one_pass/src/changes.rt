@@ -1,28 +1,29 @@
 //! Changes, which are checked as they are read. Where a change breaks a static rule these functions give up.
 
-ghost use Rattle.std.specs.Prelude.{◌≡◌, ◌+◌, ◌≤◌, [], length, map, IfOk, OnOk};
-ghost use Rattle.model_core.specs.Code.Views.{location_of, change_of};
-ghost use Rattle.model_core.specs.Code.WrittenViews.{written_change};
+ghost use Rattle.std.specs.Prelude.{◌+◌, ◌≤◌, length, map, IfOk};
+ghost use Rattle.sig_base.specs.declared.limits.TheConstants.{TARGETS_MAX};
+ghost use Rattle.model_core.specs.Code.Views.{location_of, choice_of, change_of};
 ghost use Rattle.model_core.specs.Text.Format.{separated};
 ghost use Rattle.model_core.specs.Text.Language.{target_format, change_format};
 ghost use Rattle.model_core.specs.Text.Numbering as numbering;
 ghost use Rattle.model_core.specs.Static.Meanings.{meaning_of};
 ghost use Rattle.model_core.specs.Static.PartFaults.{change_faults};
 ghost use Rattle.text_laws.specs.LanguageReader.{language_reader};
-ghost use Rattle.static_laws.specs.Checked.{NumberedAs};
+ghost use Rattle.model_read.specs.Sources.{written_source};
 ghost use Rattle.one_pass.specs.Inner.ReadParts.{ReadSure};
 ghost use Rattle.one_pass.specs.Inner.ReadRows.{ReadRow};
 ghost use Rattle.one_pass.specs.Inner.ReadTargets.{IsTarget, ReadTarget};
+ghost use Rattle.one_pass.specs.Inner.ReadSources.{IsSource, ReadSource};
 
 use crate::expressions::{bracketed, known};
 use crate::not_read::NotRead;
 use crate::refusing::refuse_told;
 use crate::values::values;
 use arrayvec::ArrayVec;
-use model_core::{Change, Kind, RawChange, Symbol, Target, Word};
-use model_read::{Cursor, Phrase, packed};
+use model_core::{Change, Choice, Kind, Symbol, Target, Word};
+use model_read::{Cursor, RawSource, packed};
 use sig_base::{Held, List, TARGETS_MAX};
-use sig_types::{Names, Told, Typed};
+use sig_types::{Names, Told, Typed, kinds_differ};
 use std::alloc::Global;
 
 /// Reads a variable or a cell that takes a value.
@@ -56,7 +57,8 @@ struct TypedTargets {
 
 /// Reads targets, separated by commas: no more than a change may have.
 fn targets(alloc: Global, cursor: &mut Cursor<'_>, names: &Names) -> Result<TypedTargets, NotRead>
-    ensures { IfOk result (λ t. ReadRow (separated target_format) (IsTarget (meaning_of names.now)) cursor.old cursor.new (map location_of t.targets) t.kinds.items) }
+    ensures reads { IfOk result (λ t. ReadRow (separated target_format) (IsTarget (meaning_of names.now)) cursor.old cursor.new (map location_of t.targets) t.kinds.items) }
+    ensures few { IfOk result (λ t. length t.kinds.items ≤ TARGETS_MAX) }
 {
     let first = target(alloc, cursor, names)?;
     let mut targets = List::of_one(alloc, first.part)?;
@@ -64,7 +66,7 @@ fn targets(alloc: Global, cursor: &mut Cursor<'_>, names: &Names) -> Result<Type
     kinds.push(first.kind);
     while cursor.begins_symbol(Symbol::Comma) {
         cursor.symbol(Symbol::Comma)?;
-        if kinds.is_full() {
+        if kinds.len() >= TARGETS_MAX {
             return Err(NotRead::Broken);
         }
         let next = target(alloc, cursor, names)?;
@@ -89,26 +91,44 @@ fn set(alloc: Global, cursor: &mut Cursor<'_>, names: &Names) -> Result<Change, 
     Ok(Change::Set { targets, values })
 }
 
-/// The change that is written, where it breaks no static rule.
-fn checked(alloc: Global, names: &Names, raw: &RawChange) -> Result<Change, NotRead>
-    ensures unbroken { OnOk result (change_faults (meaning_of names.now) (written_change raw.now) ≡ []) }
-    ensures numbers { IfOk result (λ c. NumberedAs (meaning_of names.now) (λ d. numbering.change d (written_change raw.now)) (change_of c)) }
+/// The source of a draw that is written, where it breaks no static rule.
+fn checked(names: &Names, raw: &RawSource) -> Result<(u8, Choice), NotRead>
+    ensures { IfOk result (λ s. IsSource (meaning_of names.now) (written_source raw.now) s.0 (choice_of s.1)) }
 {
     let mut told = Told::new();
-    let change = Held::of(sig_types::change(alloc, names, raw, &mut told)?);
+    let source = sig_types::source(names, &raw.stream, &raw.choice, &mut told);
     refuse_told(&told)?;
-    Ok(change.free())
+    Ok(source)
 }
 
-/// Reads a change as it is written, and checks it then.
-fn written_first(alloc: Global, cursor: &mut Cursor<'_>, names: &Names) -> Result<Change, NotRead>
+/// Reads the source of a draw as it is written, and checks it then.
+fn source(alloc: Global, cursor: &mut Cursor<'_>, names: &Names) -> Result<(u8, Choice), NotRead>
+    ensures { IfOk result (λ s. ReadSource (meaning_of names.now) cursor.old cursor.new s.0 (choice_of s.1)) }
+{
+    let raw = model_read::source(alloc, cursor)?;
+    checked(names, &raw)
+}
+
+/// Reads a change that draws a value.
+fn draw(alloc: Global, cursor: &mut Cursor<'_>, names: &Names) -> Result<Change, NotRead>
     ensures { IfOk result (λ c. ReadSure change_format (meaning_of names.now) (change_faults (meaning_of names.now)) numbering.change cursor.old cursor.new (change_of c)) }
 {
-    let raw = RawChange::read(alloc, cursor)?;
-    checked(alloc, names, &raw)
+    cursor.word(Word::Draw)?;
+    let typed = target(alloc, cursor, names)?;
+    if kinds_differ(Some(Kind::Range), typed.kind) {
+        return Err(NotRead::Broken);
+    }
+    let target = Held::of(typed.part);
+    let (stream, choice) = source(alloc, cursor, names)?;
+    cursor.symbol(Symbol::Semicolon)?;
+    Ok(Change::Draw {
+        target: target.free(),
+        stream,
+        choice,
+    })
 }
 
-/// Reads a change. One that draws a value is rare.
+/// Reads a change.
 pub(crate) fn change(
     alloc: Global,
     cursor: &mut Cursor<'_>,
@@ -119,6 +139,6 @@ pub(crate) fn change(
     if cursor.begins_word(Word::Set) {
         set(alloc, cursor, names)
     } else {
-        written_first(alloc, cursor, names)
+        draw(alloc, cursor, names)
     }
 }

@@ -1,18 +1,18 @@
 //! Edges, which are checked as they are read. Where an edge breaks a static rule these functions give up.
 
 ghost use Rattle.std.specs.Prelude.{◌≡◌, ℕ, pos, true, List, [], Option, Some, IfOk, OnOk};
+ghost use Rattle.model_core.specs.declared.model.Kind.{Kind as KnownKind};
 ghost use Rattle.model_core.specs.declared.model.Kind.TheVariants as kinds;
 ghost use Rattle.model_core.specs.declared.token.Word.TheVariants.{After, Priority};
-ghost use Rattle.model_core.specs.EventGraph.{Number, Truth};
-ghost use Rattle.model_core.specs.Code.Views.{expression_of, edge_of};
+ghost use Rattle.model_core.specs.EventGraph.{Fixed, Number, Truth};
+ghost use Rattle.model_core.specs.Code.Views.{expression_of, edge_delay_of, edge_of};
 ghost use Rattle.model_core.specs.Code.WrittenViews.{written_number, written_edge};
 ghost use Rattle.model_core.specs.Text.Format.{reserved, any_number, ◌*>◌, maybe};
-ghost use Rattle.model_core.specs.Text.Expressions.{expression_format};
-ghost use Rattle.model_core.specs.Text.Language.{when_format, schedule_format, urgent_format, edge_format};
+ghost use Rattle.model_core.specs.Text.Language.{when_format, delay_format, schedule_format, urgent_format, edge_format};
 ghost use Rattle.model_core.specs.Text.Numbering as numbering;
 ghost use Rattle.model_core.specs.Text.Numbering.{written_or, natural};
 ghost use Rattle.model_core.specs.Static.Meanings.{Meaning, meaning_of};
-ghost use Rattle.model_core.specs.Static.PartFaults.{if_written, operand_faults, priority_faults, edge_faults};
+ghost use Rattle.model_core.specs.Static.PartFaults.{if_written, operand_faults, priority_faults, delay_faults, edge_faults};
 ghost use Rattle.static_laws.specs.Checked.{NumberedAs};
 ghost use Rattle.one_pass.specs.Inner.ReadParts.{ReadSure};
 
@@ -20,21 +20,29 @@ use crate::carried::carried;
 use crate::not_read::NotRead;
 use crate::refusing::refuse_told;
 use crate::values::value;
-use model_core::{Edge, EdgeForm, Expr, Kind, RawEdge, RawNumber, StaticKind, Symbol, Word};
+use model_core::{Delay, Edge, EdgeForm, Expr, Kind, RawEdge, RawNumber, StaticKind, Symbol, Word};
 use model_read::{Cursor, Phrase};
 use sig_base::{Held, List};
 use sig_types::{Names, Told, bounded};
 use std::alloc::Global;
 
+/// Reads a delay.
+fn delay(alloc: Global, cursor: &mut Cursor<'_>, names: &Names) -> Result<Delay, NotRead>
+    ensures { (taken : List (List (Option KnownKind))) → IfOk result (λ w. ReadSure delay_format (meaning_of names.now) (delay_faults (meaning_of names.now) taken) numbering.delay cursor.old cursor.new (edge_delay_of w)) }
+{
+    let expr = value(alloc, cursor, names, Some(Kind::Range))?;
+    Ok(Delay::Fixed(expr))
+}
+
 /// Reads the delay of an edge: 0 where none is written.
-fn delay(alloc: Global, cursor: &mut Cursor<'_>, names: &Names) -> Result<Expr, NotRead>
-    ensures { IfOk result (λ e. ReadSure (maybe (reserved After *> expression_format)) (meaning_of names.now) (if_written (operand_faults (meaning_of names.now) (Some kinds.Range))) (λ d. written_or (numbering.expression d) (Number (pos 0))) cursor.old cursor.new (expression_of e)) }
+fn after(alloc: Global, cursor: &mut Cursor<'_>, names: &Names) -> Result<Delay, NotRead>
+    ensures { (taken : List (List (Option KnownKind))) → IfOk result (λ w. ReadSure (maybe (reserved After *> delay_format)) (meaning_of names.now) (if_written (delay_faults (meaning_of names.now) taken)) (λ d. written_or (numbering.delay d) (Fixed (Number (pos 0)))) cursor.old cursor.new (edge_delay_of w)) }
 {
     if !cursor.begins_word(Word::After) {
-        return Ok(Expr::Int(0));
+        return Ok(Delay::Fixed(Expr::Int(0)));
     }
     cursor.word(Word::After)?;
-    let delay = value(alloc, cursor, names, Some(Kind::Range))?;
+    let delay = delay(alloc, cursor, names)?;
     Ok(delay)
 }
 
@@ -85,7 +93,7 @@ fn schedule(
 {
     cursor.word(Word::Schedule)?;
     let carried = carried(alloc, cursor, names, taken)?;
-    let delay = Held::of(delay(alloc, cursor, names)?);
+    let delay = Held::of(after(alloc, cursor, names)?);
     let priority = priority(cursor)?;
     let condition = Held::of(condition(alloc, cursor, names)?);
     cursor.symbol(Symbol::Semicolon)?;

@@ -1,6 +1,6 @@
 -- One target more is read, or no more comes.
-use Rattle.std.proofs.Common.{map, sym}
-use Rattle.std.proofs.lemmas.List.{map_push}
+use Rattle.std.proofs.Common.{[], ◌∷◌, map, sym, arith}
+use Rattle.std.proofs.lemmas.List.{map_push, length-append}
 use Rattle.model_core.specs.Code.Views.{location_of}
 use Rattle.model_core.specs.Text.Language.{target_format}
 use Rattle.model_core.specs.Static.Meanings.{meaning_of}
@@ -11,20 +11,26 @@ use Rattle.one_pass.proofs.changes.targets.Goals as goal
 pub loop-alloc-init : goal.loop-alloc-init
 loop-alloc-init c =
     let first = c.in_ok-first.ensures.reads in
-    rw (c.in_ok-targets.ensures, c.push.ensures.items, c.new-kinds.ensures)
-    (first_read target_format (IsTarget (meaning_of c.args.names.now)) c.args.cursor.now c.target.new.cursor first.written (location_of c.in_ok-first.first.part) c.in_ok-first.first.kind first.is_read first.target)
+    rw (c.in_ok-targets.ensures, c.push.ensures.items, c.new-kinds.ensures) (record {
+      so_far = first_read target_format (IsTarget (meaning_of c.args.names.now)) c.args.cursor.now c.target.new.cursor first.written (location_of c.in_ok-first.first.part) c.in_ok-first.first.kind first.is_read first.target;
+      few = omega arith;
+    })
 
 pub loop-alloc-preserved : goal.loop-alloc-preserved
 loop-alloc-preserved c =
     let next = c.in_ok-next.ensures.reads in
     let part = c.in_ok-next.next.part in
     let so_far = c.loop-alloc in
-    rw (c.in_ok-push.ensures.ok, map_push location_of so_far.targets part, c.push-in-loop-alloc-2.ensures.items)
-    (next_read target_format (IsTarget (meaning_of c.args.names.now)) c.args.cursor.now so_far.cursor c.symbol.new.self c.target-in-loop-alloc.new.cursor _ next.written (location_of part) c.in_ok-next.next.kind
-    (map location_of so_far.targets) so_far.kinds.items c.in_ok-symbol.ensures.reads next.is_read next.target so_far.invariant)
+    rw (c.in_ok-push.ensures.ok, map_push location_of so_far.targets part, c.push-in-loop-alloc-2.ensures.items) (record {
+      so_far = next_read target_format (IsTarget (meaning_of c.args.names.now)) c.args.cursor.now so_far.cursor c.symbol.new.self c.target-in-loop-alloc.new.cursor _ next.written (location_of part) c.in_ok-next.next.kind
+          (map location_of so_far.targets) so_far.kinds.items c.in_ok-symbol.ensures.reads next.is_read next.target so_far.invariant.so_far;
+      few = let longer = length-append so_far.kinds.items (c.in_ok-next.next.kind ∷ []) in let here = c.len.ensures.value in let short = c.if-len-ge-TARGETS_MAX.false in omega arith;
+    })
 
 pub returns : goal.returns
 returns c =
-    let so_far = c.loop-alloc in
-    rw c.packed.ensures (all_read target_format (IsTarget (meaning_of c.args.names.now)) c.args.cursor.now so_far.cursor (map location_of so_far.targets) so_far.kinds.items
-    (sym c.loop-alloc-test.ensures) so_far.invariant)
+    let l = c.loop-alloc in
+    rw c.packed.ensures (record {
+      reads = all_read target_format (IsTarget (meaning_of c.args.names.now)) c.args.cursor.now l.cursor (map location_of l.targets) l.kinds.items (sym c.loop-alloc-test.ensures) l.invariant.so_far;
+      few = l.invariant.few;
+    })
