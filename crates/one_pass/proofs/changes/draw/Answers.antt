@@ -1,6 +1,6 @@
 -- Of the target and the source.
 use Rattle.std.proofs.Common.{sym}
-use Rattle.model_core.specs.Code.Views.{location_of, choice_of}
+use Rattle.model_core.specs.Code.Views.{location_of}
 use Rattle.model_core.specs.Static.Meanings.{meaning_of}
 use Rattle.one_pass.proofs.DrawsRead.{draw_read}
 use Rattle.one_pass.proofs.changes.draw.Goals as goal
