@@ -5,14 +5,14 @@ use Rattle.std.specs.List.{AllByRecursion, AllZip}
 use Rattle.std.proofs.lemmas.Int.{ints}
 use Rattle.model_core.specs.declared.model.Kind.{Kind}
 use Rattle.model_core.specs.declared.model.Kind.TheVariants as kinds
-use Rattle.model_core.specs.EventGraph.{EventGraph, Variable, EventVertex, EventEdge, EdgeKind, Schedule, Urgent, CancelNext, CancelEqual, CancelAll, Expression}
+use Rattle.model_core.specs.EventGraph.{EventGraph, Variable, EventVertex, EventEdge, Delay, Fixed, EdgeKind, Schedule, Urgent, CancelNext, CancelEqual, CancelAll, Expression}
 use Rattle.model_core.specs.Run.State.{State, variable_at, in_range}
 use Rattle.model_core.specs.Run.Value.{each, value_of, number_of}
 use Rattle.model_core.specs.Run.Edges.{Waiting, delay_ticks, delay_of, carried_values}
 use Rattle.model_core.specs.Run.Step.{no_vertex, vertex_at}
-use Rattle.model_core.specs.Text.Spellable.{IsSigned, extent, SpellableExpression, SpellableKind, SpellableEdge, SpellableVertex, SpellableVariable, IsSpellable, HasWrittenRange}
+use Rattle.model_core.specs.Text.Spellable.{IsSigned, extent, SpellableExpression, SpellableDelay, SpellableKind, SpellableEdge, SpellableVertex, SpellableVariable, IsSpellable, HasWrittenRange}
 use Rattle.model_core.specs.Static.HasKind.{HasKind}
-use Rattle.model_core.specs.Static.OwnRules.{FitsKind, KeepsVariable, CarriesValues, KeepsTiming, KeepsEdge, KeepsVertex, TakeCarried, parameters_of, KeepsParts}
+use Rattle.model_core.specs.Static.OwnRules.{FitsKind, KeepsVariable, CarriesValues, KeepsDelay, KeepsTiming, KeepsEdge, KeepsVertex, TakeCarried, parameters_of, KeepsParts}
 use Rattle.model_core.proofs.Results.{bind_ok}
 use Rattle.model_core.proofs.EachOne.{every-both, every-map}
 use Rattle.static_laws.proofs.StaticTwins.Zips.{zip_length}
@@ -86,12 +86,12 @@ module _ (g : EventGraph) (parts : KeepsParts g) (spelled : IsSpellable g) (seed
   ticks-near (pos k) n w e = let same : k ≡ n = cc in omega (arith, ints, w.greatest, same)
   ticks-near (negsuc k) n w e = cc
 
-  delay-near : (n : ℕ) (delay : Expression) (taken : List ℕ) (wait : Waiting) → HasKind g.variables delay kinds.Range → SpellableExpression n delay → delay_of g seed s clk delay taken ≡ Ok wait → wait.ticks ≤ 2 ^ 63 - 1
-  delay-near n delay taken wait is fits done =
-      let (x, at_value, later) = bind_ok (value_of g s clk delay) _ wait done in
+  delay-near : (delay : Delay) (taken : List ℕ) (wait : Waiting) → KeepsDelay g.variables (length g.tables) (parameters_of g) delay → SpellableDelay (extent g) delay → delay_of g seed s clk delay taken ≡ Ok wait → wait.ticks ≤ 2 ^ 63 - 1
+  delay-near (Fixed e) taken wait is fits done =
+      let (x, at_value, later) = bind_ok (value_of g s clk e) _ wait done in
       let (ticks, at_ticks, at_end) = bind_ok (delay_ticks x) (λ n. Ok (record { ticks = n; taken = taken })) wait later in
       let same : ticks ≡ wait.ticks = cc in
-      subst (λ (n : ℕ). n ≤ 2 ^ 63 - 1) same (ticks-near x ticks (of-kind-wide kinds.Range n delay x is fits at_value) at_ticks)
+      subst (λ (n : ℕ). n ≤ 2 ^ 63 - 1) same (ticks-near x ticks (of-kind-wide kinds.Range (length g.variables) e x is fits at_value) at_ticks)
 
   -- an event of this vertex, scheduled now or soon
   made-good : (e : EventEdge) (parameters : List ℕ) (ticks priority : ℕ) (values : List ℤ) → slice_get (parameters_of g) e.target ≡ Some parameters → ticks ≤ 2 ^ 63 - 1 → priority ≤ 255 → TakeCarried g.variables (length g.tables) (parameters_of g) parameters e.values → AllByRecursion (SpellableExpression (length g.variables)) e.values → carried_values g s clk e ≡ Ok values
@@ -112,7 +112,7 @@ module _ (g : EventGraph) (parts : KeepsParts g) (spelled : IsSpellable g) (seed
   kind-good : (e : EventEdge) (kind : EdgeKind) (parameters : List ℕ) → slice_get (parameters_of g) e.target ≡ Some parameters → CarriesValues g.variables (length g.tables) (parameters_of g) kind parameters e.values → KeepsTiming g.variables (length g.tables) (parameters_of g) kind → SpellableKind (extent g) kind → AllByRecursion (SpellableExpression (length g.variables)) e.values
       → SchedulesOnly (IsGoodEntry g clk) g seed s clk e kind
   kind-good e (Schedule delay priority) parameters target carries timing written fits =
-      λ taken wait values at_delay at_values. made-good e parameters wait.ticks priority values target (delay-near (length g.variables) delay taken wait timing.0 written.0 at_delay) timing.2 carries fits at_values
+      λ taken wait values at_delay at_values. made-good e parameters wait.ticks priority values target (delay-near delay taken wait timing.0 written.0 at_delay) timing.2 carries fits at_values
   kind-good e Urgent parameters target carries timing written fits =
       λ values at_values. subst (λ (t : ℕ). IsGoodEntry g clk (record { time = t; priority = 0; vertex = e.target; values = values })) (omega arith) (made-good e parameters 0 0 values target (omega arith) (omega arith) carries fits at_values)
   kind-good e CancelNext parameters target carries timing written fits = tt
