@@ -14,6 +14,7 @@ use Rattle.model_core.proofs.SameNames.{SameNames, map_alike, watched_alike, ver
 use Rattle.model_core.proofs.PlacesChanged.{shown_placed, map_placed, length_placed, has_one_placed}
 use Rattle.edge_pruning.proofs.ListsChanged.{all_with_place}
 use Rattle.model_core.proofs.NoLongerTexts.{NoLonger, no_longer-behind, no_longer-before, no_longer-same, no_longer-both}
+use Rattle.round_trip.proofs.VersionsKept.{needed-placed, declared-shorter}
 use Rattle.edge_pruning.proofs.Shorter.{lines_with_place}
 
 -- the vertex with its edges changed
@@ -65,7 +66,7 @@ module _ (g : EventGraph) (vertex : ℕ) (change : List EventEdge → List Event
   canonical_shorter : NoLonger (canonical h) (canonical g)
   canonical_shorter =
       no_longer-before (codes "end\n")
-      (no_longer-both (no_longer-behind (codes "model " ++ g.name ++ codes ";\n" ++ flat_map variable_line g.variables ++ flat_map table_line g.tables) watch)
+      (no_longer-both (no_longer-both (declared-shorter h g (needed-placed g f (λ x. refl) vertex) g.name (flat_map variable_line g.variables) (flat_map table_line g.tables)) watch)
       (lines_with_place (vertex_lines g) (vertex_lines h) f changed same vertex g.vertices))
     where
       watch : NoLonger (watch_line h) (watch_line g)
@@ -110,4 +111,4 @@ module _ (g : EventGraph) (vertex : ℕ) (change : List EventEdge → List Event
   }
 
   pub changed_rules : KeepsStaticRules g → KeepsStaticRules h
-  changed_rules k = record { parts = changed_parts k.parts; short = le_trans canonical_shorter.at_most k.short }
+  changed_rules k = record { parts = changed_parts k.parts; few_cells = k.few_cells; short = le_trans canonical_shorter.at_most k.short }

@@ -14,12 +14,13 @@ use Rattle.model_core.specs.Rules.MarkedPlaces.{rank, marked_of}
 use Rattle.model_core.specs.Rules.Drop.{edge_renumbered, vertex_renumbered, watched_renumbered, only_marked}
 use Rattle.mark_laws.proofs.Marks.{Marked, rank-apart}
 use Rattle.round_trip.proofs.FewerVertices.{Stay, kept-spellable, kept-parts}
+use Rattle.round_trip.proofs.VersionsKept.{needed-kept, declared-shorter}
 use Rattle.model_core.proofs.Among.{Among, of-among, each-among}
 use Rattle.model_core.proofs.Images.{shown-map, flat_map-map}
 use Rattle.mark_laws.proofs.MarksBelow.{marked-among}
 use Rattle.model_core.proofs.SomeOfAList.{some-marked_of}
 use Rattle.edge_pruning.proofs.DropMarks.{marked_of-map}
-use Rattle.model_core.proofs.NoLongerTexts.{NoLonger, no_longer-behind, no_longer-before, no_longer-same, no_longer-both}
+use Rattle.model_core.proofs.NoLongerTexts.{NoLonger, no_longer-before, no_longer-same, no_longer-both}
 use Rattle.edge_pruning.proofs.ReachedMarks.{watched-begins, HoldReached}
 use Rattle.edge_pruning.proofs.DropSame.{NamesVertices}
 
@@ -130,13 +131,13 @@ module _ (g : EventGraph) (marks : List Bool) (hold : HoldReached g marks) (name
   canonical_shorter : NoLonger (canonical h) (canonical g)
   canonical_shorter =
       no_longer-before (codes "end\n")
-      (no_longer-both (no_longer-behind (codes "model " ++ g.name ++ codes ";\n" ++ flat_map variable_line g.variables ++ flat_map table_line g.tables) (no_longer-same (watch_line h) (watch_line g) watch_same))
+      (no_longer-both (no_longer-both (declared-shorter h g (needed-kept g kept f h.watch (some-marked_of marks g.vertices)) g.name (flat_map variable_line g.variables) (flat_map table_line g.tables)) (no_longer-same (watch_line h) (watch_line g) watch_same))
       vertices_shorter)
 
   -- ---- it keeps the rules
 
   pub dropped_rules : KeepsStaticRules g → KeepsStaticRules h
-  dropped_rules k = record { parts = kept-parts g kept f (Marked marks) (Marked marks) stay k.parts; short = le_trans canonical_shorter.at_most k.short }
+  dropped_rules k = record { parts = kept-parts g kept f (Marked marks) (Marked marks) stay k.parts; few_cells = k.few_cells; short = le_trans canonical_shorter.at_most k.short }
 
 -- ---- a valid model names vertices
 

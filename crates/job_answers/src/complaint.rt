@@ -39,6 +39,7 @@ fn static_message(kind: StaticKind) -> &'static [u8]
         StaticKind::StreamOutside => b"stream outside",
         StaticKind::DrawOutside => b"draw outside",
         StaticKind::WeightOutside => b"weight outside",
+        StaticKind::VersionUnknown => b"unknown version",
         StaticKind::TooMany => b"too many",
         StaticKind::ModelTooLong => b"model too long",
     }

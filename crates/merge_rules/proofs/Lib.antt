@@ -18,6 +18,7 @@ pub mod MergeNeeds
 pub mod MergeResult
 pub mod PlacedElement
 pub mod ValidMerged
+pub mod VersionMerged
 pub mod MergedLength
 pub mod LimitsTold
 pub mod PairsFound

@@ -1,11 +1,12 @@
 -- How long the canonical text of the result of a merge is.
-use Rattle.std.proofs.Common.{◌≡◌, ℕ, ◌+◌, List, [], ◌∷◌, ◌++◌, map, length, slice_get, Some, refl, ◌∙◌, ap, arith, length-append}
+use Rattle.std.proofs.Common.{◌≡◌, ℕ, ◌+◌, Bool, List, [], ◌∷◌, ◌++◌, map, length, slice_get, Some, refl, ◌∙◌, ap, arith, length-append}
 use Rattle.std.specs.Prelude.{codes}
 use Rattle.std.specs.List.{flat_map}
 use Rattle.std.proofs.lemmas.Grind.{flat_map-append}
 use Rattle.model_core.specs.EventGraph.{EventGraph, EventVertex, EventEdge}
 use Rattle.model_core.specs.Run.Step.{vertex_at, no_vertex}
-use Rattle.model_core.specs.Text.Canonical.{variable_name, in_parentheses, change_line, edge_line, vertex_lines, variable_line, table_line, watched_name, watch_names_line, watch_line, canonical}
+use Rattle.model_core.specs.Text.Canonical.{variable_name, in_parentheses, change_line, edge_line, vertex_lines, variable_line, table_line, watched_name, watch_names_line, watch_line, version_line, canonical}
+use Rattle.model_core.specs.Text.VersionNeeded.{needs_version_two}
 use Rattle.model_core.specs.Rules.Merge.{set_parameters, merged_with, merged}
 use Rattle.model_core.specs.Rules.PlacedEdges.{with_place}
 use Rattle.model_core.specs.Rules.Prune.{without_edge, pruned}
@@ -17,6 +18,7 @@ use Rattle.merge_rules.proofs.PlacedElement.{lengths_placed}
 use Rattle.merge_rules.proofs.PlainEdges.{PlainEdge}
 use Rattle.merge_rules.proofs.MergeResult.{joined_is}
 use Rattle.merge_rules.proofs.ValidMerged.{name_stays}
+use Rattle.merge_rules.proofs.VersionMerged.{needed-pruned, needed-merged}
 
 abbrev total : {A : Type 0} → (A → List ℕ) → List A → ℕ
 total gives xs = length (flat_map gives xs)
@@ -56,22 +58,24 @@ module _ (g : EventGraph) (f : EventVertex → EventVertex) (name_kept : (x : Ev
   watch_alike : watch_line g ≡ watch_line changed
   watch_alike = ap watch_names_line (map_alike (watched_name g) (watched_name changed) (watched_alike g changed same_names) g.watch)
 
-  abbrev opening : List ℕ
-  opening = codes "model " ++ g.name ++ codes ";\n" ++ flat_map variable_line g.variables ++ flat_map table_line g.tables
+  abbrev opening : Bool → List ℕ
+  opening needed = version_line needed ++ codes "model " ++ g.name ++ codes ";\n" ++ flat_map variable_line g.variables ++ flat_map table_line g.tables
 
-  canonical_length : (watch : List ℕ) (lines : List ℕ) → length (opening ++ watch ++ lines ++ codes "end\n") ≡ length opening + length watch + length lines + length (codes "end\n")
-  canonical_length watch lines =
-      length-append (opening ++ watch ++ lines) (codes "end\n") ∙ ap (λ n. n + length (codes "end\n")) (length-append (opening ++ watch) lines ∙ ap (λ n. n + length lines) (length-append opening watch))
+  canonical_length : (needed : Bool) (watch : List ℕ) (lines : List ℕ) → length (opening needed ++ watch ++ lines ++ codes "end\n") ≡ length (opening needed) + length watch + length lines + length (codes "end\n")
+  canonical_length needed watch lines =
+      length-append (opening needed ++ watch ++ lines) (codes "end\n")
+      ∙ ap (λ n. n + length (codes "end\n")) (length-append (opening needed ++ watch) lines ∙ ap (λ n. n + length lines) (length-append (opening needed) watch))
 
   -- the text has the vertex's new lines in place of its lines
-  changed_length : (v : EventVertex) → slice_get g.vertices first ≡ Some v → length (canonical changed) + length (vertex_lines g (vertex_at g first)) ≡ length (canonical g) + length (vertex_lines g (f (vertex_at g first)))
-  changed_length v there =
-      let new = canonical_length (watch_line changed) (flat_map (vertex_lines changed) changed.vertices) in
-      let old = canonical_length (watch_line g) (flat_map (vertex_lines g) g.vertices) in
+  changed_length : needs_version_two changed ≡ needs_version_two g → (v : EventVertex) → slice_get g.vertices first ≡ Some v → length (canonical changed) + length (vertex_lines g (vertex_at g first)) ≡ length (canonical g) + length (vertex_lines g (f (vertex_at g first)))
+  changed_length needed v there =
+      let new = canonical_length (needs_version_two changed) (watch_line changed) (flat_map (vertex_lines changed) changed.vertices) in
+      let old = canonical_length (needs_version_two g) (watch_line g) (flat_map (vertex_lines g) g.vertices) in
+      let version = ap (λ b. length (opening b)) needed in
       let watch = ap length watch_alike in
       let lines = ap length all_lines in
       let placed = lengths_placed (vertex_lines g) f first g.vertices no_vertex v there in
-      omega (arith, new, old, watch, lines, placed)
+      omega (arith, new, old, version, watch, lines, placed)
 
 module _ (g : EventGraph) (first second : ℕ) (p : PlainEdge (vertex_at g first) second) where
   abbrev a : EventVertex
@@ -117,13 +121,13 @@ module _ (g : EventGraph) (first second : ℕ) (p : PlainEdge (vertex_at g first
   -- the text is shorter by the plain urgent edge where that goes
   pub rest_length : (v : EventVertex) → slice_get g.vertices first ≡ Some v → length (canonical (pruned g first p.place)) + length (edge_line g at_once) ≡ length (canonical g)
   rest_length v there =
-      let changed = changed_length g (without_edge p.place) (λ x. refl) first v there in
+      let changed = changed_length g (without_edge p.place) (λ x. refl) first (needed-pruned g first p.place) v there in
       omega (arith, changed, without_length)
 
   -- the text is longer by what is added, and shorter by the plain urgent edge
   pub merged_length : (v : EventVertex) → slice_get g.vertices first ≡ Some v → length (canonical result) + length (edge_line g at_once) ≡ length (canonical g) + added
   merged_length v there =
-      let changed = changed_length g (merged_with b) (name_stays b) first v there in
+      let changed = changed_length g (merged_with b) (name_stays b) first (needed-merged g first second) v there in
       let here = ap (λ v. length (vertex_lines g v)) (joined_is a b second p) in
       omega (arith, changed, here, joined_length)
 

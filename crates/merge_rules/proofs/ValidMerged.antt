@@ -1,9 +1,9 @@
 -- The result of a merge keeps the static rules, and a text can write it.
 use Rattle.std.proofs.Common.{◌≡◌, ◌∙◌, ℕ, ◌≤◌, ◌<◌, nat_le, nat_lt, true, false, List, [], ◌∷◌, ◌++◌, map, length, Option, Some, None, refl, sym, ap, subst, arith}
 use Rattle.std.proofs.lemmas.Bool.Decides.{nat_tests}
-use Rattle.std.specs.List.{AllByRecursion, AllZip, IsDistinct}
+use Rattle.std.specs.List.{AllByRecursion, AllZip, IsDistinct, sum_by}
 use Rattle.std.specs.Option.{option_map_or}
-use Rattle.sig_base.specs.declared.limits.TheConstants.{TEXT_MAX, CHANGES_MAX, EDGES_MAX, VERTICES_MAX, OPENINGS_MAX}
+use Rattle.sig_base.specs.declared.limits.TheConstants.{TEXT_MAX, CELLS_MAX, CHANGES_MAX, EDGES_MAX, VERTICES_MAX, OPENINGS_MAX}
 use Rattle.model_core.specs.declared.model.Kind.{Kind}
 use Rattle.model_core.specs.EventGraph.{EventGraph, EventVertex, EventEdge, Expression, Variable, WeightTable, scalar_location}
 use Rattle.model_core.specs.Run.Step.{vertex_at, no_vertex}
@@ -108,8 +108,8 @@ module _ (g : EventGraph) (keeps : KeepsParts g) (first second : ℕ) (h : Merge
     few_vertices = subst (λ n. n ≤ VERTICES_MAX) (sym same_length) keeps.few_vertices;
   }
 
-  pub merged_rules : KeepsStaticRules result
-  merged_rules = record { parts = merged_parts; short = at_most (length (canonical result)) TEXT_MAX (and_second (has_few_parts (vertex_at result first)) _ h.within) }
+  pub merged_rules : sum_by (λ (v : Variable). v.size) g.variables ≤ CELLS_MAX → KeepsStaticRules result
+  merged_rules few = record { parts = merged_parts; few_cells = few; short = at_most (length (canonical result)) TEXT_MAX (and_second (has_few_parts (vertex_at result first)) _ h.within) }
 
   -- ---- a text can write it
 

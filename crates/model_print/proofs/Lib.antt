@@ -1,3 +1,4 @@
 mod WrittenOperators
 mod OneEdgeLess
 pub mod Putting
+mod VersionLines

@@ -5,7 +5,8 @@ use Rattle.std.proofs.lemmas.List.{length-map, length-take-le, flat_map_more}
 use Rattle.std.specs.Prelude.{codes}
 use Rattle.std.specs.List.{flat_map, remove}
 use Rattle.model_core.specs.EventGraph.{EventGraph, EventVertex, Expression, Set, scalar_location}
-use Rattle.model_core.specs.Text.Canonical.{variable_name, expression_texts, joined, location_text, change_line, vertex_lines, variable_line, table_line, watched_name, watch_names_line}
+use Rattle.model_core.specs.Text.Canonical.{variable_name, expression_texts, joined, location_text, change_line, vertex_lines, watched_name}
+use Rattle.model_core.specs.Text.VersionNeeded.{needs_version_two}
 use Rattle.model_core.specs.Rules.Merge.{set_parameters}
 use Rattle.model_core.specs.Rules.PlacedEdges.{with_place}
 use Rattle.model_core.specs.Rules.Prune.{without_edge, pruned}
@@ -13,6 +14,7 @@ use Rattle.model_core.proofs.SameNames.{SameNames, map_alike, flat_map_alike, ve
 use Rattle.model_core.proofs.PlacesChanged.{shown_placed}
 use Rattle.sig_base.proofs.Lists.{seen_more}
 use Rattle.model_print.proofs.Putting.{Both, two, put_as}
+use Rattle.model_print.proofs.VersionLines.{needed_pruned, declared}
 
 apart : (k : ℕ) → (0 == suc k) ≡ false
 apart k = grind (arith, nat_tests)
@@ -73,11 +75,8 @@ without_edge_names g vertex edge = record {
   vertex = shown_placed (λ (v : EventVertex). v.name) (without_edge edge) [] (λ v. refl) vertex g.vertices;
 }
 
-abbrev declared : EventGraph → List (List ℕ) → List ℕ
-declared g watched = codes "model " ++ g.name ++ codes ";\n" ++ flat_map variable_line g.variables ++ flat_map table_line g.tables ++ watch_names_line watched
-
-pub same_declarations : (g : EventGraph) (vertex edge : ℕ) → declared g (map (watched_name g) g.watch) ≡ declared g (map (watched_name (pruned g vertex edge)) g.watch)
-same_declarations g vertex edge = ap (declared g) (map_alike (watched_name g) (watched_name (pruned g vertex edge)) (watched_alike g (pruned g vertex edge) (without_edge_names g vertex edge)) g.watch)
+pub same_declarations : (g : EventGraph) (vertex edge : ℕ) → declared g (needs_version_two g) (map (watched_name g) g.watch) ≡ declared g (needs_version_two (pruned g vertex edge)) (map (watched_name (pruned g vertex edge)) g.watch)
+same_declarations g vertex edge = ap₂ (declared g) (needed_pruned g vertex edge) (map_alike (watched_name g) (watched_name (pruned g vertex edge)) (watched_alike g (pruned g vertex edge) (without_edge_names g vertex edge)) g.watch)
 
 pub same_lines : (g : EventGraph) (vertex edge : ℕ) (vs : List EventVertex) → flat_map (vertex_lines g) vs ≡ flat_map (vertex_lines (pruned g vertex edge)) vs
 same_lines g vertex edge vs = flat_map_alike (vertex_lines g) (vertex_lines (pruned g vertex edge)) (vertex_alike g (pruned g vertex edge) (without_edge_names g vertex edge)) vs

@@ -5,7 +5,7 @@ use Rattle.model_core.specs.declared.token.Symbol.TheVariants as symbols
 use Rattle.model_core.specs.Text.Written.{WrittenChange, WrittenEdge, WrittenVertex, WrittenModel}
 use Rattle.model_core.specs.Text.Format.{Yields, Many, reserved, mark, any_name, ◌<*>◌, ◌<*◌, ◌*>◌, maybe, separated}
 use Rattle.model_core.specs.Text.Expressions.{LanguageFormat}
-use Rattle.model_core.specs.Text.Language.{variable_format, table_format, watch_format, text_written}
+use Rattle.model_core.specs.Text.Language.{variable_format, table_format, watch_format, version_format, text_written}
 
 -- a vertex that begins as another one does
 abbrev pub with_body : WrittenVertex → List WrittenChange → List WrittenEdge → WrittenVertex
@@ -22,8 +22,8 @@ vertex_beginning =
     <*> reserved words.Vertex <*> any_name <*> maybe (mark symbols.OpenParenthesis *> separated any_name <* mark symbols.CloseParenthesis)
     <* mark symbols.OpenBrace
 
--- `model`, the name, and the declarations up to the first vertex
+-- the version line, if there is one, `model`, the name, and the declarations up to the first vertex
 unfoldable pub model_beginning : LanguageFormat (List WrittenVertex → ℕ → WrittenModel)
 model_beginning =
     Yields text_written
-    <*> reserved words.Model <*> any_name <* mark symbols.Semicolon <*> Many variable_format <*> Many table_format <*> maybe watch_format
+    <*> maybe version_format <*> reserved words.Model <*> any_name <* mark symbols.Semicolon <*> Many variable_format <*> Many table_format <*> maybe watch_format

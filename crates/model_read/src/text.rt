@@ -2,38 +2,84 @@
 
 ghost use Rattle.std.specs.Prelude.{◌≡◌, ℕ, ◌≤◌, List, None, Some, length, drop, IfOk};
 ghost use Rattle.sig_base.specs.declared.limits.TheConstants.{OPENINGS_MAX};
-ghost use Rattle.model_core.specs.Code.WrittenViews.{written_model};
-ghost use Rattle.model_core.specs.Text.Language.{IsText, BeginsWithText};
+ghost use Rattle.std.specs.Option.{option_map};
+ghost use Rattle.model_core.specs.Code.WrittenViews.{written_number, written_model};
+ghost use Rattle.model_core.specs.Text.Format.{maybe};
+ghost use Rattle.model_core.specs.Text.Language.{VersionLine, version_format, text_place, IsText, BeginsWithText};
 ghost use Rattle.model_core.specs.Text.FirstWrong.{IsUnexpectedAt};
 ghost use Rattle.model_core.specs.Text.Openings.{front_to_end, too_deep_at, HasFewOpenings};
 ghost use Rattle.text_laws.specs.LanguageReader.{language_reader, text_and_rest, text_read};
 ghost use Rattle.model_lex.specs.Lexemes.{lexemes};
 ghost use Rattle.model_read.specs.Beginnings.{with_vertices, model_beginning};
 ghost use Rattle.model_read.specs.ReadCalls.{Returned};
+ghost use Rattle.model_read.specs.Inner.Versions.{written_version};
 
 use crate::cursor::Cursor;
 use crate::declarations::watch;
 use crate::openings::{first_too_deep, front_length};
 use crate::phrase::{at_least_one, many};
 use crate::stop::{Stop, placed};
-use model_core::{RawModel, Symbol, Word};
+use model_core::{RawModel, RawNumber, Symbol, Word};
 use model_lex::{ParseError, Tokens, tokens_stand_in_order};
 use sig_base::{Held, List, OPENINGS_MAX};
 use std::alloc::Global;
+
+/// What a text says of its version: the byte of its word `version`, and the number behind it.
+#[derive(Clone, Copy)]
+struct RawVersion {
+    at: usize,
+    number: RawNumber,
+}
+
+/// Reads the line of the version, where there is one.
+#[tactic(auto, unfolding(model_core::specs::Text::Language::version_format))]
+fn version(cursor: &mut Cursor<'_>) -> Result<Option<RawVersion>, Stop>
+    ensures { Returned (option_map written_version) result cursor.new (language_reader (maybe version_format) cursor.old) }
+{
+    if !cursor.begins_word(Word::Version) {
+        return Ok(None);
+    }
+    let at = cursor.word(Word::Version)?;
+    let number = cursor.number()?;
+    cursor.symbol(Symbol::Semicolon)?;
+    Ok(Some(RawVersion { at, number }))
+}
+
+/// The byte at which a text begins whose word `model` stands at this one.
+fn text_place(version: Option<RawVersion>, model: usize) -> usize
+    ensures { result ≡ text_place (option_map written_version version) model }
+{
+    match version {
+        Some(line) => line.at,
+        None => model,
+    }
+}
+
+/// The number of a text's version, where it says one.
+fn version_number(version: Option<RawVersion>) -> Option<RawNumber>
+    ensures { option_map written_number result ≡ option_map (λ (l : VersionLine). l.number) (option_map written_version version) }
+{
+    match version {
+        Some(line) => Some(line.number),
+        None => None,
+    }
+}
 
 /// Reads what stands before the vertices of a model. The model that it gives has no vertices, and ends at byte 0.
 #[tactic(auto, unfolding(crate::specs::Beginnings::model_beginning))]
 pub fn begun_model(alloc: Global, cursor: &mut Cursor<'_>) -> Result<RawModel, Stop>
     ensures { Returned (λ m. with_vertices (written_model m)) result cursor.new (language_reader model_beginning cursor.old) }
 {
-    let at = cursor.word(Word::Model)?;
+    let version = version(cursor)?;
+    let model = cursor.word(Word::Model)?;
     let name = cursor.name(alloc)?;
     cursor.symbol(Symbol::Semicolon)?;
     let vars = many(alloc, cursor)?;
     let tables = many(alloc, cursor)?;
     let watch = watch(alloc, cursor)?;
     Ok(RawModel {
-        at,
+        at: text_place(version, model),
+        version: version_number(version),
         name,
         vars,
         tables,

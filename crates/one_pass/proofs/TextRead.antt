@@ -1,7 +1,9 @@
 -- A model that was read, from what stands before its vertices and from the vertices.
-use Rattle.std.proofs.Common.{◌≡◌, ℕ, List, [], ◌++◌, map, Option, Some, None, ap, sym, ◌∙◌}
+use Rattle.std.proofs.Common.{◌≡◌, ◌≤◌, ℕ, List, [], ◌++◌, map, Option, Some, None, refl, ap, sym, subst, ◌∙◌}
+use Rattle.std.specs.Prelude.{sum_by}
 use Rattle.std.specs.List.{flat_map}
-use Rattle.sig_base.specs.declared.limits.TheConstants.{TEXT_MAX}
+use Rattle.std.proofs.lemmas.Option.{same_Some}
+use Rattle.sig_base.specs.declared.limits.TheConstants.{CELLS_MAX, TEXT_MAX}
 use Rattle.model_core.specs.declared.model.Kind.{Kind}
 use Rattle.model_core.specs.EventGraph as graph
 use Rattle.model_core.specs.EventGraph.{EventGraph}
@@ -14,11 +16,18 @@ use Rattle.model_core.specs.Static.FaultOrder.{StaticFault, earliest_fault}
 use Rattle.model_core.specs.Static.Meanings.{Meaning, AsWatched}
 use Rattle.model_core.specs.Static.RuleTable.{model_too_long}
 use Rattle.model_core.specs.Static.PartFaults.{vertex_faults, written_items, kinds_taken, use_faults, repeated_names, variable_faults, table_faults}
+use Rattle.model_core.specs.Static.VersionFaults.{version_faults}
 use Rattle.model_core.specs.Static.ModelFaults.{model_meaning, model_takes, faults_of_parts, Accepted}
+use Rattle.model_core.specs.Static.OwnRules.{KeepsParts}
 use Rattle.model_read.specs.Beginnings.{with_vertices}
 use Rattle.static_laws.specs.Checked.{Checked, CheckedPart, CheckedPlain}
 use Rattle.static_laws.specs.DeclaredFaults.{faults_of_declared}
+use Rattle.static_laws.specs.FitsVersion.{FitsVersion}
+use Rattle.static_laws.proofs.ToldFaults.{none_told}
 use Rattle.static_laws.proofs.WholeModel.{model_checked, all_told, is_accepted}
+use Rattle.static_laws.proofs.StaticTwins.Twins.{both_empty}
+use Rattle.static_laws.proofs.StaticTwins.ModelTwin.{parts_kept}
+use Rattle.static_laws.proofs.StaticTwins.VersionTwin.{version_twin}
 use Rattle.one_pass.specs.Inner.ReadParts.{ReadVertices, ReadBehind}
 use Rattle.one_pass.proofs.Sure.{checked_surely}
 use Rattle.one_pass.proofs.Alike.{same-meaning, same-takes, same-faults}
@@ -45,7 +54,25 @@ model_taken m means taken before after t0 t1 t2 t3 t4 xs ts ws vs is takes head 
       (rw (same, kept) at (checked_surely means t4 (flat_map (vertex_faults means taken) vertices.parts.written) (λ d. each_numbered (numbering.vertex d) vertices.parts.written) vs vertices.parts.unbroken vertices.parts.numbers));
 }
 
--- a model in which nothing is told is accepted
+abbrev HasFewCells : EventGraph → Type 0
+HasFewCells g = sum_by (λ (v : graph.Variable). v.size) g.variables ≤ CELLS_MAX
+
+-- where nothing is told of the parts of a model that the version can write, nothing is told of the whole
+version_kept : (m : WrittenModel) (g : EventGraph) → Checked None None (faults_of_parts m) (numbered m ≡ Some g) → FitsVersion m.version g → HasFewCells g → Checked None None (faults_of_parts m ++ version_faults m) (numbered m ≡ Some g)
+version_kept m g checked fits few =
+    let none = none_told (faults_of_parts m) (sym checked.told) in
+    let is = checked.unbroken none in
+    let (h, is_h, keeps, by_kind) = parts_kept m none in
+    let same : h ≡ g = same_Some h g (sym is_h ∙ is) in
+    let version = (version_twin m g is (subst KeepsParts same keeps) by_kind).1 (fits, few) in
+    record {
+      told = sym (ap (earliest_fault None) (both_empty (faults_of_parts m) (version_faults m) none version));
+      unbroken = λ n. is;
+    }
+
+-- a model in which nothing is told, and that the version can write, is accepted
 pub model_accepted : (m : WrittenModel) (g : EventGraph) (t1 t2 : Option StaticFault) → Checked None t1 (faults_of_parts m) (numbered m ≡ Some g)
+    → FitsVersion m.version g → HasFewCells g
     → (t1 ≡ None → t2 ≡ earliest_fault None (model_too_long TEXT_MAX (canonical g) m.end_at)) → ((f : StaticFault) → t1 ≡ Some f → t2 ≡ t1) → t2 ≡ None → Accepted m g
-model_accepted m g t1 t2 checked none some told = is_accepted m g checked.unbroken (sym (all_told m g t1 t2 checked none some) ∙ told)
+model_accepted m g None t2 checked fits few none some told = is_accepted m g checked.unbroken (sym (all_told m g None t2 (version_kept m g checked fits few) none some) ∙ told)
+model_accepted m g (Some f) t2 checked fits few none some told = let no : Some f ≡ None = sym (some f refl) ∙ told in cc

@@ -12,6 +12,7 @@ mod parts;
 mod refusing;
 mod text;
 mod values;
+mod versions;
 mod vertices;
 
 pub use not_read::NotRead;

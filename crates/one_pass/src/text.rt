@@ -24,6 +24,7 @@ ghost use Rattle.one_pass.specs.Inner.ReadParts.{CheckedInTurn, ReadVertices, Re
 use crate::beginnings::beginnings;
 use crate::not_read::NotRead;
 use crate::refusing::refuse_told;
+use crate::versions::refuse_version;
 use crate::vertices::vertices;
 use model_core::{Model, RawModel, RawName, RawTable, RawVar, RawVertex, Var, Vertex, Watch, Word};
 use model_lex::{Tokens, tokens_stand_in_order};
@@ -148,7 +149,7 @@ fn ending(cursor: &mut Cursor<'_>) -> Result<usize, NotRead>
 }
 
 /// Reads a model text whose vertices begin so, and nothing behind it. Faults of its declarations and of its length are
-/// told; at a fault in a vertex the reading stops.
+/// told; at a fault in a vertex, and where the version can't write the model, the reading stops.
 fn text(
     alloc: Global,
     cursor: &mut Cursor<'_>,
@@ -159,8 +160,10 @@ fn text(
     ensures { IfOk result (λ model. ReadText cursor.old told.new (graph_of model)) }
 {
     let begun = beginning(alloc, cursor, expected)?;
+    let version = begun.version;
     let model = behind(alloc, cursor, begun, told)?;
     let end_at = ending(cursor)?;
+    refuse_version(version, &model)?;
     tell_too_long(&model, end_at, told);
     Ok(model)
 }

@@ -1,8 +1,9 @@
 -- A valid model with other ranges that fit it is valid, where they hold the initial values and the text isn't too long.
-use Rattle.std.proofs.Common.{◌≡◌, ℕ, suc, ◌<◌, ◌≤◌, ℤ, pos, negsuc, ◌≤ℤ◌, true, false, nat_eq, slice_index_or, List, [], ◌∷◌, ◌++◌, length, map, Option, Some, None, refl, sym, ◌∙◌, ap, subst, arith}
-use Rattle.std.specs.List.{AllByRecursion, AllZip, IsDistinct}
+use Rattle.std.proofs.Common.{◌≡◌, ℕ, suc, ◌+◌, ◌<◌, ◌≤◌, ℤ, pos, negsuc, ◌≤ℤ◌, true, false, nat_eq, slice_index_or, List, [], ◌∷◌, ◌++◌, length, map, Option, Some, None, refl, sym, ◌∙◌, ap, subst, arith}
+use Rattle.std.specs.List.{AllByRecursion, AllZip, IsDistinct, sum_by}
 use Rattle.std.proofs.lemmas.Int.{ints}
-use Rattle.sig_base.specs.declared.limits.TheConstants.{TEXT_MAX, VARIABLES_MAX}
+use Rattle.std.proofs.lemmas.List.Sums.{sum_by-cons}
+use Rattle.sig_base.specs.declared.limits.TheConstants.{TEXT_MAX, CELLS_MAX, VARIABLES_MAX}
 use Rattle.model_core.specs.declared.model.Kind.{Kind}
 use Rattle.model_core.specs.declared.model.Kind.TheVariants as kinds
 use Rattle.model_core.specs.EventGraph.{EventGraph, EventVertex, EventEdge, Delay, Fixed, EdgeKind, Schedule, Urgent, CancelNext, CancelEqual, CancelAll, StateChange, Set, Draw, Choice, Uniform, ByTable, Location, Expression, Variable, WeightTable}
@@ -69,6 +70,12 @@ names_same : (vs : List Variable) (rs : List VarRange) → map (λ (v : Variable
 names_same [] rs = refl
 names_same (v ∷ vs) [] = refl
 names_same (v ∷ vs) (r ∷ rs) = ap (λ (ns : List (List ℕ)). v.name ∷ ns) (names_same vs rs)
+
+cells_same : (vs : List Variable) (rs : List VarRange) → sum_by (λ (v : Variable). v.size) vs ≡ sum_by (λ (v : Variable). v.size) (with_ranges vs rs)
+cells_same [] rs = refl
+cells_same (v ∷ vs) [] = refl
+cells_same (v ∷ vs) (r ∷ rs) =
+    sum_by-cons (λ (v : Variable). v.size) v vs ∙ ap (λ (n : ℕ). v.size + n) (cells_same vs rs) ∙ sym (sum_by-cons (λ (v : Variable). v.size) (with_range v r) (with_ranges vs rs))
 
 -- ---- lists side by side
 
@@ -164,8 +171,8 @@ module _ (g : EventGraph) (ranges : List VarRange) (fitting : Fitting g ranges) 
     few_vertices = k.few_vertices;
   }
 
-  pub narrowed_rules : KeepsParts g → length (canonical h) ≤ TEXT_MAX → KeepsStaticRules h
-  narrowed_rules k short = record { parts = parts_keep k; short = short }
+  pub narrowed_rules : KeepsStaticRules g → length (canonical h) ≤ TEXT_MAX → KeepsStaticRules h
+  narrowed_rules k short = record { parts = parts_keep k.parts; few_cells = subst (λ (n : ℕ). n ≤ CELLS_MAX) (cells_same g.variables ranges) k.few_cells; short = short }
 
   extent_same : extent g ≡ extent h
   extent_same = ap (λ (n : ℕ). let x : Extent = record { variables = n; tables = length g.tables; vertices = length g.vertices } in x) (sym many)

@@ -40,7 +40,7 @@ module _ (g : EventGraph) where
   text_of_parts keeps spellable =
       let back : ReadsBack g = record { declared_once = keeps.parts.declared_once; begins = begins_as_written g.variables keeps.parts.variables } in
       let whole = canonical-spells g spellable back in
-      record { fits = keeps.short; model = whole.0; spells = whole.1; accepted = (accepted_by_itself whole.0 g).1 (whole.2, keeps, whole.3) }
+      record { fits = keeps.short; model = whole.0; spells = whole.1; accepted = (accepted_by_itself whole.0 g).1 (whole.2, keeps, whole.4, whole.3) }
 
   pub by_parts : IsValid g ↔ KeepsStaticRules g × IsSpellable g
   by_parts = (parts_of_valid, λ h. (canonical g, text_of_parts h.0 h.1))

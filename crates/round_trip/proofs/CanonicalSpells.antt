@@ -9,10 +9,12 @@ use Rattle.model_core.specs.Text.Written.{WrittenName, WrittenVariable, WrittenT
 use Rattle.model_core.specs.Text.Numbering as numbering
 use Rattle.model_core.specs.Text.Numbering.{numbered}
 use Rattle.model_core.specs.Text.Canonical.{canonical, variable_line, table_line, vertex_lines}
+use Rattle.model_core.specs.Text.VersionNeeded.{needs_version_two}
 use Rattle.model_core.specs.Text.Spellable.{extent, IsSpellable, ReadsBack, SpellableVariable, SpellableTable, SpellableVertex, BeginsAsWritten}
 use Rattle.model_core.specs.Static.WrittenByKind.{IsWrittenByKind, VariablesByKind}
-use Rattle.model_core.specs.Text.Language.{text_written, text_format}
+use Rattle.model_core.specs.Text.Language.{VersionLine, text_written, text_format}
 use Rattle.model_core.specs.Text.ModelText.{SpellsText}
+use Rattle.static_laws.specs.FitsVersion.{FitsVersion}
 use Rattle.text_laws.proofs.OpeningLaws.{deep-is_counted, none-is_few}
 use Rattle.round_trip.proofs.TokenSteps.{Lexes-nil, Lexes-text, tokens_from_Lexes}
 use Rattle.round_trip.proofs.Writing.{Writes, Any, Takes, takes, writes-then, writes-made, writes-before, blank_behind, feed_behind}
@@ -21,6 +23,7 @@ use Rattle.round_trip.proofs.ExpressionText.{is_word}
 use Rattle.round_trip.proofs.ListText.{Pairs, each-is, pairs-into, lines-write, some_lines-write}
 use Rattle.round_trip.proofs.ModelNames.{Named, names_of, named-by}
 use Rattle.round_trip.proofs.DeclarationText.{IsVariable, variable-writes, IsTable, table-writes, IsWatch, watch-writes}
+use Rattle.round_trip.proofs.VersionText.{IsVersion, version-writes, version-fits}
 use Rattle.round_trip.proofs.VertexText.{IsVertex, vertex-writes}
 
 -- written names side by side
@@ -44,13 +47,13 @@ module _ (g : EventGraph) (h : IsSpellable g) (back : ReadsBack g) where
   named = named-by g h back
 
   IsModel : WrittenModel → Type 0
-  IsModel w = (numbered w ≡ Some g) × VariablesByKind w
+  IsModel w = (numbered w ≡ Some g) × VariablesByKind w × FitsVersion w.version g
 
-  model_so : (at : ℕ) (n : WrittenName) (vs : List WrittenVariable) (ts : List WrittenTable) (o : Option (List WrittenName)) (ws : List WrittenVertex) (end_at : ℕ) → n.name ≡ g.name
+  model_so : (line : Option VersionLine) → IsVersion (needs_version_two g) line → (at : ℕ) (n : WrittenName) (vs : List WrittenVariable) (ts : List WrittenTable) (o : Option (List WrittenName)) (ws : List WrittenVertex) (end_at : ℕ) → n.name ≡ g.name
       → Pairs IsVariable g.variables vs → Pairs IsTable g.tables ts → IsWatch g (names_of g) named g.watch o → Pairs (IsVertex g (names_of g) named) g.vertices ws
-      → IsModel (text_written at n vs ts o ws end_at)
+      → IsModel (text_written line at n vs ts o ws end_at)
   unfolding IsModel
-  model_so at n vs ts o ws end_at called v t watched x =
+  model_so line says at n vs ts o ws end_at called v t watched x =
       let variables : map (λ (w : WrittenVariable). w.name.name) vs ≡ map (λ (y : Variable). y.name) g.variables = names-same (λ (y : Variable). y.name) (λ (w : WrittenVariable). w.name.name) g.variables vs (pairs-into IsVariable _ (λ y w k. k.0) g.variables vs v) in
       let tables : map (λ (w : WrittenTable). w.name.name) ts ≡ map (λ (y : WeightTable). y.name) g.tables = names-same (λ (y : WeightTable). y.name) (λ (w : WrittenTable). w.name.name) g.tables ts (pairs-into IsTable _ (λ y w k. k.0) g.tables ts t) in
       let vertices : map (λ (w : WrittenVertex). w.name.name) ws ≡ map (λ (y : EventVertex). y.name) g.vertices = names-same (λ (y : EventVertex). y.name) (λ (w : WrittenVertex). w.name.name) g.vertices ws (pairs-into (IsVertex g (names_of g) named) _ (λ y w k. k.0) g.vertices ws x) in (
@@ -65,14 +68,16 @@ module _ (g : EventGraph) (h : IsSpellable g) (back : ReadsBack g) where
           called,
         ) refl,
         each_by_kind g.variables vs v,
+        version-fits g line says,
       )
 
   text-writes : Writes text_format (canonical g) Any OPENINGS_MAX OPENINGS_MAX IsModel
   unfolding text_format
   text-writes =
-      writes-then (writes-then (writes-then (writes-then (writes-then (writes-before (writes-then (writes-made text_written
-      {J = Takes (λ n. n.name ≡ g.name) (Takes (Pairs IsVariable g.variables) (Takes (Pairs IsTable g.tables) (Takes (IsWatch g (names_of g) named g.watch) (Takes (Pairs (IsVertex g (names_of g) named) g.vertices) (Takes (λ at. Unit {0}) IsModel)))))}
-      (blank_behind (λ rest. refl) (a_word 109 (codes "odel") words.Model (is_word refl refl refl) refl)) (λ at u. takes (λ n called. takes (λ vs v. takes (λ ts t. takes (λ o w. takes (λ ws x. takes (λ e u. model_so at n vs ts o ws e called v t w x))))))))
+      writes-then (writes-then (writes-then (writes-then (writes-then (writes-before (writes-then (writes-then (writes-made text_written
+      {J = Takes (λ at. Unit {0}) (Takes (λ n. n.name ≡ g.name) (Takes (Pairs IsVariable g.variables) (Takes (Pairs IsTable g.tables) (Takes (IsWatch g (names_of g) named g.watch) (Takes (Pairs (IsVertex g (names_of g) named) g.vertices) (Takes (λ at. Unit {0}) IsModel))))))}
+      (version-writes (needs_version_two g)) (λ line says. takes (λ at u. takes (λ n called. takes (λ vs v. takes (λ ts t. takes (λ o w. takes (λ ws x. takes (λ e u. model_so line says at n vs ts o ws e called v t w x)))))))))
+      (λ rest i. tt) (blank_behind (λ rest. refl) (a_word 109 (codes "odel") words.Model (is_word refl refl refl) refl)))
       (λ rest i. tt) (writes-name g.name h.name))
       (λ rest i. refl) (feed_behind {F = Any} (λ rest. tt) semicolon_text))
       (λ rest i. tt) (lines-write variable_line (λ v. SpellableVariable v × BeginsAsWritten v.kind v.initial) IsVariable variable-writes g.variables (both SpellableVariable (λ v. BeginsAsWritten v.kind v.initial) g.variables h.variables back.begins)))
@@ -81,7 +86,7 @@ module _ (g : EventGraph) (h : IsSpellable g) (back : ReadsBack g) where
       (λ rest i. tt) (some_lines-write (vertex_lines g) (SpellableVertex (extent g)) (IsVertex g (names_of g) named) (vertex-writes g (names_of g) named) g.vertices h.has_vertex h.vertices))
       (λ rest i. tt) (feed_behind (λ rest. refl) (a_word 101 (codes "nd") words.End (is_word refl refl refl) refl))
 
-  pub canonical-spells : (w : WrittenModel) × SpellsText (canonical g) w × (numbered w ≡ Some g) × VariablesByKind w
+  pub canonical-spells : (w : WrittenModel) × SpellsText (canonical g) w × (numbered w ≡ Some g) × VariablesByKind w × FitsVersion w.version g
   unfolding IsModel
   canonical-spells =
       let whole = text-writes.run 0 in
@@ -95,4 +100,5 @@ module _ (g : EventGraph) (h : IsSpellable g) (back : ReadsBack g) where
         },
         whole.1.0,
         whole.1.1,
+        whole.1.2,
       )

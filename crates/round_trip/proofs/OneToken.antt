@@ -159,3 +159,6 @@ writes-numeral {i} n (c ∷ w) h = writes-token ANumber _ (λ v. v.value ≡ Som
 
 pub writes-number : {i : ℕ} (n : ℕ) → n < 2 ^ 63 → Writes any_number (decimal n) Ends i i (λ v. v.value ≡ Some (pos n))
 writes-number n l = writes-numeral n (decimal n) (numeral_decimal n l)
+
+pub two_text : {i : ℕ} → Writes any_number (codes "2") Ends i i (λ v. v.value ≡ Some (pos 2))
+two_text = writes-numeral 2 (codes "2") (record { all = (refl, tt); some = λ e. cc; value = refl })

@@ -17,6 +17,7 @@ ghost use Rattle.model_core.specs.Static.OwnRules.{KeepsStaticRules};
 ghost use Rattle.model_core.specs.Static.Reading.{Reads, IsValid, ReadsDocument};
 ghost use Rattle.model_core.specs.Static.WrittenByKind.{VariablesByKind};
 ghost use Rattle.model_core.specs.Text.Spellable.{IsSpellable, ReadsBack};
+ghost use Rattle.static_laws.specs.FitsVersion.{FitsVersion};
 
 /// The model that a text spells is one that a text can write, and keeps its limit on openings in its canonical text too.
 pub fn spelled_models_are_spellable()
@@ -24,9 +25,10 @@ pub fn spelled_models_are_spellable()
 {}
 
 /// The canonical text of a model that a text can write spells that model, where each name is declared once and truth
-/// values begin as false or true. Each variable is written there as its kind has it.
+/// values begin as false or true. Each variable is written there as its kind has it, and the text is of a version that can
+/// write the model.
 pub fn canonical_texts_read_back()
-    ensures read_back { (g : EventGraph) → IsSpellable g → ReadsBack g → (w : WrittenModel) × SpellsText (canonical g) w × (numbered w ≡ Some g) × VariablesByKind w }
+    ensures read_back { (g : EventGraph) → IsSpellable g → ReadsBack g → (w : WrittenModel) × SpellsText (canonical g) w × (numbered w ≡ Some g) × VariablesByKind w × FitsVersion w.version g }
 {}
 
 /// A model is valid exactly where it keeps the static rules by itself and its parts are what a text can write. The canonical

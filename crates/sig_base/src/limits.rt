@@ -1,4 +1,5 @@
-//! What a model, a text and a run may have at most.
+//! What a model, a text and a run may have at most. Where a limit depends on the version of a text, that of version 2 has the
+//! plain name, and beside it stands that of version 1.
 
 /// Bytes of a model text, and of its canonical text.
 pub const TEXT_MAX: usize = 4_194_304;
@@ -15,8 +16,14 @@ pub const VERTICES_MAX: usize = 2_000;
 /// Variables of a model.
 pub const VARIABLES_MAX: usize = 2_000;
 
-/// Cells of an array.
-pub const ARRAY_CELLS_MAX: usize = 4_096;
+/// Cells of an array, in a text of version 2.
+pub const ARRAY_CELLS_MAX: usize = 65_536;
+
+/// Cells of an array, in any other text.
+pub const ARRAY_CELLS_MAX_VERSION_1: usize = 4_096;
+
+/// Cells of all arrays together. The other limits of version 1 allow no more than 8,192,000.
+pub const CELLS_MAX: usize = 16_777_216;
 
 /// Changes of a vertex.
 pub const CHANGES_MAX: usize = 1_000;
@@ -24,11 +31,17 @@ pub const CHANGES_MAX: usize = 1_000;
 /// Edges of a vertex.
 pub const EDGES_MAX: usize = 1_000;
 
-/// Parameters of a vertex, and so values that an edge carries.
-pub const PARAMETERS_MAX: usize = 8;
+/// Parameters of a vertex, and so values that an edge carries, in a text of version 2.
+pub const PARAMETERS_MAX: usize = 16;
 
-/// Targets of one `set`.
-pub const TARGETS_MAX: usize = 8;
+/// Parameters of a vertex, in any other text.
+pub const PARAMETERS_MAX_VERSION_1: usize = 8;
+
+/// Targets of one `set`, in a text of version 2.
+pub const TARGETS_MAX: usize = 16;
+
+/// Targets of one `set`, in any other text.
+pub const TARGETS_MAX_VERSION_1: usize = 8;
 
 /// Tables of a model.
 pub const TABLES_MAX: usize = 100;

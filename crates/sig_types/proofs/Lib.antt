@@ -1,6 +1,7 @@
 mod Lookups
 mod Operands
 mod TooMany
+mod ToldInTurn
 mod EarlierNames
 mod CarriedValues
 mod ChangeParts

@@ -24,6 +24,7 @@ use crate::placed::tell_too_many;
 use crate::tables::check_tables;
 use crate::told::Told;
 use crate::variables::check_variables;
+use crate::versions::tell_version;
 use crate::vertices::{taken, vertices};
 use crate::watch::watch_list;
 use model_core::{Kind, Model, RawModel, StaticKind};
@@ -138,6 +139,7 @@ fn told_model(alloc: Global, raw: RawModel, told: &mut Told) -> Result<Model, No
     ensures numbered { IfOk result (λ model. faults_of_parts (written_model raw) ≡ [] → numbering.numbered (written_model raw) ≡ Some (graph_of model)) }
 {
     let end_at = raw.end_at;
+    tell_version(&raw, told);
     let model = numbered(alloc, raw, told)?;
     tell_too_long(&model, end_at, told);
     Ok(model)

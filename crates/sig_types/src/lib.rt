@@ -17,6 +17,7 @@ mod tables;
 mod told;
 mod uses;
 mod variables;
+mod versions;
 mod vertices;
 mod watch;
 

@@ -45,7 +45,7 @@ pub(crate) fn literal(raw: &RawSigned, told: &mut Told) -> i64
 }
 
 /// Whether a number lies between two others, or is one of them.
-fn lies_between(least: i128, most: i128, number: i128) -> bool
+pub(crate) fn lies_between(least: i128, most: i128, number: i128) -> bool
     ensures { result ≡ is_between least most number }
 {
     least <= number && number <= most

@@ -1,7 +1,7 @@
 //! How a call of the program may end on small inputs and outputs, and how it never ends: the table of statuses on examples.
 //! The clauses are theorems. The functions that carry them do nothing.
 
-ghost use Rattle.std.specs.Prelude.{◌≡◌, ◌+◌, ◌≤◌, ℕ, pos, true, false, List, [], ◌∷◌, codes, drop, length, Some};
+ghost use Rattle.std.specs.Prelude.{◌≡◌, ◌+◌, ◌≤◌, ℕ, pos, true, false, List, [], ◌∷◌, codes, drop, take, length, Some};
 ghost use Rattle.sig_base.specs.declared.limits.TheConstants.{TEXT_MAX};
 ghost use Rattle.sig_base.specs.Sink.{Outlet};
 ghost use Rattle.sig_base.specs.Source.{Inlet};
@@ -30,7 +30,7 @@ pub fn calls_end_so()
         untouched untouched untouched (with_line (codes "sigma: cannot read\n")) }
     ensures write_fault { (text : List ℕ) (g : EventGraph) → Reads text g
         → EndsSo statuses.WriteFault (codes "print" ∷ []) (input_of text 0) (input_of [] 0)
-        (output_of [] 0 true) (output_of (codes "mod") 1 false) untouched (with_line (codes "sigma: cannot write\n")) }
+        (output_of [] 0 true) (output_of (take 3 (canonical g)) 1 false) untouched (with_line (codes "sigma: cannot write\n")) }
     ensures no_memory { EndsSo statuses.NoMemory (codes "print" ∷ []) (input_of (codes "model") 0) (input_of (codes "el") 0)
         untouched untouched untouched (with_line (codes "sigma: out of memory\n")) }
     ensures model_fault { (text bytes : List ℕ) (g : EventGraph) → Reads text g → run_answer g 10 0 5 [] ≡ Given ends.ModelFault bytes

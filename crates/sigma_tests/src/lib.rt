@@ -20,5 +20,7 @@ mod large_inputs;
 mod models;
 #[cfg(test)]
 mod reductions;
+#[cfg(test)]
+mod versions;
 
 pub use endings::{calls_end_so, calls_never_end_so};

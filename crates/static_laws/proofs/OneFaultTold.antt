@@ -1,13 +1,16 @@
 -- A written model is accepted, or exactly one fault of it is told.
-use Rattle.std.proofs.Common.{◌≡◌, ◌↔◌, ℕ, ◌≤◌, List, [], ◌∷◌, Option, Some, None, refl, sym, ap, ◌∙◌, arith, subst}
+use Rattle.std.proofs.Common.{◌≡◌, ◌↔◌, ℕ, ◌≤◌, false, inl, inr, List, [], ◌∷◌, ◌++◌, Option, Some, None, refl, sym, ap, ◌∙◌, arith, subst}
 use Rattle.std.specs.Prelude.{slice_get}
 use Rattle.std.specs.List.{Contains}
+use Rattle.std.proofs.lemmas.List.Elements.{Contains-append_left, Contains-append_right, Contains-append_cases}
 use Rattle.model_core.specs.declared.static_kind.StaticKind.{StaticKind}
 use Rattle.model_core.specs.declared.static_kind.StaticKind.TheVariants as rules
 use Rattle.model_core.specs.EventGraph.{EventGraph}
 use Rattle.model_core.specs.Text.Written.{WrittenModel}
-use Rattle.model_core.specs.Static.FaultOrder.{StaticFault, rule_row}
+use Rattle.model_core.specs.Static.FaultOrder.{StaticFault, rule_row, is_told_before, earliest_fault}
 use Rattle.model_core.specs.Static.ModelFaults.{faults_of_parts, or_too_long, model_faults, Broken, IsTold, told_fault, Accepted}
+use Rattle.model_core.specs.Static.VersionFaults.{version_faults}
+use Rattle.model_core.proofs.EmptyLists.{left_empty}
 use Rattle.static_laws.proofs.ToldFaults.{IsLeast, not_before_place, not_before_row, earliest_is_least, none_told}
 use Rattle.static_laws.proofs.StaticTwins.ModelTwin.{empty_contains, parts_kept}
 
@@ -16,7 +19,7 @@ use Rattle.static_laws.proofs.StaticTwins.ModelTwin.{empty_contains, parts_kept}
 rules_in_order : List StaticKind
 rules_in_order =
     rules.NameTooLong ∷ rules.UnknownName ∷ rules.DuplicateName ∷ rules.WrongUse ∷ rules.KindMismatch ∷ rules.ValueCount ∷ rules.LiteralTooLarge ∷ rules.EmptyRange
-    ∷ rules.InitialOutside ∷ rules.SizeOutside ∷ rules.PriorityOutside ∷ rules.StreamOutside ∷ rules.DrawOutside ∷ rules.WeightOutside ∷ rules.TooMany ∷ rules.ModelTooLong ∷ []
+    ∷ rules.InitialOutside ∷ rules.SizeOutside ∷ rules.PriorityOutside ∷ rules.StreamOutside ∷ rules.DrawOutside ∷ rules.WeightOutside ∷ rules.VersionUnknown ∷ rules.TooMany ∷ rules.ModelTooLong ∷ []
 
 at_its_place : (kind : StaticKind) → slice_get rules_in_order (rule_row kind) ≡ Some kind
 unfolding rules_in_order
@@ -34,6 +37,7 @@ at_its_place rules.PriorityOutside = refl
 at_its_place rules.StreamOutside = refl
 at_its_place rules.DrawOutside = refl
 at_its_place rules.WeightOutside = refl
+at_its_place rules.VersionUnknown = refl
 at_its_place rules.TooMany = refl
 at_its_place rules.ModelTooLong = refl
 
@@ -50,6 +54,38 @@ both_ways a b h k = omega arith
 
 abbrev fault_of : StaticKind → ℕ → StaticFault
 fault_of kind at = record { at = at; kind = kind }
+
+-- two faults are one where neither is told before the other
+one_fault : (f g : StaticFault) → is_told_before g f ≡ false → is_told_before f g ≡ false → f ≡ g
+one_fault f g a b = ap (λ kind. fault_of kind f.at) one_kind ∙ ap (fault_of g.kind) one_byte
+  where
+    one_byte : f.at ≡ g.at
+    one_byte = both_ways f.at g.at (not_before_place f.at (rule_row f.kind) g.at (rule_row g.kind) a) (not_before_place g.at (rule_row g.kind) f.at (rule_row f.kind) b)
+
+    one_kind : f.kind ≡ g.kind
+    one_kind = one_place f.kind g.kind (both_ways (rule_row f.kind) (rule_row g.kind)
+        (not_before_row f.at (rule_row f.kind) (rule_row g.kind) (subst (λ at. is_told_before (fault_of g.kind at) f ≡ false) (sym one_byte) a))
+        (not_before_row g.at (rule_row g.kind) (rule_row f.kind) (subst (λ at. is_told_before (fault_of f.kind at) g ≡ false) one_byte b)))
+
+-- of lists that have the same faults the same one is told
+pub same_told : (fs gs : List StaticFault) → ((f : StaticFault) → Contains fs f → Contains gs f) → ((f : StaticFault) → Contains gs f → Contains fs f) → earliest_fault None fs ≡ earliest_fault None gs
+same_told fs gs to from = by_case (earliest_fault None fs) refl (earliest_fault None gs) refl
+  where
+    by_case : (o : Option StaticFault) → earliest_fault None fs ≡ o → (p : Option StaticFault) → earliest_fault None gs ≡ p → o ≡ p
+    by_case None e None h = refl
+    by_case None e (Some g) h = absurd (empty_contains g (subst (λ xs. Contains xs g) (none_told fs e) (from g (earliest_is_least gs g h).among)))
+    by_case (Some f) e None h = absurd (empty_contains f (subst (λ xs. Contains xs f) (none_told gs h) (to f (earliest_is_least fs f e).among)))
+    by_case (Some f) e (Some g) h =
+        let l = earliest_is_least fs f e in
+        let m = earliest_is_least gs g h in
+        ap Some (one_fault f g (l.least g (from g m.among)) (m.least f (to f l.among)))
+
+-- the order in which faults are noted doesn't matter
+pub either_order : (fs gs : List StaticFault) → earliest_fault None (fs ++ gs) ≡ earliest_fault None (gs ++ fs)
+either_order fs gs = same_told (fs ++ gs) (gs ++ fs) (exchanged fs gs) (exchanged gs fs)
+  where
+    exchanged : (xs ys : List StaticFault) (f : StaticFault) → Contains (xs ++ ys) f → Contains (ys ++ xs) f
+    exchanged xs ys f c = elim (Contains-append_cases xs ys f c) [ inl a ↦ Contains-append_right ys xs f a | inr b ↦ Contains-append_left ys xs f b ]
 
 module _ (m : WrittenModel) where
   earliest_told : (f : StaticFault) → told_fault m ≡ Some f → IsTold m f.kind f.at
@@ -101,7 +137,7 @@ module _ (m : WrittenModel) where
   accepted_unless_told : told_fault m ≡ None → (g : EventGraph) × Accepted m g
   accepted_unless_told e =
       let nothing = none_told (model_faults m) e in
-      let (g, numbers, keeps, by_kind) = parts_kept m (no_fault_of_parts _ (faults_of_parts m) nothing) in
+      let (g, numbers, keeps, by_kind) = parts_kept m (left_empty (faults_of_parts m) (version_faults m) (no_fault_of_parts _ (faults_of_parts m ++ version_faults m) nothing)) in
       (g, record { unbroken = nothing_broken nothing; numbers = numbers })
 
   pub accepted_or_told : told_fault m ≡ None ↔ ((g : EventGraph) × Accepted m g)

@@ -1,5 +1,5 @@
 -- The check of a whole model from those of its parts, and what is told of it.
-use Rattle.std.proofs.Common.{◌≡◌, List, [], ◌∷◌, Option, Some, None, refl, sym, ap, ◌∙◌}
+use Rattle.std.proofs.Common.{◌≡◌, List, [], ◌∷◌, ◌++◌, Option, Some, None, refl, sym, ap, ◌∙◌}
 use Rattle.std.specs.List.{flat_map}
 use Rattle.sig_base.specs.declared.limits.TheConstants.{TEXT_MAX}
 use Rattle.model_core.specs.EventGraph as graph
@@ -12,9 +12,11 @@ use Rattle.model_core.specs.Static.FaultOrder.{StaticFault, earliest_fault}
 use Rattle.model_core.specs.Static.RuleTable.{model_too_long}
 use Rattle.model_core.specs.Static.PartFaults.{written_items, variable_faults, table_faults, vertex_faults}
 use Rattle.model_core.specs.Static.ModelFaults.{model_meaning, model_takes, watch_faults, faults_of_parts, or_too_long, model_faults, told_fault, Accepted}
+use Rattle.model_core.specs.Static.VersionFaults.{version_faults}
+use Rattle.model_core.proofs.EmptyLists.{left_empty}
 use Rattle.static_laws.proofs.NamedPlaces.{placed_as}
 use Rattle.static_laws.proofs.ToldFaults.{none_told}
-use Rattle.static_laws.proofs.OneFaultTold.{accepted_or_told}
+use Rattle.static_laws.proofs.OneFaultTold.{either_order, accepted_or_told}
 use Rattle.static_laws.specs.Checked.{Checked, CheckedPart, CheckedPlain}
 use Rattle.static_laws.specs.DeclaredFaults.{faults_of_declared}
 use Rattle.static_laws.proofs.LeftOut.{each_numbered-items}
@@ -43,13 +45,19 @@ module _ (m : WrittenModel) where
   others_told [] f e = cc
   others_told (x ∷ fs) f e = refl
 
+  -- the faults of the version may be told before those of the parts
+  pub version_first : {P : Type 0} (t0 t1 : Option StaticFault) → t0 ≡ earliest_fault None (version_faults m) → Checked t0 t1 (faults_of_parts m) P → Checked None t1 (faults_of_parts m ++ version_faults m) P
+  version_first t0 t1 e c =
+      let b = behind None (version_faults m) e c in
+      record { told = b.told ∙ either_order (version_faults m) (faults_of_parts m); unbroken = λ n. c.unbroken (left_empty (faults_of_parts m) (version_faults m) n) }
+
   -- with the fault of the length where there is no other, the told fault is that of the model
-  pub all_told : (g : EventGraph) (t1 t2 : Option StaticFault) → Checked None t1 (faults_of_parts m) (numbered m ≡ Some g)
+  pub all_told : (g : EventGraph) (t1 t2 : Option StaticFault) → Checked None t1 (faults_of_parts m ++ version_faults m) (numbered m ≡ Some g)
       → (t1 ≡ None → t2 ≡ earliest_fault None (model_too_long TEXT_MAX (canonical g) m.end_at)) → ((f : StaticFault) → t1 ≡ Some f → t2 ≡ t1) → t2 ≡ told_fault m
   all_told g None t2 c none some =
-      let nothing = none_told (faults_of_parts m) (sym c.told) in
-      none refl ∙ ap (earliest_fault None) (sym (long_told g (c.unbroken nothing) (faults_of_parts m) nothing))
-  all_told g (Some f) t2 c none some = some f refl ∙ c.told ∙ ap (earliest_fault None) (sym (others_told (faults_of_parts m) f (sym c.told)))
+      let nothing = none_told (faults_of_parts m ++ version_faults m) (sym c.told) in
+      none refl ∙ ap (earliest_fault None) (sym (long_told g (c.unbroken nothing) (faults_of_parts m ++ version_faults m) nothing))
+  all_told g (Some f) t2 c none some = some f refl ∙ c.told ∙ ap (earliest_fault None) (sym (others_told (faults_of_parts m ++ version_faults m) f (sym c.told)))
 
   -- the parts of a model in which nothing is told are numbered
   parts_unbroken : (fs : List StaticFault) → or_too_long m TEXT_MAX fs ≡ [] → fs ≡ []
@@ -59,5 +67,5 @@ module _ (m : WrittenModel) where
   pub is_accepted : (g : EventGraph) → (faults_of_parts m ≡ [] → numbered m ≡ Some g) → told_fault m ≡ None → Accepted m g
   is_accepted g numbers none =
       let (h, accepted) = (accepted_or_told m).0 none in
-      let is : numbered m ≡ Some g = numbers (parts_unbroken (faults_of_parts m) (none_told (model_faults m) none)) in
+      let is : numbered m ≡ Some g = numbers (left_empty (faults_of_parts m) (version_faults m) (parts_unbroken (faults_of_parts m ++ version_faults m) (none_told (model_faults m) none))) in
       record { unbroken = accepted.unbroken; numbers = is }

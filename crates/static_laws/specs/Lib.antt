@@ -3,3 +3,4 @@ pub mod Checked
 pub mod DeclaredFaults
 pub mod Roles
 pub mod Wanted
+pub mod FitsVersion

@@ -8,6 +8,7 @@ ghost use Rattle.model_core.specs.EventGraph.{EventGraph};
 ghost use Rattle.model_core.specs.Text.Written.{WrittenModel};
 ghost use Rattle.model_core.specs.Static.FaultOrder.{StaticFault};
 ghost use Rattle.model_core.specs.Static.ModelFaults.{IsTold, told_fault, Accepted};
+ghost use Rattle.static_laws.specs.FitsVersion.{FitsVersion};
 
 /// A written model is accepted as a model, or exactly one of its static faults is told: of those with the least
 /// place the first of the table.
@@ -17,8 +18,8 @@ pub fn one_fault_is_told()
 {}
 
 /// A written model is accepted as a model exactly where that is the model with numbers in place of its names, it keeps
-/// the static rules by itself, and each variable is written as its kind has it.
+/// the static rules by itself, the version of the text can write it, and each variable is written as its kind has it.
 pub fn accepted_models_keep_their_rules()
     ensures { (m : WrittenModel) (g : EventGraph)
-        → Accepted m g ↔ (numbered m ≡ Some g) × KeepsStaticRules g × VariablesByKind m }
+        → Accepted m g ↔ (numbered m ≡ Some g) × KeepsStaticRules g × FitsVersion m.version g × VariablesByKind m }
 {}

@@ -1,15 +1,30 @@
 -- Pairs that are known not to be alike, one more after the other.
-use Rattle.std.proofs.Common.{◌≡◌, ◌⊎◌, inl, inr, ℕ, suc, ◌+◌, ◌<◌, ◌≤◌, ◌==◌, nat_lt, true, false, ◌&&◌, length, drop, Some, None, ◌∙◌, ap, arith}
+use Rattle.std.proofs.Common.{◌≡◌, ◌⊎◌, inl, inr, ℕ, zero, suc, ◌+◌, ◌<◌, ◌≤◌, ◌==◌, nat_lt, Bool, true, false, ◌&&◌, List, [], ◌∷◌, length, drop, Option, Some, None, refl, sym, ◌∙◌, ap, arith}
 use Rattle.std.specs.Prelude.{is_none, take, if◌then◌else◌}
 use Rattle.std.specs.Option.{option_map}
 use Rattle.std.proofs.lemmas.Bool.Decides.{nat_tests}
 use Rattle.mark_laws.proofs.EntailedMarks.{same-place}
 use Rattle.model_core.specs.EventGraph.{EventGraph}
 use Rattle.model_core.specs.Rules.Conditions.{first_failed}
-use Rattle.model_core.specs.Rules.Fuse.{fuse_conditions}
+use Rattle.model_core.specs.Rules.Fuse.{fuse_conditions, are_twins}
 use Rattle.model_core.proofs.BothTrue.{and_first, and_second}
 use Rattle.model_core.proofs.Among.{either_true}
 use Rattle.twin_rules.specs.Inner.AskedPairs.{are_alike, NoneAlikeBefore, NoneAlikeWith}
+
+-- where one of the first conditions fails, one of all fails
+mapped-none : (o : Option ℕ) → is_none (option_map suc o) ≡ is_none o
+mapped-none None = refl
+mapped-none (Some k) = refl
+
+first-fail : (n : ℕ) (cs : List Bool) → is_none (first_failed (take n cs)) ≡ false → false ≡ is_none (first_failed cs)
+first-fail zero cs e = cc
+first-fail (suc n) [] e = cc
+first-fail (suc n) (true ∷ cs) e = first-fail n cs (sym (mapped-none (first_failed (take n cs))) ∙ e) ∙ sym (mapped-none (first_failed cs))
+first-fail (suc n) (false ∷ cs) e = refl
+
+-- vertices that aren't alike may not be fused
+pub no-twins : (g : EventGraph) (keep gone : ℕ) → are_alike g keep gone ≡ false → false ≡ are_twins g keep gone
+no-twins g keep gone fails = first-fail 5 (fuse_conditions g keep gone) fails
 
 -- a vertex isn't alike with one that doesn't stand behind it
 not-behind : (g : EventGraph) (keep gone : ℕ) → gone ≤ keep → are_alike g keep gone ≡ false

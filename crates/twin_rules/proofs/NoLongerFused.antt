@@ -1,6 +1,7 @@
 -- Where the vertex that is kept has no longer name than the one that goes, fusing makes no longer text.
 use Rattle.std.proofs.Common.{◌≡◌, ℕ, zero, suc, ◌<◌, ◌≤◌, ◌==◌, nat_le, Bool, true, false, cond, List, [], ◌∷◌, ◌++◌, map, length, refl, sym, subst, arith}
 use Rattle.std.proofs.lemmas.Bool.Decides.{nat_tests}
+use Rattle.std.proofs.lemmas.List.{append_cancel_left}
 use Rattle.std.specs.Prelude.{codes}
 use Rattle.std.specs.List.{flat_map, remove}
 use Rattle.sig_base.specs.declared.limits.TheConstants.{TEXT_MAX}
@@ -8,10 +9,12 @@ use Rattle.mark_laws.proofs.EntailedMarks.{same-place}
 use Rattle.model_core.specs.EventGraph.{EventGraph, EventVertex, EventEdge}
 use Rattle.model_core.specs.Text.Canonical.{variable_name, vertex_name, expression_texts, in_parentheses, timing_text, condition_text, edge_word, edge_line, change_line, vertex_lines, variable_line, table_line, watched_name, watch_names_line, canonical}
 use Rattle.model_core.specs.Rules.Drop.{edge_renumbered, vertex_renumbered}
-use Rattle.model_core.specs.Rules.Fuse.{standing_for, fused, has_short_text}
+use Rattle.model_core.specs.Rules.Fuse.{standing_for, fused_place, fused, has_short_text}
 use Rattle.model_core.specs.Rules.Merge.{is_watched_vertex}
 use Rattle.model_core.proofs.NoLongerTexts.{NoLonger, no_longer-behind, no_longer-before, no_longer-same, no_longer-both}
 use Rattle.model_core.proofs.FusedText.{same_declarations, same_lines}
+use Rattle.round_trip.proofs.VersionsKept.{NeedsNoMore, needed-kept, declared-shorter}
+use Rattle.twin_rules.proofs.ValidFused.{some-remove}
 
 lines-shorter : {A : Type 0} (old new : A → List ℕ) → ((x : A) → NoLonger (new x) (old x)) → (xs : List A) → NoLonger (flat_map new xs) (flat_map old xs)
 lines-shorter old new shorter [] = record { at_most = omega arith }
@@ -48,13 +51,18 @@ module _ (g : EventGraph) (keep gone : ℕ) (first : keep < gone) (unwatched : i
   vertex-shorter v =
       no_longer-before (codes "}\n") (no_longer-behind (codes "vertex " ++ v.name ++ in_parentheses (map (variable_name g) v.parameters) ++ codes " {\n" ++ flat_map (change_line g) v.changes) (lines-map v.edges))
 
-  abbrev declared : List (List ℕ) → List ℕ
-  declared watched = codes "model " ++ g.name ++ codes ";\n" ++ flat_map variable_line g.variables ++ flat_map table_line g.tables ++ watch_names_line watched
+  needs-no_more : NeedsNoMore h g
+  needs-no_more = needed-kept g (remove g.vertices gone) (fused_place keep gone) h.watch (some-remove g.vertices gone)
+
+  watch-same : watch_names_line (map (watched_name h) h.watch) ≡ watch_names_line (map (watched_name g) g.watch)
+  watch-same =
+      append_cancel_left (codes "model " ++ g.name ++ codes ";\n" ++ flat_map variable_line g.variables ++ flat_map table_line g.tables) (watch_names_line (map (watched_name h) h.watch)) (watch_names_line (map (watched_name g) g.watch))
+      (sym (same_declarations g keep gone first unwatched))
 
   pub canonical-shorter : length (canonical h) ≤ length (canonical g)
   canonical-shorter =
       (no_longer-before (codes "end\n") (no_longer-both
-      (no_longer-same (declared (map (watched_name h) h.watch)) (declared (map (watched_name g) g.watch)) (sym (same_declarations g keep gone first unwatched)))
+      (no_longer-both (declared-shorter h g needs-no_more g.name (flat_map variable_line g.variables) (flat_map table_line g.tables)) (no_longer-same _ _ watch-same))
       (subst (λ (lines : List ℕ). NoLonger lines (flat_map (vertex_lines g) g.vertices)) (same_lines g keep gone first) (lines-fewer (vertex_lines g) (λ v. vertex_lines g (vertex_renumbered s v)) vertex-shorter g.vertices gone)))).at_most
 
   no_more : (a b limit : ℕ) → a ≤ b → nat_le b limit ≡ true → nat_le a limit ≡ true

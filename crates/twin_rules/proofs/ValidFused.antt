@@ -23,7 +23,7 @@ use Rattle.twin_rules.proofs.FusedRuns.{watched-told}
 
 -- ---- lists
 
-some-remove : {A : Type 0} (xs : List A) (k : ℕ) → SomeOf (remove xs k) xs
+pub some-remove : {A : Type 0} (xs : List A) (k : ℕ) → SomeOf (remove xs k) xs
 some-remove [] zero = nothing
 some-remove [] (suc k) = nothing
 some-remove (x ∷ xs) zero = without x (some-all xs)
@@ -96,4 +96,4 @@ module _ (g : EventGraph) (keep gone : ℕ) (are : AreAlike g keep gone) where
   fused-spellable s = kept-spellable g kept f Anywhere (Other keep gone are.first) stay s
 
   pub fused-rules : length (canonical h) ≤ TEXT_MAX → KeepsStaticRules g → KeepsStaticRules h
-  fused-rules short k = record { parts = kept-parts g kept f Anywhere (Other keep gone are.first) stay k.parts; short = short }
+  fused-rules short k = record { parts = kept-parts g kept f Anywhere (Other keep gone are.first) stay k.parts; few_cells = k.few_cells; short = short }

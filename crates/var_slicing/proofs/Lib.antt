@@ -18,5 +18,6 @@ pub mod RenumberedTexts
 pub mod KeptBeside
 pub mod PartsLeft
 pub mod LinesLeft
+pub mod VersionLeft
 pub mod ValidSliced
 pub mod BoundsRenumbered

@@ -1,11 +1,11 @@
 -- The graph of the marked variables keeps the static rules, can be written, and has no longer text, where the marks hold what
 -- is needed.
-use Rattle.std.proofs.Common.{◌≡◌, le_trans, ℕ, ◌+◌, ◌<◌, ◌≤◌, ◌==◌, nat_eq, Bool, true, false, cond, List, [], ◌∷◌, ◌++◌, map, length, Contains, refl, sym, ap, subst, arith, ◌∙◌, length-append}
+use Rattle.std.proofs.Common.{◌≡◌, le_trans, ℕ, ◌+◌, ◌<◌, ◌≤◌, ◌==◌, nat_eq, Bool, true, false, cond, List, [], ◌∷◌, ◌++◌, map, length, Contains, refl, sym, ap, subst, arith, length-append}
 use Rattle.std.specs.Prelude.{codes}
-use Rattle.std.specs.List.{AllByRecursion, flat_map, IsDistinct}
+use Rattle.std.specs.List.{AllByRecursion, flat_map, IsDistinct, sum_by}
 use Rattle.std.proofs.lemmas.Bool.Decides.{nat_tests}
 use Rattle.std.proofs.lemmas.List.{length-map}
-use Rattle.sig_base.specs.declared.limits.TheConstants.{TEXT_MAX, EDGES_MAX, VERTICES_MAX}
+use Rattle.sig_base.specs.declared.limits.TheConstants.{TEXT_MAX, CELLS_MAX, EDGES_MAX, VERTICES_MAX}
 use Rattle.model_core.specs.EventGraph.{EventGraph, EventVertex, EventEdge, StateChange, Variable, WeightTable, Watched, WatchedVariable, WatchedVertex}
 use Rattle.model_core.specs.Text.Lexing.{same_bytes}
 use Rattle.model_core.specs.Text.Canonical.{variable_name, change_line, edge_line, vertex_lines, variable_line, table_line, watched_name, watch_names_line, watch_line, canonical}
@@ -24,6 +24,8 @@ use Rattle.model_core.proofs.SomeOfAList.{some-marked_of, some-map, some-front, 
 use Rattle.var_slicing.proofs.KeptBeside.{parameters-kept, parameters-marked}
 use Rattle.model_core.proofs.NoLongerTexts.{NoLonger, no_longer-behind, no_longer-before, no_longer-both, no_longer-same, no_longer-lines, no_longer-mapped}
 use Rattle.var_slicing.proofs.PartsLeft.{mapped-alike, held-mapped, rank-below_left, name-left, variable-of_left, parameter-names, parameters-below_left}
+use Rattle.round_trip.proofs.VersionsKept.{heading-shorter}
+use Rattle.var_slicing.proofs.VersionLeft.{parameters-few, needed-left, some-cells}
 use Rattle.var_slicing.proofs.LinesLeft.{vertex_name-left, change-keeps, change-few, change-made, change-line, edge-keeps, edge-made, edge-line}
 
 -- ---- lists
@@ -165,7 +167,7 @@ module _ (g : EventGraph) (keeps : KeepsParts g) (marks live : List Bool) (needs
       no_longer-before (codes "end\n")
       (no_longer-both
       (no_longer-both
-      (no_longer-before (flat_map table_line g.tables) (no_longer-behind (codes "model " ++ g.name ++ codes ";\n") (record { at_most = some-lines variable_line (some-marked_of marks g.variables) })))
+      (no_longer-before (flat_map table_line g.tables) (no_longer-both (heading-shorter h g (needed-left g marks) g.name) (record { at_most = some-lines variable_line (some-marked_of marks g.variables) })))
       (no_longer-same (watch_line h) (watch_line g) watch-line))
       (no_longer-mapped VertexKnown (vertex_lines g) (vertex_lines h) (vertex_left g marks) vertex-lines g.vertices vertices_known))
 
@@ -182,12 +184,6 @@ module _ (g : EventGraph) (keeps : KeepsParts g) (marks live : List Bool) (needs
       (held-mapped (λ v. Marked marks v × ParameterOf v) ParameterLeft (rank marks) (λ v (marked, (kind, is)). (kind, variable-of_left g marks v false kind marked is)) _
       (held-both (Marked marks) ParameterOf _ (parameters-marked marks vs) (some-hold ParameterOf (some-kept_beside marks vs vs) all)))
 
-  parameters-few : (vs : List ℕ) → length (parameters_left marks vs) ≤ length vs
-  parameters-few vs =
-      let same = ap length (parameters-kept marks vs) ∙ length-map _ (rank marks) in
-      let few = some-few (some-kept_beside marks vs vs) in
-      omega (arith, same, few)
-
   vertex-keeps : (v : EventVertex) → VertexKnown v → KeepsNew (vertex_left g marks v)
   vertex-keeps v known =
       let k = known.keeps_rules in
@@ -195,7 +191,7 @@ module _ (g : EventGraph) (keeps : KeepsParts g) (marks live : List Bool) (needs
         name = k.name;
         parameters = parameters-keep v.parameters k.parameters;
         each_once = parameters-apart marks v.parameters k.each_once;
-        few_parameters = le_trans (parameters-few v.parameters) k.few_parameters;
+        few_parameters = le_trans (parameters-few marks v.parameters) k.few_parameters;
         changes = held-flat (λ c. ChangeKeeps c × ChangeNeeds g marks live c) (KeepsChange h.variables tables (parameters_of h)) (change_left marks) (λ c both. change-keeps g marks live c both.0 both.1) v.changes (changes_known v known);
         few_changes = le_trans (flat-few (change_left marks) (change-few g marks live) v.changes) k.few_changes;
         edges = held-mapped (λ e. EdgeKeeps e × EdgeNeeds g marks e) (KeepsEdge h.variables tables (parameters_of h)) (edge_left g marks) (λ e both. edge-keeps g marks live e both.0 both.1) v.edges (edges_known v known);
@@ -242,8 +238,8 @@ module _ (g : EventGraph) (keeps : KeepsParts g) (marks live : List Bool) (needs
     few_vertices = subst (λ n. n ≤ VERTICES_MAX) (sym same_vertices) keeps.few_vertices;
   }
 
-  pub marked_rules : length (canonical g) ≤ TEXT_MAX → KeepsStaticRules h
-  marked_rules short = record { parts = parts-keep; short = le_trans text-shorter.at_most short }
+  pub marked_rules : sum_by (λ (v : Variable). v.size) g.variables ≤ CELLS_MAX → length (canonical g) ≤ TEXT_MAX → KeepsStaticRules h
+  marked_rules few short = record { parts = parts-keep; few_cells = le_trans (some-cells (some-marked_of marks g.variables)) few; short = le_trans text-shorter.at_most short }
 
   -- ---- a text can write it
 

@@ -14,6 +14,7 @@ pub mod Tokens
 pub mod LineOpenings
 pub mod WrittenParts
 pub mod WrittenModels
+pub mod VersionTexts
 pub mod StockText
 pub mod GrammarTexts
 pub mod WholeTexts

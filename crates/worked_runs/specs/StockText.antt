@@ -11,6 +11,7 @@ stock_text =
 abbrev pub stock : WrittenModel
 stock = record {
   at = 0;
+  version = None;
   name = spelled (codes "M") 6;
   variables = record { at = 9; name = spelled (codes "N") 13; size = Some (figure 4 15); kind = RangeKind (minus_figure 1 20) (plain_figure 9 24) true; initial = SignedLiteral (plain_figure 0 33) } ∷ [];
   tables = record { at = 36; name = spelled (codes "T") 42; rows = record { at = 46; value = plain_figure 5 46; weight = figure 1 50 } ∷ [] } ∷ [];

@@ -88,7 +88,7 @@ with_parameters names v = record v { parameters = Some names }
 
 -- the model M of these variables and vertices, with its word `end` at this byte
 abbrev pub composed : List WrittenVariable → List WrittenVertex → ℕ → WrittenModel
-composed variables vertices end_at = record { at = 0; name = spelled (codes "M") 6; variables = variables; tables = []; watch = None; vertices = vertices; end_at = end_at }
+composed variables vertices end_at = record { at = 0; version = None; name = spelled (codes "M") 6; variables = variables; tables = []; watch = None; vertices = vertices; end_at = end_at }
 
 abbrev pub with_tables : List WrittenTable → WrittenModel → WrittenModel
 with_tables tables m = record m { tables = tables }

@@ -38,6 +38,7 @@ mod three_rules;
 mod tokens;
 mod use_texts;
 mod values;
+mod versions;
 mod whole_texts;
 
 pub use alike::later_events_are_unseen;
@@ -155,5 +156,9 @@ pub use use_texts::uses_have_texts;
 pub use values::operators_compare;
 pub use values::values_are_exact;
 pub use values::values_are_lazy;
+pub use versions::cells_together_have_a_limit;
+pub use versions::texts_say_a_version_where_they_need_it;
+pub use versions::versions_are_known;
+pub use versions::versions_have_their_limits;
 pub use whole_texts::texts_are_printed;
 pub use whole_texts::texts_have_their_faults_told;

@@ -100,10 +100,10 @@ pub fn numbers_are_within_limits()
     ensures empty_range { model_faults texts.bounds_exchanged ≡ static_fault rules.EmptyRange 17 ∷ static_fault rules.InitialOutside 24 ∷ [] }
     ensures initial { model_faults texts.initial_before_unknown ≡ static_fault rules.InitialOutside 24 ∷ static_fault rules.UnknownName 44 ∷ [] }
     ensures large_initial { model_faults texts.large_initial ≡ static_fault rules.LiteralTooLarge 42 ∷ static_fault rules.InitialOutside 42 ∷ [] }
-    ensures size { model_faults texts.no_cells ≡ static_fault rules.SizeOutside 15 ∷ [] }
+    ensures size { told_fault texts.no_cells ≡ Some (static_fault rules.SizeOutside 15) }
     ensures least_size { size_faults (figure 1 15) ≡ [] }
-    ensures last_size { size_faults (figure 4096 15) ≡ [] }
-    ensures size_beyond { size_faults (figure 4097 15) ≡ static_fault rules.SizeOutside 15 ∷ [] }
+    ensures last_size { size_faults (figure 65536 15) ≡ [] }
+    ensures size_beyond { size_faults (figure 65537 15) ≡ static_fault rules.SizeOutside 15 ∷ [] }
     ensures priority { model_faults texts.priority_zero ≡ static_fault rules.PriorityOutside 44 ∷ [] }
     ensures least_priority { priority_faults (figure 1 44) ≡ [] }
     ensures last_priority { priority_faults (figure 255 44) ≡ [] }
@@ -151,9 +151,9 @@ pub fn counts_have_limits()
     ensures just_two { too_many 2 (5 ∷ 7 ∷ []) ≡ [] }
     ensures targets { model_faults texts.nine_targets ≡ static_fault rules.TooMany 68 ∷ [] }
     ensures parameters { model_faults texts.nine_parameters
-        ≡ static_fault rules.TooMany 62 ∷ static_fault rules.DuplicateName 41 ∷ static_fault rules.DuplicateName 44 ∷ static_fault rules.DuplicateName 47
+        ≡ static_fault rules.DuplicateName 41 ∷ static_fault rules.DuplicateName 44 ∷ static_fault rules.DuplicateName 47
         ∷ static_fault rules.DuplicateName 50 ∷ static_fault rules.DuplicateName 53 ∷ static_fault rules.DuplicateName 56
-        ∷ static_fault rules.DuplicateName 59 ∷ static_fault rules.DuplicateName 62 ∷ [] }
+        ∷ static_fault rules.DuplicateName 59 ∷ static_fault rules.DuplicateName 62 ∷ static_fault rules.TooMany 62 ∷ [] }
 {}
 
 /// Each limit is its own: of so many items at one place the one beyond the limit is told, and with as many as it

@@ -37,20 +37,21 @@ few_items limit place f xs ys e =
 
 -- ---- variables
 
+-- a size that isn't 0 is at least one cell
+pub some_cells : (y : ℕ) (value : Option ℤ) → (value >>= natural_of) ≡ Some y → (value ≢ Some (pos 0)) → 1 ≤ y
+some_cells y None s h = cc
+some_cells y (Some (negsuc k)) s h = cc
+some_cells zero (Some (pos k)) s h = absurd (h (ap (λ j. Some (pos j)) (same_Some k 0 s)))
+some_cells (suc y) (Some (pos k)) s h = omega arith
+
 -- the size of an array isn't 0, and a scalar has none
 given_size : (s : Option WrittenNumber) → Twin (if_written size_faults s) (numbering.size s) (λ k. (k ≤ ARRAY_CELLS_MAX) × IsNoZero s)
 given_size None = record { kept = λ e. (0, refl, (lit≤ tt, tt)); unbroken = λ y s q. refl }
 given_size (Some n) = twin_as _ (natural n) (λ k. (1 ≤ k) × (k ≤ ARRAY_CELLS_MAX)) (λ k. (k ≤ ARRAY_CELLS_MAX) × (n.value ≢ Some (pos 0)))
-    (λ y s q. (q.1, λ z. some_size y n.value s z q.0)) (λ y s q. (no_zero y n.value s q.1, q.0)) (size_twin n)
+    (λ y s q. (q.1, λ z. some_size y n.value s z q.0)) (λ y s q. (some_cells y n.value s q.1, q.0)) (size_twin n)
   where
     some_size : (y : ℕ) (value : Option ℤ) → (value >>= natural_of) ≡ Some y → value ≡ Some (pos 0) → 1 ≤ y → ⊥
     some_size y value s z h = let zero : y ≡ 0 = same_Some y 0 (sym s ∙ ap (λ v. v >>= natural_of) z) in omega arith
-
-    no_zero : (y : ℕ) (value : Option ℤ) → (value >>= natural_of) ≡ Some y → (value ≢ Some (pos 0)) → 1 ≤ y
-    no_zero y None s h = cc
-    no_zero y (Some (negsuc k)) s h = cc
-    no_zero zero (Some (pos k)) s h = absurd (h (ap (λ j. Some (pos j)) (same_Some k 0 s)))
-    no_zero (suc y) (Some (pos k)) s h = omega arith
 
 -- the variable that is made of these
 abbrev pub truth_variable : List ℕ → ℕ → ℤ → Variable
@@ -173,9 +174,9 @@ row_twin before r =
     (λ a b p q. (record { value = p; some = q.0 }, q.1)) (λ a b r. (r.0.value, (r.0.some, r.1)))
     (literal_twin r.value) (weight_twin before r.weight))
 
--- a weight that has a value counts as that
-weight_is : (n : WrittenNumber) (k : ℕ) → natural n ≡ Some k → certain_value n ≡ pos k
-weight_is n k e = by_value n.value e
+-- a number that has a value, and isn't negative, counts as that
+pub natural_is : (n : WrittenNumber) (k : ℕ) → natural n ≡ Some k → certain_value n ≡ pos k
+natural_is n k e = by_value n.value e
   where
     by_value : (value : Option ℤ) → (value >>= natural_of) ≡ Some k → certain_number value ≡ pos k
     by_value None e = cc
@@ -183,7 +184,7 @@ weight_is n k e = by_value n.value e
     by_value (Some (negsuc j)) e = cc
 
 row_weight : (r : WrittenRow) (y : Weighted) → numbering.row r ≡ Some y → certain_value r.weight ≡ pos y.weight
-row_weight r y e = let p = of_two row_made (signed r.value) (natural r.weight) y e in weight_is r.weight p.b p.is_b ∙ ap (λ (w : Weighted). pos w.weight) p.made
+row_weight r y e = let p = of_two row_made (signed r.value) (natural r.weight) y e in natural_is r.weight p.b p.is_b ∙ ap (λ (w : Weighted). pos w.weight) p.made
 
 abbrev weights : List Weighted → ℕ
 weights ys = sum_by (λ (r : Weighted). r.weight) ys

@@ -41,6 +41,9 @@ same_variable v (written.RangeKind lo hi clip) y k e =
 pub variable_name_same : (v : WrittenVariable) (y : Variable) → numbering.variable v ≡ Some y → y.name ≡ v.name.name
 variable_name_same v y e = (same_variable v v.kind y refl e).name
 
+pub variable_size : (v : WrittenVariable) (y : Variable) → numbering.variable v ≡ Some y → numbering.size v.size ≡ Some y.size
+variable_size v y e = (same_variable v v.kind y refl e).size
+
 no_zero : (j : ℕ) → 0 < j → not (nat_eq j 0) ≡ true
 no_zero j h = grind (arith, nat_tests)
 

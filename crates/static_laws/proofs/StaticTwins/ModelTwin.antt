@@ -1,10 +1,10 @@
 -- A whole written model: nothing of it is broken exactly where it is numbered as a model that keeps the static rules by itself.
 use Rattle.std.proofs.Common.{◌≡◌, ◌↔◌, ℕ, ◌≤◌, ◌<◌, false, List, [], ◌∷◌, ◌++◌, map, length, Option, Some, None, nat_eq, nat_lt, refl, sym, ap, subst, ◌∙◌, arith}
+use Rattle.std.specs.Prelude.{sum_by}
 use Rattle.std.specs.List.{flat_map, AllByRecursion, IsDistinct, Contains}
 use Rattle.std.proofs.lemmas.Option.{same_Some}
 use Rattle.std.proofs.lemmas.List.{length-map}
-use Rattle.std.proofs.lemmas.Bool.Decides.{nat_tests}
-use Rattle.sig_base.specs.declared.limits.TheConstants.{TEXT_MAX, VARIABLES_MAX, TABLES_MAX, VERTICES_MAX, CHANGES_MAX, EDGES_MAX}
+use Rattle.sig_base.specs.declared.limits.TheConstants.{TEXT_MAX, CELLS_MAX, VARIABLES_MAX, TABLES_MAX, VERTICES_MAX, CHANGES_MAX, EDGES_MAX}
 use Rattle.model_core.specs.declared.model.Kind.{Kind}
 use Rattle.model_core.specs.declared.static_kind.StaticKind.TheVariants as rules
 use Rattle.model_core.specs.EventGraph.{EventGraph, EventVertex, Variable, WeightTable, Watched}
@@ -19,13 +19,15 @@ use Rattle.model_core.specs.Static.Meanings.{declarations, declared_name}
 use Rattle.model_core.specs.Static.RuleTable.{name_too_long, too_many, model_too_long}
 use Rattle.model_core.specs.Static.PartFaults.{written_items, repeated_names, variable_word_place, table_word_place, vertex_word_place, change_place, edge_place, change_faults, edge_faults, parameters_faults, variable_faults, table_faults, vertex_faults}
 use Rattle.model_core.specs.Static.ModelFaults.{model_meaning, model_takes, watch_faults, faults_of_counts, faults_of_parts, or_too_long, model_faults, Accepted}
+use Rattle.model_core.specs.Static.VersionFaults.{version_faults}
 use Rattle.model_core.specs.Static.HasKind.{IsVariable}
 use Rattle.model_core.specs.Static.OwnRules.{IsShort, KeepsVariable, KeepsTable, KeepsVertex, IsWatchable, watch_number, KeepsParts, KeepsStaticRules}
 use Rattle.model_core.specs.Static.WrittenByKind.{IsWrittenByKind, VariablesByKind}
 use Rattle.model_core.proofs.EmptyLists.{left_empty, right_empty}
+use Rattle.static_laws.specs.FitsVersion.{FitsVersion}
 use Rattle.static_laws.proofs.StaticTwins.MadeOf.{of_one, of_three, of_four, of_each, each_cons, each_length}
 use Rattle.static_laws.proofs.StaticTwins.Twins.{both_empty, Twin, twin_each, twin_each_with}
-use Rattle.static_laws.proofs.StaticTwins.RowTwins.{told_by, short_name}
+use Rattle.static_laws.proofs.StaticTwins.RowTwins.{not_above, told_by, short_name}
 use Rattle.static_laws.proofs.StaticTwins.DeclarationTwins.{few_items, variable_twin, table_twin}
 use Rattle.static_laws.proofs.StaticTwins.RepeatedNames.{distinct_names}
 use Rattle.static_laws.proofs.StaticTwins.NumberedPlaces.{each_same}
@@ -33,6 +35,7 @@ use Rattle.static_laws.proofs.StaticTwins.NamesAgree.{NamesAgree}
 use Rattle.static_laws.proofs.StaticTwins.DeclaredNames.{variable_name_same, all_names, names_agree}
 use Rattle.static_laws.proofs.StaticTwins.WatchTwins.{KeepsWatch, watch_list_twin}
 use Rattle.static_laws.proofs.StaticTwins.VertexTwins.{numbered_parameters, parameters_twin, TakesKnown, takes_known, vertex_made, vertex_twin}
+use Rattle.static_laws.proofs.StaticTwins.VersionTwin.{version_twin}
 
 -- what is made of each item of a list is numbered as what is made of what the item is numbered as
 pub each_via : {A B C : Type 0} (f : A → Option B) (q : B → C) (h : A → Option C) → ((x : A) (y : B) → f x ≡ Some y → h x ≡ Some (q y)) → (xs : List A) (ys : List B) → each_numbered f xs ≡ Some ys → each_numbered h xs ≡ Some (map q ys)
@@ -313,6 +316,21 @@ module _ (m : WrittenModel) where
             in_vertices = x;
           })
 
+-- ---- with the rules that depend on the version
+
+abbrev HasFewCells : EventGraph → Type 0
+HasFewCells g = sum_by (λ (v : Variable). v.size) g.variables ≤ CELLS_MAX
+
+module _ (m : WrittenModel) where
+  version_kept : faults_of_parts m ++ version_faults m ≡ [] → (g : EventGraph) × (numbered m ≡ Some g) × KeepsParts g × VariablesByKind m × FitsVersion m.version g × HasFewCells g
+  version_kept e =
+      let (g, is, keeps, by_kind) = parts_kept m (left_empty (faults_of_parts m) (version_faults m) e) in
+      let (fits, few) = (version_twin m g is keeps by_kind).0 (right_empty (faults_of_parts m) (version_faults m) e) in
+      (g, is, keeps, by_kind, fits, few)
+
+  version_unbroken : (g : EventGraph) → numbered m ≡ Some g → KeepsParts g → VariablesByKind m → FitsVersion m.version g → HasFewCells g → faults_of_parts m ++ version_faults m ≡ []
+  version_unbroken g is keeps by_kind fits few = both_empty (faults_of_parts m) (version_faults m) (parts_unbroken m g is keeps by_kind) ((version_twin m g is keeps by_kind).1 (fits, few))
+
 -- ---- acceptance
 
 nothing_contained : (fs : List StaticFault) → ((f : StaticFault) → Contains fs f → ⊥) → fs ≡ []
@@ -325,7 +343,7 @@ empty_contains f (k, lt, at) = omega arith
 module _ (m : WrittenModel) (g : EventGraph) (limit : ℕ) where
   -- the rule on the length of the canonical text
   not_too_long : (text : List ℕ) (at : ℕ) → model_too_long limit text at ≡ [] ↔ length text ≤ limit
-  not_too_long text at = told_by (nat_lt limit (length text)) rules.ModelTooLong at (λ e. grind (arith, nat_tests), λ h. grind (arith, nat_tests))
+  not_too_long text at = told_by (nat_lt limit (length text)) rules.ModelTooLong at (not_above limit (length text))
 
   too_long_or_not : numbered m ≡ Some g → or_too_long m limit [] ≡ model_too_long limit (canonical g) m.end_at
   too_long_or_not e = by_number (numbered m) e
@@ -338,21 +356,21 @@ module _ (m : WrittenModel) (g : EventGraph) (limit : ℕ) where
   none_of_parts [] e = refl
   none_of_parts (f ∷ fs) e = cc
 
-  all_kept : or_too_long m limit (faults_of_parts m) ≡ [] → numbered m ≡ Some g → KeepsParts g × VariablesByKind m × (length (canonical g) ≤ limit)
+  all_kept : or_too_long m limit (faults_of_parts m ++ version_faults m) ≡ [] → numbered m ≡ Some g → KeepsParts g × VariablesByKind m × FitsVersion m.version g × HasFewCells g × (length (canonical g) ≤ limit)
   all_kept e is =
-      let none = none_of_parts (faults_of_parts m) e in
-      let (h, is_h, keeps, by_kind) = parts_kept m none in
+      let none = none_of_parts (faults_of_parts m ++ version_faults m) e in
+      let (h, is_h, keeps, by_kind, fits, few) = version_kept m none in
       let same : h ≡ g = same_Some h g (sym is_h ∙ is) in
-      (subst KeepsParts same keeps, by_kind, (not_too_long (canonical g) m.end_at).0 (sym (too_long_or_not is) ∙ sym (ap (or_too_long m limit) none) ∙ e))
+      (subst KeepsParts same keeps, by_kind, subst (FitsVersion m.version) same fits, subst HasFewCells same few, (not_too_long (canonical g) m.end_at).0 (sym (too_long_or_not is) ∙ sym (ap (or_too_long m limit) none) ∙ e))
 
-  none_broken : numbered m ≡ Some g → KeepsParts g → VariablesByKind m → length (canonical g) ≤ limit → or_too_long m limit (faults_of_parts m) ≡ []
-  none_broken is keeps by_kind h = ap (or_too_long m limit) (parts_unbroken m g is keeps by_kind) ∙ too_long_or_not is ∙ (not_too_long (canonical g) m.end_at).1 h
+  none_broken : numbered m ≡ Some g → KeepsParts g → VariablesByKind m → FitsVersion m.version g → HasFewCells g → length (canonical g) ≤ limit → or_too_long m limit (faults_of_parts m ++ version_faults m) ≡ []
+  none_broken is keeps by_kind fits few h = ap (or_too_long m limit) (version_unbroken m g is keeps by_kind fits few) ∙ too_long_or_not is ∙ (not_too_long (canonical g) m.end_at).1 h
 
-pub accepted_by_itself : (m : WrittenModel) (g : EventGraph) → Accepted m g ↔ (numbered m ≡ Some g) × KeepsStaticRules g × VariablesByKind m
+pub accepted_by_itself : (m : WrittenModel) (g : EventGraph) → Accepted m g ↔ (numbered m ≡ Some g) × KeepsStaticRules g × FitsVersion m.version g × VariablesByKind m
 accepted_by_itself m g = (
-  λ a. let (keeps, by_kind, short) = all_kept m g TEXT_MAX (nothing_contained (model_faults m) (λ f. a.unbroken f.kind f.at)) a.numbers in (a.numbers, record { parts = keeps; short = short }, by_kind),
-  λ (is, keeps, by_kind). record {
-    unbroken = λ kind at b. empty_contains (record { at = at; kind = kind }) (subst (λ fs. Contains fs (record { at = at; kind = kind })) (none_broken m g TEXT_MAX is keeps.parts by_kind keeps.short) b);
+  λ a. let (keeps, by_kind, fits, few, short) = all_kept m g TEXT_MAX (nothing_contained (model_faults m) (λ f. a.unbroken f.kind f.at)) a.numbers in (a.numbers, record { parts = keeps; few_cells = few; short = short }, fits, by_kind),
+  λ (is, keeps, fits, by_kind). record {
+    unbroken = λ kind at b. empty_contains (record { at = at; kind = kind }) (subst (λ fs. Contains fs (record { at = at; kind = kind })) (none_broken m g TEXT_MAX is keeps.parts by_kind fits keeps.few_cells keeps.short) b);
     numbers = is;
   },
 )

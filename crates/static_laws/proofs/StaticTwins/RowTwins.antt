@@ -37,6 +37,9 @@ between least most n = (λ e. (at_least e, at_most e), λ (a, b). both a b)
     both : least ≤ℤ n → n ≤ℤ most → is_between least most n ≡ true
     both a b = grind (arith, ints)
 
+pub not_above : (limit k : ℕ) → nat_lt limit k ≡ false ↔ k ≤ limit
+not_above limit k = (λ e. grind (arith, nat_tests), λ h. grind (arith, nat_tests))
+
 -- where a test tells of a fact, so does the fault of its failing
 pub told_by : {P : Type 0} (b : Bool) (kind : StaticKind) (at : ℕ) → (b ≡ false ↔ P) → fault_where b kind at ≡ [] ↔ P
 told_by b kind at t = (λ e. t.0 ((broken_not b kind at).0 e), λ p. (broken_not b kind at).1 (t.1 p))
@@ -45,9 +48,6 @@ told_by b kind at t = (λ e. t.0 ((broken_not b kind at).0 e), λ p. (broken_not
 
 pub short_name : (n : WrittenName) → name_too_long n ≡ [] ↔ IsShort n.name
 short_name n = told_by (nat_lt NAME_MAX (length n.name)) rules.NameTooLong n.at (not_above NAME_MAX (length n.name))
-  where
-    not_above : (limit k : ℕ) → nat_lt limit k ≡ false ↔ k ≤ limit
-    not_above limit k = (λ e. grind (arith, nat_tests), λ h. grind (arith, nat_tests))
 
 pub same_count : (wanted given at : ℕ) → value_count wanted given at ≡ [] ↔ wanted ≡ given
 same_count wanted given at = told_by (not (nat_eq wanted given)) rules.ValueCount at (λ e. grind (arith, nat_tests), λ h. grind (arith, nat_tests))
@@ -98,7 +98,7 @@ natural_between lo hi (Some (pos n)) large outside at = record {
     between_so : (lo ≤ n) × (n ≤ hi) → is_between (pos lo) (pos hi) (pos n) ≡ true
     between_so (a, b) = grind (arith, ints)
 
-pub size_twin : (n : WrittenNumber) → Twin (number_too_large n ++ size_outside n) (natural n) (λ k. (1 ≤ k) × (k ≤ ARRAY_CELLS_MAX))
+pub size_twin : (n : WrittenNumber) → Twin (number_too_large n ++ size_outside ARRAY_CELLS_MAX n) (natural n) (λ k. (1 ≤ k) × (k ≤ ARRAY_CELLS_MAX))
 size_twin n = natural_between 1 ARRAY_CELLS_MAX n.value rules.LiteralTooLarge rules.SizeOutside n.at
 
 pub priority_twin : (n : WrittenNumber) → Twin (number_too_large n ++ priority_outside n) (natural n) (λ k. (1 ≤ k) × (k ≤ 255))

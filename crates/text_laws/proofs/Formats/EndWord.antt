@@ -9,7 +9,7 @@ use Rattle.model_core.specs.Text.Written.{WrittenModel}
 use Rattle.model_core.specs.Text.Grammar.{Grammar, many}
 use Rattle.model_core.specs.Text.Format.{TokenSort, AWord, sort_of, Format, Yields, Single, Apply, Either, Many, ByRule, single, derives, nested, by_rule, Spells}
 use Rattle.model_core.specs.Text.Expressions.{LanguageFormat, Level, Whole, Disjunction, Conjunction, Negation, Comparison, Sum, Product, Unary, Primary, level_format}
-use Rattle.model_core.specs.Text.Language.{signed_format, literal_format, kind_format, variable_format, row_format, table_format, watch_format, target_format, choice_format, source_format, change_format, values_format, when_format, delay_format, timing_format, schedule_format, urgent_format, cancelled_format, cancel_format, edge_format, vertex_format, text_format, BeginsWithText, IsText}
+use Rattle.model_core.specs.Text.Language.{signed_format, literal_format, kind_format, variable_format, row_format, table_format, watch_format, target_format, choice_format, source_format, change_format, values_format, when_format, delay_format, timing_format, schedule_format, urgent_format, cancelled_format, cancel_format, edge_format, vertex_format, version_format, text_format, BeginsWithText, IsText}
 use Rattle.model_core.specs.Text.FirstWrong.{CantGoOn, FirstWrong}
 use Rattle.model_core.specs.Text.Openings.{is_end_word, front_to_end}
 use Rattle.text_laws.specs.FirstTokens.{same_sort}
@@ -137,7 +137,7 @@ ends-front (Apply p q) ok tokens x left d =
 ends-front _ ok tokens x left d = absurd cc
 
 text-last : has_last_end text_format ≡ true
-unfolding signed_format literal_format kind_format variable_format row_format table_format watch_format target_format choice_format source_format change_format values_format when_format delay_format timing_format schedule_format urgent_format cancelled_format cancel_format edge_format vertex_format text_format
+unfolding signed_format literal_format kind_format variable_format row_format table_format watch_format target_format choice_format source_format change_format values_format when_format delay_format timing_format schedule_format urgent_format cancelled_format cancel_format edge_format vertex_format version_format text_format
 text-last = refl
 
 text-front : (tokens : List Lexeme) (m : WrittenModel) (left : List Lexeme) → BeginsWithText tokens m left → FrontBefore tokens left

@@ -8,7 +8,7 @@ pub returns-clause-valid : goal.returns-clause-valid
 returns-clause-valid c = λ g first second valid none.
     let (rules, spellable) = (c.validity_is_by_parts.ensures.by_parts g).0 valid in
     let h = conditions_hold g first second none in
-    (c.validity_is_by_parts.ensures.by_parts (merged g first second)).1 (merged_rules g rules.parts first second h, merged_spellable g rules.parts first second h spellable)
+    (c.validity_is_by_parts.ensures.by_parts (merged g first second)).1 (merged_rules g rules.parts first second h rules.few_cells, merged_spellable g rules.parts first second h spellable)
 
 pub returns-clause-same : goal.returns-clause-same
 returns-clause-same c = λ g first second valid none.

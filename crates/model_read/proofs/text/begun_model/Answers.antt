@@ -4,4 +4,4 @@ use Rattle.model_read.proofs.text.begun_model.Goals as goal
 
 pub returns : goal.returns
 unfolding model_beginning
-returns c = rw (c.in_ok-at.ensures.reads, c.in_ok-name.ensures.reads, c.in_ok-symbol.ensures.reads, c.in_ok-vars.ensures, c.in_ok-tables.ensures, c.in_ok-watch.ensures)
+returns c = rw (c.in_ok-version.ensures, c.in_ok-model.ensures.reads, c.in_ok-name.ensures.reads, c.in_ok-symbol.ensures.reads, c.in_ok-vars.ensures, c.in_ok-tables.ensures, c.in_ok-watch.ensures, c.text_place.ensures, c.version_number.ensures)

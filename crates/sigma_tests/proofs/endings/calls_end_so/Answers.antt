@@ -1,10 +1,13 @@
 use Rattle.std.proofs.Common.{◌≡◌, inl, inr, ℕ, ◌+◌, ◌≤◌, pos, List, [], ◌∷◌, ◌++◌, length, drop, lit≤, refl, sym, ap, arith}
 use Rattle.std.specs.Prelude.{Option, Some, codes}
+use Rattle.std.specs.List.{flat_map}
 use Rattle.std.specs.Fmt.{digits}
 use Rattle.std.proofs.lemmas.List.{length-append, drop_all}
 use Rattle.sig_base.specs.declared.limits.TheConstants.{TEXT_MAX}
 use Rattle.model_core.specs.Run.History.{look}
-use Rattle.model_core.specs.Text.Canonical.{canonical}
+use Rattle.model_core.specs.EventGraph.{EventGraph}
+use Rattle.model_core.specs.Text.VersionNeeded.{needs_version_two}
+use Rattle.model_core.specs.Text.Canonical.{variable_line, table_line, watch_line, vertex_lines, version_line, canonical}
 use Rattle.command_words.specs.declared.job.Job.TheVariants as jobs
 use Rattle.command_words.specs.declared.run_options.TheConstants.{ROOM_USUAL}
 use Rattle.job_answers.specs.declared.complaint.Complaint.TheVariants as complaints
@@ -12,9 +15,6 @@ use Rattle.job_answers.specs.declared.status.End.TheVariants as ends
 use Rattle.job_answers.specs.RunAnswer.{refused_or, told_of}
 use Rattle.job_answers.specs.CertifyAnswer.{answer_of_verdict}
 use Rattle.sigma_tests.proofs.endings.calls_end_so.Goals as goal
-
-no_shorter : (front later : List ℕ) → length front ≤ length (front ++ later)
-no_shorter front later = omega (arith, length-append front later)
 
 -- a text within a limit has nothing one byte past it
 nothing_past : (limit : ℕ) (text : List ℕ) → length text ≤ limit → ◌≡◌ {A = Option (List ℕ)} (Some []) (Some (drop (limit + 1) text))
@@ -73,6 +73,10 @@ returns-clause-read_fault c = (
   inr refl,
 )
 
+-- a canonical text has the last word at least
+has_three : (g : EventGraph) → 3 ≤ length (canonical g)
+has_three g = omega (arith, length-append (version_line (needs_version_two g) ++ codes "model " ++ g.name ++ codes ";\n" ++ flat_map variable_line g.variables ++ flat_map table_line g.tables ++ watch_line g ++ flat_map (vertex_lines g) g.vertices) (codes "end\n"))
+
 pub returns-clause-write_fault : goal.returns-clause-write_fault
 returns-clause-write_fault c = λ text g reads. (
   (
@@ -84,7 +88,7 @@ returns-clause-write_fault c = λ text g reads. (
       answer = record { text = text; told = refl; answers = inr (reads.fits, inr (g, reads, refl)) };
       input_read = refl;
       input_steady = refl;
-      output_grown = (3, no_shorter (codes "mod") (drop 3 (canonical g)), refl);
+      output_grown = (3, has_three g, refl);
       output_unsettled = inr refl;
       output_failed = inl (omega arith);
     },

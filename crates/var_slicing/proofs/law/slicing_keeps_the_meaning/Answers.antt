@@ -15,7 +15,7 @@ returns-clause-valid c = λ g variables valid none.
     let live = live_streams g marks in
     let needs = needs_hold g rules.parts spellable in
     subst IsValid (sym (without_unneeded g variables none))
-    ((c.validity_is_by_parts.ensures.by_parts (of_marked_variables g marks)).1 (marked_rules g rules.parts marks live needs rules.short, marked_spellable g rules.parts marks live needs spellable))
+    ((c.validity_is_by_parts.ensures.by_parts (of_marked_variables g marks)).1 (marked_rules g rules.parts marks live needs rules.few_cells rules.short, marked_spellable g rules.parts marks live needs spellable))
 
 pub returns-clause-same : goal.returns-clause-same
 returns-clause-same c = λ g variables valid none.

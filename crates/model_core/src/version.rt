@@ -1,0 +1,76 @@
+//! Whether a model needs a text of version 2.
+
+ghost use Rattle.std.specs.Prelude.{◌≡◌, map};
+ghost use Rattle.std.specs.List.{list_any};
+ghost use Rattle.model_core.specs.Text.VersionNeeded.{is_large_array, has_many_targets, has_many_parts, needs_version_two};
+ghost use Rattle.model_core.specs.Code.Views.{graph_of, variable_of, change_of, vertex_of};
+
+use crate::model::{Model, Var};
+use crate::vertex::{Change, Vertex};
+use sig_base::{ARRAY_CELLS_MAX_VERSION_1, PARAMETERS_MAX_VERSION_1, TARGETS_MAX_VERSION_1};
+
+/// Whether one of these variables is an array with more cells than one of version 1 may have.
+pub fn has_large_array(vars: &[Var]) -> bool
+    ensures { result ≡ list_any is_large_array (map variable_of vars.now) }
+{
+    for var in vars {
+        if var.size > ARRAY_CELLS_MAX_VERSION_1 {
+            return true;
+        }
+    }
+    false
+}
+
+/// Whether a change is a `set` with more targets than one of version 1 may have.
+fn has_many_targets(change: &Change) -> bool
+    ensures { result ≡ has_many_targets (change_of change.now) }
+{
+    match change {
+        Change::Set { targets, values: _ } => targets.len() > TARGETS_MAX_VERSION_1,
+        Change::Draw {
+            target: _,
+            stream: _,
+            choice: _,
+        } => false,
+    }
+}
+
+/// Whether one of these changes is such a `set`.
+fn one_has_many_targets(changes: &[Change]) -> bool
+    ensures { result ≡ list_any has_many_targets (map change_of changes.now) }
+{
+    for change in changes {
+        if has_many_targets(change) {
+            return true;
+        }
+    }
+    false
+}
+
+/// Whether a vertex has more parameters than one of version 1 may have, or such a `set`.
+fn has_many_parts(vertex: &Vertex) -> bool
+    ensures { result ≡ has_many_parts (vertex_of vertex.now) }
+{
+    vertex.params.len() > PARAMETERS_MAX_VERSION_1
+        || one_has_many_targets(vertex.changes.as_slice())
+}
+
+/// Whether one of these vertices does.
+pub fn one_has_many_parts(vertices: &[Vertex]) -> bool
+    ensures { result ≡ list_any has_many_parts (map vertex_of vertices.now) }
+{
+    for vertex in vertices {
+        if has_many_parts(vertex) {
+            return true;
+        }
+    }
+    false
+}
+
+/// Whether only a text of version 2 can write the model: it has an array of more than 4,096 cells, a vertex with more than 8
+/// parameters, or a `set` with more than 8 targets.
+pub fn needs_version_two(model: &Model) -> bool
+    ensures { result ≡ needs_version_two (graph_of model.now) }
+{
+    has_large_array(model.vars.as_slice()) || one_has_many_parts(model.vertices.as_slice())
+}

@@ -1,0 +1,156 @@
+//! The rules that depend on the version of a text.
+
+ghost use Rattle.std.specs.Prelude.{◌≡◌, ◌≤◌, map};
+ghost use Rattle.std.specs.List.{flat_map};
+ghost use Rattle.std.specs.Option.{option_map, option_and_then};
+ghost use Rattle.sig_base.specs.declared.limits.TheConstants.{ARRAY_CELLS_MAX as cells_limit};
+ghost use Rattle.model_core.specs.Code.WrittenViews.{written_number, written_variable, written_change, written_vertex, written_model};
+ghost use Rattle.model_core.specs.Text.Numbering.{natural_of};
+ghost use Rattle.model_core.specs.Static.FaultOrder.{earliest_fault};
+ghost use Rattle.model_core.specs.Static.PartFaults.{if_written};
+ghost use Rattle.model_core.specs.Static.VersionFaults.{is_version_two, number_faults, size_faults_version_1, target_faults_version_1, vertex_faults_version_1, faults_version_1, cells_within, counted_cells, cells_faults, version_faults};
+
+use crate::edges::items;
+use crate::numbers::{certain_number, lies_between};
+use crate::placed::tell_too_many;
+use crate::told::Told;
+use model_core::{RawChange, RawModel, RawNumber, RawVar, RawVertex, StaticKind};
+use sig_base::{
+    ARRAY_CELLS_MAX, ARRAY_CELLS_MAX_VERSION_1, CELLS_MAX, PARAMETERS_MAX_VERSION_1,
+    TARGETS_MAX_VERSION_1,
+};
+
+/// Whether a text says that it is of version 2.
+fn is_version_two(raw: &Option<RawNumber>) -> bool
+    ensures { result ≡ is_version_two (option_map written_number raw.now) }
+{
+    match raw {
+        Some(raw) => lies_between(2, 2, certain_number(raw.value)),
+        None => false,
+    }
+}
+
+/// Tells a version that isn't known.
+fn tell_number(raw: &Option<RawNumber>, told: &mut Told)
+    ensures { told.new ≡ earliest_fault told.old (if_written number_faults (option_map written_number raw.now)) }
+{
+    if let Some(raw) = raw {
+        let known = lies_between(1, 2, certain_number(raw.value));
+        told.note(raw.value.is_none(), StaticKind::LiteralTooLarge, raw.at);
+        told.note(!known, StaticKind::VersionUnknown, raw.at);
+    }
+}
+
+/// Tells an array of more cells than one of version 1 may have, or of none.
+fn tell_size(raw: &RawVar, told: &mut Told)
+    ensures { told.new ≡ earliest_fault told.old (size_faults_version_1 (written_variable raw.now)) }
+{
+    if let Some(size) = &raw.size {
+        let cells = certain_number(size.value);
+        let inside = lies_between(1, ARRAY_CELLS_MAX_VERSION_1 as i128, cells);
+        told.note(!inside, StaticKind::SizeOutside, size.at);
+    }
+}
+
+/// Tells each of these arrays that does.
+fn tell_sizes(raws: &[RawVar], told: &mut Told)
+    ensures { told.new ≡ earliest_fault told.old (flat_map size_faults_version_1 (map written_variable raws.now)) }
+{
+    for raw in raws {
+        tell_size(raw, told);
+    }
+}
+
+/// Tells the first target behind those that a `set` of version 1 may have.
+fn tell_targets(raw: &RawChange, told: &mut Told)
+    ensures { told.new ≡ earliest_fault told.old (target_faults_version_1 (written_change raw.now)) }
+{
+    match raw {
+        RawChange::Set { targets, .. } => {
+            tell_too_many(TARGETS_MAX_VERSION_1, targets.as_slice(), told);
+        }
+        RawChange::Draw { .. } => {}
+    }
+}
+
+/// Tells it of each of these changes.
+fn tell_all_targets(raws: &[RawChange], told: &mut Told)
+    ensures { told.new ≡ earliest_fault told.old (flat_map target_faults_version_1 (map written_change raws.now)) }
+{
+    for raw in raws {
+        tell_targets(raw, told);
+    }
+}
+
+/// Tells the first parameter behind those that a vertex of version 1 may have, and such targets.
+fn tell_vertex(raw: &RawVertex, told: &mut Told)
+    ensures { told.new ≡ earliest_fault told.old (vertex_faults_version_1 (written_vertex raw.now)) }
+{
+    tell_too_many(PARAMETERS_MAX_VERSION_1, items(&raw.params), told);
+    tell_all_targets(raw.changes.as_slice(), told);
+}
+
+/// Tells it of each of these vertices.
+fn tell_vertices(raws: &[RawVertex], told: &mut Told)
+    ensures { told.new ≡ earliest_fault told.old (flat_map vertex_faults_version_1 (map written_vertex raws.now)) }
+{
+    for raw in raws {
+        tell_vertex(raw, told);
+    }
+}
+
+/// Tells what passes a limit of version 1.
+fn tell_version_1(raw: &RawModel, told: &mut Told)
+    ensures { told.new ≡ earliest_fault told.old (faults_version_1 (written_model raw.now)) }
+{
+    tell_sizes(raw.vars.as_slice(), told);
+    tell_vertices(raw.vertices.as_slice(), told);
+}
+
+/// A size, where it is within the limit on one array, and else 0.
+fn size_within(value: Option<i64>) -> usize
+    ensures is { result ≡ cells_within (option_and_then natural_of value) }
+    ensures few { result ≤ cells_limit }
+{
+    match value {
+        Some(cells) if 0 <= cells && cells <= ARRAY_CELLS_MAX as i64 => cells as usize,
+        _ => 0,
+    }
+}
+
+/// The cells of a variable that count among those of all arrays.
+fn cells(raw: &RawVar) -> usize
+    ensures is { result ≡ counted_cells (written_variable raw.now) }
+    ensures few { result ≤ cells_limit }
+{
+    match &raw.size {
+        Some(size) => size_within(size.value),
+        None => 0,
+    }
+}
+
+/// Tells the first array with which those of all arrays are too many.
+fn tell_cells(raws: &[RawVar], told: &mut Told)
+    ensures { told.new ≡ earliest_fault told.old (cells_faults 0 (map written_variable raws.now)) }
+{
+    let mut before = 0;
+    for raw in raws {
+        before += cells(raw);
+        if before > CELLS_MAX {
+            told.note(true, StaticKind::TooMany, raw.at);
+            return;
+        }
+    }
+}
+
+/// Tells a version that isn't known, and what passes a limit that depends on the version.
+pub(crate) fn tell_version(raw: &RawModel, told: &mut Told)
+    ensures { told.new ≡ earliest_fault told.old (version_faults (written_model raw.now)) }
+{
+    tell_number(&raw.version, told);
+    if is_version_two(&raw.version) {
+        tell_cells(raw.vars.as_slice(), told);
+    } else {
+        tell_version_1(raw, told);
+    }
+}

@@ -1,0 +1,63 @@
+-- What is left where the marked variables stay needs version 2 of a text only where the model did, and has no more cells.
+use Rattle.std.proofs.Common.{◌≡◌, inl, inr, ℕ, ◌≤◌, nat_lt, Bool, true, false, ◌||◌, cond, List, [], ◌∷◌, length, ap, ◌∙◌, arith}
+use Rattle.std.specs.List.{flat_map, list_any, sum_by}
+use Rattle.std.proofs.lemmas.Bool.Decides.{nat_tests}
+use Rattle.std.proofs.lemmas.List.{length-map}
+use Rattle.std.proofs.lemmas.List.Sums.{sum_by-cons}
+use Rattle.sig_base.specs.declared.limits.TheConstants.{PARAMETERS_MAX_VERSION_1, TARGETS_MAX_VERSION_1}
+use Rattle.model_core.specs.EventGraph.{EventGraph, EventVertex, Expression, Location, StateChange, Set, Draw, Variable}
+use Rattle.model_core.specs.Text.VersionNeeded.{is_large_array, has_many_targets, has_many_parts}
+use Rattle.model_core.specs.Rules.MarkedPlaces.{rank, is_marked}
+use Rattle.model_core.specs.Rules.Slice.{location_renumbered, values_left, parameters_left, targets_left, set_or_nothing, change_left, vertex_left, of_marked_variables}
+use Rattle.model_core.proofs.Among.{either_true, first_true, second_true}
+use Rattle.model_core.proofs.SomeOfAList.{SomeOf, nothing, with_it, without, some-marked_of, some-kept_beside, some-few}
+use Rattle.round_trip.proofs.VersionsKept.{NeedsNoMore, needed-by, any-some, any-mapped, any-left}
+use Rattle.var_slicing.proofs.KeptBeside.{variables_of, parameters-kept, targets-kept}
+
+more_than : (limit a b : ℕ) → a ≤ b → nat_lt limit a ≡ true → nat_lt limit b ≡ true
+more_than limit a b few e = grind (arith, nat_tests)
+
+alone : (b : Bool) → (b || false) ≡ true → b ≡ true
+alone true e = e
+alone false e = e
+
+pub parameters-few : (marks : List Bool) (vs : List ℕ) → length (parameters_left marks vs) ≤ length vs
+parameters-few marks vs =
+    let same = ap length (parameters-kept marks vs) ∙ length-map _ (rank marks) in
+    let few = some-few (some-kept_beside marks vs vs) in
+    omega (arith, same, few)
+
+targets-few : (marks : List Bool) (ls : List Location) → length (targets_left marks ls) ≤ length ls
+targets-few marks ls =
+    let same = ap length (targets-kept marks ls) ∙ length-map _ (location_renumbered (rank marks)) in
+    let few = some-few (some-kept_beside marks (variables_of ls) ls) in
+    omega (arith, same, few)
+
+set-needs : (most : ℕ) (ls : List Location) (es : List Expression) → length ls ≤ most → list_any has_many_targets (set_or_nothing ls es) ≡ true → nat_lt TARGETS_MAX_VERSION_1 most ≡ true
+set-needs most [] [] few e = cc
+set-needs most [] (x ∷ es) few e = cc
+set-needs most (l ∷ ls) es few e = more_than TARGETS_MAX_VERSION_1 (length (l ∷ ls)) most few (alone (nat_lt TARGETS_MAX_VERSION_1 (length (l ∷ ls))) e)
+
+change-needs : (marks : List Bool) (c : StateChange) → list_any has_many_targets (change_left marks c) ≡ true → has_many_targets c ≡ true
+change-needs marks (Set targets rights) e = set-needs (length targets) (targets_left marks targets) (values_left marks (variables_of targets) rights) (targets-few marks targets) e
+change-needs marks (Draw target stream choice) e = tested (is_marked marks target.variable) e where
+  tested : (b : Bool) → list_any has_many_targets (cond b (Draw (location_renumbered (rank marks) target) stream choice ∷ []) []) ≡ true → false ≡ true
+  tested true e = e
+  tested false e = e
+
+vertex-needs : (g : EventGraph) (marks : List Bool) (v : EventVertex) → has_many_parts (vertex_left g marks v) ≡ true → has_many_parts v ≡ true
+vertex-needs g marks v e =
+    let now = nat_lt PARAMETERS_MAX_VERSION_1 (length v.parameters) in
+    elim (either_true (nat_lt PARAMETERS_MAX_VERSION_1 (length (parameters_left marks v.parameters))) (list_any has_many_targets (flat_map (change_left marks) v.changes)) e) [
+      | inl h ↦ first_true now (list_any has_many_targets v.changes) (more_than PARAMETERS_MAX_VERSION_1 (length (parameters_left marks v.parameters)) (length v.parameters) (parameters-few marks v.parameters) h)
+      | inr h ↦ second_true now (list_any has_many_targets v.changes) (any-left has_many_targets has_many_targets (change_left marks) (change-needs marks) v.changes h)
+    ]
+
+pub needed-left : (g : EventGraph) (marks : List Bool) → NeedsNoMore (of_marked_variables g marks) g
+needed-left g marks =
+    needed-by (of_marked_variables g marks) g (any-some is_large_array (some-marked_of marks g.variables)) (any-mapped has_many_parts has_many_parts (vertex_left g marks) (vertex-needs g marks) g.vertices)
+
+pub some-cells : {xs ys : List Variable} → SomeOf xs ys → sum_by (λ (v : Variable). v.size) xs ≤ sum_by (λ (v : Variable). v.size) ys
+some-cells nothing = omega arith
+some-cells (with_it v {xs = xs} {ys = ys} some) = omega (arith, sum_by-cons (λ (v : Variable). v.size) v xs, sum_by-cons (λ (v : Variable). v.size) v ys, some-cells some)
+some-cells (without v {ys = ys} some) = omega (arith, sum_by-cons (λ (v : Variable). v.size) v ys, some-cells some)
