@@ -1,10 +1,10 @@
 -- The pending list in the definition's words.
-use Rattle.std.proofs.Common.{◌≡◌, ℕ, zero, suc, ◌+◌, ◌*◌, ◌/◌, ◌^◌, ◌<◌, ◌≤◌, ◌≢◌, Bool, true, false, List, [], ◌∷◌, ◌++◌, length, get_or, Option, Some, None, option_map, option_to_list, unwrap_or, refl, sym, ◌∙◌, ap, subst, arith, eq-eqb}
+use Rattle.std.proofs.Common.{◌≡◌, ℕ, zero, suc, ◌+◌, ◌*◌, ◌/◌, ◌^◌, ◌<◌, ◌≤◌, ◌≢◌, Bool, true, false, List, [], ◌∷◌, ◌++◌, length, get_or, Option, Some, None, IsSome, option_map, option_to_list, unwrap_or, refl, sym, ◌∙◌, ap, subst, arith, eq-eqb}
 use Rattle.std.proofs.lemmas.List.{map_push, length-map}
 use Rattle.std.proofs.Math.Nat.{pow-suc}
 use Rattle.std.specs.List.{AllByRecursion}
 use Rattle.event_list.specs.KeyOrder.{KeyParts, comes_before}
-use Rattle.model_core.specs.Run.Pending.{Entry, TakenOff, is_of, next_among, next_entry, without_next}
+use Rattle.model_core.specs.Run.Pending.{Entry, TakenOff, is_of, or_behind, next_among, next_entry, without_next}
 use Rattle.event_list.specs.Told.{first_of}
 use Rattle.event_heap.specs.declared.node.Item.{Item}
 use Rattle.event_heap.specs.Inner.Tree.{key_of, precedes}
@@ -115,6 +115,15 @@ seen-next heaps v y h at first =
 pub told-entry : (o : Option TakenOff) (e : Entry) → option_map (λ (n : TakenOff). n.entry) o ≡ Some e → Some (first_of e) ≡ option_map (λ (n : TakenOff). first_of n.entry) o
 told-entry None e h = cc
 told-entry (Some n) e h = let is : n.entry ≡ e = cc in ap (λ e. Some (first_of e)) (sym is)
+
+-- where an entry is pending there is a next one
+next-behind : (e : Entry) (es : List Entry) (o : Option TakenOff) → IsSome (or_behind e es o)
+next-behind e es None = refl
+next-behind e es (Some n) = refl
+
+pub next-there : (es : List Entry) → length es ≢ 0 → IsSome (next_entry es)
+next-there [] h = absurd (h refl)
+next-there (e ∷ es) h = next-behind e es (next_entry es)
 
 -- ---- a new event
 

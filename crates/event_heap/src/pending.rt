@@ -1,6 +1,6 @@
 //! The pending list of a run in heaps.
 
-ghost use Rattle.std.specs.Prelude.{◌≡◌, ◌≢◌, ℕ, ◌+◌, ◌*◌, ◌^◌, ◌<◌, ◌≤◌, length, [], ◌∷◌, ◌++◌, None, true, IfOk, slice_index_or};
+ghost use Rattle.std.specs.Prelude.{◌≡◌, ◌≢◌, ℕ, ◌+◌, ◌*◌, ◌^◌, ◌<◌, ◌≤◌, length, [], ◌∷◌, ◌++◌, Some, None, IsSome, true, IfOk, slice_index_or};
 ghost use Rattle.std.specs.Option.{option_map};
 ghost use Rattle.model_core.specs.Run.Pending.{next_entry, without_next, is_of};
 ghost use Rattle.event_heap.specs.Inner.Tree.{key_of};
@@ -153,13 +153,31 @@ impl Pending for HeapPending {
         ensures vertices { self.new.vertices ≡ self.old.vertices }
         ensures ticks { steps.new ≤ steps.old + (3 * (digits (length self.old.entries) + 1) + digits self.old.vertices) }
     {
-        let Some(vertex) = next_vertex(&self.heaps, &self.tournament) else {
+        if self.count() == 0 {
             return None;
+        }
+        let mut entry = Entry::blank();
+        self.take_first_into(&mut entry, steps);
+        Some(entry)
+    }
+
+    /// Takes the next event off, which `entry` becomes, by few comparisons of keys.
+    fn take_first_into<L: Ledger>(&mut self, entry: &mut Entry, steps: &mut Steps<L>)
+        requires pending { IsSome (next_entry self.old.entries) }
+        ensures gives { Some entry.new ≡ option_map (λ n. n.entry) (next_entry self.old.entries) }
+        ensures entries { self.new.entries ≡ without_next (λ e. true) self.old.entries }
+        ensures spare { self.old.spare ≤ self.new.spare }
+        ensures room { self.old.spare + length self.old.entries ≤ self.new.spare + length self.new.entries }
+        ensures numbered { self.new.numbered ≡ self.old.numbered }
+        ensures vertices { self.new.vertices ≡ self.old.vertices }
+        ensures ticks { steps.new ≤ steps.old + (3 * (digits (length self.old.entries) + 1) + digits self.old.vertices) }
+    {
+        let Some(vertex) = next_vertex(&self.heaps, &self.tournament) else {
+            unreachable!()
         };
-        let entry = self.heaps.first_entry(vertex);
+        self.heaps.copy_first(vertex, entry);
         self.heaps.take(vertex, steps);
         replay(&self.heaps, &mut self.tournament, vertex, steps);
-        Some(entry)
     }
 
     /// Deletes the next event of a vertex, by few comparisons of keys, and answers how many were deleted.

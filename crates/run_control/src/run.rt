@@ -259,8 +259,8 @@ impl<'m, P: Pending> Run<'m, P> {
         let model = self.model;
         let happening = vertex_at(model, vertex);
         make_room(&mut self.pending, happening.edges.as_slice())?;
-        let taken = self.pending.take_first(steps);
-        let Some(entry) = &taken else { unreachable!() };
+        let mut entry = Entry::blank();
+        self.pending.take_first_into(&mut entry, steps);
         self.clock = time;
         self.turns += 1;
         let state = &mut self.state;
@@ -268,7 +268,7 @@ impl<'m, P: Pending> Run<'m, P> {
         match occur(
             model,
             happening,
-            entry,
+            &entry,
             state,
             streams,
             &mut self.pending,
