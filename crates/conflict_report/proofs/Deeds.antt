@@ -3,7 +3,7 @@ use Rattle.std.proofs.Common.{◌≡◌, ℕ, ◌+◌, ◌==◌, ℤ, Bool, true
 use Rattle.model_core.specs.EventGraph.{EventGraph, EventVertex, EventEdge, EdgeKind, Schedule, Urgent, CancelNext, CancelEqual, CancelAll}
 use Rattle.model_core.specs.Run.State.{State}
 use Rattle.model_core.specs.Run.Value.{OrFault, ◌>>=◌, in_turn, value_of, is_one}
-use Rattle.model_core.specs.Run.Changes.{Drawn, make_change}
+use Rattle.model_core.specs.Run.Changes.{Changed, make_change}
 use Rattle.model_core.specs.Run.Pending.{Entry, TakenOff, is_of, is_with, without_next, without_all}
 use Rattle.model_core.specs.Run.Edges.{Planned, delay_of, carried_values, act, treat}
 use Rattle.model_core.specs.Run.Step.{Configuration, receive, occur}
@@ -73,11 +73,11 @@ plan g seed s clk e p = do
 
 -- what an event leaves of state and words, and its deeds
 pub record Outcome : Type 0 where
-  pub drawn : Drawn
+  pub drawn : Changed
   pub deeds : List Deed
 
 -- an event of the vertex at this time, with these values
-abbrev pub outcome_of : EventGraph → ℕ → ℕ → EventVertex → List ℤ → Drawn → OrFault Outcome
+abbrev pub outcome_of : EventGraph → ℕ → ℕ → EventVertex → List ℤ → Changed → OrFault Outcome
 outcome_of g seed clk v values d = do
   s ← receive g v.parameters values d.state
   e ← in_turn (make_change g seed clk) v.changes (record { state = s; taken = d.taken })
@@ -130,7 +130,7 @@ module _ (g : EventGraph) (seed : ℕ) (s : State) (clk : ℕ) (pending : List E
 abbrev pub stands_after : ℕ → List Entry → Outcome → Configuration
 stands_after clk pending o = record { clock = clk; state = o.drawn.state; taken = o.drawn.taken; pending = deeds_done o.deeds pending }
 
-pub occur-event : (g : EventGraph) (seed : ℕ) (v : EventVertex) (n : TakenOff) (d : Drawn) → occur g seed v n d.state d.taken ≡ result_by (stands_after n.entry.time n.others) (outcome_of g seed n.entry.time v n.entry.values d)
+pub occur-event : (g : EventGraph) (seed : ℕ) (v : EventVertex) (n : TakenOff) (d : Changed) → occur g seed v n d.state d.taken ≡ result_by (stands_after n.entry.time n.others) (outcome_of g seed n.entry.time v n.entry.values d)
 occur-event g seed v n d =
     let at_end = stands_after n.entry.time n.others in
     bind-within at_end (receive g v.parameters n.entry.values d.state) _ _ (λ s got.

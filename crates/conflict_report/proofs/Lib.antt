@@ -10,5 +10,4 @@ pub mod NoConflict
 pub mod CrossedEvents
 pub mod PerformedInTurn
 pub mod TwoOrders
-pub mod StreamsOfChanges
 pub mod RowsOfPriorities

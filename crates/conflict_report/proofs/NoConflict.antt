@@ -9,7 +9,7 @@ use Rattle.model_core.specs.Rules.Merge.{is_cancelling}
 use Rattle.model_core.specs.Rules.Uses.{vertex_reads, vertex_writes, vertex_streams}
 use Rattle.model_core.specs.Conflicts.Priorities.{HasOwnPriority, priorities_of}
 use Rattle.model_core.specs.Conflicts.Conflict.{in_common, over_variables, over_streams, over_events, in_conflict, named_vertices, edge_cancelled, cancelled_vertices}
-use Rattle.model_core.specs.Run.Changes.{Drawn}
+use Rattle.model_core.specs.Run.Changes.{Changed}
 use Rattle.model_core.proofs.EachOne.{either_false, every-fails, every-map}
 use Rattle.model_core.proofs.Among.{Among, any-among, among-any, of-among, each-among}
 use Rattle.model_core.proofs.PlacesChanged.{same_number, apart-turned}
@@ -85,7 +85,7 @@ no-conflict-turned g a b n =
 
 module _ (g : EventGraph) (a b : ℕ) (n : NoConflict g a b) where
   -- what an event of the first sets, the second doesn't use
-  pub spared-by : (d : Drawn) (o : Outcome) → (w : EventWritten (vertex_at g a) d o) → VertexSpared w.variables.pairs w.streams.pairs (vertex_at g b)
+  pub spared-by : (d : Changed) (o : Outcome) → (w : EventWritten (vertex_at g a) d o) → VertexSpared w.variables.pairs w.streams.pairs (vertex_at g b)
   spared-by d o w =
       let v = vertex_at g a in
       let u = vertex_at g b in

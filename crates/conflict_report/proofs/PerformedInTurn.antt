@@ -5,7 +5,7 @@ use Rattle.std.specs.Option.{option_and_then}
 use Rattle.sig_base.specs.declared.fault.FaultKind.{FaultKind}
 use Rattle.model_core.specs.EventGraph.{EventGraph}
 use Rattle.model_core.specs.Run.Value.{OrFault}
-use Rattle.model_core.specs.Run.Changes.{Drawn}
+use Rattle.model_core.specs.Run.Changes.{Changed}
 use Rattle.model_core.specs.Run.Pending.{Entry}
 use Rattle.model_core.specs.Run.Step.{Configuration, Fault, vertex_at, faulted_at, step}
 use Rattle.model_core.specs.Rules.MarkedPlaces.{place_without}
@@ -38,7 +38,7 @@ two-turned t c i j a b p = record {
 }
 
 -- state and words of a configuration
-abbrev pub drawn_in : Configuration → Drawn
+abbrev pub drawn_in : Configuration → Changed
 drawn_in c = record { state = c.state; taken = c.taken }
 
 -- a pending list without the entries at two places

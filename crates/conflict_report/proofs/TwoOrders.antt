@@ -2,7 +2,7 @@
 use Rattle.std.proofs.Common.{◌≡◌, ◌≢◌, ℕ, ◌==◌, false, List, Some, Ok, Err, refl, sym, ◌∙◌, ap, arith}
 use Rattle.std.proofs.lemmas.Bool.Decides.{nat_tests}
 use Rattle.model_core.specs.EventGraph.{EventGraph}
-use Rattle.model_core.specs.Run.Changes.{Drawn}
+use Rattle.model_core.specs.Run.Changes.{Changed}
 use Rattle.model_core.specs.Run.Pending.{Entry}
 use Rattle.model_core.specs.Run.Step.{Configuration, Fault}
 use Rattle.model_core.specs.Conflicts.Conflict.{in_conflict}
@@ -43,8 +43,8 @@ module _ (g : EventGraph) (seed t : ℕ) where
     by (neither_faults o p after_b after_a goes goes_too goes_later goes_then same_drawn same_first same_second on_a on_b) =
         rw (both-give g seed t c i j a b two n o after_a goes goes_then, both-give g seed t c j i b a turned n_turned p after_b goes_too goes_later) (both_give (record {
           clocks = refl;
-          states = ap (λ (d : Drawn). d.state) (sym same_drawn);
-          words = ap (λ (d : Drawn). d.taken) (sym same_drawn);
+          states = ap (λ (d : Changed). d.state) (sym same_drawn);
+          words = ap (λ (d : Changed). d.taken) (sym same_drawn);
           held = λ x. ap (λ (ds : List Deed). times_held x (deeds_done ds (deeds_done o.deeds (without_both c.pending i j)))) same_second ∙
               (left-alike c i j a b two n o.deeds p.deeds on_a on_b x ∙
               sym (ap (λ (ds : List Deed). times_held x (deeds_done ds (deeds_done p.deeds (without_both c.pending j i)))) same_first));

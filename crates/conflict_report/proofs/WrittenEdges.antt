@@ -1,9 +1,11 @@
 -- Edges take words only from the streams from which they draw, and have deeds only on events of vertices that they name.
 use Rattle.std.proofs.Common.{◌≡◌, ℕ, ◌+◌, Bool, true, false, cond, List, [], ◌∷◌, inl, Ok, refl, sym, ap, subst}
 use Rattle.std.specs.List.{AllByRecursion}
-use Rattle.model_core.specs.EventGraph.{EventGraph, EventEdge, Delay, Fixed, EdgeKind, Schedule, Urgent, CancelNext, CancelEqual, CancelAll}
+use Rattle.sig_base.specs.Stream.{word}
+use Rattle.model_core.specs.EventGraph.{EventGraph, EventEdge, Delay, Fixed, Drawn, EdgeKind, Schedule, Urgent, CancelNext, CancelEqual, CancelAll}
 use Rattle.model_core.specs.Run.State.{State}
 use Rattle.model_core.specs.Run.Value.{value_of, is_one}
+use Rattle.model_core.specs.Run.Changes.{taken_from, one_more, picked}
 use Rattle.model_core.specs.Run.Edges.{Waiting, delay_ticks, delay_of, carried_values}
 use Rattle.model_core.specs.Rules.Merge.{is_cancelling}
 use Rattle.model_core.specs.Rules.Uses.{delay_streams, timing_streams, edge_streams}
@@ -33,6 +35,10 @@ module _ (g : EventGraph) (seed : ℕ) (s : State) (clk : ℕ) where
       let (n, at_ticks, end) = bind_ok (delay_ticks wait) (λ n. Ok (record { ticks = n; taken = taken })) w after_wait in
       let same : record { ticks = n; taken = taken } ≡ w = cc in
       written-none (delay_streams (Fixed e)) taken w.taken (ap (λ (w : Waiting). w.taken) same)
+  delay-written (Drawn stream choice) taken w done =
+      let (n, is, end) = bind_ok (delay_ticks (picked g choice (word seed stream (taken_from taken stream)))) (λ n. Ok (record { ticks = n; taken = one_more taken stream })) w done in
+      let same : record { ticks = n; taken = one_more taken stream } ≡ w = cc in
+      record { pairs = (stream, taken_from taken stream + 1) ∷ []; among = (inl refl, tt); result = ap (λ (w : Waiting). w.taken) same }
 
   module _ (names cuts : List ℕ) (e : EventEdge) (on_named : Among e.target names) (p : Plan) where
     with_one : (streams : List ℕ) (x : Deed) (taken : List ℕ) → DeedOn names cuts x → ChangedWithin streams p.taken taken → EdgeWritten streams names cuts p (and_deed p.deeds x taken)

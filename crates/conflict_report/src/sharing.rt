@@ -5,12 +5,12 @@ ghost use Rattle.std.specs.Prelude.{◌≡◌, ◌++◌, ◌∷◌, map};
 ghost use Rattle.std.specs.List.{flat_map};
 ghost use Rattle.model_core.specs.EventGraph.{Location, EventEdge};
 ghost use Rattle.model_core.specs.Rules.MarkedPlaces.{is_among};
-ghost use Rattle.model_core.specs.Rules.Uses.{change_writes, vertex_reads, vertex_writes, change_streams, vertex_streams};
-ghost use Rattle.model_core.specs.Code.Views.{location_of, change_of, edge_of, vertex_of};
+ghost use Rattle.model_core.specs.Rules.Uses.{change_writes, vertex_reads, vertex_writes, change_streams, delay_streams, edge_streams, vertex_streams};
+ghost use Rattle.model_core.specs.Code.Views.{location_of, change_of, edge_delay_of, edge_of, vertex_of};
 ghost use Rattle.model_core.specs.Conflicts.Conflict.{named_vertices, edge_cancelled, in_common, over_variables, over_streams, cancels_into};
 
-use model_core::{Change, Edge, Target, Vertex};
-use use_analysis::{reads_of_vertex, writes_of_vertex};
+use model_core::{Change, Delay, Edge, EdgeForm, Target, Vertex};
+use use_analysis::{draws_of_vertex, reads_of_vertex, writes_of_vertex};
 
 // ---- variables
 
@@ -87,42 +87,6 @@ pub(crate) fn over_variables(a: &Vertex, b: &Vertex) -> bool
 
 // ---- streams
 
-/// Whether the change draws from the stream.
-fn draws(change: &Change, stream: u8) -> bool
-    ensures { result ≡ is_among (change_streams (change_of change.now)) stream }
-{
-    match change {
-        Change::Set {
-            targets: _,
-            values: _,
-        } => false,
-        Change::Draw {
-            target: _,
-            stream: own,
-            choice: _,
-        } => *own == stream,
-    }
-}
-
-/// Whether one of these changes draws from it.
-fn one_draws(changes: &[Change], stream: u8) -> bool
-    ensures { result ≡ is_among (flat_map change_streams (map change_of changes.now)) stream }
-{
-    for change in changes {
-        if draws(change, stream) {
-            return true;
-        }
-    }
-    false
-}
-
-/// Whether the vertex draws from it.
-fn draws_from(vertex: &Vertex, stream: u8) -> bool
-    ensures { result ≡ is_among (vertex_streams (vertex_of vertex.now)) stream }
-{
-    one_draws(vertex.changes.as_slice(), stream)
-}
-
 /// Whether the change draws from a stream from which the vertex draws.
 fn draws_beside(change: &Change, other: &Vertex) -> bool
     ensures { result ≡ in_common (change_streams (change_of change.now)) (vertex_streams (vertex_of other.now)) }
@@ -136,7 +100,7 @@ fn draws_beside(change: &Change, other: &Vertex) -> bool
             target: _,
             stream,
             choice: _,
-        } => draws_from(other, *stream),
+        } => draws_of_vertex(other, *stream),
     }
 }
 
@@ -152,11 +116,45 @@ fn one_draws_beside(changes: &[Change], other: &Vertex) -> bool
     false
 }
 
+/// Whether the delay is drawn from a stream from which the vertex draws.
+fn delay_draws_beside(delay: &Delay, other: &Vertex) -> bool
+    ensures { result ≡ in_common (delay_streams (edge_delay_of delay.now)) (vertex_streams (vertex_of other.now)) }
+{
+    match delay {
+        Delay::Fixed(_) => false,
+        Delay::Drawn { stream, choice: _ } => draws_of_vertex(other, *stream),
+    }
+}
+
+/// Whether the delay of the edge is.
+fn edge_draws_beside(edge: &Edge, other: &Vertex) -> bool
+    ensures { result ≡ in_common (edge_streams (edge_of edge.now)) (vertex_streams (vertex_of other.now)) }
+{
+    match &edge.form {
+        EdgeForm::Schedule { delay, priority: _ } => delay_draws_beside(delay, other),
+        EdgeForm::Urgent | EdgeForm::CancelNext | EdgeForm::CancelEqual | EdgeForm::CancelAll => {
+            false
+        }
+    }
+}
+
+/// Whether that of one of these edges is.
+fn one_edge_draws_beside(edges: &[Edge], other: &Vertex) -> bool
+    ensures { result ≡ in_common (flat_map edge_streams (map edge_of edges.now)) (vertex_streams (vertex_of other.now)) }
+{
+    for edge in edges {
+        if edge_draws_beside(edge, other) {
+            return true;
+        }
+    }
+    false
+}
+
 /// Whether two vertices draw from one stream.
 pub(crate) fn over_streams(a: &Vertex, b: &Vertex) -> bool
     ensures { result ≡ over_streams (vertex_of a.now) (vertex_of b.now) }
 {
-    one_draws_beside(a.changes.as_slice(), b)
+    one_draws_beside(a.changes.as_slice(), b) || one_edge_draws_beside(a.edges.as_slice(), b)
 }
 
 // ---- events

@@ -10,14 +10,16 @@ use Rattle.model_core.specs.Static.OwnRules.{KeepsEdge, KeepsVertex, parameters_
 use Rattle.model_core.specs.Rules.Conditions.{first_failed}
 use Rattle.model_core.specs.Rules.BoundsOf.{bounds_of, refuted, proved}
 use Rattle.model_core.specs.Rules.PlacedEdges.{edge_at, with_place}
+use Rattle.model_core.specs.Rules.Uses.{has_drawn_delay}
 use Rattle.model_core.specs.Rules.Prune.{has_refuted_condition, prune_conditions}
 use Rattle.model_core.specs.Rules.Settle.{is_conditional, has_proved_condition, settle_conditions, unconditional}
 use Rattle.static_laws.proofs.StaticTwins.DeclaredNames.{every_item}
 use Rattle.model_core.proofs.PlacesChanged.{length_placed}
-use Rattle.edge_pruning.proofs.ListsChanged.{all_remove, length-remove-le, all_with_place}
+use Rattle.edge_pruning.proofs.ListsChanged.{all_remove, any_remove, length-remove-le, all_with_place}
 use Rattle.model_core.proofs.NoLongerTexts.{NoLonger, no_longer-behind, no_longer-before, no_longer-nothing, no_longer-same}
 use Rattle.edge_pruning.proofs.Shorter.{lines_remove, lines_with_place}
 use Rattle.edge_pruning.proofs.OneVertexChanged.{Lessens}
+use Rattle.round_trip.proofs.VersionsKept.{any-placed}
 
 -- ---- one edge fewer
 
@@ -26,6 +28,7 @@ remove_lessens edge = record {
   no_more_edges = λ es. length-remove-le es edge;
   keeps_rules = λ variables tables takes es keep. all_remove (KeepsEdge variables tables takes) es edge keep;
   spellable = λ x es s. all_remove (SpellableEdge x) es edge s;
+  drawn = λ es. any_remove has_drawn_delay es edge;
   lines = λ g es. lines_remove (edge_line g) es edge;
 }
 
@@ -59,6 +62,7 @@ settle_lessens edge = record {
   no_more_edges = λ es. same_at_least _ _ (length_placed unconditional edge es);
   keeps_rules = λ variables tables takes es keep. all_with_place (KeepsEdge variables tables takes) unconditional (keeps_unconditional variables tables takes) edge es keep;
   spellable = λ x es s. all_with_place (SpellableEdge x) unconditional (spellable_unconditional x) edge es s;
+  drawn = any-placed has_drawn_delay unconditional (λ e h. h) edge;
   lines = λ g es. lines_with_place (edge_line g) (edge_line g) unconditional (unconditional_shorter g) (λ e. no_longer-same _ _ refl) edge es;
 }
 

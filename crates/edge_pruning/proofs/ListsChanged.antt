@@ -1,9 +1,11 @@
 -- Lists with one element changed or taken away: what holds of all elements, and between the old and the new ones.
-use Rattle.std.proofs.Common.{◌≡◌, ℕ, suc, zero, ◌≤◌, List, [], ◌∷◌, length, slice_get, slice_index_or, Some, refl, ap, arith}
-use Rattle.std.specs.List.{AllByRecursion, remove}
+use Rattle.std.proofs.Common.{◌≡◌, ℕ, suc, zero, ◌≤◌, Bool, true, List, [], ◌∷◌, length, slice_get, slice_index_or, Some, refl, ap, arith}
+use Rattle.std.specs.List.{AllByRecursion, list_any, remove}
 use Rattle.model_core.specs.Run.Value.{OrFault, ◌>>=◌, in_turn}
 use Rattle.model_core.specs.Rules.PlacedEdges.{with_place}
+use Rattle.model_core.proofs.Among.{second_true}
 use Rattle.model_core.proofs.Results.{bind_same}
+use Rattle.round_trip.proofs.VersionsKept.{either_kept}
 
 -- ---- one element taken away
 
@@ -12,6 +14,12 @@ all_remove P [] zero h = tt
 all_remove P [] (suc k) h = tt
 all_remove P (x ∷ xs) zero h = h.1
 all_remove P (x ∷ xs) (suc k) h = (h.0, all_remove P xs k h.1)
+
+pub any_remove : {A : Type 0} (test : A → Bool) (xs : List A) (k : ℕ) → list_any test (remove xs k) ≡ true → list_any test xs ≡ true
+any_remove test [] zero e = e
+any_remove test [] (suc k) e = e
+any_remove test (x ∷ xs) zero e = second_true (test x) (list_any test xs) e
+any_remove test (x ∷ xs) (suc k) e = either_kept (test x) (list_any test (remove xs k)) (test x) (list_any test xs) (λ h. h) (any_remove test xs k) e
 
 pub length-remove-le : {A : Type 0} (xs : List A) (k : ℕ) → length (remove xs k) ≤ length xs
 length-remove-le [] zero = omega arith

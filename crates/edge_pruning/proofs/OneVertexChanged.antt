@@ -1,8 +1,8 @@
 -- A model in which one vertex has other edges, no more of them and none that asks for more, keeps the static rules, can be
 -- written, and has no longer text.
-use Rattle.std.proofs.Common.{◌≡◌, ℕ, ◌≤◌, List, [], ◌++◌, map, length, refl, sym, ap, subst, le_trans}
+use Rattle.std.proofs.Common.{◌≡◌, ℕ, ◌≤◌, true, List, [], ◌++◌, map, length, refl, sym, ap, subst, le_trans}
 use Rattle.std.specs.Prelude.{codes}
-use Rattle.std.specs.List.{AllByRecursion, flat_map, IsDistinct}
+use Rattle.std.specs.List.{AllByRecursion, flat_map, list_any, IsDistinct}
 use Rattle.sig_base.specs.declared.limits.TheConstants.{VERTICES_MAX}
 use Rattle.model_core.specs.EventGraph.{EventVertex, EventEdge, Variable, WeightTable, EventGraph}
 use Rattle.model_core.specs.Text.Lexing.{same_bytes}
@@ -10,6 +10,7 @@ use Rattle.model_core.specs.Text.Canonical.{variable_name, vertex_lines, change_
 use Rattle.model_core.specs.Text.Spellable.{Extent, extent, SpellableEdge, SpellableVertex, SpellableWatched, IsSpellable}
 use Rattle.model_core.specs.Static.OwnRules.{KeepsEdge, KeepsVertex, IsWatchable, parameters_of, KeepsParts, KeepsStaticRules}
 use Rattle.model_core.specs.Rules.PlacedEdges.{with_place}
+use Rattle.model_core.specs.Rules.Uses.{has_drawn_delay}
 use Rattle.model_core.proofs.SameNames.{SameNames, map_alike, watched_alike, vertex_alike}
 use Rattle.model_core.proofs.PlacesChanged.{shown_placed, map_placed, length_placed, has_one_placed}
 use Rattle.edge_pruning.proofs.ListsChanged.{all_with_place}
@@ -25,11 +26,13 @@ edges_changed change v = record v { edges = change v.edges }
 abbrev pub changed_at : EventGraph → ℕ → (List EventEdge → List EventEdge) → EventGraph
 changed_at g vertex change = record g { vertices = with_place (edges_changed change) vertex g.vertices }
 
--- a change of edges that leaves no more of them, rules and writing as they were, and no longer lines
+-- a change of edges that leaves no more of them, rules and writing as they were, no longer lines, and a delay drawn only where
+-- one was
 pub record Lessens (change : List EventEdge → List EventEdge) : Type 0 where
   pub no_more_edges : (es : List EventEdge) → length (change es) ≤ length es
   pub keeps_rules : (variables : List Variable) (tables : ℕ) (takes : List (List ℕ)) (es : List EventEdge) → AllByRecursion (KeepsEdge variables tables takes) es → AllByRecursion (KeepsEdge variables tables takes) (change es)
   pub spellable : (x : Extent) (es : List EventEdge) → AllByRecursion (SpellableEdge x) es → AllByRecursion (SpellableEdge x) (change es)
+  pub drawn : (es : List EventEdge) → list_any has_drawn_delay (change es) ≡ true → list_any has_drawn_delay es ≡ true
   pub lines : (g : EventGraph) (es : List EventEdge) → NoLonger (flat_map (edge_line g) (change es)) (flat_map (edge_line g) es)
 
 module _ (g : EventGraph) (vertex : ℕ) (change : List EventEdge → List EventEdge) (ok : Lessens change) where
@@ -66,7 +69,7 @@ module _ (g : EventGraph) (vertex : ℕ) (change : List EventEdge → List Event
   canonical_shorter : NoLonger (canonical h) (canonical g)
   canonical_shorter =
       no_longer-before (codes "end\n")
-      (no_longer-both (no_longer-both (declared-shorter h g (needed-placed g f (λ x. refl) vertex) g.name (flat_map variable_line g.variables) (flat_map table_line g.tables)) watch)
+      (no_longer-both (no_longer-both (declared-shorter h g (needed-placed g change ok.drawn vertex) g.name (flat_map variable_line g.variables) (flat_map table_line g.tables)) watch)
       (lines_with_place (vertex_lines g) (vertex_lines h) f changed same vertex g.vertices))
     where
       watch : NoLonger (watch_line h) (watch_line g)

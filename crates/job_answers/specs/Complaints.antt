@@ -29,6 +29,7 @@ static_message rules.StreamOutside = codes "stream outside"
 static_message rules.DrawOutside = codes "draw outside"
 static_message rules.WeightOutside = codes "weight outside"
 static_message rules.VersionUnknown = codes "unknown version"
+static_message rules.VersionNeeded = codes "needs version 2"
 static_message rules.TooMany = codes "too many"
 static_message rules.ModelTooLong = codes "model too long"
 

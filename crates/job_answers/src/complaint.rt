@@ -40,6 +40,7 @@ fn static_message(kind: StaticKind) -> &'static [u8]
         StaticKind::DrawOutside => b"draw outside",
         StaticKind::WeightOutside => b"weight outside",
         StaticKind::VersionUnknown => b"unknown version",
+        StaticKind::VersionNeeded => b"needs version 2",
         StaticKind::TooMany => b"too many",
         StaticKind::ModelTooLong => b"model too long",
     }

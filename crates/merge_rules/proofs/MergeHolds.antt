@@ -11,7 +11,7 @@ use Rattle.model_core.specs.Static.HasKind.{IsVariable, HasKind}
 use Rattle.model_core.specs.Static.OwnRules.{TakesKind, TakeCarried, KeepsEdge, KeepsChange, KeepsVertex, KeepsParts, parameters_of}
 use Rattle.model_core.specs.Rules.BoundsOfParts.{quiet_edge}
 use Rattle.model_core.specs.Rules.Conditions.{first_failed}
-use Rattle.model_core.specs.Rules.Uses.{vertex_writes}
+use Rattle.model_core.specs.Rules.Uses.{vertex_writes, has_drawn_delay}
 use Rattle.model_core.specs.Rules.UrgentEdges.{is_urgent_kind, single_urgent}
 use Rattle.model_core.specs.Rules.Merge.{merge_conditions, cancels, is_cancelling, is_watched_vertex, reads_none_of, happens_unseen, set_parameters, values_at_once, other_edges, is_within_limits, merged}
 use Rattle.model_core.proofs.BothTrue.{and_first, and_second}
@@ -34,7 +34,7 @@ pub record Mergeable (g : EventGraph) (first second : ℕ) : Type 0 where
   pub single : single_urgent g ≡ true
   pub target_unwatched : is_watched_vertex g second ≡ false
   pub uncancelled : list_any (cancels second) (vertex_at g first).edges ≡ false
-  pub others : list_all (λ e. quiet_edge g e && reads_none_of (vertex_writes (vertex_at g second)) e) (other_edges (vertex_at g first)) ≡ true
+  pub others : list_all (λ e. quiet_edge g e && reads_none_of (vertex_writes (vertex_at g second)) e && not (has_drawn_delay e)) (other_edges (vertex_at g first)) ≡ true
   pub unseen : (not (is_watched_vertex g first) || happens_unseen g (vertex_at g second) (values_at_once (vertex_at g first))) ≡ true
   pub within : is_within_limits (merged g first second) first ≡ true
 

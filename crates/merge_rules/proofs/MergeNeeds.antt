@@ -8,7 +8,7 @@ use Rattle.sig_base.specs.declared.fault.FaultKind.{FaultKind}
 use Rattle.model_core.specs.EventGraph.{EventGraph, EventVertex, EventEdge, StateChange, Watched, WatchedVariable, WatchedVertex}
 use Rattle.model_core.specs.Run.State.{State, in_range}
 use Rattle.model_core.specs.Run.Value.{OrFault, ◌>>=◌, each, in_turn, value_of}
-use Rattle.model_core.specs.Run.Changes.{Drawn, make_change}
+use Rattle.model_core.specs.Run.Changes.{Changed, make_change}
 use Rattle.model_core.specs.Run.Pending.{TakenOff}
 use Rattle.model_core.specs.Run.Edges.{Planned, treat}
 use Rattle.model_core.specs.Run.Step.{Configuration, vertex_at, receive, occur}
@@ -16,17 +16,16 @@ use Rattle.model_core.specs.Run.History.{watches}
 use Rattle.model_core.specs.Static.OwnRules.{KeepsEdge, KeepsChange, KeepsParts, parameters_of}
 use Rattle.model_core.specs.Rules.BoundsOfParts.{quiet_change, quiet_edge}
 use Rattle.model_core.specs.Rules.MarkedPlaces.{is_among}
-use Rattle.model_core.specs.Rules.Uses.{edge_reads, vertex_writes}
+use Rattle.model_core.specs.Rules.Uses.{edge_reads, vertex_writes, has_drawn_delay}
 use Rattle.model_core.specs.Rules.UrgentEdges.{is_urgent}
 use Rattle.model_core.specs.Rules.Merge.{cancels, is_watched_vertex, reads_none_of, is_unwatched, happens_unseen, set_parameters, values_at_once, other_edges}
-use Rattle.sig_base.proofs.Lists.{every-always}
 use Rattle.model_core.proofs.BothTrue.{and_first, and_second}
 use Rattle.run_laws.proofs.InRange.{in_range-kept}
 use Rattle.model_core.proofs.Results.{bind_ok}
 use Rattle.run_laws.proofs.Keeping.{received}
 use Rattle.bound_laws.proofs.Soundness.NumberRows.{not_true}
 use Rattle.model_core.proofs.EachOne.{every-map, every-front, every-behind, every-both, every-passes, every-fails, either_false}
-use Rattle.run_laws.proofs.Spared.WordsApart.{edge-undrawn}
+use Rattle.run_laws.proofs.Spared.WordsApart.{undrawn}
 use Rattle.merge_rules.proofs.UndrawnEdges.{Undrawn}
 use Rattle.merge_rules.proofs.EdgesAside.{Aside, Calm, edges-calm, urgent_edge}
 use Rattle.merge_rules.proofs.UrgentEvents.{PriorityOk}
@@ -52,7 +51,7 @@ none_among (v ∷ reads) writes apart = (
 
 -- quiet changes and edges have no fault
 pub record QuietParts (g : EventGraph) : Type 0 where
-  pub change : (seed clk : ℕ) (c : StateChange) (d : Drawn) → KeepsChange g.variables (length g.tables) (parameters_of g) c → IsTrue (in_range g d.state) → clk ≤ 2 ^ 48 → quiet_change g c ≡ true → (e : Drawn) × (make_change g seed clk c d ≡ Ok e) × IsTrue (in_range g e.state)
+  pub change : (seed clk : ℕ) (c : StateChange) (d : Changed) → KeepsChange g.variables (length g.tables) (parameters_of g) c → IsTrue (in_range g d.state) → clk ≤ 2 ^ 48 → quiet_change g c ≡ true → (e : Changed) × (make_change g seed clk c d ≡ Ok e) × IsTrue (in_range g e.state)
   pub edge : (seed clk : ℕ) (s : State) (e : EventEdge) (p : Planned) → KeepsEdge g.variables (length g.tables) (parameters_of g) e → IsTrue (in_range g s) → clk ≤ 2 ^ 48 → quiet_edge g e ≡ true → (q : Planned) × (treat g seed s clk e p ≡ Ok q)
 
 module _ (g : EventGraph) (keeps : KeepsParts g) (never : NeverBoth g) (quiet : QuietParts g) where
@@ -65,12 +64,12 @@ module _ (g : EventGraph) (keeps : KeepsParts g) (never : NeverBoth g) (quiet : 
   abbrev Changes : StateChange → Type 0
   Changes c = KeepsChange g.variables (length g.tables) (parameters_of g) c
 
-  changes_fine : (seed clk : ℕ) → clk ≤ 2 ^ 48 → (cs : List StateChange) → AllByRecursion Changes cs → AllByRecursion (λ c. quiet_change g c ≡ true) cs → (d : Drawn) → Inside d.state → (e : Drawn) × (in_turn (make_change g seed clk) cs d ≡ Ok e) × Inside e.state
+  changes_fine : (seed clk : ℕ) → clk ≤ 2 ^ 48 → (cs : List StateChange) → AllByRecursion Changes cs → AllByRecursion (λ c. quiet_change g c ≡ true) cs → (d : Changed) → Inside d.state → (e : Changed) × (in_turn (make_change g seed clk) cs d ≡ Ok e) × Inside e.state
   changes_fine seed clk early [] keep calm d inside = (d, refl, inside)
   changes_fine seed clk early (c ∷ cs) (here, keep) (now, calm) d inside =
       let (e, first, there) = quiet.change seed clk c d here inside early now in
       let (f, later, end) = changes_fine seed clk early cs keep calm e there in
-      (f, ap (λ (r : OrFault Drawn). r >>= in_turn (make_change g seed clk) cs) first ∙ later, end)
+      (f, ap (λ (r : OrFault Changed). r >>= in_turn (make_change g seed clk) cs) first ∙ later, end)
 
   all_calm : (seed : ℕ) (s : State) → Inside s → (clk : ℕ) → clk ≤ 2 ^ 48 → (es : List EventEdge) → AllByRecursion Keeps es → AllByRecursion (λ e. quiet_edge g e ≡ true) es → AllByRecursion (Calm g seed s clk) es
   all_calm seed s inside clk early es keep quiet_ones = every-both Keeps (λ e. quiet_edge g e ≡ true) (Calm g seed s clk) (λ e keeps calm. λ p. quiet.edge seed clk s e p keeps inside early calm) es keep quiet_ones
@@ -88,8 +87,11 @@ module _ (g : EventGraph) (keeps : KeepsParts g) (never : NeverBoth g) (quiet : 
     abbrev at_once : EventEdge
     at_once = urgent_edge second h.edge.values
 
-    rest_passes : AllByRecursion (λ e. (quiet_edge g e && reads_none_of (vertex_writes b) e) ≡ true) rest
-    rest_passes = subst (AllByRecursion (λ e. (quiet_edge g e && reads_none_of (vertex_writes b) e) ≡ true)) h.edge.others (every-passes (λ e. quiet_edge g e && reads_none_of (vertex_writes b) e) (other_edges a) h.others)
+    abbrev quiet_and_unread : EventEdge → Bool
+    quiet_and_unread e = quiet_edge g e && reads_none_of (vertex_writes b) e
+
+    rest_passes : AllByRecursion (λ e. (quiet_and_unread e && not (has_drawn_delay e)) ≡ true) rest
+    rest_passes = subst (AllByRecursion (λ e. (quiet_and_unread e && not (has_drawn_delay e)) ≡ true)) h.edge.others (every-passes (λ e. quiet_and_unread e && not (has_drawn_delay e)) (other_edges a) h.others)
 
     rest_aside : AllByRecursion (λ (e : EventEdge). Aside second e.target e.kind) rest
     rest_aside =
@@ -100,14 +102,13 @@ module _ (g : EventGraph) (keeps : KeepsParts g) (never : NeverBoth g) (quiet : 
         (every-both (λ (e : EventEdge). PriorityOk e.kind) (λ e. is_urgent e ≡ false) (λ (e : EventEdge). PriorityOk e.kind × (is_urgent e ≡ false)) (λ e some calm. (some, calm)) rest priorities h.edge.calm) apart
 
     rest_calm : (seed : ℕ) (s : State) → Inside s → (clk : ℕ) → clk ≤ 2 ^ 48 → AllByRecursion (Calm g seed s clk) rest
-    rest_calm seed s inside clk early = all_calm seed s inside clk early rest (rest_keep g keeps first second h) (every-map _ (λ e. quiet_edge g e ≡ true) (λ e passes. and_first (quiet_edge g e) _ passes) rest rest_passes)
+    rest_calm seed s inside clk early = all_calm seed s inside clk early rest (rest_keep g keeps first second h) (every-map _ (λ e. quiet_edge g e ≡ true) (λ e passes. and_first (quiet_edge g e) _ (and_first (quiet_and_unread e) _ passes)) rest rest_passes)
 
-    -- no edge draws a delay
     rest_undrawn : AllByRecursion Undrawn rest
-    rest_undrawn = every-always Undrawn edge-undrawn rest
+    rest_undrawn = every-map _ Undrawn (λ e passes. undrawn e (not_true _ (and_second (quiet_and_unread e) _ passes))) rest rest_passes
 
     rest_unread : AllByRecursion (λ e. AllByRecursion (UnwrittenBy b) (edge_reads e)) rest
-    rest_unread = every-map _ (λ e. AllByRecursion (UnwrittenBy b) (edge_reads e)) (λ e passes. none_among (edge_reads e) (vertex_writes b) (every-fails (is_among (edge_reads e)) (vertex_writes b) (not_true _ (and_second (quiet_edge g e) _ passes)))) rest rest_passes
+    rest_unread = every-map _ (λ e. AllByRecursion (UnwrittenBy b) (edge_reads e)) (λ e passes. none_among (edge_reads e) (vertex_writes b) (every-fails (is_among (edge_reads e)) (vertex_writes b) (not_true _ (and_second (quiet_edge g e) _ (and_first (quiet_and_unread e) _ passes))))) rest rest_passes
 
     unwatched : (k : ℕ) → is_watched_vertex g k ≡ false → position (watches k) g.watch ≡ None
     unwatched k e = position_from-zero (watches k) g.watch ∙ none_found (watches k) g.watch 0 e
@@ -123,7 +124,7 @@ module _ (g : EventGraph) (keeps : KeepsParts g) (never : NeverBoth g) (quiet : 
     receives seed clk early s inside values are calm =
         let (e, done, end) = changes_fine seed clk early (set_parameters b.parameters h.edge.values) (set_keeps_rules g keeps first second h) (every-passes (quiet_change g) (set_parameters b.parameters h.edge.values) calm) (record { state = s; taken = [] }) inside in
         let given = sym (set_parameters-receives g seed clk b.parameters h.edge.values (values_none g keeps first second h) (record { state = s; taken = [] })) ∙ done in
-        let so = sym (ap (λ (r : OrFault (List ℤ)). r >>= λ values. receive g b.parameters values s >>= λ t. Ok (let d : Drawn = record { state = t; taken = [] } in d)) are) ∙ given in
+        let so = sym (ap (λ (r : OrFault (List ℤ)). r >>= λ values. receive g b.parameters values s >>= λ t. Ok (let d : Changed = record { state = t; taken = [] } in d)) are) ∙ given in
         let (t, is, tail) = bind_ok (receive g b.parameters values s) _ e so in
         (t, is)
 

@@ -1,5 +1,5 @@
 -- How long the canonical text of the result of a merge is.
-use Rattle.std.proofs.Common.{◌≡◌, ℕ, ◌+◌, Bool, List, [], ◌∷◌, ◌++◌, map, length, slice_get, Some, refl, ◌∙◌, ap, arith, length-append}
+use Rattle.std.proofs.Common.{◌≡◌, ℕ, ◌+◌, Bool, List, [], ◌∷◌, ◌++◌, map, length, slice_get, Some, refl, ◌∙◌, ap, subst, arith, length-append}
 use Rattle.std.specs.Prelude.{codes}
 use Rattle.std.specs.List.{flat_map}
 use Rattle.std.proofs.lemmas.Grind.{flat_map-append}
@@ -8,6 +8,7 @@ use Rattle.model_core.specs.Run.Step.{vertex_at, no_vertex}
 use Rattle.model_core.specs.Text.Canonical.{variable_name, in_parentheses, change_line, edge_line, vertex_lines, variable_line, table_line, watched_name, watch_names_line, watch_line, version_line, canonical}
 use Rattle.model_core.specs.Text.VersionNeeded.{needs_version_two}
 use Rattle.model_core.specs.Rules.Merge.{set_parameters, merged_with, merged}
+use Rattle.model_core.specs.Rules.UrgentEdges.{plain_urgent}
 use Rattle.model_core.specs.Rules.PlacedEdges.{with_place}
 use Rattle.model_core.specs.Rules.Prune.{without_edge, pruned}
 use Rattle.model_core.proofs.PlacesChanged.{shown_placed}
@@ -15,7 +16,8 @@ use Rattle.model_core.proofs.SameNames.{SameNames, map_alike, flat_map_alike, ve
 use Rattle.merge_rules.proofs.EdgesAside.{urgent_edge}
 use Rattle.merge_rules.proofs.TwoInOne.{joined_vertex}
 use Rattle.merge_rules.proofs.PlacedElement.{lengths_placed}
-use Rattle.merge_rules.proofs.PlainEdges.{PlainEdge}
+use Rattle.merge_rules.proofs.PlainEdges.{PlainEdge, plain_undrawn}
+use Rattle.merge_rules.proofs.MergeHolds.{read_at}
 use Rattle.merge_rules.proofs.MergeResult.{joined_is}
 use Rattle.merge_rules.proofs.ValidMerged.{name_stays}
 use Rattle.merge_rules.proofs.VersionMerged.{needed-pruned, needed-merged}
@@ -121,7 +123,7 @@ module _ (g : EventGraph) (first second : ℕ) (p : PlainEdge (vertex_at g first
   -- the text is shorter by the plain urgent edge where that goes
   pub rest_length : (v : EventVertex) → slice_get g.vertices first ≡ Some v → length (canonical (pruned g first p.place)) + length (edge_line g at_once) ≡ length (canonical g)
   rest_length v there =
-      let changed = changed_length g (without_edge p.place) (λ x. refl) first (needed-pruned g first p.place) v there in
+      let changed = changed_length g (without_edge p.place) (λ x. refl) first (needed-pruned g first p.place (λ w at. plain_undrawn w p.place (subst (λ (w : EventVertex). plain_urgent w ≡ Some p.place) (read_at g.vertices first no_vertex w at) p.is))) v there in
       omega (arith, changed, without_length)
 
   -- the text is longer by what is added, and shorter by the plain urgent edge

@@ -6,7 +6,7 @@ use Rattle.sig_base.specs.declared.fault.FaultKind.{FaultKind}
 use Rattle.model_core.specs.EventGraph.{EventGraph, EventVertex, EventEdge, Expression, Watched, WatchedVariable, WatchedVertex}
 use Rattle.model_core.specs.Run.State.{State, initial_state, variable_at}
 use Rattle.model_core.specs.Run.Value.{each, in_turn, value_of}
-use Rattle.model_core.specs.Run.Changes.{Drawn, make_change}
+use Rattle.model_core.specs.Run.Changes.{Changed, make_change}
 use Rattle.model_core.specs.Run.Pending.{TakenOff, next_entry}
 use Rattle.model_core.specs.Run.Edges.{treat}
 use Rattle.model_core.specs.Run.Step.{Configuration, no_vertex, vertex_at, receive, occur}
@@ -77,7 +77,7 @@ place-here f (suc i) (y ∷ xs) d x there = place-here f i xs d x there
 -- what a step that goes on has made
 record Made (g : EventGraph) (seed : ℕ) (v : EventVertex) (n : TakenOff) (s : State) (taken : List ℕ) (c : Configuration) : Type 0 where
   at_receive : State
-  at_changes : Drawn
+  at_changes : Changed
   is_received : receive g v.parameters n.entry.values s ≡ Ok at_receive
   is_changed : in_turn (make_change g seed n.entry.time) v.changes (record { state = at_receive; taken = taken }) ≡ Ok at_changes
   state_is : at_changes.state ≡ c.state

@@ -1,6 +1,6 @@
 -- A merge takes one vertex's plain urgent edge, and brings no other.
 use Rattle.std.proofs.Common.{◌≡◌, ℕ, zero, suc, ◌+◌, ◌<◌, ◌==◌, Bool, true, false, ◌&&◌, cond, List, [], ◌∷◌, ◌++◌, length, Option, Some, None, is_some, is_none, refl, sym, ap, ap₂, ◌∙◌, arith}
-use Rattle.std.specs.Prelude.{count_by, slice_index_or, nat_lt}
+use Rattle.std.specs.Prelude.{count_by, slice_index_or}
 use Rattle.std.specs.List.{AllByRecursion, position_from}
 use Rattle.std.proofs.lemmas.List.Sums.{sum_by-cons}
 use Rattle.model_core.specs.EventGraph.{EventEdge, EventVertex, EventGraph}

@@ -6,6 +6,7 @@ use Rattle.std.specs.List.{AllByRecursion, remove, position_from}
 use Rattle.std.specs.Option.{option_map_or, option_and_then}
 use Rattle.model_core.specs.EventGraph.{EventVertex, EventEdge, EdgeKind, Urgent, Expression, Truth}
 use Rattle.model_core.specs.Rules.Settle.{is_literal_true}
+use Rattle.model_core.specs.Rules.Uses.{timing_is_drawn, has_drawn_delay}
 use Rattle.model_core.specs.Rules.UrgentEdges.{is_urgent, is_urgent_kind, is_plain, plain_urgent, plain_urgent_edge}
 use Rattle.model_core.specs.Rules.Merge.{leads_to, values_at_once, other_edges}
 use Rattle.model_core.proofs.BothTrue.{and_first, and_second}
@@ -138,6 +139,15 @@ plain_edge_of a second leads = at_place (plain_urgent a) refl leads where
   at_place : (o : Option ℕ) → plain_urgent a ≡ o → option_map_or (leads_to second) (option_and_then (slice_get a.edges) o) false ≡ true → PlainEdge a second
   at_place None is leads = cc
   at_place (Some place) is leads = at_edge place is (slice_get a.edges place) refl leads
+
+-- the plain urgent edge draws no delay
+pub plain_undrawn : (a : EventVertex) (place : ℕ) → plain_urgent a ≡ Some place → (e : EventEdge) → slice_get a.edges place ≡ Some e → has_drawn_delay e ≡ false
+plain_undrawn a place is e there =
+    let f = found is_plain a.edges 0 place (counted_once (count_by is_urgent a.edges == 1) (position_from is_plain 0 a.edges) place is).1 in
+    let offset_is : f.offset ≡ place = (let o = f.offset_is in omega (arith, o)) in
+    let same_edge : Some f.element ≡ Some e = sym f.there ∙ (ap (slice_get a.edges) offset_is ∙ there) in
+    let same : f.element ≡ e = cc in
+    ap timing_is_drawn (kind_told e.kind (and_first (is_urgent e) _ (subst (λ e. is_plain e ≡ true) same f.passes)))
 
 is_there : {A : Type 0} (xs : List A) (k : ℕ) (x : A) → slice_get xs k ≡ Some x → k < length xs
 is_there [] k x e = cc

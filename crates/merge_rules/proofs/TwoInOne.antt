@@ -4,7 +4,7 @@ use Rattle.sig_base.specs.declared.fault.FaultKind.{FaultKind}
 use Rattle.model_core.specs.EventGraph.{EventGraph, EventVertex, EventEdge, Expression, StateChange, scalar_location}
 use Rattle.model_core.specs.Run.State.{State, Place, scalar}
 use Rattle.model_core.specs.Run.Value.{OrFault, ◌>>=◌, each, in_turn, value_of, place_of}
-use Rattle.model_core.specs.Run.Changes.{Drawn, store, make_change}
+use Rattle.model_core.specs.Run.Changes.{Changed, store, make_change}
 use Rattle.model_core.specs.Run.Pending.{Entry, TakenOff, next_entry}
 use Rattle.model_core.specs.Run.Edges.{Planned, scheduled, treat}
 use Rattle.model_core.specs.Run.Step.{Configuration, vertex_at, receive, occur}
@@ -77,7 +77,7 @@ right-unit : {A : Type 0} (r : OrFault A) → (r >>= λ a. Ok a) ≡ r
 right-unit (Ok a) = refl
 right-unit (Err k) = refl
 
-pub set_parameters-receives : (g : EventGraph) (seed clk : ℕ) (vs : List ℕ) (rights : List Expression) → (vs ≡ [] → rights ≡ []) → (d : Drawn) → in_turn (make_change g seed clk) (set_parameters vs rights) d ≡ (each (value_of g d.state clk) rights >>= λ values. receive g vs values d.state >>= λ t. Ok (record { state = t; taken = d.taken }))
+pub set_parameters-receives : (g : EventGraph) (seed clk : ℕ) (vs : List ℕ) (rights : List Expression) → (vs ≡ [] → rights ≡ []) → (d : Changed) → in_turn (make_change g seed clk) (set_parameters vs rights) d ≡ (each (value_of g d.state clk) rights >>= λ values. receive g vs values d.state >>= λ t. Ok (record { state = t; taken = d.taken }))
 set_parameters-receives g seed clk [] rights none d = ap (λ rights. each (value_of g d.state clk) rights >>= λ values. Ok d) (sym (none refl))
 set_parameters-receives g seed clk (v ∷ vs) rights none d =
     right-unit _ ∙ (bind-assoc (each (value_of g d.state clk) rights) (λ values. each (place_of g d.state clk) (map scalar_location (v ∷ vs)) >>= λ places. in_turn (store g) (zip places values) d.state) (λ t. Ok (record d { state = t })) ∙
@@ -112,11 +112,11 @@ module _ (g : EventGraph) (seed second : ℕ) (v : EventVertex) (before after : 
   at_end s q = Ok (record { clock = clk; state = s; taken = q.taken; pending = q.pending })
 
   -- what comes behind the changes: the edges, and the configuration
-  abbrev ending : List EventEdge → List Entry → Drawn → OrFault Configuration
+  abbrev ending : List EventEdge → List Entry → Changed → OrFault Configuration
   ending es p d = in_turn (treat g seed d.state clk) es (record { pending = p; taken = d.taken }) >>= at_end d.state
 
-  abbrev Unread : Drawn → Type 0
-  Unread d = (values : List ℤ) (t : State) (d2 : Drawn) → receive g b.parameters values d.state ≡ Ok t → in_turn (make_change g seed clk) b.changes (record { state = t; taken = d.taken }) ≡ Ok d2 → AllByRecursion (λ (e : EventEdge). (p : Planned) → treat g seed d.state clk e p ≡ treat g seed d2.state clk e p) (before ++ after)
+  abbrev Unread : Changed → Type 0
+  Unread d = (values : List ℤ) (t : State) (d2 : Changed) → receive g b.parameters values d.state ≡ Ok t → in_turn (make_change g seed clk) b.changes (record { state = t; taken = d.taken }) ≡ Ok d2 → AllByRecursion (λ (e : EventEdge). (p : Planned) → treat g seed d.state clk e p ≡ treat g seed d2.state clk e p) (before ++ after)
 
   -- an event with these carried values, at the clock
   abbrev occurring : EventVertex → List ℤ → List Entry → State → List ℕ → OrFault Configuration
@@ -124,7 +124,7 @@ module _ (g : EventGraph) (seed second : ℕ) (v : EventVertex) (before after : 
 
   -- where the other edges don't fault after the changes, and read nothing that the second event writes
   abbrev pub Known : List ℤ → State → List ℕ → Type 0
-  Known carried s taken = (t : State) (d : Drawn) → receive g v.parameters carried s ≡ Ok t → in_turn (make_change g seed clk) v.changes (record { state = t; taken = taken }) ≡ Ok d → AllByRecursion (Calm g seed d.state clk) before × AllByRecursion (Calm g seed d.state clk) after × Unread d
+  Known carried s taken = (t : State) (d : Changed) → receive g v.parameters carried s ≡ Ok t → in_turn (make_change g seed clk) v.changes (record { state = t; taken = taken }) ≡ Ok d → AllByRecursion (Calm g seed d.state clk) before × AllByRecursion (Calm g seed d.state clk) after × Unread d
 
   module _
       (aside_before : AllByRecursion (λ (e : EventEdge). Aside second e.target e.kind) before)
@@ -132,7 +132,7 @@ module _ (g : EventGraph) (seed second : ℕ) (v : EventVertex) (before after : 
       (undrawn : AllByRecursion Undrawn (before ++ after))
       (whole : v.edges ≡ before ++ urgent_edge second rights ∷ after)
       (none : (vertex_at g second).parameters ≡ [] → rights ≡ []) where
-    tail-split : (d : Drawn) (p : List Entry) → AllByRecursion (Calm g seed d.state clk) before → AllByRecursion (Calm g seed d.state clk) after → Unread d → AllByRecursion (DueBefore (urgent_entry clk second [])) p → (o : OrFault (List ℤ)) → each (value_of g d.state clk) rights ≡ o → Split g seed second rights clk (ending (before ++ urgent_edge second rights ∷ after) p d) (o >>= λ values. receive g b.parameters values d.state >>= λ t. in_turn (make_change g seed clk) b.changes (record { state = t; taken = d.taken }) >>= ending ((before ++ after) ++ b.edges) p)
+    tail-split : (d : Changed) (p : List Entry) → AllByRecursion (Calm g seed d.state clk) before → AllByRecursion (Calm g seed d.state clk) after → Unread d → AllByRecursion (DueBefore (urgent_entry clk second [])) p → (o : OrFault (List ℤ)) → each (value_of g d.state clk) rights ≡ o → Split g seed second rights clk (ending (before ++ urgent_edge second rights ∷ after) p d) (o >>= λ values. receive g b.parameters values d.state >>= λ t. in_turn (make_change g seed clk) b.changes (record { state = t; taken = d.taken }) >>= ending ((before ++ after) ++ b.edges) p)
     tail-split d p calm_before calm_after unread due (Err k) are =
         subst (λ (r : OrFault Planned). Split g seed second rights clk (r >>= at_end d.state) (Err k)) (sym (fault-edges g seed d.state clk second rights k are before after calm_before (record { pending = p; taken = d.taken }))) (faults k)
     tail-split d p calm_before calm_after unread due (Ok values) are =
@@ -156,22 +156,22 @@ module _ (g : EventGraph) (seed second : ℕ) (v : EventVertex) (before after : 
         subst (λ (r : OrFault Configuration). Split g seed second rights clk r (receive g b.parameters values d.state >>= λ t. in_turn (make_change g seed clk) b.changes (record { state = t; taken = d.taken }) >>= merged_end)) (sym to_with)
         (goes_on (record { clock = clk; state = d.state; taken = d.taken; pending = both.with_it.pending }) off refl are both.next_is refl refl _ then_second)
 
-    carried-first : (d : Drawn) (p : List Entry) → (in_turn (make_change g seed clk) (set_parameters b.parameters rights ++ b.changes) d >>= ending ((before ++ after) ++ b.edges) p) ≡ (each (value_of g d.state clk) rights >>= λ values. receive g b.parameters values d.state >>= λ t. in_turn (make_change g seed clk) b.changes (record { state = t; taken = d.taken }) >>= ending ((before ++ after) ++ b.edges) p)
+    carried-first : (d : Changed) (p : List Entry) → (in_turn (make_change g seed clk) (set_parameters b.parameters rights ++ b.changes) d >>= ending ((before ++ after) ++ b.edges) p) ≡ (each (value_of g d.state clk) rights >>= λ values. receive g b.parameters values d.state >>= λ t. in_turn (make_change g seed clk) b.changes (record { state = t; taken = d.taken }) >>= ending ((before ++ after) ++ b.edges) p)
     carried-first d p =
-        let mk : StateChange → Drawn → OrFault Drawn = make_change g seed clk in
-        let end : Drawn → OrFault Configuration = ending ((before ++ after) ++ b.edges) p in
-        ap (λ (r : OrFault Drawn). r >>= end) (in_turn-append mk (set_parameters b.parameters rights) b.changes d ∙ ap (λ (r : OrFault Drawn). r >>= in_turn mk b.changes) (set_parameters-receives g seed clk b.parameters rights none d)) ∙
-        (ap (λ (r : OrFault Drawn). r >>= end) (bind-assoc (each (value_of g d.state clk) rights) _ (in_turn mk b.changes) ∙ bind_same (each (value_of g d.state clk) rights) _ _ (λ values e. bind-assoc (receive g b.parameters values d.state) _ (in_turn mk b.changes))) ∙
+        let mk : StateChange → Changed → OrFault Changed = make_change g seed clk in
+        let end : Changed → OrFault Configuration = ending ((before ++ after) ++ b.edges) p in
+        ap (λ (r : OrFault Changed). r >>= end) (in_turn-append mk (set_parameters b.parameters rights) b.changes d ∙ ap (λ (r : OrFault Changed). r >>= in_turn mk b.changes) (set_parameters-receives g seed clk b.parameters rights none d)) ∙
+        (ap (λ (r : OrFault Changed). r >>= end) (bind-assoc (each (value_of g d.state clk) rights) _ (in_turn mk b.changes) ∙ bind_same (each (value_of g d.state clk) rights) _ _ (λ values e. bind-assoc (receive g b.parameters values d.state) _ (in_turn mk b.changes))) ∙
         (bind-assoc (each (value_of g d.state clk) rights) _ end ∙ bind_same (each (value_of g d.state clk) rights) _ _ (λ values e. bind-assoc (receive g b.parameters values d.state) _ end)))
 
     pub occurring-splits : (carried : List ℤ) (p : List Entry) (s : State) (taken : List ℕ) → AllByRecursion (DueBefore (urgent_entry clk second [])) p → Known carried s taken → Split g seed second rights clk (occurring v carried p s taken) (occurring (joined_vertex v (before ++ after) rights b) carried p s taken)
     occurring-splits carried p s taken due known =
         bind-split g seed second rights clk (receive g v.parameters carried s) _ _ (λ t received.
-        let D : Drawn = record { state = t; taken = taken } in
-        let mk : StateChange → Drawn → OrFault Drawn = make_change g seed clk in
-        let end : Drawn → OrFault Configuration = ending ((before ++ after) ++ b.edges) p in
+        let D : Changed = record { state = t; taken = taken } in
+        let mk : StateChange → Changed → OrFault Changed = make_change g seed clk in
+        let end : Changed → OrFault Configuration = ending ((before ++ after) ++ b.edges) p in
         let more : List StateChange = set_parameters b.parameters rights ++ b.changes in
-        let apart : (in_turn mk (v.changes ++ more) D >>= end) ≡ (in_turn mk v.changes D >>= λ d. in_turn mk more d >>= end) = ap (λ (r : OrFault Drawn). r >>= end) (in_turn-append mk v.changes more D) ∙ bind-assoc (in_turn mk v.changes D) (in_turn mk more) end in
+        let apart : (in_turn mk (v.changes ++ more) D >>= end) ≡ (in_turn mk v.changes D >>= λ d. in_turn mk more d >>= end) = ap (λ (r : OrFault Changed). r >>= end) (in_turn-append mk v.changes more D) ∙ bind-assoc (in_turn mk v.changes D) (in_turn mk more) end in
         subst (λ (r : OrFault Configuration). Split g seed second rights clk (in_turn mk v.changes D >>= ending v.edges p) r) (sym apart)
         (bind-split g seed second rights clk (in_turn mk v.changes D) _ _ (λ d changed.
         let (calm_before, calm_after, unread) = known t d received changed in

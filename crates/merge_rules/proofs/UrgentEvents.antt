@@ -5,7 +5,7 @@ use Rattle.std.specs.List.{AllByRecursion}
 use Rattle.model_core.specs.EventGraph.{EventGraph, EventVertex, EventEdge, EdgeKind, Schedule, Urgent, CancelNext, CancelEqual, CancelAll}
 use Rattle.model_core.specs.Run.State.{State}
 use Rattle.model_core.specs.Run.Value.{OrFault, ◌>>=◌, in_turn, value_of, is_one}
-use Rattle.model_core.specs.Run.Changes.{Drawn, make_change}
+use Rattle.model_core.specs.Run.Changes.{Changed, make_change}
 use Rattle.model_core.specs.Run.Pending.{Entry, TakenOff, sooner, staying, or_behind, next_among, next_entry, without_next, without_all}
 use Rattle.model_core.specs.Run.Edges.{Planned, carried_values, act, treat}
 use Rattle.model_core.specs.Run.Step.{Configuration, receive, occur}
@@ -209,7 +209,7 @@ pub starts-one_urgent : (t : ℕ) (g : EventGraph) (starts : List ℤ) → OneUr
 starts-one_urgent t g starts = inl (omega arith, tt)
 
 -- and the next event keeps it
-pub occur-one_urgent : (g : EventGraph) (seed : ℕ) (v : EventVertex) → AllByRecursion (λ (e : EventEdge). PriorityOk e.kind) v.edges → (c d : Configuration) (n : TakenOff) → NoneEarlier c.clock c.pending → OneUrgent c.clock c.pending → next_entry c.pending ≡ Some n → ((t : State) (d : Drawn) → receive g v.parameters n.entry.values c.state ≡ Ok t → in_turn (make_change g seed n.entry.time) v.changes (record { state = t; taken = c.taken }) ≡ Ok d → Exclusive g d.state n.entry.time v.edges) → occur g seed v n c.state c.taken ≡ Ok d → OneUrgent d.clock d.pending
+pub occur-one_urgent : (g : EventGraph) (seed : ℕ) (v : EventVertex) → AllByRecursion (λ (e : EventEdge). PriorityOk e.kind) v.edges → (c d : Configuration) (n : TakenOff) → NoneEarlier c.clock c.pending → OneUrgent c.clock c.pending → next_entry c.pending ≡ Some n → ((t : State) (d : Changed) → receive g v.parameters n.entry.values c.state ≡ Ok t → in_turn (make_change g seed n.entry.time) v.changes (record { state = t; taken = c.taken }) ≡ Ok d → Exclusive g d.state n.entry.time v.edges) → occur g seed v n c.state c.taken ≡ Ok d → OneUrgent d.clock d.pending
 occur-one_urgent g seed v some c d n late urgent next exclusive done =
     let (u, at_receive, after_receive) = bind_ok (receive g v.parameters n.entry.values c.state) _ d done in
     let (e, at_changes, after_changes) = bind_ok (in_turn (make_change g seed n.entry.time) v.changes (record { state = u; taken = c.taken })) _ d after_receive in

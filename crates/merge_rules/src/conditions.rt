@@ -9,13 +9,15 @@ ghost use Rattle.model_core.specs.Run.Step.{vertex_at};
 ghost use Rattle.model_core.specs.Rules.BoundsOfParts.{quiet_set, quiet_change, quiet_edge};
 ghost use Rattle.model_core.specs.Rules.Conditions.{first_failed};
 ghost use Rattle.model_core.specs.Rules.MarkedPlaces.{is_among};
-ghost use Rattle.model_core.specs.Rules.Uses.{change_writes, vertex_writes, edge_reads};
+ghost use Rattle.model_core.specs.Rules.Uses.{change_writes, vertex_writes, edge_reads, has_drawn_delay};
 ghost use Rattle.model_core.specs.Rules.UrgentEdges.{plain_urgent_edge, single_urgent};
 ghost use Rattle.model_core.specs.Rules.Merge.{set_parameters, leads_to, is_watched_vertex, reads_none_of, is_unwatched, happens_unseen, values_at_once, other_edges, merge_conditions};
 ghost use Rattle.model_core.specs.Code.Views.{graph_of, expression_of, location_of, change_of, edge_of, vertex_of, watched_of};
 
 use crate::at_once::edge_at_once;
-use model_core::{Change, Edge, Expr, Model, Target, Vertex, Watch, is_watched, one_cancels};
+use model_core::{
+    Change, Edge, Expr, Model, Target, Vertex, Watch, has_drawn_delay, is_watched, one_cancels,
+};
 use range_bounds::{bounds, plain_urgent, quiet_change, quiet_edge, quiet_store};
 use use_analysis::{reads_of_edge, writes_of_vertex};
 
@@ -84,13 +86,13 @@ fn reads_written(edge: &Edge, vertex: &Vertex) -> bool
 }
 
 fn stands_aside(model: &Model, second: &Vertex, edge: &Edge) -> bool
-    ensures { result ≡ (quiet_edge (graph_of model.now) (edge_of edge.now) && reads_none_of (vertex_writes (vertex_of second.now)) (edge_of edge.now)) }
+    ensures { result ≡ (quiet_edge (graph_of model.now) (edge_of edge.now) && reads_none_of (vertex_writes (vertex_of second.now)) (edge_of edge.now) && not (has_drawn_delay (edge_of edge.now))) }
 {
-    quiet_edge(model, edge) && !reads_written(edge, second)
+    quiet_edge(model, edge) && !reads_written(edge, second) && !has_drawn_delay(edge)
 }
 
 fn all_stand_aside(model: &Model, second: &Vertex, edges: &[Edge]) -> bool
-    ensures { result ≡ list_all (λ e. quiet_edge (graph_of model.now) e && reads_none_of (vertex_writes (vertex_of second.now)) e) (map edge_of edges.now) }
+    ensures { result ≡ list_all (λ e. quiet_edge (graph_of model.now) e && reads_none_of (vertex_writes (vertex_of second.now)) e && not (has_drawn_delay e)) (map edge_of edges.now) }
 {
     for edge in edges {
         if !stands_aside(model, second, edge) {
@@ -190,14 +192,14 @@ fn second_happens_unseen(model: &Model, first: &Vertex, second: &Vertex) -> bool
 
 fn all_stand_aside_from(model: &Model, second: &Vertex, edges: &[Edge], from: usize) -> bool
     requires { from ≤ length edges.now }
-    ensures { result ≡ list_all (λ e. quiet_edge (graph_of model.now) e && reads_none_of (vertex_writes (vertex_of second.now)) e) (map edge_of (drop from edges.now)) }
+    ensures { result ≡ list_all (λ e. quiet_edge (graph_of model.now) e && reads_none_of (vertex_writes (vertex_of second.now)) e && not (has_drawn_delay e)) (map edge_of (drop from edges.now)) }
 {
     all_stand_aside(model, second, &edges[from..])
 }
 
 /// Whether all edges but the one at this place stand aside.
 fn all_stand_aside_but(model: &Model, second: &Vertex, edges: &[Edge], place: usize) -> bool
-    ensures { result ≡ list_all (λ e. quiet_edge (graph_of model.now) e && reads_none_of (vertex_writes (vertex_of second.now)) e) (remove (map edge_of edges.now) place) }
+    ensures { result ≡ list_all (λ e. quiet_edge (graph_of model.now) e && reads_none_of (vertex_writes (vertex_of second.now)) e && not (has_drawn_delay e)) (remove (map edge_of edges.now) place) }
 {
     if place < edges.len() {
         all_stand_aside(model, second, &edges[..place])
@@ -207,9 +209,10 @@ fn all_stand_aside_but(model: &Model, second: &Vertex, edges: &[Edge], place: us
     }
 }
 
-/// Whether the edges of the first vertex but its plain urgent one never fault and read nothing that the second writes.
+/// Whether the edges of the first vertex but its plain urgent one never fault, read nothing that the second writes, and draw
+/// no delay.
 fn others_stand_aside(model: &Model, first: &Vertex, second: &Vertex) -> bool
-    ensures { result ≡ list_all (λ e. quiet_edge (graph_of model.now) e && reads_none_of (vertex_writes (vertex_of second.now)) e) (other_edges (vertex_of first.now)) }
+    ensures { result ≡ list_all (λ e. quiet_edge (graph_of model.now) e && reads_none_of (vertex_writes (vertex_of second.now)) e && not (has_drawn_delay e)) (other_edges (vertex_of first.now)) }
 {
     match plain_urgent(first) {
         Some(place) => all_stand_aside_but(model, second, first.edges.as_slice(), place),

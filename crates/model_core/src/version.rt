@@ -2,11 +2,12 @@
 
 ghost use Rattle.std.specs.Prelude.{◌≡◌, map};
 ghost use Rattle.std.specs.List.{list_any};
-ghost use Rattle.model_core.specs.Text.VersionNeeded.{is_large_array, has_many_targets, has_many_parts, needs_version_two};
-ghost use Rattle.model_core.specs.Code.Views.{graph_of, variable_of, change_of, vertex_of};
+ghost use Rattle.model_core.specs.Text.VersionNeeded.{is_large_array, has_many_targets, has_later_parts, needs_version_two};
+ghost use Rattle.model_core.specs.Rules.Uses.{is_drawn, has_drawn_delay};
+ghost use Rattle.model_core.specs.Code.Views.{graph_of, variable_of, change_of, edge_delay_of, edge_of, vertex_of};
 
 use crate::model::{Model, Var};
-use crate::vertex::{Change, Vertex};
+use crate::vertex::{Change, Delay, Edge, EdgeForm, Vertex};
 use sig_base::{ARRAY_CELLS_MAX_VERSION_1, PARAMETERS_MAX_VERSION_1, TARGETS_MAX_VERSION_1};
 
 /// Whether one of these variables is an array with more cells than one of version 1 may have.
@@ -35,8 +36,8 @@ fn has_many_targets(change: &Change) -> bool
     }
 }
 
-/// Whether one of these changes is such a `set`.
-fn one_has_many_targets(changes: &[Change]) -> bool
+/// Whether one of these changes is a `set` with more targets than one of version 1 may have.
+pub fn one_has_many_targets(changes: &[Change]) -> bool
     ensures { result ≡ list_any has_many_targets (map change_of changes.now) }
 {
     for change in changes {
@@ -47,20 +48,55 @@ fn one_has_many_targets(changes: &[Change]) -> bool
     false
 }
 
-/// Whether a vertex has more parameters than one of version 1 may have, or such a `set`.
-fn has_many_parts(vertex: &Vertex) -> bool
-    ensures { result ≡ has_many_parts (vertex_of vertex.now) }
+/// Whether a delay is drawn.
+fn is_drawn(delay: &Delay) -> bool
+    ensures { result ≡ is_drawn (edge_delay_of delay.now) }
+{
+    match delay {
+        Delay::Fixed(_) => false,
+        Delay::Drawn { .. } => true,
+    }
+}
+
+/// Whether an edge has a delay, which is drawn.
+pub fn has_drawn_delay(edge: &Edge) -> bool
+    ensures { result ≡ has_drawn_delay (edge_of edge.now) }
+{
+    match &edge.form {
+        EdgeForm::Schedule { delay, priority: _ } => is_drawn(delay),
+        EdgeForm::Urgent => false,
+        EdgeForm::CancelNext | EdgeForm::CancelEqual | EdgeForm::CancelAll => false,
+    }
+}
+
+/// Whether one of these edges has a drawn delay.
+pub fn one_has_drawn_delay(edges: &[Edge]) -> bool
+    ensures { result ≡ list_any has_drawn_delay (map edge_of edges.now) }
+{
+    for edge in edges {
+        if has_drawn_delay(edge) {
+            return true;
+        }
+    }
+    false
+}
+
+/// Whether a vertex has more parameters than one of version 1 may have, a `set` with more targets, or an edge whose delay is
+/// drawn.
+fn has_later_parts(vertex: &Vertex) -> bool
+    ensures { result ≡ has_later_parts (vertex_of vertex.now) }
 {
     vertex.params.len() > PARAMETERS_MAX_VERSION_1
         || one_has_many_targets(vertex.changes.as_slice())
+        || one_has_drawn_delay(vertex.edges.as_slice())
 }
 
 /// Whether one of these vertices does.
-pub fn one_has_many_parts(vertices: &[Vertex]) -> bool
-    ensures { result ≡ list_any has_many_parts (map vertex_of vertices.now) }
+pub fn one_has_later_parts(vertices: &[Vertex]) -> bool
+    ensures { result ≡ list_any has_later_parts (map vertex_of vertices.now) }
 {
     for vertex in vertices {
-        if has_many_parts(vertex) {
+        if has_later_parts(vertex) {
             return true;
         }
     }
@@ -68,9 +104,9 @@ pub fn one_has_many_parts(vertices: &[Vertex]) -> bool
 }
 
 /// Whether only a text of version 2 can write the model: it has an array of more than 4,096 cells, a vertex with more than 8
-/// parameters, or a `set` with more than 8 targets.
+/// parameters, a `set` with more than 8 targets, or an edge whose delay is drawn.
 pub fn needs_version_two(model: &Model) -> bool
     ensures { result ≡ needs_version_two (graph_of model.now) }
 {
-    has_large_array(model.vars.as_slice()) || one_has_many_parts(model.vertices.as_slice())
+    has_large_array(model.vars.as_slice()) || one_has_later_parts(model.vertices.as_slice())
 }

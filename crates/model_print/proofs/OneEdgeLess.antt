@@ -14,7 +14,7 @@ use Rattle.model_core.proofs.SameNames.{SameNames, map_alike, flat_map_alike, ve
 use Rattle.model_core.proofs.PlacesChanged.{shown_placed}
 use Rattle.sig_base.proofs.Lists.{seen_more}
 use Rattle.model_print.proofs.Putting.{Both, two, put_as}
-use Rattle.model_print.proofs.VersionLines.{needed_pruned, declared}
+use Rattle.model_print.proofs.VersionLines.{declared}
 
 apart : (k : ℕ) → (0 == suc k) ≡ false
 apart k = grind (arith, nat_tests)
@@ -75,8 +75,8 @@ without_edge_names g vertex edge = record {
   vertex = shown_placed (λ (v : EventVertex). v.name) (without_edge edge) [] (λ v. refl) vertex g.vertices;
 }
 
-pub same_declarations : (g : EventGraph) (vertex edge : ℕ) → declared g (needs_version_two g) (map (watched_name g) g.watch) ≡ declared g (needs_version_two (pruned g vertex edge)) (map (watched_name (pruned g vertex edge)) g.watch)
-same_declarations g vertex edge = ap₂ (declared g) (needed_pruned g vertex edge) (map_alike (watched_name g) (watched_name (pruned g vertex edge)) (watched_alike g (pruned g vertex edge) (without_edge_names g vertex edge)) g.watch)
+pub same_declarations : (g : EventGraph) (vertex edge : ℕ) → declared g (needs_version_two (pruned g vertex edge)) (map (watched_name g) g.watch) ≡ declared g (needs_version_two (pruned g vertex edge)) (map (watched_name (pruned g vertex edge)) g.watch)
+same_declarations g vertex edge = ap (declared g (needs_version_two (pruned g vertex edge))) (map_alike (watched_name g) (watched_name (pruned g vertex edge)) (watched_alike g (pruned g vertex edge) (without_edge_names g vertex edge)) g.watch)
 
 pub same_lines : (g : EventGraph) (vertex edge : ℕ) (vs : List EventVertex) → flat_map (vertex_lines g) vs ≡ flat_map (vertex_lines (pruned g vertex edge)) vs
 same_lines g vertex edge vs = flat_map_alike (vertex_lines g) (vertex_lines (pruned g vertex edge)) (vertex_alike g (pruned g vertex edge) (without_edge_names g vertex edge)) vs

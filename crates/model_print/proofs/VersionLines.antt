@@ -1,13 +1,16 @@
--- Whether the line of the version stands, where an edge or a vertex goes.
-use Rattle.std.proofs.Common.{◌≡◌, ℕ, zero, suc, ◌<◌, Bool, true, false, ◌||◌, List, [], ◌∷◌, ◌++◌, map, take, drop, refl, sym, ◌∙◌, ap, ap₂}
+-- Whether the line of the version stands, where an edge or a vertex is left out.
+use Rattle.std.proofs.Common.{◌≡◌, ℕ, zero, suc, ◌<◌, Bool, true, false, ◌||◌, List, [], ◌∷◌, ◌++◌, map, length, take, drop, slice_get, nat_lt, refl, sym, ◌∙◌, ap, ap₂}
 use Rattle.std.proofs.lemmas.List.{append_cancel_left, map-append}
 use Rattle.std.proofs.lemmas.List.Folds.{list_any-append}
 use Rattle.std.specs.Prelude.{codes}
 use Rattle.std.specs.List.{flat_map, list_any, remove}
-use Rattle.model_core.specs.EventGraph.{EventGraph}
+use Rattle.std.specs.Option.{option_map_or}
+use Rattle.sig_base.specs.declared.limits.TheConstants.{PARAMETERS_MAX_VERSION_1}
+use Rattle.model_core.specs.EventGraph.{EventGraph, EventVertex}
 use Rattle.model_core.specs.Text.Canonical.{variable_line, table_line, watched_name, watch_names_line, version_line}
-use Rattle.model_core.specs.Text.VersionNeeded.{is_large_array, has_many_parts, needs_version_two}
-use Rattle.model_core.specs.Rules.Drop.{vertex_renumbered}
+use Rattle.model_core.specs.Text.VersionNeeded.{is_large_array, has_many_targets, has_later_parts, needs_version_two}
+use Rattle.model_core.specs.Rules.Uses.{has_drawn_delay}
+use Rattle.model_core.specs.Rules.Drop.{edge_renumbered, vertex_renumbered}
 use Rattle.model_core.specs.Rules.Fuse.{fused_place, fused}
 use Rattle.model_core.specs.Rules.Merge.{is_watched_vertex}
 use Rattle.model_core.specs.Rules.PlacedEdges.{with_place}
@@ -15,15 +18,20 @@ use Rattle.model_core.specs.Rules.Prune.{without_edge, pruned}
 use Rattle.model_core.proofs.FusedText.{same_declarations}
 use Rattle.model_core.proofs.Images.{map-remove}
 
--- a test that a change of an element leaves as it is
-any_placed : {A : Type 0} (test : A → Bool) (f : A → A) → ((x : A) → test (f x) ≡ test x) → (k : ℕ) (xs : List A) → list_any test (with_place f k xs) ≡ list_any test xs
-any_placed test f same k [] = refl
-any_placed test f same zero (x ∷ xs) = ap (λ b. b || list_any test xs) (same x)
-any_placed test f same (suc k) (x ∷ xs) = ap (λ b. test x || b) (any_placed test f same k xs)
-
+-- a test that changes of elements leave as it is
 any_mapped : {A : Type 0} (test : A → Bool) (f : A → A) → ((x : A) → test (f x) ≡ test x) → (xs : List A) → list_any test (map f xs) ≡ list_any test xs
 any_mapped test f same [] = refl
 any_mapped test f same (x ∷ xs) = ap₂ (λ b c. b || c) (same x) (any_mapped test f same xs)
+
+either_way : (a b : Bool) → (a || b) ≡ (b || a)
+either_way true true = refl
+either_way true false = refl
+either_way false true = refl
+either_way false false = refl
+
+together : (a b c : Bool) → ((a || b) || c) ≡ (a || (b || c))
+together true b c = refl
+together false b c = refl
 
 -- all but the one at a place: those before it, or else those behind it
 module _ {X Y : Type 0} (view : X → Y) (test : Y → Bool) (xs : List X) (k j : ℕ) (next : j ≡ suc k) where
@@ -39,17 +47,38 @@ module _ {X Y : Type 0} (view : X → Y) (test : Y → Bool) (xs : List X) (k j 
   pub any_behind : (b c : Bool) → b ≡ false → b ≡ list_any test (map view (take k xs)) → c ≡ list_any test (map view (drop j xs)) → c ≡ list_any test (remove (map view xs) k)
   any_behind b c so before behind = ap₂ (λ a d. a || d) (sym so ∙ before) behind ∙ apart
 
-pub needed_pruned : (g : EventGraph) (vertex edge : ℕ) → needs_version_two g ≡ needs_version_two (pruned g vertex edge)
-needed_pruned g vertex edge = ap (λ b. list_any is_large_array g.variables || b) (sym (any_placed has_many_parts (without_edge edge) (λ v. refl) vertex g.vertices))
+-- all but the one at a place, and then that one changed
+any_changed : {A : Type 0} (test : A → Bool) (f : A → A) (k : ℕ) (xs : List A) → (list_any test (remove xs k) || option_map_or (λ x. test (f x)) (slice_get xs k) false) ≡ list_any test (with_place f k xs)
+any_changed test f zero [] = refl
+any_changed test f (suc k) [] = refl
+any_changed test f zero (x ∷ xs) = either_way (list_any test xs) (test (f x))
+any_changed test f (suc k) (x ∷ xs) = together (test x) (list_any test (remove xs k)) (option_map_or (λ y. test (f y)) (slice_get xs k) false) ∙ ap (λ b. test x || b) (any_changed test f k xs)
 
-pub needed_fused : (g : EventGraph) (keep gone : ℕ) → (list_any is_large_array g.variables || list_any has_many_parts (remove g.vertices gone)) ≡ needs_version_two (fused g keep gone)
-needed_fused g keep gone = ap (λ b. list_any is_large_array g.variables || b) (sym (any_mapped has_many_parts (vertex_renumbered (fused_place keep gone)) (λ v. refl) (remove g.vertices gone)))
+-- the model without an edge: what needs a later version is in another vertex, or else in the one that lacks the edge
+module _ (g : EventGraph) (vertex edge : ℕ) where
+  pruned_apart : ((list_any is_large_array g.variables || list_any has_later_parts (remove g.vertices vertex)) || option_map_or (λ v. has_later_parts (without_edge edge v)) (slice_get g.vertices vertex) false) ≡ needs_version_two (pruned g vertex edge)
+  pruned_apart =
+      together (list_any is_large_array g.variables) (list_any has_later_parts (remove g.vertices vertex)) (option_map_or (λ v. has_later_parts (without_edge edge v)) (slice_get g.vertices vertex) false)
+      ∙ ap (λ b. list_any is_large_array g.variables || b) (any_changed has_later_parts (without_edge edge) vertex g.vertices)
+
+  pub needed_pruned_before : (b : Bool) → b ≡ true → b ≡ (list_any is_large_array g.variables || list_any has_later_parts (remove g.vertices vertex)) → b ≡ needs_version_two (pruned g vertex edge)
+  needed_pruned_before b so is = so ∙ ap (λ a. a || option_map_or (λ v. has_later_parts (without_edge edge v)) (slice_get g.vertices vertex) false) (sym so ∙ is) ∙ pruned_apart
+
+  pub needed_pruned_behind : (b c : Bool) → b ≡ false → b ≡ (list_any is_large_array g.variables || list_any has_later_parts (remove g.vertices vertex)) → c ≡ option_map_or (λ v. has_later_parts (without_edge edge v)) (slice_get g.vertices vertex) false → c ≡ needs_version_two (pruned g vertex edge)
+  needed_pruned_behind b c so before behind = ap₂ (λ a d. a || d) (sym so ∙ before) behind ∙ pruned_apart
+
+-- edges that lead elsewhere have the delays that they had
+later_renumbered : (f : ℕ → ℕ) (v : EventVertex) → has_later_parts (vertex_renumbered f v) ≡ has_later_parts v
+later_renumbered f v = ap (λ b. nat_lt PARAMETERS_MAX_VERSION_1 (length v.parameters) || list_any has_many_targets v.changes || b) (any_mapped has_drawn_delay (edge_renumbered f) (λ e. refl) v.edges)
+
+pub needed_fused : (g : EventGraph) (keep gone : ℕ) → (list_any is_large_array g.variables || list_any has_later_parts (remove g.vertices gone)) ≡ needs_version_two (fused g keep gone)
+needed_fused g keep gone = ap (λ b. list_any is_large_array g.variables || b) (sym (any_mapped has_later_parts (vertex_renumbered (fused_place keep gone)) (later_renumbered (fused_place keep gone)) (remove g.vertices gone)))
 
 -- what stands before the vertices
 abbrev pub declared : EventGraph → Bool → List (List ℕ) → List ℕ
 declared g needed watched = version_line needed ++ codes "model " ++ g.name ++ codes ";\n" ++ flat_map variable_line g.variables ++ flat_map table_line g.tables ++ watch_names_line watched
 
-pub declared_fused : (g : EventGraph) (keep gone : ℕ) → keep < gone → is_watched_vertex g gone ≡ false → (needed : Bool) → needed ≡ (list_any is_large_array g.variables || list_any has_many_parts (remove g.vertices gone))
+pub declared_fused : (g : EventGraph) (keep gone : ℕ) → keep < gone → is_watched_vertex g gone ≡ false → (needed : Bool) → needed ≡ (list_any is_large_array g.variables || list_any has_later_parts (remove g.vertices gone))
     → declared g needed (map (watched_name g) g.watch) ≡ declared (fused g keep gone) (needs_version_two (fused g keep gone)) (map (watched_name (fused g keep gone)) (fused g keep gone).watch)
 declared_fused g keep gone first unwatched needed is =
     let h = fused g keep gone in

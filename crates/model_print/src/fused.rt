@@ -1,18 +1,18 @@
 //! The canonical text of a model in which one vertex stands for another, which is left out, put from the model as it is.
 
-ghost use Rattle.std.specs.Prelude.{◌≡◌, ◌<◌, [], cond, map, false, ◌||◌};
-ghost use Rattle.std.specs.List.{flat_map, list_any, remove};
+ghost use Rattle.std.specs.Prelude.{◌≡◌, ◌<◌, [], cond, map, false};
+ghost use Rattle.std.specs.List.{flat_map, remove};
 ghost use Rattle.model_core.specs.Text.Canonical.{canonical, edge_line, vertex_lines};
-ghost use Rattle.model_core.specs.Text.VersionNeeded.{is_large_array, has_many_parts};
 ghost use Rattle.model_core.specs.Rules.Drop.{edge_renumbered, vertex_renumbered};
 ghost use Rattle.model_core.specs.Rules.Fuse.{standing_for, fused};
 ghost use Rattle.model_core.specs.Rules.Merge.{is_watched_vertex};
-ghost use Rattle.model_core.specs.Code.Views.{graph_of, edge_of, variable_of, vertex_of};
+ghost use Rattle.model_core.specs.Code.Views.{graph_of, edge_of, vertex_of};
 
 use crate::model::put_declarations;
 use crate::pen::Pen;
+use crate::version_without::needs_version_two_without;
 use crate::vertices::{put_changes, put_edge_to, put_parameters};
-use model_core::{Edge, Model, Vertex, has_large_array, one_has_many_parts};
+use model_core::{Edge, Model, Vertex};
 
 /// The vertex that stands for this one: `keep` for `gone`, and any other one for itself.
 pub fn standing_for(keep: usize, gone: usize, vertex: usize) -> usize
@@ -72,25 +72,6 @@ fn put_vertices_for<P: Pen>(
     for (place, vertex) in vertices.iter().enumerate() {
         put_vertex_unless(out, model, keep, gone, place == gone, vertex);
     }
-}
-
-/// Whether one of these vertices but the one at `gone` has more parts than version 1 allows.
-fn another_has_many_parts(vertices: &[Vertex], gone: usize) -> bool
-    ensures { result ≡ list_any has_many_parts (remove (map vertex_of vertices.now) gone) }
-{
-    if gone < vertices.len() {
-        one_has_many_parts(&vertices[..gone]) || one_has_many_parts(&vertices[gone + 1..])
-    } else {
-        one_has_many_parts(vertices)
-    }
-}
-
-/// Whether the model needs a text of version 2 when the vertex at `gone` is left out.
-fn needs_version_two_without(model: &Model, gone: usize) -> bool
-    ensures { result ≡ (list_any is_large_array (map variable_of model.now.vars) || list_any has_many_parts (remove (map vertex_of model.now.vertices) gone)) }
-{
-    has_large_array(model.vars.as_slice())
-        || another_has_many_parts(model.vertices.as_slice(), gone)
 }
 
 /// Puts the canonical text of a model in which the vertex at `keep` stands for the one at `gone` behind it, which isn't

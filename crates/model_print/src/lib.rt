@@ -10,6 +10,7 @@ mod names;
 mod operators;
 mod pen;
 mod printed;
+mod version_without;
 mod vertices;
 mod without_edge;
 

@@ -112,6 +112,10 @@ fn put_delay<P: Pen>(out: &mut P, model: &Model, delay: &Delay)
             out.put_bytes(b" after ");
             put_expression(out, model, expr);
         }
+        Delay::Drawn { stream, choice } => {
+            out.put_bytes(b" after draw");
+            put_source(out, model, *stream, *choice);
+        }
     }
 }
 

@@ -9,8 +9,9 @@ ghost use Rattle.model_core.specs.Code.Views.{graph_of, edge_of, vertex_of};
 
 use crate::model::put_declarations;
 use crate::pen::Pen;
+use crate::version_without::needs_version_two_without_edge;
 use crate::vertices::{put_changes, put_edge, put_parameters, put_vertex};
-use model_core::{Edge, Model, Vertex, needs_version_two};
+use model_core::{Edge, Model, Vertex};
 
 /// Puts the line of an edge, or nothing where it is left out.
 fn put_edge_unless<P: Pen>(out: &mut P, model: &Model, left_out: bool, edge: &Edge)
@@ -73,7 +74,11 @@ fn put_vertices_without<P: Pen>(
 pub(crate) fn put_model_without<P: Pen>(out: &mut P, model: &Model, vertex: usize, edge: usize)
     ensures { P.adds out.old out.new (canonical (pruned (graph_of model.now) vertex edge)) }
 {
-    put_declarations(out, model, needs_version_two(model));
+    put_declarations(
+        out,
+        model,
+        needs_version_two_without_edge(model, vertex, edge),
+    );
     put_vertices_without(out, model, model.vertices.as_slice(), vertex, edge);
     out.put_bytes(b"end\n");
 }

@@ -12,6 +12,7 @@ ghost use Rattle.model_read.specs.ReadCalls.{Returned};
 ghost use Rattle.model_read.specs.Inner.Cancels.{written_cancel};
 ghost use Rattle.text_laws.specs.SomeTokens.{edge-some};
 
+use crate::changes::{RawSource, source};
 use crate::cursor::Cursor;
 use crate::expressions::expression;
 use crate::phrase::{Phrase, Repeated, separated};
@@ -46,16 +47,20 @@ fn condition(alloc: Global, cursor: &mut Cursor<'_>) -> Result<Option<RawExpr>, 
     Ok(Some(expression(alloc, cursor)?))
 }
 
-/// Reads a delay.
-#[tactic(auto, unfolding(model_core::specs::Text::Language::delay_format))]
+/// Reads a delay. The word `draw` tells its form.
+#[tactic(auto, using(text_laws::proofs::DelayForms::drawn_form, text_laws::proofs::DelayForms::fixed_form))]
 fn delay(alloc: Global, cursor: &mut Cursor<'_>) -> Result<RawDelay, Stop>
     ensures { Returned written_delay result cursor.new (language_reader delay_format cursor.old) }
 {
+    if cursor.begins_word(Word::Draw) {
+        let at = cursor.word(Word::Draw)?;
+        let RawSource { stream, choice } = source(alloc, cursor)?;
+        return Ok(RawDelay::Drawn { at, stream, choice });
+    }
     Ok(RawDelay::Fixed(expression(alloc, cursor)?))
 }
 
 /// Reads the delay of an edge, where one is written.
-#[tactic(auto, unfolding(model_core::specs::Text::Language::delay_format))]
 fn after(alloc: Global, cursor: &mut Cursor<'_>) -> Result<Option<RawDelay>, Stop>
     ensures { Returned (option_map written_delay) result cursor.new (language_reader (maybe (reserved After *> delay_format)) cursor.old) }
 {

@@ -1,5 +1,5 @@
 -- An edge without faults, from its parts.
-use Rattle.std.proofs.Common.{◌≡◌, ℕ, pos, Bool, true, false, List, [], ◌++◌, length, Option, Some, refl, ap}
+use Rattle.std.proofs.Common.{◌≡◌, ℕ, pos, Bool, true, false, List, [], ◌++◌, length, Option, Some, refl, ap, ◌∙◌}
 use Rattle.std.specs.Option.{option_map}
 use Rattle.std.specs.Prelude.{nat_eq, not}
 use Rattle.model_core.specs.declared.model.Kind.{Kind}
@@ -23,12 +23,14 @@ use Rattle.model_core.specs.Static.PartFaults.{if_written, written_items, use_fa
 use Rattle.text_laws.specs.FirstTokens.{begins_as}
 use Rattle.text_laws.specs.FormatReader.{took}
 use Rattle.text_laws.specs.LanguageReader.{language_reader}
+use Rattle.text_laws.proofs.DelayForms.{drawn_form, fixed_form}
 use Rattle.model_core.proofs.EmptyLists.{left_empty, right_empty}
 use Rattle.static_laws.proofs.StaticTwins.Twins.{both_empty}
 use Rattle.static_laws.specs.Checked.{NumberedAs}
 use Rattle.static_laws.proofs.Checks.{two_numbered, four_numbered}
 use Rattle.one_pass.specs.Inner.ReadParts.{ReadSure}
 use Rattle.one_pass.specs.Inner.ReadCarried.{ReadCarried}
+use Rattle.one_pass.specs.Inner.ReadSources.{ReadSource}
 
 two-read : {A B W : Type 0} (h : A → B → W) (p1 : LanguageFormat A) (p2 : LanguageFormat B) (t0 t1 t2 : List Lexeme) (a : A) (b : B)
     → language_reader p1 t0 ≡ took a t1 → language_reader p2 t1 ≡ took b t2 → language_reader (Yields h <*> p1 <*> p2) t0 ≡ took (h a b) t2
@@ -73,10 +75,18 @@ module _ (means : List ℕ → Option Meaning) (taken : List (List (Option Kind)
       (λ d. declared_place c.name.name d.vertices) (λ d. written_or (each_numbered (expression d)) [] c.given.written) (λ d. written_or (expression d) (graph.Truth true) condition) (λ d. numbering.edge_kind d kind)
       c.vertex.numbers c.given.numbers holds timing
 
-  pub fixed_read : (before after : List Lexeme) (x : graph.Expression) → ReadSure expression_format means (operand_faults means (Some kinds.Range)) expression before after x
+  pub fixed_read : (before after : List Lexeme) (x : graph.Expression) → begins_as (AWord words.Draw) before ≡ false → ReadSure expression_format means (operand_faults means (Some kinds.Range)) expression before after x
       → ReadSure delay_format means (delay_faults means taken) numbering.delay before after (graph.Fixed x)
-  unfolding delay_format
-  fixed_read before after x r = record { written = written.Fixed r.written; read = rw r.read refl; unbroken = r.unbroken; numbers = λ d p. ap (option_map graph.Fixed) (r.numbers d p) }
+  fixed_read before after x other r = record { written = written.Fixed r.written; read = fixed_form before other ∙ rw r.read refl; unbroken = r.unbroken; numbers = λ d p. ap (option_map graph.Fixed) (r.numbers d p) }
+
+  pub drawn_read : (at : ℕ) (before between after : List Lexeme) (n : ℕ) (y : graph.Choice) → begins_as (AWord words.Draw) before ≡ true → language_reader (reserved words.Draw) before ≡ took at between → ReadSource means between after n y
+      → ReadSure delay_format means (delay_faults means taken) numbering.delay before after (graph.Drawn n y)
+  drawn_read at before between after n y begun word source = record {
+    written = written.Drawn at source.written.stream source.written.choice;
+    read = drawn_form before begun ∙ rw (word, source.read) refl;
+    unbroken = source.source.unbroken;
+    numbers = λ d p. rw (source.source.is_stream, source.source.numbers d p) refl;
+  }
 
   pub schedule_read : (at semicolon : ℕ) (t0 t1 t2 t3 t4 t5 t6 : List Lexeme) (k p : ℕ) (xs : List graph.Expression) (x : graph.Delay) (y : graph.Expression)
       → language_reader (reserved words.Schedule) t0 ≡ took at t1

@@ -102,7 +102,11 @@ fn checked(names: &Names, raw: &RawSource) -> Result<(u8, Choice), NotRead>
 }
 
 /// Reads the source of a draw as it is written, and checks it then.
-fn source(alloc: Global, cursor: &mut Cursor<'_>, names: &Names) -> Result<(u8, Choice), NotRead>
+pub(crate) fn source(
+    alloc: Global,
+    cursor: &mut Cursor<'_>,
+    names: &Names,
+) -> Result<(u8, Choice), NotRead>
     ensures { IfOk result (λ s. ReadSource (meaning_of names.now) cursor.old cursor.new s.0 (choice_of s.1)) }
 {
     let raw = model_read::source(alloc, cursor)?;

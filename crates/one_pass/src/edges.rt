@@ -17,6 +17,7 @@ ghost use Rattle.static_laws.specs.Checked.{NumberedAs};
 ghost use Rattle.one_pass.specs.Inner.ReadParts.{ReadSure};
 
 use crate::carried::carried;
+use crate::changes::source;
 use crate::not_read::NotRead;
 use crate::refusing::refuse_told;
 use crate::values::value;
@@ -26,10 +27,15 @@ use sig_base::{Held, List};
 use sig_types::{Names, Told, bounded};
 use std::alloc::Global;
 
-/// Reads a delay.
+/// Reads a delay. The word `draw` tells its form.
 fn delay(alloc: Global, cursor: &mut Cursor<'_>, names: &Names) -> Result<Delay, NotRead>
     ensures { (taken : List (List (Option KnownKind))) → IfOk result (λ w. ReadSure delay_format (meaning_of names.now) (delay_faults (meaning_of names.now) taken) numbering.delay cursor.old cursor.new (edge_delay_of w)) }
 {
+    if cursor.begins_word(Word::Draw) {
+        cursor.word(Word::Draw)?;
+        let (stream, choice) = source(alloc, cursor, names)?;
+        return Ok(Delay::Drawn { stream, choice });
+    }
     let expr = value(alloc, cursor, names, Some(Kind::Range))?;
     Ok(Delay::Fixed(expr))
 }

@@ -6,7 +6,7 @@ use Rattle.std.specs.List.{AllByRecursion}
 use Rattle.model_core.specs.EventGraph.{EventGraph, EventVertex, EventEdge, StateChange, Watched, WatchedVariable, WatchedVertex}
 use Rattle.model_core.specs.Run.State.{State, scalar, variable_at, in_range}
 use Rattle.model_core.specs.Run.Value.{OrFault, in_turn}
-use Rattle.model_core.specs.Run.Changes.{Drawn, make_change}
+use Rattle.model_core.specs.Run.Changes.{Changed, make_change}
 use Rattle.model_core.specs.Run.Pending.{Entry, TakenOff, next_entry}
 use Rattle.model_core.specs.Run.Edges.{Planned, treat}
 use Rattle.model_core.specs.Run.Step.{Configuration, vertex_at, receive, occur}
@@ -56,15 +56,15 @@ module _ (g : EventGraph) (ranges : List VarRange) (keeps : KeepsParts g) (fitti
       let same = same_stores g ranges fitting (zip (map scalar (vertex_at g k).parameters) values) fits s in
       one-and Inside same (λ t done. received h Inside (in_range-kept h) (vertex_at g k).parameters values s t inside (sym same ∙ done))
 
-  abbrev DrawnInside : Drawn → Type 0
+  abbrev DrawnInside : Changed → Type 0
   DrawnInside d = Inside d.state
 
-  changes_made : (seed clk : ℕ) → clk ≤ 2 ^ 48 → (v : EventVertex) → VertexKnown g ranges v → (d : Drawn) → DrawnInside d → Alongside (OneAnd DrawnInside) (in_turn (make_change g seed clk) v.changes d) (in_turn (make_change h seed clk) v.changes d)
+  changes_made : (seed clk : ℕ) → clk ≤ 2 ^ 48 → (v : EventVertex) → VertexKnown g ranges v → (d : Changed) → DrawnInside d → Alongside (OneAnd DrawnInside) (in_turn (make_change g seed clk) v.changes d) (in_turn (make_change h seed clk) v.changes d)
   changes_made seed clk early v known d inside =
       subst (λ (cs : List StateChange). Alongside (OneAnd DrawnInside) (in_turn (make_change g seed clk) v.changes d) (in_turn (make_change h seed clk) cs d)) (map-id v.changes)
       (in_turn-alongside (ChangeKnown g ranges) (λ c. c) (OneAnd DrawnInside) (make_change g seed clk) (make_change h seed clk) (λ c known d d2 (one, inside).
       let same = same_change g ranges fitting keeps seed clk early c d inside known in
-      subst (λ (d2 : Drawn). Alongside (OneAnd DrawnInside) (make_change g seed clk c d) (make_change h seed clk c d2)) one
+      subst (λ (d2 : Changed). Alongside (OneAnd DrawnInside) (make_change g seed clk c d) (make_change h seed clk c d2)) one
       (one-and DrawnInside same (λ e done. (in_range-kept h).by_change seed clk c d e inside (sym same ∙ done)))) v.changes known.changes d d (refl, inside))
 
   abbrev PlanFits : Planned → Type 0
@@ -84,8 +84,8 @@ module _ (g : EventGraph) (ranges : List VarRange) (keeps : KeepsParts g) (fitti
       let clk = n.entry.time in
       bind-alongside (OneAnd Inside) (OneAnd Sound) (receives n.entry.vertex n.entry.values fit s inside) _ _ (λ t t2 (one, in_t).
       bind-alongside (OneAnd DrawnInside) (OneAnd Sound) (subst (λ (t2 : State). Alongside (OneAnd DrawnInside) (in_turn (make_change g seed clk) v.changes (record { state = t; taken = taken })) (in_turn (make_change h seed clk) v.changes (record { state = t2; taken = taken }))) one (changes_made seed clk due v known (record { state = t; taken = taken }) in_t)) _ _ (λ d d2 (one, in_d).
-      bind-alongside (OneAnd PlanFits) (OneAnd Sound) (subst (λ (d2 : Drawn). Alongside (OneAnd PlanFits) (in_turn (treat g seed d.state clk) v.edges (record { pending = n.others; taken = d.taken })) (in_turn (treat h seed d2.state clk) v.edges (record { pending = n.others; taken = d2.taken }))) one (edges_treated seed clk due v known d.state in_d (record { pending = n.others; taken = d.taken }) fits)) _ _ (λ p p2 (same, fit).
-      both_go (ap₂ (λ (d : Drawn) (p : Planned). record { clock = clk; state = d.state; taken = p.taken; pending = p.pending }) one same, record { inside = in_d; pending = fit }))))
+      bind-alongside (OneAnd PlanFits) (OneAnd Sound) (subst (λ (d2 : Changed). Alongside (OneAnd PlanFits) (in_turn (treat g seed d.state clk) v.edges (record { pending = n.others; taken = d.taken })) (in_turn (treat h seed d2.state clk) v.edges (record { pending = n.others; taken = d2.taken }))) one (edges_treated seed clk due v known d.state in_d (record { pending = n.others; taken = d.taken }) fits)) _ _ (λ p p2 (same, fit).
+      both_go (ap₂ (λ (d : Changed) (p : Planned). record { clock = clk; state = d.state; taken = p.taken; pending = p.pending }) one same, record { inside = in_d; pending = fit }))))
 
   -- ---- each step is followed
 

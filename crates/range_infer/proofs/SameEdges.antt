@@ -4,7 +4,7 @@ use Rattle.std.proofs.lemmas.Int.{ints}
 use Rattle.std.specs.List.{AllByRecursion}
 use Rattle.model_core.specs.declared.model.Kind.{Kind}
 use Rattle.model_core.specs.declared.model.Kind.TheVariants as kinds
-use Rattle.model_core.specs.EventGraph.{EventGraph, EventEdge, Delay, Fixed, EdgeKind, Schedule, Urgent, CancelNext, CancelEqual, CancelAll, Expression}
+use Rattle.model_core.specs.EventGraph.{EventGraph, EventEdge, Uniform, ByTable, Delay, Fixed, Drawn, EdgeKind, Schedule, Urgent, CancelNext, CancelEqual, CancelAll, Expression}
 use Rattle.model_core.specs.Run.State.{State, Place, scalar, in_range}
 use Rattle.model_core.specs.Run.Value.{OrFault, ◌>>=◌, number_of, is_one, each, value_of}
 use Rattle.model_core.specs.Run.Pending.{Entry, is_of, is_with, without_next, without_all}
@@ -47,6 +47,8 @@ module _ (g : EventGraph) (ranges : List VarRange) (fitting : Fitting g ranges) 
   same_wait : (seed : ℕ) (s : State) (clk : ℕ) (delay : Delay) (taken : List ℕ) → delay_of g seed s clk delay taken ≡ delay_of h seed s clk delay taken
   same_wait seed s clk (Fixed e) taken =
       ap (λ (r : OrFault ℤ). r >>= λ w. delay_ticks w >>= λ n. let wait : Waiting = record { ticks = n; taken = taken } in Ok wait) (same_value g ranges s clk e)
+  same_wait seed s clk (Drawn stream (Uniform lo hi)) taken = refl
+  same_wait seed s clk (Drawn stream (ByTable t)) taken = refl
 
   same_act : (seed : ℕ) (s : State) (clk : ℕ) (e : EventEdge) (kind : EdgeKind) (p : Planned) → act g seed s clk e kind p ≡ act h seed s clk e kind p
   same_act seed s clk e (Schedule delay priority) p =

@@ -6,7 +6,7 @@ use Rattle.std.proofs.lemmas.List.Sums.{sum_by-cons}
 use Rattle.sig_base.specs.declared.limits.TheConstants.{TEXT_MAX, CELLS_MAX, VARIABLES_MAX}
 use Rattle.model_core.specs.declared.model.Kind.{Kind}
 use Rattle.model_core.specs.declared.model.Kind.TheVariants as kinds
-use Rattle.model_core.specs.EventGraph.{EventGraph, EventVertex, EventEdge, Delay, Fixed, EdgeKind, Schedule, Urgent, CancelNext, CancelEqual, CancelAll, StateChange, Set, Draw, Choice, Uniform, ByTable, Location, Expression, Variable, WeightTable}
+use Rattle.model_core.specs.EventGraph.{EventGraph, EventVertex, EventEdge, Delay, Fixed, Drawn, EdgeKind, Schedule, Urgent, CancelNext, CancelEqual, CancelAll, StateChange, Set, Draw, Choice, Uniform, ByTable, Location, Expression, Variable, WeightTable}
 use Rattle.model_core.specs.Run.State.{no_variable, variable_at}
 use Rattle.model_core.specs.Text.Lexing.{same_bytes}
 use Rattle.model_core.specs.Text.Canonical.{canonical}
@@ -120,6 +120,7 @@ module _ (vs : List Variable) (rs : List VarRange) (tables : ℕ) (takes : List 
 
   delay_keeps : (delay : Delay) → KeepsDelay vs tables takes delay → KeepsDelay ws tables takes delay
   delay_keeps (Fixed e) k = has_kind vs rs e kinds.Range k
+  delay_keeps (Drawn stream choice) k = source_keeps stream choice k
 
   timing : (kind : EdgeKind) → KeepsTiming vs tables takes kind → KeepsTiming ws tables takes kind
   timing (Schedule delay priority) t = (delay_keeps delay t.0, t.1, t.2)

@@ -1,21 +1,19 @@
 -- Each application behind the rules of edges leaves less, so the strategy ends: a drop fewer vertices, a merge fewer with
 -- a plain urgent edge, a slice fewer variables.
-use Rattle.std.proofs.Common.{◌≡◌, ℕ, zero, suc, ◌+◌, ◌<◌, ◌≤◌, ◌==◌, Bool, true, false, not, ◌&&◌, cond, List, [], ◌∷◌, ◌++◌, map, length, Option, Some, None, is_some, is_none, refl, sym, ap, ap₂, ◌∙◌, subst, arith}
-use Rattle.std.specs.Prelude.{filter, count_by, slice_index_or}
+use Rattle.std.proofs.Common.{◌≡◌, ℕ, zero, suc, ◌+◌, ◌<◌, ◌≤◌, ◌==◌, Bool, true, false, not, ◌&&◌, cond, List, [], ◌∷◌, map, length, Option, Some, None, is_some, refl, sym, ap, ap₂, ◌∙◌, subst, arith}
+use Rattle.std.specs.Prelude.{filter, count_by}
 use Rattle.std.specs.List.{AllByRecursion, position_from, range_with_len}
 use Rattle.std.proofs.lemmas.List.{length-map}
 use Rattle.std.proofs.lemmas.List.Sums.{sum_by-cons}
 use Rattle.model_core.specs.EventGraph.{EventEdge, EventVertex, EdgeKind, Schedule, Urgent, CancelNext, CancelEqual, CancelAll, Expression, Number, Truth, Clock, Scalar, Cell, Negative, Not, Binary, If, EventGraph}
 use Rattle.model_core.specs.Static.Reading.{IsValid}
-use Rattle.model_core.specs.Run.Step.{no_vertex, vertex_at}
 use Rattle.model_core.specs.Rules.Conditions.{first_failed}
-use Rattle.model_core.specs.Rules.PlacedEdges.{with_place}
 use Rattle.model_core.specs.Rules.MarkedPlaces.{rank, marked_of, is_marked, unmarked_places}
 use Rattle.model_core.specs.Rules.Settle.{is_literal_true}
-use Rattle.model_core.specs.Rules.UrgentEdges.{is_urgent, is_urgent_kind, is_plain, plain_urgent}
+use Rattle.model_core.specs.Rules.UrgentEdges.{is_urgent, is_urgent_kind, is_plain}
 use Rattle.model_core.specs.Rules.Reached.{reached_marks, unreached}
 use Rattle.model_core.specs.Rules.Drop.{lists_some, lists_exactly, drop_conditions, staying_marks, edge_renumbered, vertex_renumbered, dropped}
-use Rattle.model_core.specs.Rules.Merge.{merge_conditions, merged_with, merged, first_merge}
+use Rattle.model_core.specs.Rules.Merge.{merge_conditions, merged, first_merge}
 use Rattle.model_core.specs.Rules.Needed.{needed_at_once, needed_beside, needed_marks, unneeded}
 use Rattle.model_core.specs.Rules.Slice.{slice_conditions, expression_renumbered, kind_left, edge_left, vertex_left, sliced}
 use Rattle.model_core.specs.Rules.Reduction.{RuleApplication, applied, drop_of, merge_of, first_rule, Strategy}

@@ -66,7 +66,7 @@ module _ (g : EventGraph) (kept : List EventVertex) (f : ℕ → ℕ) (Named Tol
         parameters = old.parameters;
         changes = each-among (ChangeFrom g (extent of_kept)) v.changes (λ c among. same_change g s v is_old (extent of_kept) refl refl c (contained-among v.changes c among));
         edges = all-map (EdgeFrom g (extent of_kept)) (edge_renumbered f) v.edges (λ e among.
-            same_edge g s v is_old (extent of_kept) refl e (contained-among v.edges e among) (f e.target) (within e.target (stay.edges v there e among) (of-among (SpellableEdge (extent g)) v.edges e old.edges among).target));
+            same_edge g s v is_old (extent of_kept) refl refl e (contained-among v.edges e among) (f e.target) (within e.target (stay.edges v there e among) (of-among (SpellableEdge (extent g)) v.edges e old.edges among).target));
       }
 
   pub kept-spellable : IsSpellable g → IsSpellable of_kept

@@ -1,12 +1,14 @@
 -- What a rule makes of a model needs version 2 of a text only where the model did, so that its first line is no longer.
-use Rattle.std.proofs.Common.{◌≡◌, inl, inr, ℕ, zero, suc, Bool, true, false, ◌||◌, List, [], ◌∷◌, ◌++◌, map, refl, sym, ◌∙◌, ap}
+use Rattle.std.proofs.Common.{◌≡◌, inl, inr, ℕ, zero, suc, Bool, true, false, ◌||◌, List, [], ◌∷◌, ◌++◌, map, length, nat_lt, refl, sym, ◌∙◌, ap}
 use Rattle.std.specs.Prelude.{codes}
 use Rattle.std.specs.List.{flat_map, list_any}
 use Rattle.std.proofs.lemmas.List.Folds.{list_any-append}
-use Rattle.model_core.specs.EventGraph.{EventGraph, EventVertex, Watched}
+use Rattle.sig_base.specs.declared.limits.TheConstants.{PARAMETERS_MAX_VERSION_1}
+use Rattle.model_core.specs.EventGraph.{EventGraph, EventVertex, EventEdge, Watched}
 use Rattle.model_core.specs.Text.Canonical.{version_line}
-use Rattle.model_core.specs.Text.VersionNeeded.{is_large_array, has_many_parts, needs_version_two}
-use Rattle.model_core.specs.Rules.Drop.{vertex_renumbered}
+use Rattle.model_core.specs.Text.VersionNeeded.{is_large_array, has_many_targets, has_later_parts, needs_version_two}
+use Rattle.model_core.specs.Rules.Uses.{has_drawn_delay}
+use Rattle.model_core.specs.Rules.Drop.{edge_renumbered, vertex_renumbered}
 use Rattle.model_core.specs.Rules.PlacedEdges.{with_place}
 use Rattle.model_core.proofs.Among.{either_true, first_true, second_true}
 use Rattle.model_core.proofs.NoLongerTexts.{NoLonger, no_longer-nothing, no_longer-before, no_longer-same}
@@ -14,7 +16,7 @@ use Rattle.model_core.proofs.SomeOfAList.{SomeOf, nothing, with_it, without}
 
 -- ---- tests that no more lists pass
 
-either_kept : (a b c d : Bool) → (a ≡ true → c ≡ true) → (b ≡ true → d ≡ true) → (a || b) ≡ true → (c || d) ≡ true
+pub either_kept : (a b c d : Bool) → (a ≡ true → c ≡ true) → (b ≡ true → d ≡ true) → (a || b) ≡ true → (c || d) ≡ true
 either_kept a b c d one other e = elim (either_true a b e) [ inl h ↦ first_true c d (one h) | inr h ↦ second_true c d (other h) ]
 
 pub any-some : {A : Type 0} (test : A → Bool) {xs ys : List A} → SomeOf xs ys → list_any test xs ≡ true → list_any test ys ≡ true
@@ -31,7 +33,7 @@ any-left old new left each [] e = e
 any-left old new left each (x ∷ xs) e =
     either_kept (list_any new (left x)) (list_any new (flat_map left xs)) (old x) (list_any old xs) (each x) (any-left old new left each xs) (sym (list_any-append new (left x) (flat_map left xs)) ∙ e)
 
-any-placed : {A : Type 0} (test : A → Bool) (f : A → A) → ((x : A) → test (f x) ≡ true → test x ≡ true) → (k : ℕ) (xs : List A) → list_any test (with_place f k xs) ≡ true → list_any test xs ≡ true
+pub any-placed : {A : Type 0} (test : A → Bool) (f : A → A) → ((x : A) → test (f x) ≡ true → test x ≡ true) → (k : ℕ) (xs : List A) → list_any test (with_place f k xs) ≡ true → list_any test xs ≡ true
 any-placed test f each k [] e = e
 any-placed test f each zero (x ∷ xs) e = either_kept (test (f x)) (list_any test xs) (test x) (list_any test xs) (each x) (λ h. h) e
 any-placed test f each (suc k) (x ∷ xs) e = either_kept (test x) (list_any test (with_place f k xs)) (test x) (list_any test xs) (λ h. h) (any-placed test f each k xs) e
@@ -42,17 +44,26 @@ any-placed test f each (suc k) (x ∷ xs) e = either_kept (test x) (list_any tes
 abbrev pub NeedsNoMore : EventGraph → EventGraph → Type 0
 NeedsNoMore h g = needs_version_two h ≡ true → needs_version_two g ≡ true
 
-pub needed-by : (h g : EventGraph) → (list_any is_large_array h.variables ≡ true → list_any is_large_array g.variables ≡ true) → (list_any has_many_parts h.vertices ≡ true → list_any has_many_parts g.vertices ≡ true) → NeedsNoMore h g
-needed-by h g arrays parts e = either_kept (list_any is_large_array h.variables) (list_any has_many_parts h.vertices) (list_any is_large_array g.variables) (list_any has_many_parts g.vertices) arrays parts e
+pub needed-by : (h g : EventGraph) → (list_any is_large_array h.variables ≡ true → list_any is_large_array g.variables ≡ true) → (list_any has_later_parts h.vertices ≡ true → list_any has_later_parts g.vertices ≡ true) → NeedsNoMore h g
+needed-by h g arrays parts e = either_kept (list_any is_large_array h.variables) (list_any has_later_parts h.vertices) (list_any is_large_array g.variables) (list_any has_later_parts g.vertices) arrays parts e
+
+-- where the edges alone are others, and a delay is drawn only where one was
+pub late_edges : (v : EventVertex) (edges : List EventEdge) → (list_any has_drawn_delay edges ≡ true → list_any has_drawn_delay v.edges ≡ true) → has_later_parts (record v { edges = edges }) ≡ true → has_later_parts v ≡ true
+late_edges v edges drawn e =
+    let others = nat_lt PARAMETERS_MAX_VERSION_1 (length v.parameters) || list_any has_many_targets v.changes in
+    either_kept others (list_any has_drawn_delay edges) others (list_any has_drawn_delay v.edges) (λ h. h) drawn e
 
 -- where one vertex is changed in its edges alone
-pub needed-placed : (g : EventGraph) (f : EventVertex → EventVertex) → ((v : EventVertex) → has_many_parts (f v) ≡ has_many_parts v) → (k : ℕ) → NeedsNoMore (record g { vertices = with_place f k g.vertices }) g
-needed-placed g f same k = needed-by (record g { vertices = with_place f k g.vertices }) g (λ h. h) (any-placed has_many_parts f (λ v e. sym (same v) ∙ e) k g.vertices)
+pub needed-placed : (g : EventGraph) (change : List EventEdge → List EventEdge) → ((es : List EventEdge) → list_any has_drawn_delay (change es) ≡ true → list_any has_drawn_delay es ≡ true) → (k : ℕ)
+    → NeedsNoMore (record g { vertices = with_place (λ (v : EventVertex). record v { edges = change v.edges }) k g.vertices }) g
+needed-placed g change drawn k =
+    let f : EventVertex → EventVertex = λ v. record v { edges = change v.edges } in
+    needed-by (record g { vertices = with_place f k g.vertices }) g (λ h. h) (any-placed has_later_parts f (λ v e. late_edges v (change v.edges) (drawn v.edges) e) k g.vertices)
 
 -- where some of the vertices stay
 pub needed-kept : (g : EventGraph) (kept : List EventVertex) (f : ℕ → ℕ) (watch : List Watched) → SomeOf kept g.vertices → NeedsNoMore (record g { watch = watch; vertices = map (vertex_renumbered f) kept }) g
 needed-kept g kept f watch some =
-    needed-by (record g { watch = watch; vertices = map (vertex_renumbered f) kept }) g (λ h. h) (λ e. any-some has_many_parts some (any-mapped has_many_parts has_many_parts (vertex_renumbered f) (λ v h. h) kept e))
+    needed-by (record g { watch = watch; vertices = map (vertex_renumbered f) kept }) g (λ h. h) (λ e. any-some has_later_parts some (any-mapped has_later_parts has_later_parts (vertex_renumbered f) (λ v h. late_edges v (map (edge_renumbered f) v.edges) (any-mapped has_drawn_delay has_drawn_delay (edge_renumbered f) (λ e h. h) v.edges) h) kept e))
 
 -- ---- the first lines
 

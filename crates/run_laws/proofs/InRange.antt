@@ -8,7 +8,7 @@ use Rattle.sig_base.specs.Stream.{word}
 use Rattle.model_core.specs.EventGraph.{EventGraph, Variable, StateChange, Set, Draw}
 use Rattle.model_core.specs.Run.State.{State, Place, no_variable, variable_at, cell_count, within, in_ranges, in_range, initial_state, cells_of, cell_at, with_cell}
 use Rattle.model_core.specs.Run.Value.{OrFault, each, value_of, place_of}
-use Rattle.model_core.specs.Run.Changes.{Drawn, kept, store, set_all, taken_from, picked, one_more, make_change}
+use Rattle.model_core.specs.Run.Changes.{Changed, kept, store, set_all, taken_from, picked, one_more, make_change}
 use Rattle.model_core.specs.Run.Machine.{Note, Goes}
 use Rattle.model_core.specs.Run.History.{Moment, next_move}
 use Rattle.model_core.proofs.Results.{bind_ok, in_turn-keeps}
@@ -71,7 +71,7 @@ store-in_range g (p, x) s t ok done =
     let same : with_cell s p y ≡ t = cc in
     subst (λ u. in_range g u ≡ true) same stays
 
-change-in_range : (g : EventGraph) (seed clk : ℕ) (c : StateChange) (d e : Drawn) → in_range g d.state ≡ true → make_change g seed clk c d ≡ Ok e → in_range g e.state ≡ true
+change-in_range : (g : EventGraph) (seed clk : ℕ) (c : StateChange) (d e : Changed) → in_range g d.state ≡ true → make_change g seed clk c d ≡ Ok e → in_range g e.state ≡ true
 change-in_range g seed clk (Set targets rights) d e ok done =
     let (s, is_set, at_end) = bind_ok (set_all g clk targets rights d.state) (λ s. Ok (record d { state = s })) e done in
     let (values, at_values, after_values) = bind_ok (each (value_of g d.state clk) rights) _ s is_set in

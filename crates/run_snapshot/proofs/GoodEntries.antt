@@ -3,22 +3,25 @@ use Rattle.std.proofs.Common.{◌≡◌, ℕ, zero, suc, ◌+◌, ◌-◌, ◌^�
 use Rattle.std.specs.Prelude.{slice_get}
 use Rattle.std.specs.List.{AllByRecursion, AllZip}
 use Rattle.std.proofs.lemmas.Int.{ints}
+use Rattle.sig_base.specs.Stream.{word}
 use Rattle.model_core.specs.declared.model.Kind.{Kind}
 use Rattle.model_core.specs.declared.model.Kind.TheVariants as kinds
-use Rattle.model_core.specs.EventGraph.{EventGraph, Variable, EventVertex, EventEdge, Delay, Fixed, EdgeKind, Schedule, Urgent, CancelNext, CancelEqual, CancelAll, Expression}
+use Rattle.model_core.specs.EventGraph.{EventGraph, Variable, EventVertex, EventEdge, Delay, Fixed, Drawn, EdgeKind, Schedule, Urgent, CancelNext, CancelEqual, CancelAll, Choice, Uniform, ByTable, Expression, Weighted, WeightTable}
 use Rattle.model_core.specs.Run.State.{State, variable_at, in_range}
 use Rattle.model_core.specs.Run.Value.{each, value_of, number_of}
+use Rattle.model_core.specs.Run.Changes.{no_table, taken_from, one_more, picked}
 use Rattle.model_core.specs.Run.Edges.{Waiting, delay_ticks, delay_of, carried_values}
 use Rattle.model_core.specs.Run.Step.{no_vertex, vertex_at}
 use Rattle.model_core.specs.Text.Spellable.{IsSigned, extent, SpellableExpression, SpellableDelay, SpellableKind, SpellableEdge, SpellableVertex, SpellableVariable, IsSpellable, HasWrittenRange}
 use Rattle.model_core.specs.Static.HasKind.{HasKind}
-use Rattle.model_core.specs.Static.OwnRules.{FitsKind, KeepsVariable, CarriesValues, KeepsDelay, KeepsTiming, KeepsEdge, KeepsVertex, TakeCarried, parameters_of, KeepsParts}
+use Rattle.model_core.specs.Static.OwnRules.{IsLiteral, FitsKind, KeepsVariable, KeepsRow, KeepsTable, KeepsChoice, CarriesValues, KeepsDelay, KeepsTiming, KeepsEdge, KeepsVertex, TakeCarried, parameters_of, KeepsParts}
 use Rattle.model_core.proofs.Results.{bind_ok}
 use Rattle.model_core.proofs.EachOne.{every-both, every-map}
 use Rattle.static_laws.proofs.StaticTwins.Zips.{zip_length}
 use Rattle.model_core.specs.Rules.RangesHold.{TruthsAreDeclared, ZeroToOne}
 use Rattle.run_laws.proofs.MadeEntries.{SchedulesOnly}
 use Rattle.bound_laws.proofs.Soundness.DeclaredRanges.{declared_sound}
+use Rattle.bound_laws.proofs.Soundness.DrawnValues.{word_small, choice_in}
 use Rattle.model_core.specs.Saved.SavedRun.{IsWide, IsGoodEntry}
 use Rattle.run_snapshot.proofs.WideValues.{WideRange, value-wide}
 
@@ -38,6 +41,9 @@ signed-wide : (x : ℤ) → IsSigned x → IsWide x
 signed-wide (pos n) s = record { least = omega (arith, ints); greatest = omega (arith, ints, s) }
 signed-wide (negsuc n) s = record { least = omega (arith, ints, s); greatest = omega (arith, ints) }
 
+literal-wide : (x : ℤ) → IsLiteral x → IsWide x
+literal-wide x l = record { least = omega (arith, ints, l.least); greatest = omega (arith, ints, l.greatest) }
+
 -- ---- ranges
 
 written-wide : (v : Variable) (kind : Kind) → HasWrittenRange v kind → WideRange v
@@ -55,6 +61,22 @@ truth-declared v kinds.Range fits e = cc
 truths-declared : (g : EventGraph) → AllByRecursion KeepsVariable g.variables → TruthsAreDeclared g.variables
 truths-declared g kept v =
     every-place (λ (v : Variable). v.kind ≡ kinds.Truth → ZeroToOne v) g.variables _ v (every-map KeepsVariable _ (λ v k. truth-declared v v.kind k.range) g.variables kept) (λ e. cc)
+
+-- ---- draws
+
+rows-wide : (rows : List Weighted) → AllByRecursion KeepsRow rows → AllByRecursion IsWide (map (λ (r : Weighted). r.value) rows)
+rows-wide [] kept = tt
+rows-wide (r ∷ rows) (here, kept) = (literal-wide r.value here.value, rows-wide rows kept)
+
+-- what a choice makes of a word of 32 bits
+picked-wide : (g : EventGraph) (choice : Choice) (w : ℕ) → AllByRecursion KeepsTable g.tables → KeepsChoice g.variables (length g.tables) (parameters_of g) choice → w < 2 ^ 32 → IsWide (picked g choice w)
+picked-wide g (Uniform lo hi) w tables kept small =
+    let within = choice_in g (Uniform lo hi) (length g.tables) (parameters_of g) w tables kept small in
+    record { least = omega (arith, ints, kept.0.least, within.low); greatest = omega (arith, ints, kept.1.greatest, within.high) }
+picked-wide g (ByTable t) w tables kept small =
+    every-place IsWide (map (λ (r : Weighted). r.value) (slice_index_or g.tables t no_table).rows) (pos 0) _
+    (every-place (λ (table : WeightTable). AllByRecursion IsWide (map (λ (r : Weighted). r.value) table.rows)) g.tables no_table t (every-map KeepsTable _ (λ table kept. rows-wide table.rows kept.rows) g.tables tables) tt)
+    (signed-wide (pos 0) (omega arith))
 
 -- ---- values
 
@@ -92,6 +114,11 @@ module _ (g : EventGraph) (parts : KeepsParts g) (spelled : IsSpellable g) (seed
       let (ticks, at_ticks, at_end) = bind_ok (delay_ticks x) (λ n. Ok (record { ticks = n; taken = taken })) wait later in
       let same : ticks ≡ wait.ticks = cc in
       subst (λ (n : ℕ). n ≤ 2 ^ 63 - 1) same (ticks-near x ticks (of-kind-wide kinds.Range (length g.variables) e x is fits at_value) at_ticks)
+  delay-near (Drawn stream choice) taken wait is fits done =
+      let w = word seed stream (taken_from taken stream) in
+      let (ticks, at_ticks, at_end) = bind_ok (delay_ticks (picked g choice w)) (λ n. Ok (record { ticks = n; taken = one_more taken stream })) wait done in
+      let same : ticks ≡ wait.ticks = cc in
+      subst (λ (n : ℕ). n ≤ 2 ^ 63 - 1) same (ticks-near (picked g choice w) ticks (picked-wide g choice w parts.tables is.1 (word_small seed stream (taken_from taken stream))) at_ticks)
 
   -- an event of this vertex, scheduled now or soon
   made-good : (e : EventEdge) (parameters : List ℕ) (ticks priority : ℕ) (values : List ℤ) → slice_get (parameters_of g) e.target ≡ Some parameters → ticks ≤ 2 ^ 63 - 1 → priority ≤ 255 → TakeCarried g.variables (length g.tables) (parameters_of g) parameters e.values → AllByRecursion (SpellableExpression (length g.variables)) e.values → carried_values g s clk e ≡ Ok values

@@ -117,7 +117,7 @@ struct Known {
     written: &'static [u8],
 }
 
-const KNOWN: [Known; 18] = [
+const KNOWN: [Known; 21] = [
     Known {
         text: CLOCK,
         starts: &[],
@@ -238,6 +238,27 @@ const KNOWN: [Known; 18] = [
         written: b"fault 0 delay\n",
     },
     Known {
+        text: b"version 2;model DICE;var N:0..9=0;watch N;vertex RUN{set N:=N+1;schedule RUN after draw from 54 in 1..6;}end",
+        starts: &[],
+        until: 16,
+        events: 1000,
+        written: b"at 0 N=1\nat 4 N=2\nat 7 N=3\nat 12 N=4\nat 16 N=5\nstopped 16\n",
+    },
+    Known {
+        text: b"version 2;model PARTS;table T{10:2;20:1;30:3;}watch A;vertex RUN{schedule A after draw from 54 by T when false;schedule A after draw from 54 by T;schedule A after draw from 54 by T;}vertex A{}end",
+        starts: &[],
+        until: 100,
+        events: 1000,
+        written: b"at 0\non 20 A\non 30 A\nended 30\n",
+    },
+    Known {
+        text: b"version 2;model BACK;vertex RUN{schedule RUN after draw from 54 in -6..-1;}end",
+        starts: &[],
+        until: 100,
+        events: 1000,
+        written: b"fault 0 delay\n",
+    },
+    Known {
         text: b"model SIX;watch A;vertex RUN{schedule A after 1;schedule A after 1;schedule A after 1;schedule A after 1;schedule A after 1;schedule A after 1;}vertex A{}end",
         starts: &[],
         until: 100,
@@ -288,7 +309,8 @@ fn known_histories_are_written_over_both_lists(rt: HostRuntime) -> Result<(), Fa
 }
 
 /// A model in which each edge of scheduling and of cancelling stands, with a `?` for each digit that varies.
-const MODEL: &[u8] = b"model SMALL;
+const MODEL: &[u8] = b"version 2;
+model SMALL;
 var X : 0..9 clip = ?;
 var Y : 0..9 clip = ?;
 watch X, Y, A, B, C;
@@ -309,6 +331,7 @@ vertex A {
 }
 vertex B(X) {
   schedule C after ? priority 1?;
+  schedule C after draw from 1? in 1..9 when X > ?;
   cancel A when X = ?;
   cancel B when Y = ?;
 }

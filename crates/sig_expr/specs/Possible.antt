@@ -89,11 +89,15 @@ pub record PossibleSet (g : EventGraph) (targets : List Location) (rights : List
   pub locations : All (PossibleLocation g) targets
   pub expressions : All (PossibleExpression g) rights
 
+-- a value can be drawn so from the stream
+pub record PossibleSource (g : EventGraph) (stream : ℕ) (choice : Choice) : Type 0 where
+  pub known : stream < 64
+  pub possible : PossibleChoice g choice
+
 -- the draw can be made and stored
 pub record PossibleDraw (g : EventGraph) (target : Location) (stream : ℕ) (choice : Choice) : Type 0 where
   pub location : PossibleLocation g target
-  pub known : stream < 64
-  pub possible : PossibleChoice g choice
+  pub source : PossibleSource g stream choice
 
 -- the change can be made
 abbrev pub PossibleChange : EventGraph → StateChange → Type 0

@@ -2,14 +2,14 @@
 
 ghost use Rattle.std.specs.Prelude.{◌≡◌, ℕ, [], ◌∷◌, ◌+◌, ◌<◌, ◌≤◌, ◌^◌, All, IsTrue, length, map};
 ghost use Rattle.sig_base.specs.declared.limits.TheConstants.{CHANGES_MAX};
-ghost use Rattle.random_streams.specs.Draws.{next_word, after_word};
+ghost use Rattle.sig_base.specs.Stream.{word};
 ghost use Rattle.model_core.specs.EventGraph.{Set, Draw};
 ghost use Rattle.model_core.specs.Run.State.{in_range};
 ghost use Rattle.model_core.specs.Run.Value.{in_turn};
-ghost use Rattle.model_core.specs.Run.Changes.{set_all, picked, make_change, taken_from, left_by_set, left_by_draw, left_by_change, left_by_changes};
+ghost use Rattle.model_core.specs.Run.Changes.{set_all, picked, make_change, taken_from, one_more, left_by_set, left_by_draw, left_by_change, left_by_changes};
 ghost use Rattle.model_core.specs.Code.Views.{graph_of, expression_of, location_of, choice_of, change_of};
 ghost use Rattle.sig_expr.specs.Outcomes.{with_ok};
-ghost use Rattle.sig_expr.specs.Possible.{PossibleExpression, PossibleLocation, PossibleChoice, PossibleSet, PossibleDraw, PossibleChange};
+ghost use Rattle.sig_expr.specs.Possible.{PossibleExpression, PossibleLocation, PossibleSet, PossibleSource, PossibleDraw, PossibleChange};
 
 use crate::evaluation::value;
 use crate::lists::{place, put_places, put_values};
@@ -115,13 +115,14 @@ fn set(
     set_several(model, targets, rights, state, clk)
 }
 
-/// Draws a value by the next word of a stream.
-fn pick(model: &Model, stream: u8, choice: Choice, streams: &mut Streams) -> i64
-    requires known { stream < 64 }
-    requires possible { PossibleChoice (graph_of model.now) (choice_of choice) }
+/// Draws a value by the next word of a stream, 0 to 63.
+#[inline(always)]
+pub fn pick(model: &Model, stream: u8, choice: Choice, streams: &mut Streams) -> i64
+    requires possible { PossibleSource (graph_of model.now) stream (choice_of choice) }
     requires countable { taken_from streams.old.taken stream < 2 ^ 62 }
-    ensures value { result ≡ picked (graph_of model.now) (choice_of choice) (next_word streams.old stream) }
-    ensures moved { streams.new ≡ after_word streams.old stream }
+    ensures value { result ≡ picked (graph_of model.now) (choice_of choice) (word streams.old.seed stream (taken_from streams.old.taken stream)) }
+    ensures seed { streams.new.seed ≡ streams.old.seed }
+    ensures taken { streams.new.taken ≡ one_more streams.old.taken stream }
 {
     match choice {
         Choice::Uniform { lo, hi } => streams.uniform(stream, lo, hi),

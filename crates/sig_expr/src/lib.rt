@@ -9,7 +9,7 @@ mod place;
 mod state;
 mod storing;
 
-pub use changes::apply;
+pub use changes::{apply, pick};
 pub use evaluation::value;
 pub use lists::put_values;
 pub use state::State;

@@ -5,13 +5,13 @@ use Rattle.model_core.specs.declared.model.Kind.{Kind}
 use Rattle.model_core.specs.declared.model.Kind.TheVariants as kinds
 use Rattle.model_core.specs.EventGraph as graph
 use Rattle.model_core.specs.Text.Written as written
-use Rattle.model_core.specs.Text.Written.{WrittenNumber, WrittenExpression, WrittenDelay, WrittenEdge}
+use Rattle.model_core.specs.Text.Written.{WrittenNumber, WrittenExpression, WrittenChoice, WrittenDelay, WrittenEdge}
 use Rattle.model_core.specs.Text.Numbering as numbering
 use Rattle.model_core.specs.Text.Numbering.{each_numbered, written_or, declared_place, expression, natural}
 use Rattle.model_core.specs.Static.FaultOrder.{StaticFault}
 use Rattle.model_core.specs.Static.Meanings.{Meaning, MeansVariable, MeansTable, MeansVertex, AsVertex}
-use Rattle.model_core.specs.Static.PartFaults.{if_written, use_faults, operand_faults, priority_faults, target_takes, carried_faults, delay_faults, schedule_faults, edge_faults}
-use Rattle.static_laws.specs.Checked.{CheckedPart, CheckedPlain}
+use Rattle.model_core.specs.Static.PartFaults.{if_written, use_faults, operand_faults, priority_faults, target_takes, carried_faults, source_faults, delay_faults, schedule_faults, edge_faults}
+use Rattle.static_laws.specs.Checked.{Checked, NumberedAs, CheckedPart, CheckedPlain}
 use Rattle.static_laws.specs.Roles.{vertex_meant}
 use Rattle.sig_types.specs.Inner.Stored.{taken_by}
 use Rattle.static_laws.proofs.Checks.{both, made, two_numbered, four_numbered}
@@ -27,6 +27,11 @@ module _ (means : List ℕ → Option Meaning) (taken : List (List (Option Kind)
       → CheckedPart means t0 t1 (operand_faults means (Some kinds.Range) e) (λ d. expression d e) x
       → CheckedPart means t0 t1 (delay_faults means taken (written.Fixed e)) (λ d. numbering.delay d (written.Fixed e)) (graph.Fixed x)
   fixed_checked t0 t1 e x c = made (λ h d p. ap (option_map graph.Fixed) (h d p)) c
+
+  pub drawn_checked : (t0 t1 : Option StaticFault) (at : ℕ) (stream : WrittenNumber) (from : WrittenChoice) (n : ℕ) (y : graph.Choice)
+      → Checked t0 t1 (source_faults means stream from) ((natural stream ≡ Some n) × NumberedAs means (λ d. numbering.choice d from) y)
+      → CheckedPart means t0 t1 (delay_faults means taken (written.Drawn at stream from)) (λ d. numbering.delay d (written.Drawn at stream from)) (graph.Drawn n y)
+  drawn_checked t0 t1 at stream from n y source = made (λ h. two_numbered means graph.Drawn (λ d. natural stream) (λ d. numbering.choice d from) (λ d p. h.0) h.1) source
 
   pub schedule_checked : (t0 t1 t2 : Option StaticFault) (after : Option WrittenDelay) (priority : Option WrittenNumber) (x : graph.Delay) (n : ℕ)
       → CheckedPart means t0 t1 (if_written (delay_faults means taken) after) (λ d. written_or (numbering.delay d) (graph.Fixed (graph.Number (pos 0))) after) x

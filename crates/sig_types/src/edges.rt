@@ -16,7 +16,7 @@ ghost use Rattle.model_core.specs.Static.PartFaults.{if_written, written_items, 
 ghost use Rattle.static_laws.specs.Checked.{CheckedPart, CheckedPlain};
 ghost use Rattle.sig_types.specs.Inner.Stored.{taken_by};
 
-use crate::changes::values;
+use crate::changes::{source, values};
 use crate::expressions::operand;
 use crate::names::Names;
 use crate::numbers::bounded;
@@ -56,7 +56,7 @@ fn condition(
 }
 
 /// A delay.
-#[tactic(auto, using(crate::proofs::EdgeParts::fixed_checked))]
+#[tactic(auto, using(crate::proofs::EdgeParts::fixed_checked, crate::proofs::EdgeParts::drawn_checked))]
 fn delay(alloc: Global, names: &Names, raw: &RawDelay, told: &mut Told) -> Result<Delay, NoMemory>
     ensures { IfOk result (λ w. (taken : List (List (Option KnownKind))) → CheckedPart (meaning_of names.now) told.old told.new (delay_faults (meaning_of names.now) taken (written_delay raw.now)) (λ d. numbering.delay d (written_delay raw.now)) (edge_delay_of w)) }
 {
@@ -64,6 +64,10 @@ fn delay(alloc: Global, names: &Names, raw: &RawDelay, told: &mut Told) -> Resul
         RawDelay::Fixed(raw) => {
             let expr = operand(alloc, names, Some(Kind::Range), raw, told)?;
             Ok(Delay::Fixed(expr.part))
+        }
+        RawDelay::Drawn { stream, choice, .. } => {
+            let (stream, choice) = source(names, stream, choice, told);
+            Ok(Delay::Drawn { stream, choice })
         }
     }
 }

@@ -4,17 +4,19 @@ ghost use Rattle.std.specs.Prelude.{◌≡◌, ◌≤◌, map};
 ghost use Rattle.std.specs.List.{flat_map};
 ghost use Rattle.std.specs.Option.{option_map, option_and_then};
 ghost use Rattle.sig_base.specs.declared.limits.TheConstants.{ARRAY_CELLS_MAX as cells_limit};
-ghost use Rattle.model_core.specs.Code.WrittenViews.{written_number, written_variable, written_change, written_vertex, written_model};
+ghost use Rattle.model_core.specs.Code.WrittenViews.{written_number, written_variable, written_change, written_delay, written_edge_kind, written_edge, written_vertex, written_model};
 ghost use Rattle.model_core.specs.Text.Numbering.{natural_of};
 ghost use Rattle.model_core.specs.Static.FaultOrder.{earliest_fault};
 ghost use Rattle.model_core.specs.Static.PartFaults.{if_written};
-ghost use Rattle.model_core.specs.Static.VersionFaults.{is_version_two, number_faults, size_faults_version_1, target_faults_version_1, vertex_faults_version_1, faults_version_1, cells_within, counted_cells, cells_faults, version_faults};
+ghost use Rattle.model_core.specs.Static.VersionFaults.{is_version_two, number_faults, size_faults_version_1, target_faults_version_1, delay_faults_version_1, timing_faults_version_1, edge_faults_version_1, vertex_faults_version_1, faults_version_1, cells_within, counted_cells, cells_faults, version_faults};
 
 use crate::edges::items;
 use crate::numbers::{certain_number, lies_between};
 use crate::placed::tell_too_many;
 use crate::told::Told;
-use model_core::{RawChange, RawModel, RawNumber, RawVar, RawVertex, StaticKind};
+use model_core::{
+    RawChange, RawDelay, RawEdge, RawEdgeForm, RawModel, RawNumber, RawVar, RawVertex, StaticKind,
+};
 use sig_base::{
     ARRAY_CELLS_MAX, ARRAY_CELLS_MAX_VERSION_1, CELLS_MAX, PARAMETERS_MAX_VERSION_1,
     TARGETS_MAX_VERSION_1,
@@ -82,12 +84,45 @@ fn tell_all_targets(raws: &[RawChange], told: &mut Told)
     }
 }
 
-/// Tells the first parameter behind those that a vertex of version 1 may have, and such targets.
+/// Tells a delay that is drawn, at its word `draw`.
+fn tell_delay(raw: &RawDelay, told: &mut Told)
+    ensures { told.new ≡ earliest_fault told.old (delay_faults_version_1 (written_delay raw.now)) }
+{
+    match raw {
+        RawDelay::Fixed(_) => {}
+        RawDelay::Drawn { at, .. } => told.note(true, StaticKind::VersionNeeded, *at),
+    }
+}
+
+/// Tells it of the delay of an edge, if it has one.
+fn tell_timing(raw: &RawEdgeForm, told: &mut Told)
+    ensures { told.new ≡ earliest_fault told.old (timing_faults_version_1 (written_edge_kind raw.now)) }
+{
+    if let RawEdgeForm::Schedule {
+        delay: Some(delay),
+        ..
+    } = raw
+    {
+        tell_delay(delay, told);
+    }
+}
+
+/// Tells it of each of these edges.
+fn tell_all_delays(raws: &[RawEdge], told: &mut Told)
+    ensures { told.new ≡ earliest_fault told.old (flat_map edge_faults_version_1 (map written_edge raws.now)) }
+{
+    for raw in raws {
+        tell_timing(&raw.form, told);
+    }
+}
+
+/// Tells the first parameter behind those that a vertex of version 1 may have, such targets, and delays that are drawn.
 fn tell_vertex(raw: &RawVertex, told: &mut Told)
     ensures { told.new ≡ earliest_fault told.old (vertex_faults_version_1 (written_vertex raw.now)) }
 {
     tell_too_many(PARAMETERS_MAX_VERSION_1, items(&raw.params), told);
     tell_all_targets(raw.changes.as_slice(), told);
+    tell_all_delays(raw.edges.as_slice(), told);
 }
 
 /// Tells it of each of these vertices.
@@ -99,7 +134,7 @@ fn tell_vertices(raws: &[RawVertex], told: &mut Told)
     }
 }
 
-/// Tells what passes a limit of version 1.
+/// Tells what passes a limit of version 1, and delays that are drawn.
 fn tell_version_1(raw: &RawModel, told: &mut Told)
     ensures { told.new ≡ earliest_fault told.old (faults_version_1 (written_model raw.now)) }
 {
@@ -143,7 +178,7 @@ fn tell_cells(raws: &[RawVar], told: &mut Told)
     }
 }
 
-/// Tells a version that isn't known, and what passes a limit that depends on the version.
+/// Tells a version that isn't known, and what a text of the version may not have.
 pub(crate) fn tell_version(raw: &RawModel, told: &mut Told)
     ensures { told.new ≡ earliest_fault told.old (version_faults (written_model raw.now)) }
 {

@@ -9,6 +9,8 @@ mod calls;
 mod command_lines;
 #[cfg(test)]
 mod documents;
+#[cfg(test)]
+mod drawn_delays;
 mod endings;
 #[cfg(test)]
 mod error_output;

@@ -19,7 +19,7 @@ use Rattle.static_laws.proofs.StaticTwins.ModelTwin.{empty_contains, parts_kept}
 rules_in_order : List StaticKind
 rules_in_order =
     rules.NameTooLong ∷ rules.UnknownName ∷ rules.DuplicateName ∷ rules.WrongUse ∷ rules.KindMismatch ∷ rules.ValueCount ∷ rules.LiteralTooLarge ∷ rules.EmptyRange
-    ∷ rules.InitialOutside ∷ rules.SizeOutside ∷ rules.PriorityOutside ∷ rules.StreamOutside ∷ rules.DrawOutside ∷ rules.WeightOutside ∷ rules.VersionUnknown ∷ rules.TooMany ∷ rules.ModelTooLong ∷ []
+    ∷ rules.InitialOutside ∷ rules.SizeOutside ∷ rules.PriorityOutside ∷ rules.StreamOutside ∷ rules.DrawOutside ∷ rules.WeightOutside ∷ rules.VersionUnknown ∷ rules.VersionNeeded ∷ rules.TooMany ∷ rules.ModelTooLong ∷ []
 
 at_its_place : (kind : StaticKind) → slice_get rules_in_order (rule_row kind) ≡ Some kind
 unfolding rules_in_order
@@ -38,6 +38,7 @@ at_its_place rules.StreamOutside = refl
 at_its_place rules.DrawOutside = refl
 at_its_place rules.WeightOutside = refl
 at_its_place rules.VersionUnknown = refl
+at_its_place rules.VersionNeeded = refl
 at_its_place rules.TooMany = refl
 at_its_place rules.ModelTooLong = refl
 

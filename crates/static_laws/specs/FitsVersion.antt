@@ -1,4 +1,4 @@
--- Which models a text of a version can write: all of them where it says that it is of version 2, and else those that pass no limit of version 1.
+-- Which models a text of a version can write: all of them where it says that it is of version 2, and else those that pass no limit of version 1 and draw no delay.
 use Rattle.std.specs.Prelude.{◌≡◌, pos, false, ◌⊎◌, Option, Some, None}
 use Rattle.model_core.specs.EventGraph.{EventGraph}
 use Rattle.model_core.specs.Text.Written.{WrittenNumber}

@@ -3,6 +3,7 @@ pub mod OpeningLaws
 pub mod ReadLoop
 mod FirstOperator
 pub mod OperandLevels
+pub mod DelayForms
 mod LevelOperators
 pub mod OperatorsInTurn
 pub mod TokensFrom

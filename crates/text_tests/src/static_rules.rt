@@ -99,9 +99,11 @@ fn faults_are_told_at_their_bytes(rt: HostRuntime) {
 
 #[test]
 fn a_model_that_breaks_no_rule_is_accepted(rt: HostRuntime) {
-    let text = b"model M; var B : bool = true; var X[2] : 0..9 clip = 1; var Y : -4..4 = -1;
+    let text =
+        b"version 2; model M; var B : bool = true; var X[2] : 0..9 clip = 1; var Y : -4..4 = -1;
         table T { -1 : 2; 3 : 4294967294; } watch B, RUN;
-        vertex RUN { set B, X[Y + 1] := not B, if B then min(Y, 3) else 4; draw Y from 63 by T; schedule SET(Y, clk = 3); }
+        vertex RUN { set B, X[Y + 1] := not B, if B then min(Y, 3) else 4; draw Y from 63 by T; schedule SET(Y, clk = 3);
+            schedule RUN after draw from 7 in -1..6 priority 9 when B; schedule RUN after draw from 63 by T; }
         vertex SET(Y, B) { draw X[0] from 0 in 0..4294967295; cancel SET(2, true) when B; cancel all RUN; urgent RUN; }
         end";
     let vertices = checked(rt.alloc(), text).map(|model| model.vertices.len());

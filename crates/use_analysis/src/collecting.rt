@@ -98,6 +98,10 @@ fn add_delay_reads(out: &mut Vec<usize>, delay: &Delay) -> Result<(), NoMemory>
 {
     match delay {
         Delay::Fixed(expr) => add_variables(out, expr),
+        Delay::Drawn {
+            stream: _,
+            choice: _,
+        } => Ok(()),
     }
 }
 

@@ -82,6 +82,7 @@ fn reads_of_delay(delay: &Delay, var: usize) -> bool
 {
     match delay {
         Delay::Fixed(expr) => stands_in(expr, var),
+        Delay::Drawn { .. } => false,
     }
 }
 

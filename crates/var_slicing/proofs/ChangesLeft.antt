@@ -6,7 +6,7 @@ use Rattle.sig_base.specs.Stream.{word}
 use Rattle.model_core.specs.EventGraph.{EventGraph, Variable, Expression, Location, Choice, Uniform, ByTable, StateChange, Set, Draw}
 use Rattle.model_core.specs.Run.State.{State, Place, variable_at, with_cell}
 use Rattle.model_core.specs.Run.Value.{OrFault, ◌>>=◌, each, in_turn, value_of, place_at, place_of, indexed}
-use Rattle.model_core.specs.Run.Changes.{Drawn, kept, store, set_all, taken_from, one_more, picked, make_change}
+use Rattle.model_core.specs.Run.Changes.{Changed, kept, store, set_all, taken_from, one_more, picked, make_change}
 use Rattle.model_core.specs.Rules.MarkedPlaces.{rank, marked_of, is_marked}
 use Rattle.model_core.specs.Rules.Uses.{index_reads}
 use Rattle.model_core.specs.Rules.Slice.{expression_renumbered, location_renumbered, kept_beside, values_left, targets_left, set_or_nothing, change_left, of_marked_variables}
@@ -83,14 +83,18 @@ module _ (g : EventGraph) (marks : List Bool) (s t : State) (left : StateLeft ma
       (stores-left g marks (zip ps xs) (stored-storable g marks ps xs (subst (λ us. CanBeStored g marks us xs) (sym are) stored)) s t left)))
 
 -- what is left of a state and of the words taken
-abbrev pub DrawnLeft : List Bool → List Bool → Drawn → Drawn → Type 0
+abbrev pub DrawnLeft : List Bool → List Bool → Changed → Changed → Type 0
 DrawnLeft marks live d e = (marked_of marks d.state ≡ e.state) × (words_left live d.taken ≡ e.taken)
 
 same_pick : (g : EventGraph) (marks : List Bool) (choice : Choice) (w : ℕ) → picked (of_marked_variables g marks) choice w ≡ picked g choice w
 same_pick g marks (Uniform lo hi) w = refl
 same_pick g marks (ByTable t) w = refl
 
-same_from : (live : List Bool) (stream : ℕ) (d e : Drawn) → words_left live d.taken ≡ e.taken → Marked live stream → taken_from e.taken stream ≡ taken_from d.taken stream
+-- what is drawn from a live stream
+pub same_drawn : (g : EventGraph) (marks live : List Bool) (seed : ℕ) (choice : Choice) (stream : ℕ) (taken : List ℕ) → Marked live stream → picked (of_marked_variables g marks) choice (word seed stream (taken_from (words_left live taken) stream)) ≡ picked g choice (word seed stream (taken_from taken stream))
+same_drawn g marks live seed choice stream taken lives = same_pick g marks choice (word seed stream (taken_from (words_left live taken) stream)) ∙ ap (λ n. picked g choice (word seed stream n)) (words_left-from live taken stream lives)
+
+same_from : (live : List Bool) (stream : ℕ) (d e : Changed) → words_left live d.taken ≡ e.taken → Marked live stream → taken_from e.taken stream ≡ taken_from d.taken stream
 same_from live stream d e taken lives = ap (λ ts. taken_from ts stream) (sym taken) ∙ words_left-from live d.taken stream lives
 
 module _ (g : EventGraph) (marks live : List Bool) (seed clk : ℕ) where
@@ -99,30 +103,30 @@ module _ (g : EventGraph) (marks live : List Bool) (seed clk : ℕ) where
 
   -- in this state the change reads marked variables alone for what stays, and what goes doesn't fault; a stream is live
   -- where a variable that stays is drawn from it
-  abbrev pub ChangeFits : Drawn → StateChange → Type 0
+  abbrev pub ChangeFits : Changed → StateChange → Type 0
   ChangeFits d (Set targets rights) = AllByRecursion (TargetFits g marks d.state clk) targets × ValuesFit g marks d.state clk (map (λ l. l.variable) targets) rights
-  ChangeFits d (Draw target stream choice) = (Marked marks target.variable → IndexReadsMarked marks target.index × Marked live stream) × (is_marked marks target.variable ≡ false → (is_marked live stream ≡ false) × ((e : Drawn) × (make_change g seed clk (Draw target stream choice) d ≡ Ok e)))
+  ChangeFits d (Draw target stream choice) = (Marked marks target.variable → IndexReadsMarked marks target.index × Marked live stream) × (is_marked marks target.variable ≡ false → (is_marked live stream ≡ false) × ((e : Changed) × (make_change g seed clk (Draw target stream choice) d ≡ Ok e)))
 
-  lone_set : (ls : List Location) (es : List Expression) (e : Drawn) → in_turn (make_change result seed clk) (set_or_nothing ls es) e ≡ (set_all result clk ls es e.state >>= λ s. Ok (record e { state = s }))
+  lone_set : (ls : List Location) (es : List Expression) (e : Changed) → in_turn (make_change result seed clk) (set_or_nothing ls es) e ≡ (set_all result clk ls es e.state >>= λ s. Ok (record e { state = s }))
   lone_set [] [] e = refl
   lone_set [] (x ∷ es) e = one-step (set_all result clk [] (x ∷ es) e.state >>= λ s. Ok (record e { state = s }))
   lone_set (l ∷ ls) es e = one-step (set_all result clk (l ∷ ls) es e.state >>= λ s. Ok (record e { state = s }))
 
-  same_word : (choice : Choice) (stream : ℕ) (d e : Drawn) → words_left live d.taken ≡ e.taken → Marked live stream → picked result choice (word seed stream (taken_from e.taken stream)) ≡ picked g choice (word seed stream (taken_from d.taken stream))
-  same_word choice stream d e taken lives = same_pick g marks choice (word seed stream (taken_from e.taken stream)) ∙ ap (λ n. picked g choice (word seed stream n)) (same_from live stream d e taken lives)
+  same_word : (choice : Choice) (stream : ℕ) (d e : Changed) → words_left live d.taken ≡ e.taken → Marked live stream → picked result choice (word seed stream (taken_from e.taken stream)) ≡ picked g choice (word seed stream (taken_from d.taken stream))
+  same_word choice stream d e taken lives = ap (λ (ts : List ℕ). picked result choice (word seed stream (taken_from ts stream))) (sym taken) ∙ same_drawn g marks live seed choice stream d.taken lives
 
-  draw-kept : (target : Location) (stream : ℕ) (choice : Choice) (d e : Drawn) → DrawnLeft marks live d e → Marked marks target.variable → IndexReadsMarked marks target.index → Marked live stream → Alongside (DrawnLeft marks live) (make_change g seed clk (Draw target stream choice) d) (make_change result seed clk (Draw (location_renumbered (rank marks) target) stream choice) e)
+  draw-kept : (target : Location) (stream : ℕ) (choice : Choice) (d e : Changed) → DrawnLeft marks live d e → Marked marks target.variable → IndexReadsMarked marks target.index → Marked live stream → Alongside (DrawnLeft marks live) (make_change g seed clk (Draw target stream choice) d) (make_change result seed clk (Draw (location_renumbered (rank marks) target) stream choice) e)
   draw-kept target stream choice d e (left, taken) marked reads lives =
       let v = target.variable in
       let x = picked g choice (word seed stream (taken_from d.taken stream)) in
-      let Rest : Place → ℤ → OrFault Drawn = λ q z. store result (q, z) e.state >>= λ s. Ok (record { state = s; taken = one_more e.taken stream }) in
+      let Rest : Place → ℤ → OrFault Changed = λ q z. store result (q, z) e.state >>= λ s. Ok (record { state = s; taken = one_more e.taken stream }) in
       bind-alongside (Placed g marks d.state e.state left clk v) (DrawnLeft marks live) (place-alongside g marks d.state e.state left clk v marked target.index reads) _ _ (λ p q (same, is).
       subst (λ (q : Place). Alongside (DrawnLeft marks live) (store g (p, x) d.state >>= λ s. Ok (record { state = s; taken = one_more d.taken stream })) (Rest q (picked result choice (word seed stream (taken_from e.taken stream))))) same
       (subst (λ (z : ℤ). Alongside (DrawnLeft marks live) (store g (p, x) d.state >>= λ s. Ok (record { state = s; taken = one_more d.taken stream })) (Rest (place_left marks p) z)) (sym (same_word choice stream d e taken lives))
       (bind-alongside (StateLeft marks) (DrawnLeft marks live) (store-left g marks p x (ap (is_marked marks) is ∙ marked) d.state e.state left) _ _ (λ s t left2.
       both_go (left2, words_left-set live d.taken stream (taken_from d.taken stream + 1) lives ∙ ap₂ (λ (ts : List ℕ) (n : ℕ). slice_set ts stream (n + 1)) taken (sym (same_from live stream d e taken lives)))))))
 
-  draw-skipped : (target : Location) (stream : ℕ) (choice : Choice) (d e e2 : Drawn) → DrawnLeft marks live d e → is_marked marks target.variable ≡ false → is_marked live stream ≡ false → make_change g seed clk (Draw target stream choice) d ≡ Ok e2 → Alongside (DrawnLeft marks live) (make_change g seed clk (Draw target stream choice) d) (Ok e)
+  draw-skipped : (target : Location) (stream : ℕ) (choice : Choice) (d e e2 : Changed) → DrawnLeft marks live d e → is_marked marks target.variable ≡ false → is_marked live stream ≡ false → make_change g seed clk (Draw target stream choice) d ≡ Ok e2 → Alongside (DrawnLeft marks live) (make_change g seed clk (Draw target stream choice) d) (Ok e)
   draw-skipped target stream choice d e e2 (left, taken) unmarked dead done =
       let x = picked g choice (word seed stream (taken_from d.taken stream)) in
       let (p, there, after_place) = bind_ok (place_of g d.state clk target) _ e2 done in
@@ -131,26 +135,26 @@ module _ (g : EventGraph) (marks live : List Bool) (seed clk : ℕ) where
       let is : p.variable ≡ target.variable = place-variable g d.state clk target.variable target.index p there in
       let same_state : with_cell d.state p y ≡ s = cc in
       let same : record { state = s; taken = one_more d.taken stream } ≡ e2 = cc in
-      subst (λ (r : OrFault Drawn). Alongside (DrawnLeft marks live) r (Ok e)) (sym done)
-      (subst (λ (f : Drawn). Alongside (DrawnLeft marks live) (Ok f) (Ok e)) same
+      subst (λ (r : OrFault Changed). Alongside (DrawnLeft marks live) r (Ok e)) (sym done)
+      (subst (λ (f : Changed). Alongside (DrawnLeft marks live) (Ok f) (Ok e)) same
       (both_go (ap (marked_of marks) (sym same_state) ∙ marked_of-skip marks d.state p.variable _ (ap (is_marked marks) is ∙ unmarked) ∙ left, words_left-skip live d.taken stream _ dead ∙ taken)))
 
-  pub change-alongside : (c : StateChange) (d e : Drawn) → DrawnLeft marks live d e → ChangeFits d c → Alongside (DrawnLeft marks live) (make_change g seed clk c d) (in_turn (make_change result seed clk) (change_left marks c) e)
+  pub change-alongside : (c : StateChange) (d e : Changed) → DrawnLeft marks live d e → ChangeFits d c → Alongside (DrawnLeft marks live) (make_change g seed clk c d) (in_turn (make_change result seed clk) (change_left marks c) e)
   change-alongside (Set targets rights) d e (left, taken) (fit_targets, fit_rights) =
-      subst (λ (r : OrFault Drawn). Alongside (DrawnLeft marks live) (make_change g seed clk (Set targets rights) d) r) (sym (lone_set (targets_left marks targets) (values_left marks (map (λ l. l.variable) targets) rights) e))
+      subst (λ (r : OrFault Changed). Alongside (DrawnLeft marks live) (make_change g seed clk (Set targets rights) d) r) (sym (lone_set (targets_left marks targets) (values_left marks (map (λ l. l.variable) targets) rights) e))
       (bind-alongside (StateLeft marks) (DrawnLeft marks live) (set-alongside g marks d.state e.state left clk targets rights fit_targets fit_rights) _ _ (λ s t is. both_go (is, taken)))
   change-alongside (Draw target stream choice) d e drawn (stays, goes) = one (is_marked marks target.variable) refl where
     one : (b : Bool) → is_marked marks target.variable ≡ b → Alongside (DrawnLeft marks live) (make_change g seed clk (Draw target stream choice) d) (in_turn (make_change result seed clk) (cond b (Draw (location_renumbered (rank marks) target) stream choice ∷ []) []) e)
     one true marked =
         let (reads, lives) = stays marked in
-        subst (λ (r : OrFault Drawn). Alongside (DrawnLeft marks live) (make_change g seed clk (Draw target stream choice) d) r) (sym (one-step (make_change result seed clk (Draw (location_renumbered (rank marks) target) stream choice) e)))
+        subst (λ (r : OrFault Changed). Alongside (DrawnLeft marks live) (make_change g seed clk (Draw target stream choice) d) r) (sym (one-step (make_change result seed clk (Draw (location_renumbered (rank marks) target) stream choice) e)))
         (draw-kept target stream choice d e drawn marked reads lives)
     one false unmarked =
         let (dead, (e2, done)) = goes unmarked in draw-skipped target stream choice d e e2 drawn unmarked dead done
 
   -- all changes of an event: Q is known of each state between them
-  pub changes-alongside : (Q : Drawn → Type 0) → ((c : StateChange) (d e : Drawn) → Q d → make_change g seed clk c d ≡ Ok e → Q e) → (cs : List StateChange) → AllByRecursion (λ c. (d : Drawn) → Q d → ChangeFits d c) cs → (d e : Drawn) → DrawnLeft marks live d e → Q d → Alongside (λ d e. DrawnLeft marks live d e × Q d) (in_turn (make_change g seed clk) cs d) (in_turn (make_change result seed clk) (flat_map (change_left marks) cs) e)
+  pub changes-alongside : (Q : Changed → Type 0) → ((c : StateChange) (d e : Changed) → Q d → make_change g seed clk c d ≡ Ok e → Q e) → (cs : List StateChange) → AllByRecursion (λ c. (d : Changed) → Q d → ChangeFits d c) cs → (d e : Changed) → DrawnLeft marks live d e → Q d → Alongside (λ d e. DrawnLeft marks live d e × Q d) (in_turn (make_change g seed clk) cs d) (in_turn (make_change result seed clk) (flat_map (change_left marks) cs) e)
   changes-alongside Q keeps [] fit d e is q = both_go (is, q)
   changes-alongside Q keeps (c ∷ cs) (now, fit) d e is q =
-      subst (λ (r : OrFault Drawn). Alongside (λ d e. DrawnLeft marks live d e × Q d) (in_turn (make_change g seed clk) (c ∷ cs) d) r) (sym (in_turn-append (make_change result seed clk) (change_left marks c) (flat_map (change_left marks) cs) e))
-      (bind-alongside (λ (d e : Drawn). DrawnLeft marks live d e × Q d) (λ (d e : Drawn). DrawnLeft marks live d e × Q d) (alongside-known (DrawnLeft marks live) Q (change-alongside c d e is (now d q)) (λ e2 done. keeps c d e2 q done)) _ _ (λ d2 e2 (is2, q2). changes-alongside Q keeps cs fit d2 e2 is2 q2))
+      subst (λ (r : OrFault Changed). Alongside (λ d e. DrawnLeft marks live d e × Q d) (in_turn (make_change g seed clk) (c ∷ cs) d) r) (sym (in_turn-append (make_change result seed clk) (change_left marks c) (flat_map (change_left marks) cs) e))
+      (bind-alongside (λ (d e : Changed). DrawnLeft marks live d e × Q d) (λ (d e : Changed). DrawnLeft marks live d e × Q d) (alongside-known (DrawnLeft marks live) Q (change-alongside c d e is (now d q)) (λ e2 done. keeps c d e2 q done)) _ _ (λ d2 e2 (is2, q2). changes-alongside Q keeps cs fit d2 e2 is2 q2))

@@ -3,14 +3,16 @@ use Rattle.std.proofs.Common.{◌≡◌, ℕ, ◌+◌, ℤ, ◌==◌, Bool, true
 use Rattle.std.proofs.lemmas.List.{map-append}
 use Rattle.std.specs.List.{AllByRecursion}
 use Rattle.sig_base.proofs.Lists.{every-always}
-use Rattle.model_core.specs.EventGraph.{EventGraph, EventEdge, Delay, Fixed, EdgeKind, Schedule, Urgent, CancelNext, CancelEqual, CancelAll}
+use Rattle.sig_base.specs.Stream.{word}
+use Rattle.model_core.specs.EventGraph.{EventGraph, EventEdge, Delay, Fixed, Drawn, EdgeKind, Schedule, Urgent, CancelNext, CancelEqual, CancelAll}
 use Rattle.model_core.specs.Run.State.{State}
 use Rattle.model_core.specs.Run.Value.{OrFault, ◌>>=◌, in_turn, value_of, is_one}
+use Rattle.model_core.specs.Run.Changes.{taken_from, one_more, picked}
 use Rattle.model_core.specs.Run.Pending.{Entry, is_of, is_with, same_values, without_next}
 use Rattle.model_core.specs.Run.Edges.{Planned, Waiting, delay_ticks, delay_of, scheduled, act, treat}
 use Rattle.model_core.specs.Run.Step.{vertex_at}
 use Rattle.model_core.specs.Rules.MarkedPlaces.{rank}
-use Rattle.model_core.specs.Rules.Uses.{delay_reads}
+use Rattle.model_core.specs.Rules.Uses.{delay_reads, delay_streams}
 use Rattle.model_core.specs.Rules.Slice.{delay_renumbered, kept_beside, kind_left, edge_left, of_marked_variables}
 use Rattle.model_core.proofs.Alongside.{Alongside, both_go, bind-alongside, bind-alongside-same, in_turn-alongside}
 use Rattle.run_laws.proofs.MappedPending.{KeepsDue, without_next-mapped, without_all-mapped, without_next-every, without_all-every}
@@ -20,7 +22,8 @@ use Rattle.mark_laws.proofs.EntailedMarks.{same-place}
 use Rattle.model_core.proofs.EachOne.{every-joined}
 use Rattle.var_slicing.proofs.StoresLeft.{StateLeft}
 use Rattle.var_slicing.proofs.ValuesLeft.{ReadsMarked, all-kept_beside, CanBeStored, ValuesFit, ValuesKept, value-left, values-alongside}
-use Rattle.var_slicing.proofs.MaskedWords.{words_left}
+use Rattle.var_slicing.proofs.ChangesLeft.{same_drawn}
+use Rattle.var_slicing.proofs.MaskedWords.{words_left, words_left-more}
 
 -- the values that an entry carries for parameters that stay
 abbrev pub carried_left : EventGraph → List Bool → Entry → List ℤ
@@ -53,16 +56,21 @@ CarriedFit g marks s clk e = ValuesFit g marks s clk (vertex_at g e.target).para
 abbrev pub DelayReadsMarked : List Bool → Delay → Type 0
 DelayReadsMarked marks delay = AllByRecursion (Marked marks) (delay_reads delay)
 
-abbrev pub KindFits : EventGraph → List Bool → State → ℕ → EventEdge → EdgeKind → Type 0
-KindFits g marks s clk e (Schedule delay priority) = DelayReadsMarked marks delay × CarriedFit g marks s clk e
-KindFits g marks s clk e Urgent = CarriedFit g marks s clk e
-KindFits g marks s clk e CancelNext = Unit {0}
-KindFits g marks s clk e CancelEqual = AllByRecursion (Marked marks) (vertex_at g e.target).parameters × CarriedFit g marks s clk e
-KindFits g marks s clk e CancelAll = Unit {0}
+-- and the stream of a drawn one is live
+abbrev pub DelayFits : List Bool → List Bool → Delay → Type 0
+DelayFits marks live delay = DelayReadsMarked marks delay × AllByRecursion (Marked live) (delay_streams delay)
 
--- in this state condition, delay and the values that stay read marked variables alone, and what goes doesn't fault
-abbrev pub EdgeFits : EventGraph → List Bool → State → ℕ → EventEdge → Type 0
-EdgeFits g marks s clk e = ReadsMarked marks e.condition × KindFits g marks s clk e e.kind
+abbrev pub KindFits : EventGraph → List Bool → List Bool → State → ℕ → EventEdge → EdgeKind → Type 0
+KindFits g marks live s clk e (Schedule delay priority) = DelayFits marks live delay × CarriedFit g marks s clk e
+KindFits g marks live s clk e Urgent = CarriedFit g marks s clk e
+KindFits g marks live s clk e CancelNext = Unit {0}
+KindFits g marks live s clk e CancelEqual = AllByRecursion (Marked marks) (vertex_at g e.target).parameters × CarriedFit g marks s clk e
+KindFits g marks live s clk e CancelAll = Unit {0}
+
+-- in this state condition, delay and the values that stay read marked variables alone, what goes doesn't fault, and a stream
+-- is live where the delay is drawn from it
+abbrev pub EdgeFits : EventGraph → List Bool → List Bool → State → ℕ → EventEdge → Type 0
+EdgeFits g marks live s clk e = ReadsMarked marks e.condition × KindFits g marks live s clk e e.kind
 
 abbrev planned_left : EventGraph → List Bool → List Bool → Planned → Planned
 planned_left g marks live p = record { pending = map (entry_left g marks) p.pending; taken = words_left live p.taken }
@@ -89,15 +97,19 @@ module _ (g : EventGraph) (marks live : List Bool) (seed : ℕ) (s t : State) (l
   abbrev Waits : Waiting → Waiting → Type 0
   Waits a b = (a.ticks ≡ b.ticks) × (words_left live a.taken ≡ b.taken)
 
-  delay-left : (delay : Delay) → DelayReadsMarked marks delay → (taken : List ℕ) → Alongside Waits (delay_of g seed s clk delay taken) (delay_of h seed t clk (delay_renumbered (rank marks) delay) (words_left live taken))
-  delay-left (Fixed e) reads taken =
+  delay-left : (delay : Delay) → DelayFits marks live delay → (taken : List ℕ) → Alongside Waits (delay_of g seed s clk delay taken) (delay_of h seed t clk (delay_renumbered (rank marks) delay) (words_left live taken))
+  delay-left (Fixed e) (reads, lives) taken =
       subst (λ (r : OrFault ℤ). Alongside Waits (delay_of g seed s clk (Fixed e) taken) (r >>= λ wait. delay_ticks wait >>= λ n. Ok (record { ticks = n; taken = words_left live taken }))) (sym (value-left g marks s t left clk e reads))
       (bind-alongside-same Waits (value_of g s clk e) _ _ (λ wait a.
       bind-alongside-same Waits (delay_ticks wait) _ _ (λ n b. both_go (refl, refl))))
+  delay-left (Drawn stream choice) (reads, lives) taken =
+      let x = picked g choice (word seed stream (taken_from taken stream)) in
+      subst (λ (z : ℤ). Alongside Waits (delay_of g seed s clk (Drawn stream choice) taken) (delay_ticks z >>= λ n. Ok (record { ticks = n; taken = one_more (words_left live taken) stream }))) (sym (same_drawn g marks live seed choice stream taken lives.0))
+      (bind-alongside-same Waits (delay_ticks x) _ _ (λ n b. both_go (refl, words_left-more live taken stream lives.0)))
 
-  act-left : (e : EventEdge) (kind : EdgeKind) → KindFits g marks s clk e kind → (p : Planned) → AllByRecursion (EntryFits g marks) p.pending → Alongside Plans (act g seed s clk e kind p) (act h seed t clk (edge_left g marks e) (kind_left marks kind) (planned_left g marks live p))
-  act-left e (Schedule delay priority) (reads, fit) p all =
-      bind-alongside Waits Plans (delay-left delay reads p.taken) _ _ (λ a b (ticks, words).
+  act-left : (e : EventEdge) (kind : EdgeKind) → KindFits g marks live s clk e kind → (p : Planned) → AllByRecursion (EntryFits g marks) p.pending → Alongside Plans (act g seed s clk e kind p) (act h seed t clk (edge_left g marks e) (kind_left marks kind) (planned_left g marks live p))
+  act-left e (Schedule delay priority) (waits, fit) p all =
+      bind-alongside Waits Plans (delay-left delay waits p.taken) _ _ (λ a b (ticks, words).
       bind-alongside (ValuesKept g marks (vertex_at g e.target).parameters) Plans (values-alongside g marks s t left clk (vertex_at g e.target).parameters e.values fit) _ _ (λ xs ys kept.
       subst (λ (b : Waiting). Alongside Plans (Ok (record { pending = scheduled (clk + a.ticks) priority e.target p.pending xs; taken = a.taken })) (Ok (record { pending = scheduled (clk + b.ticks) priority e.target (map (entry_left g marks) p.pending) ys; taken = b.taken }))) (waiting-same a b ticks words)
       (scheduled-left (clk + a.ticks) priority e.target xs ys a.taken kept p.pending all))) where
@@ -116,7 +128,7 @@ module _ (g : EventGraph) (marks live : List Bool) (seed : ℕ) (s t : State) (l
   act-left e CancelAll fit p all =
       both_go (ap (λ (l : List Entry). record { pending = l; taken = words_left live p.taken }) (sym (without_all-mapped (entry_left g marks) (is_of e.target) (is_of e.target) p.pending (of-left e.target p.pending))), without_all-every (EntryFits g marks) (is_of e.target) p.pending all)
 
-  treat-left : (e : EventEdge) → EdgeFits g marks s clk e → (p : Planned) → AllByRecursion (EntryFits g marks) p.pending → Alongside Plans (treat g seed s clk e p) (treat h seed t clk (edge_left g marks e) (planned_left g marks live p))
+  treat-left : (e : EventEdge) → EdgeFits g marks live s clk e → (p : Planned) → AllByRecursion (EntryFits g marks) p.pending → Alongside Plans (treat g seed s clk e p) (treat h seed t clk (edge_left g marks e) (planned_left g marks live p))
   treat-left e (reads, fit) p all =
       subst (λ (c : OrFault ℤ). Alongside Plans (treat g seed s clk e p) (c >>= λ c. cond (is_one c) (act h seed t clk (edge_left g marks e) (kind_left marks e.kind) (planned_left g marks live p)) (Ok (planned_left g marks live p)))) (sym (value-left g marks s t left clk e.condition reads))
       (bind-alongside-same Plans (value_of g s clk e.condition) _ _ (λ c a. tested (is_one c))) where
@@ -124,8 +136,8 @@ module _ (g : EventGraph) (marks live : List Bool) (seed : ℕ) (s t : State) (l
         tested true = act-left e e.kind fit p all
         tested false = both_go (refl, all)
 
-  treat-alongside : (e : EventEdge) → EdgeFits g marks s clk e → (p q : Planned) → Plans p q → Alongside Plans (treat g seed s clk e p) (treat h seed t clk (edge_left g marks e) q)
+  treat-alongside : (e : EventEdge) → EdgeFits g marks live s clk e → (p q : Planned) → Plans p q → Alongside Plans (treat g seed s clk e p) (treat h seed t clk (edge_left g marks e) q)
   treat-alongside e fit p q (same, all) = subst (λ (q : Planned). Alongside Plans (treat g seed s clk e p) (treat h seed t clk (edge_left g marks e) q)) same (treat-left e fit p all)
 
-  pub edges-alongside : (es : List EventEdge) → AllByRecursion (EdgeFits g marks s clk) es → (p q : Planned) → Plans p q → Alongside Plans (in_turn (treat g seed s clk) es p) (in_turn (treat h seed t clk) (map (edge_left g marks) es) q)
-  edges-alongside es fit p q plans = in_turn-alongside (EdgeFits g marks s clk) (edge_left g marks) Plans (treat g seed s clk) (treat h seed t clk) treat-alongside es fit p q plans
+  pub edges-alongside : (es : List EventEdge) → AllByRecursion (EdgeFits g marks live s clk) es → (p q : Planned) → Plans p q → Alongside Plans (in_turn (treat g seed s clk) es p) (in_turn (treat h seed t clk) (map (edge_left g marks) es) q)
+  edges-alongside es fit p q plans = in_turn-alongside (EdgeFits g marks live s clk) (edge_left g marks) Plans (treat g seed s clk) (treat h seed t clk) treat-alongside es fit p q plans

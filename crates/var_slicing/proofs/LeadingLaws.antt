@@ -28,7 +28,7 @@ among-filtered {A} test (y ∷ xs) x among = tested (test y) refl among (among-f
   tested true is (inr later) rest = let (among, passes) = rest later in (inr among, passes)
   tested false is later rest = let (among, passes) = rest later in (inr among, passes)
 
-filtered-among : {A : Type 0} (test : A → Bool) (xs : List A) (x : A) → Among x xs → test x ≡ true → Among x (filter test xs)
+pub filtered-among : {A : Type 0} (test : A → Bool) (xs : List A) (x : A) → Among x xs → test x ≡ true → Among x (filter test xs)
 filtered-among test [] x among passes = absurd among
 filtered-among {A} test (y ∷ xs) x among passes = tested (test y) refl among (λ there. filtered-among test xs x there passes) where
   tested : (b : Bool) → test y ≡ b → Among x (y ∷ xs) → (Among x xs → Among x (filter test xs)) → Among x (cond b (y ∷ filter test xs) (filter test xs))

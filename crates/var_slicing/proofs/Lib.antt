@@ -1,6 +1,7 @@
 pub mod LinkedLaws
 pub mod LeadingLaws
 pub mod SideBySide
+pub mod DelayStreams
 pub mod NeedsCollected
 pub mod LeftLists
 pub mod HeldByAll

@@ -22,10 +22,10 @@ use Rattle.var_slicing.proofs.ValuesLeft.{all-kept_beside}
 use Rattle.var_slicing.proofs.NeedsClosed.{ChangeNeeds, CarriedNeed, KindNeeds, EdgeNeeds}
 use Rattle.var_slicing.proofs.QuietStores.{takes-parameters}
 use Rattle.model_core.proofs.SomeOfAList.{some-kept_beside, some-few, some-texts, some-in_parentheses}
-use Rattle.var_slicing.proofs.RenumberedTexts.{openings-renumbered, delay_openings-renumbered, delay_text-renumbered, condition_text-renumbered}
+use Rattle.var_slicing.proofs.RenumberedTexts.{openings-renumbered, delay_openings-renumbered, condition_text-renumbered}
 use Rattle.var_slicing.proofs.KeptBeside.{variables_of, targets-kept, TargetMarked, TargetsRead, ValuesRead, targets-marked, parameters-kept, parameters-marked, zip-kept, zip-mapped, set-reads, carried-reads}
 use Rattle.model_core.proofs.NoLongerTexts.{NoLonger, no_longer-behind, no_longer-before, no_longer-both, no_longer-same}
-use Rattle.var_slicing.proofs.PartsLeft.{all-declared, variable-of_left, kind-of_left, spellable-left, delay-keeps, delay-spellable, source-keeps, source-spellable, source_text-left, takes-left, location_text-left, location-spellable, location_openings-left, target-texts, targets-spellable, target-openings, value-texts, values-spellable, value-openings, values_openings-left, values-given}
+use Rattle.var_slicing.proofs.PartsLeft.{all-declared, variable-of_left, kind-of_left, spellable-left, delay-keeps, delay-spellable, delay_text-left, source-keeps, source-spellable, source_text-left, takes-left, location_text-left, location-spellable, location_openings-left, target-texts, targets-spellable, target-openings, value-texts, values-spellable, value-openings, values_openings-left, values-given}
 
 -- a `set` is left, or none where nothing of it stays
 set-cases : (P : List StateChange → Type 0) (R : Location → Kind → Type 0) (S : Expression → Kind → Type 0) (ls : List Location) (es : List Expression) (ks : List Kind) → AllZip R ls ks → AllZip S es ks → P [] → (HasOne ls → HasOne es → P (Set ls es ∷ [])) → P (set_or_nothing ls es)
@@ -305,7 +305,7 @@ module _ (g : EventGraph) (marks live : List Bool) where
   word-left CancelAll = refl
 
   timing-left : (e : EventEdge) (kind : EdgeKind) → KindNeeds g marks e kind → timing_text h (kind_left marks kind) ≡ timing_text g kind
-  timing-left e (Schedule delay priority) needs = ap (λ t. t ++ priority_text priority) (delay_text-renumbered g h f delay (all-declared g marks _ needs.0))
+  timing-left e (Schedule delay priority) needs = ap (λ t. t ++ priority_text priority) (delay_text-left g marks delay needs.0)
   timing-left e Urgent needs = refl
   timing-left e CancelNext needs = refl
   timing-left e CancelEqual needs = refl

@@ -1,7 +1,7 @@
--- How many words were taken from each stream, with 0 at the streams from which no variable that stays is drawn.
-use Rattle.std.proofs.Common.{◌≡◌, ℕ, zero, suc, Bool, true, false, cond, List, [], ◌∷◌, slice_set, refl, ap}
+-- How many words were taken from each stream, with 0 at the streams from which neither a variable that stays nor a delay is drawn.
+use Rattle.std.proofs.Common.{◌≡◌, ℕ, zero, suc, ◌+◌, Bool, true, false, cond, List, [], ◌∷◌, slice_set, refl, sym, ap, ◌∙◌}
 use Rattle.std.specs.Prelude.{replicate}
-use Rattle.model_core.specs.Run.Changes.{taken_from}
+use Rattle.model_core.specs.Run.Changes.{taken_from, one_more}
 use Rattle.model_core.specs.Rules.MarkedPlaces.{is_marked}
 use Rattle.mark_laws.proofs.Marks.{Marked}
 
@@ -23,6 +23,9 @@ words_left-set [] (n ∷ ns) k x marked = cc
 words_left-set (true ∷ live) (n ∷ ns) zero x marked = refl
 words_left-set (false ∷ live) (n ∷ ns) zero x marked = cc
 words_left-set (b ∷ live) (n ∷ ns) (suc k) x marked = ap (λ ns. cond b n 0 ∷ ns) (words_left-set live ns k x marked)
+
+pub words_left-more : (live : List Bool) (ns : List ℕ) (k : ℕ) → Marked live k → words_left live (one_more ns k) ≡ one_more (words_left live ns) k
+words_left-more live ns k marked = words_left-set live ns k (taken_from ns k + 1) marked ∙ ap (λ (n : ℕ). slice_set (words_left live ns) k (n + 1)) (sym (words_left-from live ns k marked))
 
 pub words_left-skip : (live : List Bool) (ns : List ℕ) (k x : ℕ) → is_marked live k ≡ false → words_left live (slice_set ns k x) ≡ words_left live ns
 words_left-skip live [] k x dead = refl

@@ -1,24 +1,24 @@
 -- The marks of what is needed hold all that the parts of a model need, and what isn't marked may be left out quietly.
 use Rattle.std.proofs.Common.{◌≡◌, inl, inr, ℕ, ◌<◌, ◌≤◌, ◌==◌, Bool, true, false, ◌&&◌, cond, List, [], ◌∷◌, ◌++◌, length, map, zip, Option, Some, None, refl, sym, ap, subst, arith}
-use Rattle.std.specs.Prelude.{IfSome}
+use Rattle.std.specs.Prelude.{◌||◌, filter, IfSome}
 use Rattle.std.specs.List.{AllByRecursion, flat_map, list_any, range_with_len}
-use Rattle.model_core.specs.EventGraph.{EventGraph, Expression, Number, Truth, Clock, Scalar, Cell, Negative, Not, Binary, If, Location, Choice, StateChange, Set, Draw, Delay, Fixed, EdgeKind, Schedule, Urgent, CancelNext, CancelEqual, CancelAll, EventEdge, EventVertex, Watched, WatchedVariable, WatchedVertex, scalar_location}
+use Rattle.model_core.specs.EventGraph.{EventGraph, Expression, Number, Truth, Clock, Scalar, Cell, Negative, Not, Binary, If, Location, Choice, StateChange, Set, Draw, Delay, Fixed, Drawn, EdgeKind, Schedule, Urgent, CancelNext, CancelEqual, CancelAll, EventEdge, EventVertex, Variable, Watched, WatchedVariable, WatchedVertex, scalar_location}
 use Rattle.model_core.specs.Run.Step.{no_vertex, vertex_at}
 use Rattle.model_core.specs.Text.Spellable.{Extent, extent, SpellableExpression, SpellableLocation, SpellableChange, SpellableDelay, SpellableKind, SpellableEdge, SpellableVertex, SpellableWatched, IsSpellable}
-use Rattle.model_core.specs.Static.OwnRules.{KeepsChange, KeepsVertex, parameters_of, KeepsParts}
+use Rattle.model_core.specs.Static.OwnRules.{KeepsChange, KeepsTiming, KeepsEdge, KeepsVertex, parameters_of, KeepsParts}
 use Rattle.model_core.specs.Rules.BoundsOfParts.{quiet_set, quiet_change}
-use Rattle.model_core.specs.Rules.MarkedPlaces.{is_marked}
-use Rattle.model_core.specs.Rules.Uses.{variables_in, index_reads, location_reads, delay_reads, timing_reads}
-use Rattle.model_core.specs.Rules.Needed.{all_changes, all_edges, carried_pairs, is_scheduling, compares_values, watched_variables, compared_parameters, deciding_reads, faulting_target, faulting_writes, faulting_parameters, needed_by_edge, needed_at_once, each_beside, needed_by_targets, needed_by_parameters, streams_drawn, needed_by_streams, needed_beside}
-use Rattle.model_core.proofs.Among.{Among, among-map, among-front, among-back, among-flat_map, of-among, each-among, any-among, among-any}
+use Rattle.model_core.specs.Rules.MarkedPlaces.{is_marked, is_among}
+use Rattle.model_core.specs.Rules.Uses.{variables_in, index_reads, location_reads, delay_reads, timing_reads, timing_streams, edge_streams}
+use Rattle.model_core.specs.Rules.Needed.{all_changes, all_edges, carried_pairs, is_scheduling, compares_values, watched_variables, compared_parameters, deciding_reads, faulting_target, faulting_writes, faulting_parameters, needed_by_edge, all_draws, drawn_from, needed_by_delays, needed_at_once, each_beside, needed_by_targets, needed_by_parameters, streams_drawn, needed_by_streams, needed_beside}
+use Rattle.model_core.proofs.Among.{Among, among-map, among-front, among-back, among-flat_map, of-among, each-among, either_true, first_true, second_true, any-among, among-any}
 use Rattle.mark_laws.proofs.Marks.{Marked}
 use Rattle.mark_laws.proofs.MarksBelow.{tested-marked, marked-tested}
 use Rattle.model_core.proofs.PlacesChanged.{same_number}
 use Rattle.model_core.proofs.BothTrue.{and_first, and_second}
-use Rattle.mark_laws.proofs.EntailedMarks.{HoldEntailed, same-place}
+use Rattle.mark_laws.proofs.EntailedMarks.{HoldEntailed, same-place, place-among}
 use Rattle.model_core.proofs.EachOne.{every-joined}
 use Rattle.var_slicing.proofs.HeldByAll.{held-at}
-use Rattle.var_slicing.proofs.LeadingLaws.{among-of_flat_map, one_stream-streams}
+use Rattle.var_slicing.proofs.LeadingLaws.{filtered-among, among-of_flat_map, one_stream-streams}
 use Rattle.var_slicing.proofs.ValuesLeft.{ReadsMarked, both_marks}
 use Rattle.var_slicing.proofs.ChangesLeft.{IndexReadsMarked}
 use Rattle.var_slicing.proofs.EdgesLeft.{DelayReadsMarked}
@@ -53,25 +53,31 @@ KindNeeds g marks e CancelAll = Unit {0}
 abbrev pub EdgeNeeds : EventGraph → List Bool → EventEdge → Type 0
 EdgeNeeds g marks e = ReadsMarked marks e.condition × KindNeeds g marks e e.kind
 
+-- the stream of a drawn delay is live
+abbrev pub DelayLives : List Bool → EventEdge → Type 0
+DelayLives live e = AllByRecursion (Marked live) (edge_streams e)
+
 pub record NeedsHold (g : EventGraph) (marks live : List Bool) : Type 0 where
   pub watched : AllByRecursion (WatchedMarked marks) g.watch
   pub first : AllByRecursion (Marked marks) (vertex_at g 0).parameters
   pub changes : AllByRecursion (λ (v : EventVertex). AllByRecursion (ChangeNeeds g marks live) v.changes) g.vertices
   pub edges : AllByRecursion (λ (v : EventVertex). AllByRecursion (EdgeNeeds g marks) v.edges) g.vertices
+  pub delays : AllByRecursion (λ (v : EventVertex). AllByRecursion (DelayLives live) v.edges) g.vertices
 
 -- ---- streams
 
-abbrev all_draws : EventGraph → List (ℕ × ℕ)
-all_draws g = flat_map streams_drawn (all_changes g)
+-- the streams from which delays are drawn
+abbrev delays_drawn : EventGraph → List ℕ
+delays_drawn g = flat_map edge_streams (all_edges g)
 
 abbrev draws_marked : List Bool → ℕ → ℕ × ℕ → Bool
 draws_marked marks s (r, v) = (r == s) && is_marked marks v
 
--- a marked variable is drawn from this stream
+-- a marked variable is drawn from this stream, or a delay is
 abbrev is_live : EventGraph → List Bool → ℕ → Bool
-is_live g marks s = list_any (draws_marked marks s) (all_draws g)
+is_live g marks s = list_any (draws_marked marks s) (all_draws g) || is_among (delays_drawn g) s
 
--- the streams from which a marked variable is drawn
+-- the streams from which a marked variable or a delay is drawn
 abbrev pub live_streams : EventGraph → List Bool → List Bool
 live_streams g marks = map (is_live g marks) (range_with_len 0 64)
 
@@ -125,6 +131,20 @@ variables-below n (If c a b) s =
 
 delay-below : (x : Extent) (delay : Delay) → SpellableDelay x delay → AllBelow x.variables (delay_reads delay)
 delay-below x (Fixed e) s = variables-below x.variables e s
+delay-below x (Drawn stream choice) s = tt
+
+streams-few : (variables : List Variable) (tables : ℕ) (takes : List (List ℕ)) (kind : EdgeKind) → KeepsTiming variables tables takes kind → AllByRecursion (λ s. s ≤ 63) (timing_streams kind)
+streams-few variables tables takes (Schedule (Fixed e) priority) k = tt
+streams-few variables tables takes (Schedule (Drawn stream choice) priority) k = (k.0.0, tt)
+streams-few variables tables takes Urgent k = tt
+streams-few variables tables takes CancelNext k = tt
+streams-few variables tables takes CancelEqual k = tt
+streams-few variables tables takes CancelAll k = tt
+
+-- a variable that is drawn from one of these streams is among those that are
+among-drawn_from : (streams : List ℕ) (draws : List (ℕ × ℕ)) (s v : ℕ) → is_among streams s ≡ true → Among (s, v) draws → Among v (drawn_from streams draws)
+among-drawn_from streams draws s v known there =
+    among-map (λ ((s, v) : ℕ × ℕ). v) (filter (λ (s, v). is_among streams s) draws) (s, v) (filtered-among (λ ((s, v) : ℕ × ℕ). is_among streams s) draws (s, v) there known)
 
 location-below : (n : ℕ) (l : Location) → SpellableLocation n l → AllBelow n (location_reads l)
 location-below n l s = index l.index s.index where
@@ -153,17 +173,26 @@ module _ (g : EventGraph) (s : IsSpellable g) (keeps : KeepsParts g) (marks : Li
   abbrev at_edges : List ℕ
   at_edges = flat_map (needed_by_edge g) (all_edges g)
 
+  abbrev of_parts : List ℕ
+  of_parts = watched_variables g.watch ++ (vertex_at g 0).parameters ++ at_writes ++ at_edges
+
+  of-part : (w : ℕ) → Among w of_parts → Among w (needed_at_once g)
+  of-part w h = among-front of_parts (needed_by_delays g) w h
+
   of-watch : (w : ℕ) → Among w (watched_variables g.watch) → Among w (needed_at_once g)
-  of-watch w h = among-front (watched_variables g.watch ++ (vertex_at g 0).parameters ++ at_writes) at_edges w (among-front (watched_variables g.watch ++ (vertex_at g 0).parameters) at_writes w (among-front (watched_variables g.watch) (vertex_at g 0).parameters w h))
+  of-watch w h = of-part w (among-front (watched_variables g.watch ++ (vertex_at g 0).parameters ++ at_writes) at_edges w (among-front (watched_variables g.watch ++ (vertex_at g 0).parameters) at_writes w (among-front (watched_variables g.watch) (vertex_at g 0).parameters w h)))
 
   of-first : (w : ℕ) → Among w (vertex_at g 0).parameters → Among w (needed_at_once g)
-  of-first w h = among-front (watched_variables g.watch ++ (vertex_at g 0).parameters ++ at_writes) at_edges w (among-front (watched_variables g.watch ++ (vertex_at g 0).parameters) at_writes w (among-back (watched_variables g.watch) (vertex_at g 0).parameters w h))
+  of-first w h = of-part w (among-front (watched_variables g.watch ++ (vertex_at g 0).parameters ++ at_writes) at_edges w (among-front (watched_variables g.watch ++ (vertex_at g 0).parameters) at_writes w (among-back (watched_variables g.watch) (vertex_at g 0).parameters w h)))
 
   of-write : (c : StateChange) → Among c (all_changes g) → (w : ℕ) → Among w (faulting_writes g c) → Among w (needed_at_once g)
-  of-write c there w h = among-front (watched_variables g.watch ++ (vertex_at g 0).parameters ++ at_writes) at_edges w (among-back (watched_variables g.watch ++ (vertex_at g 0).parameters) at_writes w (among-flat_map (faulting_writes g) (all_changes g) c w there h))
+  of-write c there w h = of-part w (among-front (watched_variables g.watch ++ (vertex_at g 0).parameters ++ at_writes) at_edges w (among-back (watched_variables g.watch ++ (vertex_at g 0).parameters) at_writes w (among-flat_map (faulting_writes g) (all_changes g) c w there h)))
 
   of-edge : (e : EventEdge) → Among e (all_edges g) → (w : ℕ) → Among w (needed_by_edge g e) → Among w (needed_at_once g)
-  of-edge e there w h = among-back (watched_variables g.watch ++ (vertex_at g 0).parameters ++ at_writes) at_edges w (among-flat_map (needed_by_edge g) (all_edges g) e w there h)
+  of-edge e there w h = of-part w (among-back (watched_variables g.watch ++ (vertex_at g 0).parameters ++ at_writes) at_edges w (among-flat_map (needed_by_edge g) (all_edges g) e w there h))
+
+  of-delays : (w : ℕ) → Among w (needed_by_delays g) → Among w (needed_at_once g)
+  of-delays w h = among-back of_parts (needed_by_delays g) w h
 
   abbrev by_targets : List (ℕ × ℕ)
   by_targets = flat_map needed_by_targets (all_changes g)
@@ -204,14 +233,19 @@ module _ (g : EventGraph) (s : IsSpellable g) (keeps : KeepsParts g) (marks : Li
   draw-live : (target : Location) (stream : ℕ) (choice : Choice) → Among (Draw target stream choice) (all_changes g) → stream ≤ 63 → Marked marks target.variable → Marked live stream
   draw-live target stream choice there few marked =
       let drawn = among-flat_map streams_drawn (all_changes g) (Draw target stream choice) (stream, target.variable) there (inl refl) in
-      tested-marked (is_live g marks) 64 stream (omega (arith, few)) (among-any (draws_marked marks stream) (all_draws g) (stream, target.variable) drawn (both_are (stream == stream) (is_marked marks target.variable) (same_number stream stream refl) marked))
+      tested-marked (is_live g marks) 64 stream (omega (arith, few)) (first_true (list_any (draws_marked marks stream) (all_draws g)) (is_among (delays_drawn g) stream)
+      (among-any (draws_marked marks stream) (all_draws g) (stream, target.variable) drawn (both_are (stream == stream) (is_marked marks target.variable) (same_number stream stream refl) marked)))
 
   draw-dead : (target : Location) (stream : ℕ) (choice : Choice) → Among (Draw target stream choice) (all_changes g) → target.variable < count → is_marked marks target.variable ≡ false → is_marked live stream ≡ false
   draw-dead target stream choice there below unmarked = false_unless (is_marked live stream) (λ lives.
-      let ((r, v), drawn_so, test) = any-among (draws_marked marks stream) (all_draws g) (marked-tested (is_live g marks) 64 stream lives) in
       let drawn = among-flat_map streams_drawn (all_changes g) (Draw target stream choice) (stream, target.variable) there (inl refl) in
-      let same = same-place r stream (and_first (r == stream) (is_marked marks v) test) in
-      both_marks marks target.variable (drawn_too stream v target.variable (subst (λ (r : ℕ). Among (r, v) (all_draws g)) same drawn_so) drawn below (and_second (r == stream) (is_marked marks v) test)) unmarked)
+      elim (either_true (list_any (draws_marked marks stream) (all_draws g)) (is_among (delays_drawn g) stream) (marked-tested (is_live g marks) 64 stream lives)) [
+        | inl h ↦
+            let ((r, v), drawn_so, test) = any-among (draws_marked marks stream) (all_draws g) h in
+            let same = same-place r stream (and_first (r == stream) (is_marked marks v) test) in
+            both_marks marks target.variable (drawn_too stream v target.variable (subst (λ (r : ℕ). Among (r, v) (all_draws g)) same drawn_so) drawn below (and_second (r == stream) (is_marked marks v) test)) unmarked
+        | inr h ↦ both_marks marks target.variable (hold.begins target.variable (of-delays target.variable (among-drawn_from (delays_drawn g) (all_draws g) stream target.variable h drawn)) below) unmarked
+      ])
 
   change-needs : (c : StateChange) → Among c (all_changes g) → SpellableChange (extent g) c → KeepsChange g.variables (length g.tables) (parameters_of g) c → ChangeNeeds g marks live c
   change-needs (Set targets rights) there spelled rules = each-among (SetNeeds g marks) (zip targets rights) (set-needs targets rights there spelled.parts.1 spelled.parts.3)
@@ -286,6 +320,12 @@ module _ (g : EventGraph) (s : IsSpellable g) (keeps : KeepsParts g) (marks : Li
   edge-needs : (e : EventEdge) → Among e (all_edges g) → SpellableEdge (extent g) e → EdgeNeeds g marks e
   edge-needs e there spelled = (deciding-marked e there (variables_in e.condition) (variables-below count e.condition spelled.condition) (λ w h. among-front (variables_in e.condition) (timing_reads e.kind) w h), kind-needs e there spelled e.kind refl)
 
+  delay-lives : (e : EventEdge) → Among e (all_edges g) → KeepsEdge g.variables (length g.tables) (parameters_of g) e → DelayLives live e
+  delay-lives e there rules = each-among (Marked live) (edge_streams e) (λ stream drawn.
+      let few = of-among (λ s. s ≤ 63) (edge_streams e) stream (streams-few g.variables (length g.tables) (parameters_of g) e.kind rules.timing) drawn in
+      tested-marked (is_live g marks) 64 stream (omega (arith, few)) (second_true (list_any (draws_marked marks stream) (all_draws g)) (is_among (delays_drawn g) stream)
+      (place-among (delays_drawn g) stream (among-flat_map edge_streams (all_edges g) e stream there drawn))))
+
   -- ---- all parts
 
   watched-marked : (watch : List Watched) → AllByRecursion (SpellableWatched (extent g)) watch → ((w : ℕ) → Among w (watched_variables watch) → Among w (needed_at_once g)) → AllByRecursion (WatchedMarked marks) watch
@@ -302,4 +342,6 @@ module _ (g : EventGraph) (s : IsSpellable g) (keeps : KeepsParts g) (marks : Li
         (of-among (KeepsChange g.variables (length g.tables) (parameters_of g)) v.changes c (of-among (KeepsVertex g.variables (length g.tables) (parameters_of g)) g.vertices v keeps.vertices there).changes among)));
     edges = each-among (λ (v : EventVertex). AllByRecursion (EdgeNeeds g marks) v.edges) g.vertices (λ v there. each-among (EdgeNeeds g marks) v.edges (λ e among.
         edge-needs e (among-flat_map (λ (v : EventVertex). v.edges) g.vertices v e there among) (of-among (SpellableEdge (extent g)) v.edges e (vertices_written v there).edges among)));
+    delays = each-among (λ (v : EventVertex). AllByRecursion (DelayLives live) v.edges) g.vertices (λ v there. each-among (DelayLives live) v.edges (λ e among.
+        delay-lives e (among-flat_map (λ (v : EventVertex). v.edges) g.vertices v e there among) (of-among (KeepsEdge g.variables (length g.tables) (parameters_of g)) v.edges e (of-among (KeepsVertex g.variables (length g.tables) (parameters_of g)) g.vertices v keeps.vertices there).edges among)));
   }

@@ -1,11 +1,11 @@
 -- Expressions, locations and values that are left where variables go: kinds, texts, openings and what a text can write.
-use Rattle.std.proofs.Common.{◌≡◌, ℕ, ◌+◌, ◌<◌, ◌≤◌, Bool, true, false, List, [], ◌∷◌, ◌++◌, map, length, Option, Some, None, option_map, refl, sym, ap, ap₂, subst, arith, ◌∙◌}
+use Rattle.std.proofs.Common.{◌≡◌, ℕ, zero, pos, ◌+◌, ◌<◌, ◌≤◌, Bool, true, false, List, [], ◌∷◌, ◌++◌, map, length, Option, Some, None, option_map, refl, sym, ap, ap₂, subst, arith, ◌∙◌}
 use Rattle.std.specs.Prelude.{IfSome, codes, decimal}
 use Rattle.std.specs.List.{AllByRecursion, AllZip}
 use Rattle.model_core.specs.declared.model.Kind.{Kind}
 use Rattle.model_core.specs.declared.model.Kind.TheVariants as kinds
-use Rattle.model_core.specs.EventGraph.{EventGraph, Expression, Location, Choice, Uniform, ByTable, Delay, Fixed}
-use Rattle.model_core.specs.Text.Canonical.{variable_name, expression_text, expression_texts, location_text, choice_text, source_text}
+use Rattle.model_core.specs.EventGraph.{EventGraph, Expression, Number, Location, Choice, Uniform, ByTable, Delay, Fixed, Drawn}
+use Rattle.model_core.specs.Text.Canonical.{variable_name, expression_text, expression_texts, location_text, choice_text, source_text, delay_text}
 use Rattle.model_core.specs.Text.Spellable.{extent, SpellableExpression, SpellableLocation, SpellableSource, SpellableDelay, expression_openings, openings_together, location_openings, values_openings}
 use Rattle.model_core.specs.Static.HasKind.{IsVariable, HasKind}
 use Rattle.model_core.specs.Static.OwnRules.{TakesKind, KeepsSource, KeepsDelay}
@@ -79,14 +79,6 @@ module _ (g : EventGraph) (marks : List Bool) where
   pub spellable-left : (e : Expression) → ReadsMarked marks e → SpellableExpression count e → SpellableExpression left_count (expression_renumbered f e)
   spellable-left e reads s = spellable-renumbered f left_count count e (all-below_left (variables_in e) reads (variables-below count e s)) s
 
-  -- ---- delays
-
-  pub delay-keeps : (tables : ℕ) (old new : List (List ℕ)) (delay : Delay) → DelayReadsMarked marks delay → KeepsDelay g.variables tables old delay → KeepsDelay h.variables tables new (delay_renumbered f delay)
-  delay-keeps tables old new (Fixed e) reads k = kind-of_left e kinds.Range reads k
-
-  pub delay-spellable : (delay : Delay) → DelayReadsMarked marks delay → SpellableDelay (extent g) delay → SpellableDelay (extent h) (delay_renumbered f delay)
-  delay-spellable (Fixed e) reads s = spellable-left e reads s
-
   -- ---- sources of draws
 
   pub source-keeps : (tables : ℕ) (old new : List (List ℕ)) (stream : ℕ) (choice : Choice) → KeepsSource g.variables tables old stream choice → KeepsSource h.variables tables new stream choice
@@ -103,6 +95,22 @@ module _ (g : EventGraph) (marks : List Bool) where
 
   pub source_text-left : (stream : ℕ) (choice : Choice) → source_text h stream choice ≡ source_text g stream choice
   source_text-left stream choice = ap (λ t. codes " from " ++ decimal stream ++ t) (choice_text-left choice)
+
+  -- ---- delays
+
+  pub delay-keeps : (tables : ℕ) (old new : List (List ℕ)) (delay : Delay) → DelayReadsMarked marks delay → KeepsDelay g.variables tables old delay → KeepsDelay h.variables tables new (delay_renumbered f delay)
+  delay-keeps tables old new (Fixed e) reads k = kind-of_left e kinds.Range reads k
+  delay-keeps tables old new (Drawn stream choice) reads k = source-keeps tables old new stream choice k
+
+  pub delay-spellable : (delay : Delay) → DelayReadsMarked marks delay → SpellableDelay (extent g) delay → SpellableDelay (extent h) (delay_renumbered f delay)
+  delay-spellable (Fixed e) reads s = spellable-left e reads s
+  delay-spellable (Drawn stream choice) reads s = source-spellable stream choice s
+
+  -- `after 0` is left out of both
+  pub delay_text-left : (delay : Delay) → DelayReadsMarked marks delay → delay_text h (delay_renumbered f delay) ≡ delay_text g delay
+  delay_text-left (Fixed (Number (pos zero))) reads = refl
+  delay_text-left (Fixed e) reads = ap (λ t. codes " after " ++ t) (text-of_left e reads)
+  delay_text-left (Drawn stream choice) reads = ap (λ t. codes " after draw" ++ t) (source_text-left stream choice)
 
   -- ---- locations
 

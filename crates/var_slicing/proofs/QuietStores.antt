@@ -5,12 +5,14 @@ use Rattle.model_core.specs.declared.model.Kind.{Kind}
 use Rattle.model_core.specs.EventGraph.{EventGraph, Expression, Location, StateChange, Set, Draw, EventVertex, EventEdge, EdgeKind, Schedule, Urgent, CancelNext, CancelEqual, CancelAll, scalar_location}
 use Rattle.model_core.specs.Run.State.{State, Place, variable_at, in_range, with_cell}
 use Rattle.model_core.specs.Run.Value.{each, in_turn, value_of, place_of}
-use Rattle.model_core.specs.Run.Changes.{Drawn, kept, store, set_all, make_change}
+use Rattle.model_core.specs.Run.Changes.{Changed, kept, store, set_all, make_change}
 use Rattle.model_core.specs.Run.Step.{no_vertex, vertex_at}
 use Rattle.model_core.specs.Static.HasKind.{IsVariable, HasKind}
 use Rattle.model_core.specs.Static.OwnRules.{TakesKind, TakeCarried, KeepsChange, CarriesValues, KeepsEdge, KeepsVertex, parameters_of, KeepsParts}
 use Rattle.model_core.specs.Rules.BoundsOfParts.{quiet_set, quiet_change}
 use Rattle.model_core.specs.Rules.MarkedPlaces.{is_marked}
+use Rattle.model_core.specs.Rules.Uses.{timing_streams}
+use Rattle.mark_laws.proofs.Marks.{Marked}
 use Rattle.model_core.proofs.Results.{bind_ok}
 use Rattle.run_laws.proofs.InRange.{in_range-kept}
 use Rattle.model_core.proofs.EachOne.{every-map}
@@ -20,11 +22,11 @@ use Rattle.var_slicing.proofs.ChangesLeft.{TargetFits, ChangeFits}
 use Rattle.run_laws.proofs.PlaceVariables.{place-variable}
 use Rattle.var_slicing.proofs.EdgesLeft.{KindFits, EdgeFits}
 use Rattle.var_slicing.proofs.SlicedRuns.{VertexFits, MayGo}
-use Rattle.var_slicing.proofs.NeedsClosed.{SetNeeds, ChangeNeeds, ParameterNeeds, CarriedNeed, KindNeeds, EdgeNeeds, NeedsHold}
+use Rattle.var_slicing.proofs.NeedsClosed.{SetNeeds, ChangeNeeds, ParameterNeeds, CarriedNeed, KindNeeds, EdgeNeeds, DelayLives, NeedsHold}
 
 -- a quiet change of a model that keeps its rules has no fault
 abbrev pub QuietChanges : EventGraph → Type 0
-QuietChanges g = (seed clk : ℕ) (c : StateChange) (d : Drawn) → KeepsChange g.variables (length g.tables) (parameters_of g) c → IsTrue (in_range g d.state) → clk ≤ 2 ^ 48 → quiet_change g c ≡ true → (e : Drawn) × (make_change g seed clk c d ≡ Ok e)
+QuietChanges g = (seed clk : ℕ) (c : StateChange) (d : Changed) → KeepsChange g.variables (length g.tables) (parameters_of g) c → IsTrue (in_range g d.state) → clk ≤ 2 ^ 48 → quiet_change g c ≡ true → (e : Changed) × (make_change g seed clk c d ≡ Ok e)
 
 -- what a location takes of an expression
 record StoresQuietly (g : EventGraph) (s : State) (clk : ℕ) (l : Location) (e : Expression) : Type 0 where
@@ -42,7 +44,7 @@ module _ (g : EventGraph) (quiet : QuietChanges g) (s : State) (inside : IsTrue 
 
   stores_quietly : (l : Location) (e : Expression) (k : Kind) → Takes l k → HasKind g.variables e k → quiet_set g l e ≡ true → StoresQuietly g s clk l e
   stores_quietly l e k takes has quietly =
-      let d : Drawn = record { state = s; taken = [] } in
+      let d : Changed = record { state = s; taken = [] } in
       let (f, done) = quiet 0 clk (Set (l ∷ []) (e ∷ [])) d (omega arith, record { kinds = k ∷ []; taken = (takes, tt); given = (has, tt) }) inside early (and_true (quiet_set g l e) quietly) in
       let (t, is_set, at_end) = bind_ok (set_all g clk (l ∷ []) (e ∷ []) s) _ f done in
       let (values, at_values, after_values) = bind_ok (each (value_of g s clk) (e ∷ [])) _ t is_set in
@@ -87,12 +89,12 @@ module _ (g : EventGraph) (quiet : QuietChanges g) (s : State) (inside : IsTrue 
     fits-carried : (e : EventEdge) → TakeCarried g.variables (length g.tables) (parameters_of g) (vertex_at g e.target).parameters e.values → CarriedNeed g marks e → ValuesFit g marks s clk (vertex_at g e.target).parameters e.values
     fits-carried e carried needs = carried-fits (vertex_at g e.target).parameters e.values carried.kinds carried.taken carried.given needs
 
-    kind-fits : (e : EventEdge) (kind : EdgeKind) → CarriesValues g.variables (length g.tables) (parameters_of g) kind (vertex_at g e.target).parameters e.values → KindNeeds g marks e kind → KindFits g marks s clk e kind
-    kind-fits e (Schedule delay priority) carries needs = (needs.0, fits-carried e carries needs.1)
-    kind-fits e Urgent carries needs = fits-carried e carries needs
-    kind-fits e CancelNext carries needs = tt
-    kind-fits e CancelEqual carries needs = (needs.0, fits-carried e carries needs.1)
-    kind-fits e CancelAll carries needs = tt
+    kind-fits : (live : List Bool) (e : EventEdge) (kind : EdgeKind) → AllByRecursion (Marked live) (timing_streams kind) → CarriesValues g.variables (length g.tables) (parameters_of g) kind (vertex_at g e.target).parameters e.values → KindNeeds g marks e kind → KindFits g marks live s clk e kind
+    kind-fits live e (Schedule delay priority) lives carries needs = ((needs.0, lives), fits-carried e carries needs.1)
+    kind-fits live e Urgent lives carries needs = fits-carried e carries needs
+    kind-fits live e CancelNext lives carries needs = tt
+    kind-fits live e CancelEqual lives carries needs = (needs.0, fits-carried e carries needs.1)
+    kind-fits live e CancelAll lives carries needs = tt
 
 -- what an edge's target takes are the parameters of the vertex there
 pub takes-parameters : (vs : List EventVertex) (k : ℕ) (ps : List ℕ) → slice_get (map (λ (v : EventVertex). v.parameters) vs) k ≡ Some ps → (slice_index_or vs k no_vertex).parameters ≡ ps
@@ -110,14 +112,14 @@ module _ (g : EventGraph) (quiet : QuietChanges g) (keeps : KeepsParts g) (marks
   abbrev EdgeKeeps : EventEdge → Type 0
   EdgeKeeps = KeepsEdge g.variables (length g.tables) (parameters_of g)
 
-  change-fits : (seed clk : ℕ) → clk ≤ 2 ^ 48 → (c : StateChange) → ChangeKeeps c × ChangeNeeds g marks live c → (d : Drawn) → Inside d.state → ChangeFits g marks live seed clk d c
+  change-fits : (seed clk : ℕ) → clk ≤ 2 ^ 48 → (c : StateChange) → ChangeKeeps c × ChangeNeeds g marks live c → (d : Changed) → Inside d.state → ChangeFits g marks live seed clk d c
   change-fits seed clk early (Set targets rights) (rules, need) d inside = set-fits g quiet d.state inside clk early marks targets rights rules.1.kinds rules.1.taken rules.1.given need
   change-fits seed clk early (Draw target stream choice) (rules, need) d inside =
       (need.0, λ unmarked. let (dead, quietly) = need.1 unmarked in (dead, quiet seed clk (Draw target stream choice) d rules inside early quietly))
 
-  edge-fits : (s : State) → Inside s → (clk : ℕ) → clk ≤ 2 ^ 48 → (e : EventEdge) → EdgeKeeps e × EdgeNeeds g marks e → EdgeFits g marks s clk e
-  edge-fits s inside clk early e (rules, need) =
-      (need.0, kind-fits g quiet s inside clk early marks e e.kind (subst (λ ps. CarriesValues g.variables (length g.tables) (parameters_of g) e.kind ps e.values) (sym (takes-parameters g.vertices e.target rules.parameters rules.target)) rules.carries) need.1)
+  edge-fits : (s : State) → Inside s → (clk : ℕ) → clk ≤ 2 ^ 48 → (e : EventEdge) → EdgeKeeps e × (EdgeNeeds g marks e × DelayLives live e) → EdgeFits g marks live s clk e
+  edge-fits s inside clk early e (rules, (need, lives)) =
+      (need.0, kind-fits g quiet s inside clk early marks live e e.kind lives (subst (λ ps. CarriesValues g.variables (length g.tables) (parameters_of g) e.kind ps e.values) (sym (takes-parameters g.vertices e.target rules.parameters rules.target)) rules.carries) need.1)
 
   abbrev KeptParts : EventVertex → Type 0
   KeptParts v = AllByRecursion ChangeKeeps v.changes × AllByRecursion EdgeKeeps v.edges
@@ -131,12 +133,16 @@ module _ (g : EventGraph) (quiet : QuietChanges g) (keeps : KeepsParts g) (marks
   abbrev EdgesNeed : EventVertex → Type 0
   EdgesNeed v = AllByRecursion (EdgeNeeds g marks) v.edges
 
+  abbrev DelaysLive : EventVertex → Type 0
+  DelaysLive v = AllByRecursion (DelayLives live) v.edges
+
   vertex-fits : (k : ℕ) → VertexFits g marks live Inside (vertex_at g k)
   vertex-fits k = record {
-    changes = λ seed clk early. every-map (λ c. ChangeKeeps c × ChangeNeeds g marks live c) (λ c. (d : Drawn) → Inside d.state → ChangeFits g marks live seed clk d c) (change-fits seed clk early) (vertex_at g k).changes
+    changes = λ seed clk early. every-map (λ c. ChangeKeeps c × ChangeNeeds g marks live c) (λ c. (d : Changed) → Inside d.state → ChangeFits g marks live seed clk d c) (change-fits seed clk early) (vertex_at g k).changes
         (held-both ChangeKeeps (ChangeNeeds g marks live) (vertex_at g k).changes (kept_parts k).0 (held-at ChangesNeed g.vertices no_vertex tt needs.changes k));
-    edges = λ s inside clk early. every-map (λ e. EdgeKeeps e × EdgeNeeds g marks e) (EdgeFits g marks s clk) (edge-fits s inside clk early) (vertex_at g k).edges
-        (held-both EdgeKeeps (EdgeNeeds g marks) (vertex_at g k).edges (kept_parts k).1 (held-at EdgesNeed g.vertices no_vertex tt needs.edges k));
+    edges = λ s inside clk early. every-map (λ e. EdgeKeeps e × (EdgeNeeds g marks e × DelayLives live e)) (EdgeFits g marks live s clk) (edge-fits s inside clk early) (vertex_at g k).edges
+        (held-both EdgeKeeps (λ e. EdgeNeeds g marks e × DelayLives live e) (vertex_at g k).edges (kept_parts k).1
+        (held-both (EdgeNeeds g marks) (DelayLives live) (vertex_at g k).edges (held-at EdgesNeed g.vertices no_vertex tt needs.edges k) (held-at DelaysLive g.vertices no_vertex tt needs.delays k)));
   }
 
   pub unneeded_may_go : MayGo g marks live Inside

@@ -1,16 +1,16 @@
 -- Expressions whose variables go by other numbers, in a model that declares these there: their kinds, texts and openings.
-use Rattle.std.proofs.Common.{◌≡◌, ℕ, zero, suc, ◌<◌, ◌+◌, pos, negsuc, Bool, true, false, nat_lt, List, [], ◌++◌, Option, Some, None, option_map, slice_get, refl, ap, ap₂, ◌∙◌}
+use Rattle.std.proofs.Common.{◌≡◌, ℕ, suc, ◌<◌, ◌+◌, pos, negsuc, Bool, true, false, nat_lt, List, [], ◌++◌, Option, Some, None, option_map, slice_get, refl, ap, ap₂, ◌∙◌}
 use Rattle.std.specs.Prelude.{codes, if◌then◌else◌}
 use Rattle.std.specs.Option.{option_map_or}
 use Rattle.std.specs.List.{AllByRecursion}
 use Rattle.model_core.specs.declared.model.Kind.{Kind}
 use Rattle.model_core.specs.declared.model.Kind.TheVariants as kinds
-use Rattle.model_core.specs.EventGraph.{EventGraph, Variable, Operator, Least, Greatest, Expression, Number, Truth, Clock, Scalar, Cell, Negative, Not, Binary, If, Delay, Fixed}
-use Rattle.model_core.specs.Text.Canonical.{operator_text, level, left_level, right_level, operand, binary_text, variable_name, expression_text, index_text, delay_text, condition_text}
+use Rattle.model_core.specs.EventGraph.{EventGraph, Variable, Operator, Least, Greatest, Expression, Number, Truth, Clock, Scalar, Cell, Negative, Not, Binary, If, Delay, Fixed, Drawn}
+use Rattle.model_core.specs.Text.Canonical.{operator_text, level, left_level, right_level, operand, binary_text, variable_name, expression_text, index_text, condition_text}
 use Rattle.model_core.specs.Text.Spellable.{operand_openings, binary_openings, expression_openings, index_openings, delay_openings, SpellableExpression}
 use Rattle.model_core.specs.Static.Kinds.{operand_kind}
 use Rattle.model_core.specs.Static.HasKind.{IsVariable, FitOperands, HasKind}
-use Rattle.model_core.specs.Rules.Uses.{variables_in, index_reads, delay_reads}
+use Rattle.model_core.specs.Rules.Uses.{variables_in, index_reads}
 use Rattle.model_core.specs.Rules.Slice.{expression_renumbered, delay_renumbered}
 use Rattle.model_core.proofs.EachOne.{every-front, every-behind}
 
@@ -53,6 +53,7 @@ index_openings-renumbered f (Some e) = ap suc (openings-renumbered f e)
 
 pub delay_openings-renumbered : (f : ℕ → ℕ) (delay : Delay) → delay_openings (delay_renumbered f delay) ≡ delay_openings delay
 delay_openings-renumbered f (Fixed e) = openings-renumbered f e
+delay_openings-renumbered f (Drawn stream choice) = refl
 
 -- ---- what a text can write
 
@@ -129,11 +130,7 @@ module _ (g h : EventGraph) (f : ℕ → ℕ) where
   index_text-renumbered None declared = refl
   index_text-renumbered (Some e) declared = ap (λ t. codes "[" ++ t ++ codes "]") (text-renumbered e declared)
 
-  -- `after 0` and `when true` are left out of both
-  pub delay_text-renumbered : (delay : Delay) → AllByRecursion IsDeclared (delay_reads delay) → delay_text h (delay_renumbered f delay) ≡ delay_text g delay
-  delay_text-renumbered (Fixed (Number (pos zero))) declared = refl
-  delay_text-renumbered (Fixed e) declared = ap (λ t. codes " after " ++ t) (text-renumbered e declared)
-
+  -- `when true` is left out of both
   pub condition_text-renumbered : (e : Expression) → AllByRecursion IsDeclared (variables_in e) → condition_text h (expression_renumbered f e) ≡ condition_text g e
   condition_text-renumbered (Truth true) declared = refl
   condition_text-renumbered e declared = ap (λ t. codes " when " ++ t) (text-renumbered e declared)

@@ -5,7 +5,7 @@ use Rattle.std.specs.Prelude.{position, replicate}
 use Rattle.std.specs.List.{AllByRecursion, prefix_len}
 use Rattle.model_core.specs.EventGraph.{EventGraph, EventVertex, Variable, Watched, WatchedVariable, WatchedVertex}
 use Rattle.model_core.specs.Run.State.{State, variable_at, cell_count, initial_state}
-use Rattle.model_core.specs.Run.Changes.{Drawn}
+use Rattle.model_core.specs.Run.Changes.{Changed}
 use Rattle.model_core.specs.Run.Pending.{TakenOff}
 use Rattle.model_core.specs.Run.Edges.{Planned}
 use Rattle.model_core.specs.Run.Step.{Configuration, no_vertex, vertex_at, occur}
@@ -31,8 +31,8 @@ WatchedMarked marks (WatchedVertex v) = Unit {0}
 
 -- in states of which Q holds, what stays of a vertex reads marked variables alone, and what goes doesn't fault
 pub record VertexFits (g : EventGraph) (marks live : List Bool) (Q : State → Type 0) (v : EventVertex) : Type 0 where
-  pub changes : (seed clk : ℕ) → clk ≤ 2 ^ 48 → AllByRecursion (λ c. (d : Drawn) → Q d.state → ChangeFits g marks live seed clk d c) v.changes
-  pub edges : (s : State) → Q s → (clk : ℕ) → clk ≤ 2 ^ 48 → AllByRecursion (EdgeFits g marks s clk) v.edges
+  pub changes : (seed clk : ℕ) → clk ≤ 2 ^ 48 → AllByRecursion (λ c. (d : Changed) → Q d.state → ChangeFits g marks live seed clk d c) v.changes
+  pub edges : (s : State) → Q s → (clk : ℕ) → clk ≤ 2 ^ 48 → AllByRecursion (EdgeFits g marks live s clk) v.edges
 
 pub record MayGo (g : EventGraph) (marks live : List Bool) (Q : State → Type 0) : Type 0 where
   pub vertices : (k : ℕ) → VertexFits g marks live Q (vertex_at g k)
@@ -86,7 +86,7 @@ module _ (g : EventGraph) (marks live : List Bool) (Q : State → Type 0) (ok : 
       let v = vertex_at g n.entry.vertex in
       let clk = n.entry.time in
       let LeftQ : State → State → Type 0 = λ t u. StateLeft marks t u × Q t in
-      let DrawnQ : Drawn → Drawn → Type 0 = λ d e. DrawnLeft marks live d e × Q d.state in
+      let DrawnQ : Changed → Changed → Type 0 = λ d e. DrawnLeft marks live d e × Q d.state in
       bind-alongside LeftQ Configurations (alongside-known (StateLeft marks) Q (received-alongside g marks s (marked_of marks s) refl clk v.parameters n.entry.values fit) (λ t done. received g Q ok.kept v.parameters n.entry.values s t q done)) _ _ (λ t u (left, qt).
       bind-alongside DrawnQ Configurations (changes-alongside g marks live seed clk (λ d. Q d.state) (λ c d e. ok.kept.by_change seed clk c d e) v.changes ((ok.vertices n.entry.vertex).changes seed clk due) (record { state = t; taken = taken }) (record { state = u; taken = words_left live taken }) (left, refl) qt) _ _ (λ d e ((is, words), qd).
       bind-alongside (PlannedLeft g marks live) Configurations (edges-alongside g marks live seed d.state e.state is clk v.edges ((ok.vertices n.entry.vertex).edges d.state qd clk due) (record { pending = n.others; taken = d.taken }) (record { pending = map (entry_left g marks) n.others; taken = e.taken }) (ap (λ (ns : List ℕ). record { pending = map (entry_left g marks) n.others; taken = ns }) words, fits)) _ _ (λ p p2 (same, all).

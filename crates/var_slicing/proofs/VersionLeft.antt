@@ -1,17 +1,17 @@
 -- What is left where the marked variables stay needs version 2 of a text only where the model did, and has no more cells.
-use Rattle.std.proofs.Common.{◌≡◌, inl, inr, ℕ, ◌≤◌, nat_lt, Bool, true, false, ◌||◌, cond, List, [], ◌∷◌, length, ap, ◌∙◌, arith}
-use Rattle.std.specs.List.{flat_map, list_any, sum_by}
+use Rattle.std.proofs.Common.{◌≡◌, ℕ, ◌≤◌, nat_lt, Bool, true, false, ◌||◌, cond, List, [], ◌∷◌, length, refl, sym, ap, ◌∙◌, arith}
+use Rattle.std.specs.List.{list_any, sum_by}
 use Rattle.std.proofs.lemmas.Bool.Decides.{nat_tests}
 use Rattle.std.proofs.lemmas.List.{length-map}
 use Rattle.std.proofs.lemmas.List.Sums.{sum_by-cons}
 use Rattle.sig_base.specs.declared.limits.TheConstants.{PARAMETERS_MAX_VERSION_1, TARGETS_MAX_VERSION_1}
-use Rattle.model_core.specs.EventGraph.{EventGraph, EventVertex, Expression, Location, StateChange, Set, Draw, Variable}
-use Rattle.model_core.specs.Text.VersionNeeded.{is_large_array, has_many_targets, has_many_parts}
+use Rattle.model_core.specs.EventGraph.{EventGraph, EventVertex, EventEdge, Expression, Location, StateChange, Set, Draw, Delay, Fixed, Drawn, EdgeKind, Schedule, Urgent, CancelNext, CancelEqual, CancelAll, Variable}
+use Rattle.model_core.specs.Text.VersionNeeded.{is_large_array, has_many_targets, has_later_parts}
 use Rattle.model_core.specs.Rules.MarkedPlaces.{rank, is_marked}
-use Rattle.model_core.specs.Rules.Slice.{location_renumbered, values_left, parameters_left, targets_left, set_or_nothing, change_left, vertex_left, of_marked_variables}
-use Rattle.model_core.proofs.Among.{either_true, first_true, second_true}
+use Rattle.model_core.specs.Rules.Uses.{is_drawn, timing_is_drawn, has_drawn_delay}
+use Rattle.model_core.specs.Rules.Slice.{location_renumbered, values_left, parameters_left, targets_left, set_or_nothing, change_left, delay_renumbered, kind_left, edge_left, vertex_left, of_marked_variables}
 use Rattle.model_core.proofs.SomeOfAList.{SomeOf, nothing, with_it, without, some-marked_of, some-kept_beside, some-few}
-use Rattle.round_trip.proofs.VersionsKept.{NeedsNoMore, needed-by, any-some, any-mapped, any-left}
+use Rattle.round_trip.proofs.VersionsKept.{NeedsNoMore, either_kept, needed-by, any-some, any-mapped, any-left}
 use Rattle.var_slicing.proofs.KeptBeside.{variables_of, parameters-kept, targets-kept}
 
 more_than : (limit a b : ℕ) → a ≤ b → nat_lt limit a ≡ true → nat_lt limit b ≡ true
@@ -45,17 +45,32 @@ change-needs marks (Draw target stream choice) e = tested (is_marked marks targe
   tested true e = e
   tested false e = e
 
-vertex-needs : (g : EventGraph) (marks : List Bool) (v : EventVertex) → has_many_parts (vertex_left g marks v) ≡ true → has_many_parts v ≡ true
+delay-needs : (f : ℕ → ℕ) (delay : Delay) → is_drawn (delay_renumbered f delay) ≡ is_drawn delay
+delay-needs f (Fixed e) = refl
+delay-needs f (Drawn stream choice) = refl
+
+kind-needs : (marks : List Bool) (kind : EdgeKind) → timing_is_drawn (kind_left marks kind) ≡ timing_is_drawn kind
+kind-needs marks (Schedule delay priority) = delay-needs (rank marks) delay
+kind-needs marks Urgent = refl
+kind-needs marks CancelNext = refl
+kind-needs marks CancelEqual = refl
+kind-needs marks CancelAll = refl
+
+edge-needs : (g : EventGraph) (marks : List Bool) (e : EventEdge) → has_drawn_delay (edge_left g marks e) ≡ true → has_drawn_delay e ≡ true
+edge-needs g marks e needs = sym (kind-needs marks e.kind) ∙ needs
+
+vertex-needs : (g : EventGraph) (marks : List Bool) (v : EventVertex) → has_later_parts (vertex_left g marks v) ≡ true → has_later_parts v ≡ true
 vertex-needs g marks v e =
-    let now = nat_lt PARAMETERS_MAX_VERSION_1 (length v.parameters) in
-    elim (either_true (nat_lt PARAMETERS_MAX_VERSION_1 (length (parameters_left marks v.parameters))) (list_any has_many_targets (flat_map (change_left marks) v.changes)) e) [
-      | inl h ↦ first_true now (list_any has_many_targets v.changes) (more_than PARAMETERS_MAX_VERSION_1 (length (parameters_left marks v.parameters)) (length v.parameters) (parameters-few marks v.parameters) h)
-      | inr h ↦ second_true now (list_any has_many_targets v.changes) (any-left has_many_targets has_many_targets (change_left marks) (change-needs marks) v.changes h)
-    ]
+    let left = vertex_left g marks v in
+    either_kept (nat_lt PARAMETERS_MAX_VERSION_1 (length left.parameters) || list_any has_many_targets left.changes) (list_any has_drawn_delay left.edges) (nat_lt PARAMETERS_MAX_VERSION_1 (length v.parameters) || list_any has_many_targets v.changes) (list_any has_drawn_delay v.edges)
+    (either_kept (nat_lt PARAMETERS_MAX_VERSION_1 (length left.parameters)) (list_any has_many_targets left.changes) (nat_lt PARAMETERS_MAX_VERSION_1 (length v.parameters)) (list_any has_many_targets v.changes)
+    (more_than PARAMETERS_MAX_VERSION_1 (length left.parameters) (length v.parameters) (parameters-few marks v.parameters))
+    (any-left has_many_targets has_many_targets (change_left marks) (change-needs marks) v.changes))
+    (any-mapped has_drawn_delay has_drawn_delay (edge_left g marks) (edge-needs g marks) v.edges) e
 
 pub needed-left : (g : EventGraph) (marks : List Bool) → NeedsNoMore (of_marked_variables g marks) g
 needed-left g marks =
-    needed-by (of_marked_variables g marks) g (any-some is_large_array (some-marked_of marks g.variables)) (any-mapped has_many_parts has_many_parts (vertex_left g marks) (vertex-needs g marks) g.vertices)
+    needed-by (of_marked_variables g marks) g (any-some is_large_array (some-marked_of marks g.variables)) (any-mapped has_later_parts has_later_parts (vertex_left g marks) (vertex-needs g marks) g.vertices)
 
 pub some-cells : {xs ys : List Variable} → SomeOf xs ys → sum_by (λ (v : Variable). v.size) xs ≤ sum_by (λ (v : Variable). v.size) ys
 some-cells nothing = omega arith

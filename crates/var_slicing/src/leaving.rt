@@ -83,6 +83,10 @@ fn delay_left(alloc: Global, staying: &Staying, delay: &Delay) -> Result<Delay, 
 {
     match delay {
         Delay::Fixed(expr) => Ok(Delay::Fixed(expr_left(alloc, staying, expr)?)),
+        Delay::Drawn { stream, choice } => Ok(Delay::Drawn {
+            stream: *stream,
+            choice: *choice,
+        }),
     }
 }
 

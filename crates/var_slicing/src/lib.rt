@@ -1,6 +1,7 @@
 //! Slice: which variables are needed, and the model without the others.
 #![tactic(auto)]
 
+mod delays;
 mod law;
 mod leaving;
 mod linking;

@@ -9,6 +9,7 @@ ghost use Rattle.model_core.specs.Rules.Needed.{watched_variables, compared_para
 ghost use Rattle.model_core.specs.Code.Views.{graph_of, vertex_of, change_of, edge_of, edge_kind_of, location_of, expression_of, watched_of};
 ghost use Rattle.var_slicing.specs.Inner.Needing.{collected_of, nothing, with_change, with_changes, with_all_changes, with_edge, with_edges, with_all_edges, beside_at, collected};
 
+use crate::delays::{add_delay_stream, add_drawn_from};
 use crate::streams::StreamDraw;
 use model_core::{Change, Edge, EdgeForm, Expr, Model, Target, Vertex, Watch};
 use range_bounds::{bounds, quiet_change, quiet_set, quiet_store};
@@ -16,12 +17,14 @@ use sig_base::NoMemory;
 use std::alloc::Global;
 use use_analysis::{add_deciding_reads, add_index_reads, add_places, add_variables};
 
-/// What is needed at once, pairs of which the second is needed where the first is, and the streams of draws.
+/// What is needed at once, pairs of which the second is needed where the first is, the streams of draws, and those of
+/// delays, each once.
 #[derive(Drop)]
 pub(crate) struct Needs {
     pub(crate) first: Vec<usize>,
     pub(crate) pairs: Vec<(usize, usize)>,
     pub(crate) draws: Vec<StreamDraw>,
+    delays: Vec<usize>,
 }
 
 /// Adds the variables of a watch list.
@@ -342,6 +345,7 @@ impl Needs {
             first: Vec::new(alloc),
             pairs: Vec::new(alloc),
             draws: Vec::new(alloc),
+            delays: Vec::new(alloc),
         }
     }
 
@@ -416,6 +420,7 @@ impl Needs {
         add_compared(&mut self.first, model, edge)?;
         add_deciding_reads(&mut self.first, edge)?;
         add_faulting_parameters(&mut self.first, model, edge)?;
+        add_delay_stream(&mut self.delays, edge)?;
         add_parameter_needs(alloc, &mut self.pairs, model, edge)
     }
 
@@ -453,6 +458,11 @@ impl Needs {
         add_places(&mut needs.first, parameters_at(model, 0))?;
         needs.add_all_changes(alloc, model, model.vertices.as_slice())?;
         needs.add_all_edges(alloc, model, model.vertices.as_slice())?;
+        add_drawn_from(
+            &mut needs.first,
+            needs.delays.as_slice(),
+            needs.draws.as_slice(),
+        )?;
         Ok(needs)
     }
 }

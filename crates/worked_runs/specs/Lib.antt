@@ -22,4 +22,5 @@ pub mod NeedingModels
 pub mod NarrowModel
 pub mod CertificateTexts
 pub mod TwinModels
+pub mod DrawnModels
 pub mod SavedExamples

@@ -2,7 +2,7 @@
 
 ghost use Rattle.std.specs.Prelude.{true, false, [], ◌∷◌, Some, None, codes};
 ghost use Rattle.model_core.specs.EventGraph.{Subtract, Divide, Add, Multiply, Equal, Below, And, Or, Least, Greatest};
-ghost use Rattle.model_core.specs.Text.Written.{Truth, Clock, Scalar, Cell, Negative, Not, Binary, If, TruthKind, TruthLiteral, Set, Draw, Uniform, Fixed, Schedule, Urgent, CancelNext, CancelEqual, CancelAll};
+ghost use Rattle.model_core.specs.Text.Written.{Truth, Clock, Scalar, Cell, Negative, Not, Binary, If, TruthKind, TruthLiteral, Set, Draw, Uniform, ByTable, Fixed, Drawn, Schedule, Urgent, CancelNext, CancelEqual, CancelAll};
 ghost use Rattle.model_core.specs.Text.Expressions.{expression_format};
 ghost use Rattle.model_core.specs.Text.Language.{variable_format, change_format, edge_format, text_format};
 ghost use Rattle.worked_runs.specs.GrammarTexts.{IsSpelled, IsModelText, IsRefusedAt, IsFrontRefusedAt};
@@ -39,6 +39,8 @@ pub fn lines_are_spelled()
     ensures draw { IsSpelled change_format (codes "draw X from 3 in 0..5;") (Draw 0 (storing (codes "X") 5) (figure 3 12) (Uniform (plain_figure 0 17) (plain_figure 5 20))) }
     ensures schedule { IsSpelled edge_format (codes "schedule A(1) after 2 priority 3 when X;") (with_carried (constant 1 11 ∷ []) (with_condition (reading (codes "X") 38) (leading 0 (spelled (codes "A") 9) (Schedule (Some (Fixed (constant 2 20))) (Some (figure 3 31)))))) }
     ensures bare_schedule { IsSpelled edge_format (codes "schedule A;") (leading 0 (spelled (codes "A") 9) (Schedule None None)) }
+    ensures drawn_delay { IsSpelled edge_format (codes "schedule A after draw from 3 in 0..5;") (leading 0 (spelled (codes "A") 9) (Schedule (Some (Drawn 17 (figure 3 27) (Uniform (plain_figure 0 32) (plain_figure 5 35)))) None)) }
+    ensures drawn_by_table { IsSpelled edge_format (codes "schedule A after draw from 3 by T;") (leading 0 (spelled (codes "A") 9) (Schedule (Some (Drawn 17 (figure 3 27) (ByTable (spelled (codes "T") 32)))) None)) }
     ensures urgent { IsSpelled edge_format (codes "urgent A(1);") (with_carried (constant 1 9 ∷ []) (leading 0 (spelled (codes "A") 7) Urgent)) }
     ensures cancel_next { IsSpelled edge_format (codes "cancel A;") (leading 0 (spelled (codes "A") 7) CancelNext) }
     ensures cancel_equal { IsSpelled edge_format (codes "cancel A(1);") (with_carried (constant 1 9 ∷ []) (leading 0 (spelled (codes "A") 7) CancelEqual)) }

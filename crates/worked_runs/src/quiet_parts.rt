@@ -2,7 +2,7 @@
 #![tactic(auto, unfolding(model_core::specs::Rules::BoundsTable::exact_bounds))]
 
 ghost use Rattle.std.specs.Prelude.{◌≡◌, pos, neg_ℤ, true, false, [], ◌∷◌};
-ghost use Rattle.model_core.specs.EventGraph.{Binary, Divide, Least, Set, Draw, Uniform, ByTable, Fixed, Schedule, Urgent, CancelNext};
+ghost use Rattle.model_core.specs.EventGraph.{Binary, Divide, Least, Set, Draw, Uniform, ByTable, Fixed, Drawn, Schedule, Urgent, CancelNext};
 ghost use Rattle.model_core.specs.Run.State.{variable_at};
 ghost use Rattle.model_core.specs.Rules.BoundsOfParts.{quiet_store, choice_bounds, quiet_change, quiet_edge};
 ghost use Rattle.worked_runs.specs.Building.{whole, at_variable, at_cell, set, plain_edge, only_if};
@@ -38,6 +38,9 @@ pub fn edges_may_be_quiet()
     ensures scheduled { quiet_edge bounded (only_if b (plain_edge (Schedule (Fixed x) 5) 0 (y ∷ []))) ≡ true }
     ensures delay_below { quiet_edge bounded (plain_edge (Schedule (Fixed y) 5) 0 []) ≡ false }
     ensures delay_is_a_fault { quiet_edge bounded (plain_edge (Schedule (Fixed (Binary Divide (whole 1) x)) 5) 0 []) ≡ false }
+    ensures drawn_delay { quiet_edge bounded (plain_edge (Schedule (Drawn 54 (Uniform (pos 0) (pos 3))) 5) 0 []) ≡ true }
+    ensures drawn_below { quiet_edge bounded (plain_edge (Schedule (Drawn 54 (Uniform (neg_ℤ (pos 1)) (pos 3))) 5) 0 []) ≡ false }
+    ensures drawn_by_table { quiet_edge bounded (plain_edge (Schedule (Drawn 54 (ByTable 0)) 5) 0 []) ≡ false }
     ensures condition_is_a_fault { quiet_edge bounded (only_if over_x_is_1 (plain_edge Urgent 0 [])) ≡ false }
     ensures value_is_a_fault { quiet_edge bounded (plain_edge Urgent 0 (x ∷ over_x_is_1 ∷ [])) ≡ false }
     ensures cancelled { quiet_edge bounded (plain_edge CancelNext 0 []) ≡ true }

@@ -1,5 +1,5 @@
 -- The static rules that depend on the version of a text. One of version 2 keeps the limit on the cells of all arrays together;
--- any other keeps the limits of version 1 beside those that every text keeps.
+-- any other keeps the limits of version 1 beside those that every text keeps, and draws no delay.
 use Rattle.std.specs.Prelude.{ℕ, ◌+◌, pos, Bool, true, false, cond, nat_le, nat_lt, List, [], ◌∷◌, ◌++◌, map, Option}
 use Rattle.std.specs.List.{flat_map}
 use Rattle.std.specs.Option.{option_map_or}
@@ -7,16 +7,16 @@ use Rattle.sig_base.specs.declared.limits.TheConstants.{ARRAY_CELLS_MAX, ARRAY_C
 use Rattle.model_core.specs.declared.static_kind.StaticKind.TheVariants as rules
 use Rattle.model_core.specs.Text.Numbering.{natural, written_or}
 use Rattle.model_core.specs.Text.Written as written
-use Rattle.model_core.specs.Text.Written.{WrittenNumber, WrittenVariable, WrittenChange, WrittenVertex, WrittenModel}
+use Rattle.model_core.specs.Text.Written.{WrittenNumber, WrittenVariable, WrittenChange, WrittenDelay, WrittenEdgeKind, WrittenEdge, WrittenVertex, WrittenModel}
 use Rattle.model_core.specs.Static.FaultOrder.{StaticFault, fault_where}
-use Rattle.model_core.specs.Static.RuleTable.{is_between, certain_value, number_too_large, size_outside, version_unknown, too_many}
+use Rattle.model_core.specs.Static.RuleTable.{is_between, certain_value, number_too_large, size_outside, version_unknown, version_needed, too_many}
 use Rattle.model_core.specs.Static.PartFaults.{if_written, written_items, name_place, target_place}
 
 -- a text is of version 2 where it says so
 abbrev pub is_version_two : Option WrittenNumber → Bool
 is_version_two version = option_map_or (λ n. is_between (pos 2) (pos 2) (certain_value n)) version false
 
--- a version that isn't known is that of no text
+-- what the number of a version breaks: it is too large for a number, or no version that there is
 abbrev pub number_faults : WrittenNumber → List StaticFault
 number_faults n = number_too_large n ++ version_unknown n
 
@@ -29,10 +29,22 @@ abbrev pub target_faults_version_1 : WrittenChange → List StaticFault
 target_faults_version_1 (written.Set at targets values) = too_many TARGETS_MAX_VERSION_1 (map target_place targets)
 target_faults_version_1 (written.Draw at target stream choice) = []
 
+abbrev pub delay_faults_version_1 : WrittenDelay → List StaticFault
+delay_faults_version_1 (written.Fixed e) = []
+delay_faults_version_1 (written.Drawn at stream choice) = version_needed at
+
+abbrev pub timing_faults_version_1 : WrittenEdgeKind → List StaticFault
+timing_faults_version_1 (written.Schedule after priority) = if_written delay_faults_version_1 after
+timing_faults_version_1 kind = []
+
+abbrev pub edge_faults_version_1 : WrittenEdge → List StaticFault
+edge_faults_version_1 e = timing_faults_version_1 e.kind
+
 abbrev pub vertex_faults_version_1 : WrittenVertex → List StaticFault
 vertex_faults_version_1 v =
     too_many PARAMETERS_MAX_VERSION_1 (map name_place (written_items v.parameters))
     ++ flat_map target_faults_version_1 v.changes
+    ++ flat_map edge_faults_version_1 v.edges
 
 abbrev pub faults_version_1 : WrittenModel → List StaticFault
 faults_version_1 m = flat_map size_faults_version_1 m.variables ++ flat_map vertex_faults_version_1 m.vertices

@@ -1,7 +1,7 @@
 -- An edge does the same in two states that hold the same in each variable that it reads.
 use Rattle.std.proofs.Common.{◌≡◌, ℕ, ◌+◌, ℤ, cond, List, ◌++◌, Ok, refl, ap, ap₂}
 use Rattle.std.specs.List.{AllByRecursion, flat_map}
-use Rattle.model_core.specs.EventGraph.{EventGraph, EventEdge, Delay, Fixed, EdgeKind, Schedule, Urgent, CancelNext, CancelEqual, CancelAll}
+use Rattle.model_core.specs.EventGraph.{EventGraph, EventEdge, Delay, Fixed, Drawn, EdgeKind, Schedule, Urgent, CancelNext, CancelEqual, CancelAll}
 use Rattle.model_core.specs.Run.State.{State}
 use Rattle.model_core.specs.Run.Value.{OrFault, ◌>>=◌, is_one}
 use Rattle.model_core.specs.Run.Pending.{is_with, without_next}
@@ -17,6 +17,7 @@ module _ (g : EventGraph) (seed : ℕ) (s t : State) (clk : ℕ) where
   pub delay-held : (delay : Delay) → AllHold (delay_reads delay) → (taken : List ℕ) → delay_of g seed s clk delay taken ≡ delay_of g seed t clk delay taken
   delay-held (Fixed e) reads taken =
       ap (λ (r : OrFault ℤ). r >>= λ wait. delay_ticks wait >>= λ n. let q : OrFault Waiting = Ok (record { ticks = n; taken = taken }) in q) (value-held g s t clk e reads)
+  delay-held (Drawn stream choice) reads taken = refl
 
   act-held : (e : EventEdge) (kind : EdgeKind) → AllHold (timing_reads kind) → AllByRecursion (λ e. AllHold (variables_in e)) e.values → (p : Planned) → act g seed s clk e kind p ≡ act g seed t clk e kind p
   act-held e (Schedule delay priority) reads values p =

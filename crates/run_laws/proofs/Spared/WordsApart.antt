@@ -1,12 +1,13 @@
 -- An edge does the same, whatever words were taken from the streams from which it doesn't draw.
 use Rattle.std.proofs.Common.{◌≡◌, ℕ, ◌+◌, Bool, true, false, cond, List, [], slice_set, Ok, refl, ◌∙◌, ap}
 use Rattle.std.specs.List.{AllByRecursion}
-use Rattle.model_core.specs.EventGraph.{EventGraph, EventEdge, Delay, Fixed, EdgeKind, Schedule, Urgent, CancelNext, CancelEqual, CancelAll}
+use Rattle.sig_base.specs.Stream.{word}
+use Rattle.model_core.specs.EventGraph.{EventGraph, EventEdge, Delay, Fixed, Drawn, EdgeKind, Schedule, Urgent, CancelNext, CancelEqual, CancelAll}
 use Rattle.model_core.specs.Run.State.{State}
 use Rattle.model_core.specs.Run.Value.{OrFault, ◌>>=◌, value_of, is_one}
-use Rattle.model_core.specs.Run.Changes.{taken_from}
+use Rattle.model_core.specs.Run.Changes.{taken_from, picked}
 use Rattle.model_core.specs.Run.Edges.{Planned, Waiting, delay_ticks, delay_of, carried_values, scheduled, act, treat}
-use Rattle.model_core.specs.Rules.Uses.{delay_streams, timing_streams, edge_streams}
+use Rattle.model_core.specs.Rules.Uses.{delay_streams, timing_streams, edge_streams, is_drawn, timing_is_drawn, has_drawn_delay}
 use Rattle.run_laws.proofs.Spared.InTurn.{result_by, bind-after, bind-within}
 
 -- a change of the words taken that leaves this stream as it is, before and after a word of it is taken
@@ -27,6 +28,10 @@ module _ (g : EventGraph) (seed : ℕ) (s : State) (clk : ℕ) (u : List ℕ →
   delay-apart (Fixed e) streams taken =
       bind-within (wait_changed u) (value_of g s clk e) _ _ (λ wait a.
       bind-within (wait_changed u) (delay_ticks wait) _ _ (λ n b. refl))
+  delay-apart (Drawn stream choice) (apart, none) taken =
+      ap (λ (k : ℕ). delay_ticks (picked g choice (word seed stream k)) >>= λ n. let r : OrFault Waiting = Ok (record { ticks = n; taken = slice_set (u taken) stream (k + 1) }) in r) (apart.taken_from_it taken) ∙
+      bind-within (wait_changed u) (delay_ticks (picked g choice (word seed stream (taken_from taken stream)))) _ _ (λ n is.
+      ap (λ (t : List ℕ). let r : OrFault Waiting = Ok (record { ticks = n; taken = t }) in r) (apart.set_after taken (taken_from taken stream + 1)))
 
   act-apart : (e : EventEdge) (kind : EdgeKind) → AllByRecursion (WordsApart u) (timing_streams kind) → (p : Planned) → act g seed s clk e kind (words_changed u p) ≡ result_by (words_changed u) (act g seed s clk e kind p)
   act-apart e (Schedule delay priority) streams p =
@@ -45,17 +50,18 @@ module _ (g : EventGraph) (seed : ℕ) (s : State) (clk : ℕ) (u : List ℕ →
     tested true = act-apart e e.kind streams p
     tested false = refl
 
--- ---- no edge draws
+-- ---- an edge whose delay isn't drawn draws from no stream
 
-delay-undrawn : (d : Delay) → delay_streams d ≡ []
-delay-undrawn (Fixed e) = refl
+delay-undrawn : (d : Delay) → is_drawn d ≡ false → delay_streams d ≡ []
+delay-undrawn (Fixed e) fixed = refl
+delay-undrawn (Drawn stream choice) fixed = cc
 
-timing-undrawn : (kind : EdgeKind) → timing_streams kind ≡ []
-timing-undrawn (Schedule delay priority) = delay-undrawn delay
-timing-undrawn Urgent = refl
-timing-undrawn CancelNext = refl
-timing-undrawn CancelEqual = refl
-timing-undrawn CancelAll = refl
+timing-undrawn : (kind : EdgeKind) → timing_is_drawn kind ≡ false → timing_streams kind ≡ []
+timing-undrawn (Schedule delay priority) fixed = delay-undrawn delay fixed
+timing-undrawn Urgent fixed = refl
+timing-undrawn CancelNext fixed = refl
+timing-undrawn CancelEqual fixed = refl
+timing-undrawn CancelAll fixed = refl
 
-pub edge-undrawn : (e : EventEdge) → edge_streams e ≡ []
-edge-undrawn e = timing-undrawn e.kind
+pub undrawn : (e : EventEdge) → has_drawn_delay e ≡ false → edge_streams e ≡ []
+undrawn e fixed = timing-undrawn e.kind fixed

@@ -9,30 +9,31 @@ use Rattle.std.proofs.lemmas.Option.{same_Some}
 use Rattle.sig_base.specs.declared.limits.TheConstants.{ARRAY_CELLS_MAX, ARRAY_CELLS_MAX_VERSION_1, CELLS_MAX, PARAMETERS_MAX_VERSION_1, TARGETS_MAX_VERSION_1}
 use Rattle.model_core.specs.declared.static_kind.StaticKind.TheVariants as rules
 use Rattle.model_core.specs.EventGraph as graph
-use Rattle.model_core.specs.EventGraph.{EventGraph, EventVertex, StateChange, Variable, WeightTable, Watched}
+use Rattle.model_core.specs.EventGraph.{EventGraph, EventVertex, EventEdge, Delay, EdgeKind, StateChange, Variable, WeightTable, Watched}
 use Rattle.model_core.specs.Text.Written as written
-use Rattle.model_core.specs.Text.Written.{WrittenNumber, WrittenVariable, WrittenChange, WrittenVertex, WrittenModel}
+use Rattle.model_core.specs.Text.Written.{WrittenNumber, WrittenVariable, WrittenChange, WrittenDelay, WrittenEdgeKind, WrittenEdge, WrittenVertex, WrittenModel}
 use Rattle.model_core.specs.Text.Numbering as numbering
-use Rattle.model_core.specs.Text.Numbering.{◌>>=◌, each_numbered, written_or, Declared, declared_by, natural_of, natural, numbered}
-use Rattle.model_core.specs.Text.VersionNeeded.{is_large_array, has_many_targets, has_many_parts, needs_version_two}
+use Rattle.model_core.specs.Text.Numbering.{◌>>=◌, each_numbered, written_or, declared_place, Declared, declared_by, natural_of, natural, numbered}
+use Rattle.model_core.specs.Rules.Uses.{is_drawn, timing_is_drawn, has_drawn_delay}
+use Rattle.model_core.specs.Text.VersionNeeded.{is_large_array, has_many_targets, has_later_parts, needs_version_two}
 use Rattle.model_core.specs.Static.FaultOrder.{StaticFault, fault_where}
 use Rattle.model_core.specs.Static.RuleTable.{is_between, certain_value, size_outside, too_many}
 use Rattle.model_core.specs.Static.PartFaults.{if_written, written_items, name_place, target_place}
-use Rattle.model_core.specs.Static.VersionFaults.{is_version_two, number_faults, size_faults_version_1, target_faults_version_1, vertex_faults_version_1, faults_version_1, cells_within, counted_cells, cells_faults, version_faults}
+use Rattle.model_core.specs.Static.VersionFaults.{is_version_two, number_faults, size_faults_version_1, target_faults_version_1, delay_faults_version_1, timing_faults_version_1, edge_faults_version_1, vertex_faults_version_1, faults_version_1, cells_within, counted_cells, cells_faults, version_faults}
 use Rattle.model_core.specs.Static.OwnRules.{KeepsVariable, KeepsParts}
 use Rattle.model_core.specs.Static.WrittenByKind.{IsNoZero, IsWrittenByKind, VariablesByKind}
 use Rattle.model_core.proofs.EachOne.{either_false}
 use Rattle.model_core.proofs.EmptyLists.{left_empty, right_empty}
 use Rattle.static_laws.specs.FitsVersion.{FitsVersion}
 use Rattle.static_laws.proofs.LeftOut.{each_numbered-items}
-use Rattle.static_laws.proofs.StaticTwins.MadeOf.{of_two, of_three, of_four, of_each}
+use Rattle.static_laws.proofs.StaticTwins.MadeOf.{of_one, of_two, of_three, of_four, of_each}
 use Rattle.static_laws.proofs.StaticTwins.Twins.{both_empty, Twin}
 use Rattle.static_laws.proofs.StaticTwins.RowTwins.{is_not, not_above, told_by, natural_between}
 use Rattle.static_laws.proofs.StaticTwins.DeclarationTwins.{few_items, some_cells, natural_is}
 use Rattle.static_laws.proofs.StaticTwins.DeclaredNames.{variable_size}
-use Rattle.static_laws.proofs.StaticTwins.VertexTwins.{numbered_parameters, vertex_made}
+use Rattle.static_laws.proofs.StaticTwins.VertexTwins.{numbered_parameters, edge_made, vertex_made}
 
--- ---- the limits of version 1
+-- ---- what version 1 allows
 
 -- two lists of faults that tell of two tests
 both_fit : (fs gs : List StaticFault) (a b : Bool) → (fs ≡ [] ↔ a ≡ false) → (gs ≡ [] ↔ b ≡ false) → fs ++ gs ≡ [] ↔ (a || b) ≡ false
@@ -41,11 +42,11 @@ both_fit fs gs a b p q = (λ e. neither (p.0 (left_empty fs gs e)) (q.0 (right_e
     neither : a ≡ false → b ≡ false → (a || b) ≡ false
     neither h k = rw (h, k) refl
 
--- no fault where nothing passes a limit
+-- no fault where a test is failed
 none_fits : (fs : List StaticFault) (b : Bool) → fs ≡ [] → b ≡ false → fs ≡ [] ↔ b ≡ false
 none_fits fs b e h = (λ n. h, λ n. e)
 
--- parts that break no rule where nothing that they are numbered as passes a limit
+-- parts that break no rule where nothing that they are numbered as passes a test
 each_fits : {A B : Type 0} (faults : A → List StaticFault) (f : A → Option B) (C : A → Type 0) (passes : B → Bool) → ((x : A) (y : B) → C x → f x ≡ Some y → (faults x ≡ [] ↔ passes y ≡ false))
     → (xs : List A) (ys : List B) → AllByRecursion C xs → each_numbered f xs ≡ Some ys → flat_map faults xs ≡ [] ↔ list_any passes ys ≡ false
 each_fits faults f C passes tells [] ys h e = none_fits [] (list_any passes ys) refl (ap (list_any passes) (sym (same_Some [] ys e)))
@@ -90,13 +91,39 @@ module _ (d : Declared) where
       let p = of_three graph.Draw (numbering.location d target) (natural stream) (numbering.choice d c) y e in
       none_fits [] (has_many_targets y) refl (ap has_many_targets (sym p.made))
 
-  vertex_fits : (v : WrittenVertex) (y : EventVertex) → numbering.vertex d v ≡ Some y → vertex_faults_version_1 v ≡ [] ↔ has_many_parts y ≡ false
+  delay_fits : (w : WrittenDelay) (y : Delay) → numbering.delay d w ≡ Some y → delay_faults_version_1 w ≡ [] ↔ is_drawn y ≡ false
+  delay_fits (written.Fixed e) y s = let p = of_one graph.Fixed (numbering.expression d e) y s in none_fits [] (is_drawn y) refl (ap is_drawn (sym p.made))
+  delay_fits (written.Drawn at stream c) y s =
+      let p = of_two graph.Drawn (natural stream) (numbering.choice d c) y s in
+      subst (λ z. delay_faults_version_1 (written.Drawn at stream c) ≡ [] ↔ is_drawn z ≡ false) p.made (told_by true rules.VersionNeeded at (λ e. e, λ e. e))
+
+  after_fits : (after : Option WrittenDelay) (y : Delay) → written_or (numbering.delay d) (graph.Fixed (graph.Number (pos 0))) after ≡ Some y → if_written delay_faults_version_1 after ≡ [] ↔ is_drawn y ≡ false
+  after_fits None y s = none_fits [] (is_drawn y) refl (ap is_drawn (sym (same_Some (graph.Fixed (graph.Number (pos 0))) y s)))
+  after_fits (Some w) y s = delay_fits w y s
+
+  timing_fits : (k : WrittenEdgeKind) (y : EdgeKind) → numbering.edge_kind d k ≡ Some y → timing_faults_version_1 k ≡ [] ↔ timing_is_drawn y ≡ false
+  timing_fits (written.Schedule after priority) y s =
+      let p = of_two graph.Schedule (written_or (numbering.delay d) (graph.Fixed (graph.Number (pos 0))) after) (written_or natural 5 priority) y s in
+      subst (λ z. if_written delay_faults_version_1 after ≡ [] ↔ timing_is_drawn z ≡ false) p.made (after_fits after p.a p.is_a)
+  timing_fits written.Urgent y s = none_fits [] (timing_is_drawn y) refl (ap timing_is_drawn (sym (same_Some graph.Urgent y s)))
+  timing_fits written.CancelNext y s = none_fits [] (timing_is_drawn y) refl (ap timing_is_drawn (sym (same_Some graph.CancelNext y s)))
+  timing_fits written.CancelEqual y s = none_fits [] (timing_is_drawn y) refl (ap timing_is_drawn (sym (same_Some graph.CancelEqual y s)))
+  timing_fits written.CancelAll y s = none_fits [] (timing_is_drawn y) refl (ap timing_is_drawn (sym (same_Some graph.CancelAll y s)))
+
+  edge_fits : (e : WrittenEdge) (y : EventEdge) → numbering.edge d e ≡ Some y → edge_faults_version_1 e ≡ [] ↔ has_drawn_delay y ≡ false
+  edge_fits e y s =
+      let p = of_four edge_made (declared_place e.target.name d.vertices) (written_or (each_numbered (numbering.expression d)) [] e.values) (written_or (numbering.expression d) (graph.Truth true) e.condition) (numbering.edge_kind d e.kind) y s in
+      subst (λ z. edge_faults_version_1 e ≡ [] ↔ has_drawn_delay z ≡ false) p.made (timing_fits e.kind p.d p.is_d)
+
+  vertex_fits : (v : WrittenVertex) (y : EventVertex) → numbering.vertex d v ≡ Some y → vertex_faults_version_1 v ≡ [] ↔ has_later_parts y ≡ false
   vertex_fits v y e =
       let p = of_three (vertex_made v.name.name) (numbered_parameters d v) (each_numbered (numbering.change d) v.changes) (each_numbered (numbering.edge d) v.edges) y e in
-      subst (λ z. vertex_faults_version_1 v ≡ [] ↔ has_many_parts z ≡ false) p.made
+      subst (λ z. vertex_faults_version_1 v ≡ [] ↔ has_later_parts z ≡ false) p.made
+      (both_fit (too_many PARAMETERS_MAX_VERSION_1 (map name_place (written_items v.parameters)) ++ flat_map target_faults_version_1 v.changes) (flat_map edge_faults_version_1 v.edges) (nat_lt PARAMETERS_MAX_VERSION_1 (length p.a) || list_any has_many_targets p.b) (list_any has_drawn_delay p.c)
       (both_fit (too_many PARAMETERS_MAX_VERSION_1 (map name_place (written_items v.parameters))) (flat_map target_faults_version_1 v.changes) (nat_lt PARAMETERS_MAX_VERSION_1 (length p.a)) (list_any has_many_targets p.b)
       (few_fit PARAMETERS_MAX_VERSION_1 name_place (numbering.numbered_parameter d) (written_items v.parameters) p.a (each_numbered-items (numbering.numbered_parameter d) v.parameters ∙ p.is_a))
       (each_fits target_faults_version_1 (numbering.change d) (λ c. Unit {0}) has_many_targets (λ c z k s. change_fits c z s) v.changes p.b (nothing_asked v.changes) p.is_b))
+      (each_fits edge_faults_version_1 (numbering.edge d) (λ w. Unit {0}) has_drawn_delay (λ w z k s. edge_fits w z s) v.edges p.c (nothing_asked v.edges) p.is_c))
 
 -- ---- the cells of all arrays together
 
@@ -202,15 +229,15 @@ module _ (m : WrittenModel) (g : EventGraph) (is : numbered m ≡ Some g) (keeps
 
   within_version_1 : faults_version_1 m ≡ [] ↔ needs_version_two g ≡ false
   within_version_1 =
-      both_fit (flat_map size_faults_version_1 m.variables) (flat_map vertex_faults_version_1 m.vertices) (list_any is_large_array g.variables) (list_any has_many_parts g.vertices)
+      both_fit (flat_map size_faults_version_1 m.variables) (flat_map vertex_faults_version_1 m.vertices) (list_any is_large_array g.variables) (list_any has_later_parts g.vertices)
       (each_fits size_faults_version_1 numbering.variable IsWrittenByKind is_large_array variable_fits m.variables g.variables by_kind declared_numbered.variables)
-      (each_fits vertex_faults_version_1 (numbering.vertex (declared_by m)) (λ v. Unit {0}) has_many_parts (λ v y k s. vertex_fits (declared_by m) v y s) m.vertices g.vertices (nothing_asked m.vertices) declared_numbered.vertices)
+      (each_fits vertex_faults_version_1 (numbering.vertex (declared_by m)) (λ v. Unit {0}) has_later_parts (λ v y k s. vertex_fits (declared_by m) v y s) m.vertices g.vertices (nothing_asked m.vertices) declared_numbered.vertices)
 
   few_together : cells_faults 0 m.variables ≡ [] ↔ cells g.variables ≤ CELLS_MAX
   few_together = let t = cells_few m.variables g.variables 0 (lit≤ tt) declared_numbered.variables keeps.variables in (λ n. omega (arith, t.0 n), λ n. t.1 (omega arith))
 
   few_of_version_1 : needs_version_two g ≡ false → cells g.variables ≤ CELLS_MAX
-  few_of_version_1 e = omega (arith, small_arrays ARRAY_CELLS_MAX_VERSION_1 g.variables (either_false (list_any is_large_array g.variables) (list_any has_many_parts g.vertices) e).0, keeps.few_variables)
+  few_of_version_1 e = omega (arith, small_arrays ARRAY_CELLS_MAX_VERSION_1 g.variables (either_false (list_any is_large_array g.variables) (list_any has_later_parts g.vertices) e).0, keeps.few_variables)
 
   pub version_twin : version_faults m ≡ [] ↔ FitsVersion m.version g × (sum_by (λ (v : Variable). v.size) g.variables ≤ CELLS_MAX)
   version_twin = by_version g (faults_version_1 m) (cells_faults 0 m.variables) (cells g.variables ≤ CELLS_MAX) within_version_1 few_together few_of_version_1 m.version

@@ -30,11 +30,15 @@ use Rattle.static_laws.proofs.StaticTwins.NamesAgree.{NamesAgree, one_shape, var
 use Rattle.static_laws.proofs.StaticTwins.RepeatedNames.{names_of, distinct_names, distinct_along, distinct_back}
 use Rattle.static_laws.proofs.StaticTwins.NumberedPlaces.{same_place, each_zip}
 use Rattle.static_laws.proofs.StaticTwins.ExpressionTwins.{operand_twin, values_twin}
-use Rattle.static_laws.proofs.StaticTwins.ChangeTwins.{change_twin}
+use Rattle.static_laws.proofs.StaticTwins.ChangeTwins.{source_twin, change_twin}
 
 -- the parameters of a vertex, as they are numbered
 abbrev pub numbered_parameters : Declared → WrittenVertex → Option (List ℕ)
 numbered_parameters d v = written_or (each_numbered (numbering.numbered_parameter d)) [] v.parameters
+
+-- the edge that is made of these
+abbrev pub edge_made : ℕ → List Expression → Expression → EdgeKind → EventEdge
+edge_made target values condition kind = record { target = target; values = values; condition = condition; kind = kind }
 
 -- the vertex that is made of these
 abbrev pub vertex_made : List ℕ → List ℕ → List graph.StateChange → List EventEdge → EventVertex
@@ -192,6 +196,7 @@ module _ (means : List ℕ → Option Meaning) (d : Declared) (variables : List 
 
     delay_twin : (w : WrittenDelay) → Twin (delay_faults means taken w) (numbering.delay d w) (KeepsDelay variables tables takes)
     delay_twin (written.Fixed e) = twin_map graph.Fixed (operand_faults means (Some kinds.Range) e) (numbering.expression d e) (λ y. HasKind variables y kinds.Range) (KeepsDelay variables tables takes) (λ y k. k) (λ y k. k) (operand_twin means d variables tables vertices agree kinds.Range e)
+    delay_twin (written.Drawn at stream c) = source_twin means d variables tables vertices agree takes graph.Drawn (KeepsDelay variables tables takes) (λ k ch q. q) (λ k ch q. q) stream c
 
     timing_twin : (kind : WrittenEdgeKind) → Twin (schedule_faults means taken kind) (numbering.edge_kind d kind) (KeepsTiming variables tables takes)
     timing_twin (written.Schedule after priority) =
@@ -206,9 +211,6 @@ module _ (means : List ℕ → Option Meaning) (d : Declared) (variables : List 
 
     condition_twin : (o : Option WrittenExpression) → Twin (if_written (operand_faults means (Some kinds.Truth)) o) (written_or (numbering.expression d) (graph.Truth true) o) (λ y. HasKind variables y kinds.Truth)
     condition_twin o = twin_or (operand_faults means (Some kinds.Truth)) (numbering.expression d) (graph.Truth true) (λ y. HasKind variables y kinds.Truth) refl (operand_twin means d variables tables vertices agree kinds.Truth) o
-
-    abbrev edge_made : ℕ → List Expression → Expression → EdgeKind → EventEdge
-    edge_made target values condition kind = record { target = target; values = values; condition = condition; kind = kind }
 
     edge_twin : (e : WrittenEdge) → Twin (edge_faults means taken e) (numbering.edge d e) (KeepsEdge variables tables takes)
     edge_twin e = record {

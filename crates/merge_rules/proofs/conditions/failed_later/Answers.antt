@@ -4,7 +4,7 @@ use Rattle.model_core.specs.declared.vertex.Edge.{Edge}
 use Rattle.model_core.specs.EventGraph.{EventGraph, EventVertex}
 use Rattle.model_core.specs.Run.Step.{vertex_at}
 use Rattle.model_core.specs.Rules.BoundsOfParts.{quiet_edge}
-use Rattle.model_core.specs.Rules.Uses.{vertex_writes}
+use Rattle.model_core.specs.Rules.Uses.{vertex_writes, has_drawn_delay}
 use Rattle.model_core.specs.Rules.Merge.{cancels, is_watched_vertex, reads_none_of, happens_unseen, values_at_once, other_edges}
 use Rattle.model_core.specs.Code.Views.{graph_of, edge_of}
 use Rattle.merge_rules.proofs.FirstOfSeven.{fourth_fails, fifth_fails, sixth_fails, seventh_fails, none_fails}
@@ -17,7 +17,7 @@ abbrev fifth : ℕ → EventVertex → Bool
 fifth second a = not (list_any (cancels second) a.edges)
 
 abbrev sixth : EventGraph → EventVertex → EventVertex → Bool
-sixth g a b = list_all (λ e. quiet_edge g e && reads_none_of (vertex_writes b) e) (other_edges a)
+sixth g a b = list_all (λ e. quiet_edge g e && reads_none_of (vertex_writes b) e && not (has_drawn_delay e)) (other_edges a)
 
 abbrev seventh : EventGraph → ℕ → EventVertex → EventVertex → Bool
 seventh g first a b = not (is_watched_vertex g first) || happens_unseen g b (values_at_once a)

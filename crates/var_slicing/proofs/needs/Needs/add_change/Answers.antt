@@ -19,7 +19,7 @@ returns-in_ok-add_faulting_targets-in-Set c =
     let faulting : List (Location × Expression) → List ℕ = flat_map (λ ((l, e) : Location × Expression). faulting_target g l e) in
     let needs : List (Location × Expression) → List (ℕ × ℕ) = flat_map (λ ((l, e) : Location × Expression). each_beside l.variable (location_reads l ++ variables_in e)) in
     let sets : List Target → List Expr → List (Location × Expression) = λ ts es. zip (map location_of ts) (map expression_of es) in
-    let with_draws : List (ℕ × ℕ) → List ℕ → List (ℕ × ℕ) → Collected = λ draws first pairs. record { first = first; pairs = pairs; draws = draws } in
+    let with_draws : List (ℕ × ℕ) → List ℕ → List (ℕ × ℕ) → Collected = λ draws first pairs. record { first = first; pairs = pairs; draws = draws; delays = n.delays } in
     let all = sets c.in-Set.targets c.in-Set.values in
     on_ok_weaker c.add_all_target_needs.result
     (λ same.

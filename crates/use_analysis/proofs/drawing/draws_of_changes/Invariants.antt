@@ -3,7 +3,7 @@ use Rattle.std.specs.List.{flat_map}
 use Rattle.model_core.specs.Rules.MarkedPlaces.{is_among}
 use Rattle.model_core.specs.Rules.Uses.{change_streams}
 use Rattle.model_core.specs.Code.Views.{change_of}
-use Rattle.conflict_report.proofs.sharing.one_draws.Given as goal
+use Rattle.use_analysis.proofs.drawing.draws_of_changes.Given as goal
 
 abbrev pub invariant-loop-change : goal.invariant-loop-change
 invariant-loop-change l =
