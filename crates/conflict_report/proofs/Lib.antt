@@ -6,8 +6,13 @@ pub mod OtherVertices
 pub mod PutIn
 pub mod EventsOfVertex
 pub mod EitherOrder
+pub mod NumbersInCommon
 pub mod NoConflict
 pub mod CrossedEvents
 pub mod PerformedInTurn
 pub mod TwoOrders
-pub mod RowsOfPriorities
+pub mod BitsOfSets
+pub mod NumbersNoted
+pub mod ListsTouched
+pub mod PrioritiesHeld
+pub mod TablesNoted

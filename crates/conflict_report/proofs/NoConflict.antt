@@ -1,5 +1,5 @@
 -- What is known of two vertices that aren't in conflict although they have a priority in common.
-use Rattle.std.proofs.Common.{◌≡◌, ℕ, ◌==◌, Bool, true, false, cond, ◌&&◌, ◌||◌, List, [], ◌∷◌, ◌++◌, map, inl, inr, refl, sym, ap, subst}
+use Rattle.std.proofs.Common.{◌≡◌, ℕ, ◌==◌, Bool, true, false, cond, ◌&&◌, ◌||◌, List, [], ◌∷◌, ◌++◌, map, inl, inr, refl, sym, ap, subst, ◌∙◌}
 use Rattle.std.specs.List.{AllByRecursion, flat_map}
 use Rattle.model_core.specs.EventGraph.{EventGraph, EventVertex, EventEdge}
 use Rattle.model_core.specs.Run.Step.{vertex_at}
@@ -11,34 +11,16 @@ use Rattle.model_core.specs.Conflicts.Priorities.{HasOwnPriority, priorities_of}
 use Rattle.model_core.specs.Conflicts.Conflict.{in_common, over_variables, over_streams, over_events, in_conflict, named_vertices, edge_cancelled, cancelled_vertices}
 use Rattle.model_core.specs.Run.Changes.{Changed}
 use Rattle.model_core.proofs.EachOne.{either_false, every-fails, every-map}
-use Rattle.model_core.proofs.Among.{Among, any-among, among-any, of-among, each-among}
-use Rattle.model_core.proofs.PlacesChanged.{same_number, apart-turned}
+use Rattle.model_core.proofs.Among.{Among, of-among, each-among}
+use Rattle.model_core.proofs.PlacesChanged.{apart-turned}
 use Rattle.mark_laws.proofs.EntailedMarks.{among-place}
 use Rattle.run_laws.proofs.Spared.SetPlaces.{Spares, ChangedWithin}
 use Rattle.conflict_report.proofs.Deeds.{Deed, AddsEvent, CutsNext, CutsEqual, CutsAll, deed_vertex, CutsOthers, Outcome}
 use Rattle.conflict_report.proofs.WrittenEdges.{DeedOn}
 use Rattle.conflict_report.proofs.Events.{VertexSpared, EventWritten}
 use Rattle.conflict_report.proofs.EventsOfVertex.{Elsewhere}
+use Rattle.conflict_report.proofs.NumbersInCommon.{none-shared, shared, in_common-turned}
 use Rattle.conflict_report.proofs.EitherOrder.{DeedsAside, first_elsewhere, second_elsewhere, no_cuts}
-
--- ---- numbers in common
-
--- of two lists with none in common, each number of the one isn't any of the other
-none-shared : (xs ys : List ℕ) → in_common xs ys ≡ false → (x y : ℕ) → Among x xs → Among y ys → (y == x) ≡ false
-none-shared xs ys none x y in_xs in_ys =
-    of-among (λ (j : ℕ). (j == x) ≡ false) ys y (every-fails (λ j. j == x) ys (of-among (λ (k : ℕ). is_among ys k ≡ false) xs x (every-fails (is_among ys) xs none) in_xs)) in_ys
-
-shared : (xs ys : List ℕ) (k : ℕ) → Among k xs → Among k ys → in_common xs ys ≡ true
-shared xs ys k in_xs in_ys = among-any (is_among ys) xs k in_xs (among-any (λ j. j == k) ys k in_ys (same_number k k refl))
-
-in_common-turned : (xs ys : List ℕ) → in_common xs ys ≡ false → in_common ys xs ≡ false
-in_common-turned xs ys none = by (in_common ys xs) refl where
-  by : (c : Bool) → in_common ys xs ≡ c → c ≡ false
-  by true is =
-      let (y, in_ys, found) = any-among (is_among xs) ys is in
-      let some = shared xs ys y (among-place xs y found) in_ys in
-      cc
-  by false is = refl
 
 -- what is set at places of the one spares those of the other
 written-spares : {X : Type 0} (places others : List ℕ) (xs ys : List X) → in_common places others ≡ false → (w : ChangedWithin places xs ys) → AllByRecursion (Spares w.pairs) others
@@ -79,7 +61,7 @@ no-conflict-turned g a b n =
     let w = vertex_at g b in
     record {
       variables = either-turned (in_common (vertex_writes v) (vertex_reads w ++ vertex_writes w)) (in_common (vertex_writes w) (vertex_reads v ++ vertex_writes v)) n.variables;
-      streams = in_common-turned (vertex_streams v) (vertex_streams w) n.streams;
+      streams = in_common-turned (vertex_streams w) (vertex_streams v) ∙ n.streams;
       events = either-turned (in_common (cancelled_vertices v) (b ∷ named_vertices w)) (in_common (cancelled_vertices w) (a ∷ named_vertices v)) n.events;
     }
 

@@ -1,13 +1,17 @@
 //! Which simultaneous events need priorities: the vertices that are in conflict, and the law that events of others commute.
 #![tactic(auto)]
 
+mod conflict_tables;
+mod holders;
 mod law;
 mod meeting;
 mod pairs;
-mod priority_rows;
+mod priorities;
 mod sharing;
 mod text;
+mod touched;
 mod two_vertices;
+mod vertex_set;
 
 pub use law::events_without_conflict_commute;
 pub use model_core::{Pair, Reasons};

@@ -8,7 +8,7 @@ ghost use Rattle.model_core.specs.Code.Views.{graph_of, vertex_of, edge_of, edge
 ghost use Rattle.model_core.specs.Conflicts.Priorities.{kind_priorities, edge_priorities, vertex_priorities, begin_priorities, priorities_of};
 ghost use Rattle.model_core.specs.Conflicts.Conflict.{in_common};
 
-use crate::priority_rows::BEGIN_PRIORITY;
+use crate::priorities::BEGIN_PRIORITY;
 use model_core::{Edge, EdgeForm, Model, Vertex};
 
 /// Whether an edge of this form schedules with this priority.
