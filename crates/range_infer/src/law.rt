@@ -48,10 +48,11 @@ pub fn narrowing_keeps_the_meaning()
     validity_is_by_parts();
 }
 
-/// The rounds of a valid model end, with one list of ranges. These fit the model, and no run leaves them.
+/// The rounds of a valid model end. The rounds of any model end with one list of ranges at most; those of a valid one fit it,
+/// and no run leaves them.
 pub fn rounds_end_with_inductive_ranges()
     ensures end { (g : EventGraph) → IsValid g → (ranges : List VarRange) × IsInferred g ranges }
-    ensures one { (g : EventGraph) (a b : List VarRange) → IsValid g → IsInferred g a → IsInferred g b → a ≡ b }
+    ensures one { (g : EventGraph) (a b : List VarRange) → IsInferred g a → IsInferred g b → a ≡ b }
     ensures fitting { (g : EventGraph) (ranges : List VarRange) → IsValid g → IsInferred g ranges → Fitting g ranges }
     ensures inductive { (g : EventGraph) (ranges : List VarRange) → IsValid g → IsInferred g ranges → Inductive g ranges }
 {
@@ -68,10 +69,13 @@ pub fn what_is_left_is_the_least()
         → LiesIn r x → compares op x n ≡ true → ⊥ }
 {}
 
-/// A valid model with the ranges declared that it needs is valid and means the same.
+/// A valid model with the ranges declared that it needs is valid and means the same. There is one for each valid model, and
+/// no more than one for any.
 pub fn narrowed_models_mean_the_same()
     ensures valid { (g h : EventGraph) → IsValid g → IsNarrowed g h → IsValid h }
     ensures same { (g h : EventGraph) → IsValid g → IsNarrowed g h → Same g h }
+    ensures exists { (g : EventGraph) → IsValid g → (h : EventGraph) × IsNarrowed g h }
+    ensures determined { (g h k : EventGraph) → IsNarrowed g h → IsNarrowed g k → h ≡ k }
 {
     narrowing_keeps_the_meaning();
     rounds_end_with_inductive_ranges();
