@@ -19,7 +19,10 @@ command_of word =
     else (if pointwise nat_eq word (codes "reduce") then Some commands.Reduce
     else (if pointwise nat_eq word (codes "certify") then Some commands.Certify
     else (if pointwise nat_eq word (codes "uses") then Some commands.Uses
-    else (if pointwise nat_eq word (codes "run") then Some commands.Run else None)))))
+    else (if pointwise nat_eq word (codes "conflicts") then Some commands.Conflicts
+    else (if pointwise nat_eq word (codes "fuse") then Some commands.Fuse
+    else (if pointwise nat_eq word (codes "narrow") then Some commands.Narrow
+    else (if pointwise nat_eq word (codes "run") then Some commands.Run else None))))))))
 
 -- the options that a command takes
 abbrev pub options_of : Command → List (List ℕ)
@@ -28,6 +31,9 @@ options_of commands.Print = []
 options_of commands.Reduce = []
 options_of commands.Certify = []
 options_of commands.Uses = []
+options_of commands.Conflicts = []
+options_of commands.Fuse = []
+options_of commands.Narrow = []
 options_of commands.Run = codes "until" ∷ codes "seed" ∷ codes "events" ∷ codes "start" ∷ codes "room" ∷ []
 
 -- ---- the job of a command and its options
@@ -61,6 +67,9 @@ job_with commands.Print given = Some jobs.Print
 job_with commands.Reduce given = Some jobs.Reduce
 job_with commands.Certify given = Some jobs.Certify
 job_with commands.Uses given = Some jobs.Uses
+job_with commands.Conflicts given = Some jobs.Conflicts
+job_with commands.Fuse given = Some jobs.Fuse
+job_with commands.Narrow given = Some jobs.Narrow
 job_with commands.Run given = run_of given
 
 -- there is one command, and no option but those that it takes

@@ -15,6 +15,9 @@ reading_of jobs.Print = readings.Model models.Print
 reading_of jobs.Reduce = readings.Model models.Reduce
 reading_of jobs.Certify = readings.Document documents.Certify
 reading_of jobs.Uses = readings.Model models.Uses
+reading_of jobs.Conflicts = readings.Model models.Conflicts
+reading_of jobs.Fuse = readings.Model models.Fuse
+reading_of jobs.Narrow = readings.Model models.Narrow
 reading_of (jobs.Run until seed events starts room) =
     readings.Model (models.Run (record { until = until; seed = seed; events = events; starts = starts; room = room }))
 

@@ -11,6 +11,9 @@ pub(crate) enum Command {
     Reduce,
     Certify,
     Uses,
+    Conflicts,
+    Fuse,
+    Narrow,
     Run,
 }
 
@@ -29,6 +32,12 @@ impl Command {
             Some(Command::Certify)
         } else if word == b"uses".as_slice() {
             Some(Command::Uses)
+        } else if word == b"conflicts".as_slice() {
+            Some(Command::Conflicts)
+        } else if word == b"fuse".as_slice() {
+            Some(Command::Fuse)
+        } else if word == b"narrow".as_slice() {
+            Some(Command::Narrow)
         } else if word == b"run".as_slice() {
             Some(Command::Run)
         } else {
@@ -43,6 +52,7 @@ impl Command {
         match self {
             Command::Check | Command::Print | Command::Reduce | Command::Certify | Command::Uses =>
                 &[],
+            Command::Conflicts | Command::Fuse | Command::Narrow => &[],
             Command::Run => &[b"until", b"seed", b"events", b"start", b"room"],
         }
     }

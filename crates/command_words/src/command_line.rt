@@ -162,6 +162,9 @@ fn job_with(alloc: Global, command: Command, given: &[Argument<'_>]) -> Result<J
         Command::Print => Ok(Job::Print),
         Command::Reduce => Ok(Job::Reduce),
         Command::Uses => Ok(Job::Uses),
+        Command::Conflicts => Ok(Job::Conflicts),
+        Command::Fuse => Ok(Job::Fuse),
+        Command::Narrow => Ok(Job::Narrow),
         Command::Certify => Ok(Job::Certify),
         Command::Run => run_of(alloc, given),
     }

@@ -20,6 +20,12 @@ pub enum Job {
     Certify,
     /// Who reads and who writes each variable of the model, and whether it is watched.
     Uses,
+    /// The pairs of vertices whose events, where they are simultaneous, need priorities, and why.
+    Conflicts,
+    /// The model in which of vertices that do the same one is left.
+    Fuse,
+    /// The model with the ranges declared that it needs.
+    Narrow,
     /// The watched history of a run of the model, as it happens.
     Run {
         /// The stop time, in ticks.
@@ -46,6 +52,9 @@ impl Job {
             Job::Reduce => Reading::Model(ModelJob::Reduce),
             Job::Certify => Reading::Document(DocumentJob::Certify),
             Job::Uses => Reading::Model(ModelJob::Uses),
+            Job::Conflicts => Reading::Model(ModelJob::Conflicts),
+            Job::Fuse => Reading::Model(ModelJob::Fuse),
+            Job::Narrow => Reading::Model(ModelJob::Narrow),
             Job::Run {
                 until,
                 seed,

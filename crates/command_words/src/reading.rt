@@ -26,6 +26,12 @@ pub enum ModelJob {
     Reduce,
     /// Who reads and who writes each of its variables, and whether it is watched.
     Uses,
+    /// The pairs of its vertices whose events, where they are simultaneous, need priorities, and why.
+    Conflicts,
+    /// It with one left of vertices that do the same.
+    Fuse,
+    /// It with the ranges declared that it needs.
+    Narrow,
     /// The watched history of a run of it, as it happens.
     Run(RunOptions),
 }

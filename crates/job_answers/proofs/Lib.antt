@@ -5,9 +5,12 @@ pub mod Streaming
 pub mod GivenAnswers
 mod CertifyLaws
 mod CheckLaws
+mod ConflictsLaws
 mod JobLaws
 mod PassedOn
 mod PrintLaws
 mod ReduceLaws
+mod RewritingLaws
+mod RewrittenMeans
 mod ToldErrors
 mod UsesLaws

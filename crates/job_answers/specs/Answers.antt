@@ -20,18 +20,25 @@ use Rattle.job_answers.specs.CheckAnswer.{check_answer}
 use Rattle.job_answers.specs.PrintAnswer.{print_answer}
 use Rattle.job_answers.specs.ReduceAnswer.{IsReduction}
 use Rattle.job_answers.specs.UsesAnswer.{uses_answer}
+use Rattle.job_answers.specs.ConflictsAnswer.{conflicts_answer}
+use Rattle.job_answers.specs.FuseAnswer.{IsFusion}
+use Rattle.job_answers.specs.NarrowAnswer.{IsNarrowing}
 use Rattle.job_answers.specs.RunAnswer.{run_answer, ExceedsRoom}
 use Rattle.job_answers.specs.CertifyAnswer.{certify_answer}
 
 -- ---- what is answered for what was read, job by job
 
 -- `check` says that the model is accepted, `print` writes its canonical text, `reduce` another one that means the same with
--- its certificate, `uses` who uses each variable, and `run` the history of a run
+-- its certificate, `uses` who uses each variable, `conflicts` which pairs of vertices are in conflict, `fuse` and `narrow`
+-- another text that means the same, and `run` the history of a run
 abbrev pub AnswersModel : ModelJob → EventGraph → Answer → Type 0
 AnswersModel models.Check g a = a ≡ check_answer g
 AnswersModel models.Print g a = a ≡ print_answer g
 AnswersModel models.Reduce g a = IsReduction g a
 AnswersModel models.Uses g a = a ≡ uses_answer g
+AnswersModel models.Conflicts g a = a ≡ conflicts_answer g
+AnswersModel models.Fuse g a = IsFusion g a
+AnswersModel models.Narrow g a = IsNarrowing g a
 AnswersModel (models.Run options) g a = a ≡ run_answer g options.until options.seed options.events options.starts
 
 -- `certify` says whether the certificate holds
@@ -44,9 +51,11 @@ abbrev pub MayFallShort : ModelJob → EventGraph → Type 0
 MayFallShort (models.Run options) g = ExceedsRoom g options.until options.seed options.events options.starts options.room
 MayFallShort job g = ⊥
 
--- these bytes are none, of a job that may have none: `uses` where the model has no variables
+-- these bytes are none, of a job that may have none: `uses` where the model has no variables, and `conflicts` where no two
+-- vertices are in conflict
 abbrev pub HasNothingToWrite : Reading → List ℕ → Type 0
 HasNothingToWrite (readings.Model models.Uses) bytes = bytes ≡ []
+HasNothingToWrite (readings.Model models.Conflicts) bytes = bytes ≡ []
 HasNothingToWrite reading bytes = ⊥
 
 -- ---- what is answered to a text within its limit, reading by reading

@@ -5,6 +5,10 @@ pub mod CheckAnswer
 pub mod PrintAnswer
 pub mod ReduceAnswer
 pub mod UsesAnswer
+pub mod ConflictsAnswer
+pub mod RewrittenAnswer
+pub mod FuseAnswer
+pub mod NarrowAnswer
 pub mod StartingValues
 pub mod RunAnswer
 pub mod CertifyAnswer

@@ -13,10 +13,12 @@ use crate::acceptance::acceptance;
 use crate::answer::{Answer, complaint_answer};
 use crate::canonical_text::canonical_text;
 use crate::certifying::judgement;
+use crate::conflict_lines::conflict_lines;
 use crate::delivering::{Said, deliver};
 use crate::document_reading::{Document, document_of};
 use crate::reading_error::ReadingError;
 use crate::reduction::reduction;
+use crate::rewriting::{fusion, narrowing};
 use crate::running::run_model;
 use crate::status::Failure;
 use crate::uses_table::uses_table;
@@ -54,6 +56,13 @@ pub fn answer_model<K: Sink>(
             forget(model);
             deliver(output, answer)
         }
+        ModelJob::Conflicts => {
+            let answer = conflict_lines(alloc, &model);
+            forget(model);
+            deliver(output, answer)
+        }
+        ModelJob::Fuse => deliver(output, fusion(alloc, model)),
+        ModelJob::Narrow => deliver(output, narrowing(alloc, model)),
         ModelJob::Run(options) => {
             let said = run_model(alloc, &model, options, output);
             forget(model);

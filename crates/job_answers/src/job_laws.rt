@@ -3,7 +3,9 @@
 ghost use Rattle.command_words.specs.declared.reading.Reading.{Reading};
 ghost use Rattle.job_answers.specs.AnswerLaws.{KeepsAnswerLaws};
 
+use range_infer::narrowed_models_mean_the_same;
 use reducer::{strategies_are_determined, strategies_end};
+use twin_rules::fusing_ends;
 
 /// Of whatever a job reads there is one answer. What is given has bytes, unless it may have none, and it is no refusal of a
 /// text.
@@ -12,4 +14,6 @@ pub fn answers_keep_their_laws()
 {
     strategies_are_determined();
     strategies_end();
+    fusing_ends();
+    narrowed_models_mean_the_same();
 }

@@ -10,6 +10,8 @@ ghost use Rattle.command_words.specs.declared.job.Job.TheVariants as jobs;
 ghost use Rattle.command_words.specs.Jobs.{job_of};
 ghost use Rattle.job_answers.specs.declared.status.Failure.TheVariants as failures;
 ghost use Rattle.job_answers.specs.CertifyAnswer.{Certifies};
+ghost use Rattle.job_answers.specs.FuseAnswer.{FusesTheSame};
+ghost use Rattle.job_answers.specs.NarrowAnswer.{NarrowsTheSame};
 ghost use Rattle.job_answers.specs.ReduceAnswer.{KeepsMeaning};
 ghost use Rattle.job_answers.specs.Statuses.{exit_status_of, failure_line};
 ghost use Rattle.sigma_top.specs.StatusTable.{Told, Ends};
@@ -49,6 +51,10 @@ fn work<S: Source, K: Sink, E: Sink>(
         input.old input.new output.old output.new errors.old errors.new) }
     ensures reduced { IfOk words (λ words. job_of (map string_bytes (vec_items words)) ≡ Some jobs.Reduce → result ≡ Status.Done
         → IfSome (S.seen input.old).left (λ text. (out : List ℕ) × KeepsMeaning text out × GrowsBy (K.seen output.old).written (K.seen output.new).written out)) }
+    ensures fused { IfOk words (λ words. job_of (map string_bytes (vec_items words)) ≡ Some jobs.Fuse → result ≡ Status.Done
+        → IfSome (S.seen input.old).left (λ text. (out : List ℕ) × FusesTheSame text out × GrowsBy (K.seen output.old).written (K.seen output.new).written out)) }
+    ensures narrowed { IfOk words (λ words. job_of (map string_bytes (vec_items words)) ≡ Some jobs.Narrow → result ≡ Status.Done
+        → IfSome (S.seen input.old).left (λ text. (out : List ℕ) × NarrowsTheSame text out × GrowsBy (K.seen output.old).written (K.seen output.new).written out)) }
     ensures certified { IfOk words (λ words. job_of (map string_bytes (vec_items words)) ≡ Some jobs.Certify → result ≡ Status.Done
         → IfSome (S.seen input.old).left Certifies) }
 
@@ -86,6 +92,12 @@ pub fn program<S: Source, K: Sink, E: Sink>(
     // At the exit status 0 what `reduce` writes means the same as what it read.
     ensures reduced { IfOk words (λ words. job_of (map string_bytes (vec_items words)) ≡ Some jobs.Reduce → exit_status result ≡ 0
         → IfSome (S.seen input.old).left (λ text. (out : List ℕ) × KeepsMeaning text out × GrowsBy (K.seen output.old).written (K.seen output.new).written out)) }
+
+    // At the exit status 0 what `fuse` and `narrow` write means the same as what they read.
+    ensures fused { IfOk words (λ words. job_of (map string_bytes (vec_items words)) ≡ Some jobs.Fuse → exit_status result ≡ 0
+        → IfSome (S.seen input.old).left (λ text. (out : List ℕ) × FusesTheSame text out × GrowsBy (K.seen output.old).written (K.seen output.new).written out)) }
+    ensures narrowed { IfOk words (λ words. job_of (map string_bytes (vec_items words)) ≡ Some jobs.Narrow → exit_status result ≡ 0
+        → IfSome (S.seen input.old).left (λ text. (out : List ℕ) × NarrowsTheSame text out × GrowsBy (K.seen output.old).written (K.seen output.new).written out)) }
 
     // At the exit status 0 the two models of the document that `certify` read mean the same.
     ensures certified { IfOk words (λ words. job_of (map string_bytes (vec_items words)) ≡ Some jobs.Certify → exit_status result ≡ 0

@@ -304,6 +304,12 @@ fn each_other_command_has_its_word(rt: HostRuntime) -> Result<(), Fail> {
     assert!(rt; matches!(words(rt.alloc(), &reduce), Ok(Job::Reduce)));
     let uses = given(rt.alloc(), &["uses"])?;
     assert!(rt; matches!(words(rt.alloc(), &uses), Ok(Job::Uses)));
+    let conflicts = given(rt.alloc(), &["conflicts"])?;
+    assert!(rt; matches!(words(rt.alloc(), &conflicts), Ok(Job::Conflicts)));
+    let fuse = given(rt.alloc(), &["fuse"])?;
+    assert!(rt; matches!(words(rt.alloc(), &fuse), Ok(Job::Fuse)));
+    let narrow = given(rt.alloc(), &["narrow"])?;
+    assert!(rt; matches!(words(rt.alloc(), &narrow), Ok(Job::Narrow)));
     let certify = given(rt.alloc(), &["certify"])?;
     assert!(rt; matches!(words(rt.alloc(), &certify), Ok(Job::Certify)));
     Ok(())

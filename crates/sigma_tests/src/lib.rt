@@ -23,6 +23,8 @@ mod models;
 #[cfg(test)]
 mod reductions;
 #[cfg(test)]
+mod rewritten_models;
+#[cfg(test)]
 mod versions;
 
 pub use endings::{calls_end_so, calls_never_end_so};

@@ -11,6 +11,7 @@ use Rattle.sig_base.specs.Source.{Inlet}
 use Rattle.command_words.specs.declared.job.Job.{Job}
 use Rattle.command_words.specs.declared.job.Job.TheVariants as jobs
 use Rattle.command_words.specs.declared.reading.DocumentJob.TheVariants as documents
+use Rattle.command_words.specs.declared.reading.ModelJob.{ModelJob}
 use Rattle.command_words.specs.declared.reading.ModelJob.TheVariants as models
 use Rattle.command_words.specs.declared.reading.Reading.{Reading}
 use Rattle.command_words.specs.declared.reading.Reading.TheVariants as readings
@@ -30,16 +31,16 @@ use Rattle.job_answers.specs.declared.status.Status.{Status}
 use Rattle.job_answers.specs.declared.status.Status.TheVariants as statuses
 use Rattle.job_answers.specs.Answers.{Answers, MayStopShort}
 use Rattle.job_answers.specs.CertifyAnswer.{Certifies}
-use Rattle.job_answers.specs.ReduceAnswer.{KeepsMeaning}
 use Rattle.job_answers.specs.RunAnswer.{ExceedsRoom, RunFitsRoom}
 use Rattle.job_answers.specs.Statuses.{status_of_answer, bytes_of_answer, status_of_end, status_of_refusal, status_of_failure, failure_line}
 use Rattle.sigma_top.specs.StatusTable.{text_of, Told, WritesAnswer, Refuses, RepliesToInput, HasBegun, LacksMemory, ForJob, Ends}
 use Rattle.sigma_top.specs.Inner.Frame.{Performs, Serves}
 
--- ---- what `reduce` gives, and what `certify` finds sound
+-- ---- what `reduce`, `fuse` and `narrow` give, and what `certify` finds sound
 
-abbrev pub MeansTheSame : Type 0
-MeansTheSame = (text bytes : List ℕ) (end : End) → Answers (readings.Model models.Reduce) text (Given end bytes) → KeepsMeaning text bytes
+-- what is written for a text by a job on a model means the same
+abbrev pub WritesSuch : ModelJob → (List ℕ → List ℕ → Type 0) → Type 0
+WritesSuch job IsSuch = (text bytes : List ℕ) (end : End) → Answers (readings.Model job) text (Given end bytes) → IsSuch text bytes
 
 abbrev pub SoundMeansTheSame : Type 0
 SoundMeansTheSame = (text bytes : List ℕ) → Answers (readings.Document documents.Certify) text (Given ends.Done bytes) → Certifies text
@@ -166,13 +167,13 @@ module _ {S K E : Type 0} (source : S → Inlet) (sink : K → Outlet) (errors :
     replied : (job : Job) → job_of words ≡ Some job → (a : Answer) → (other : Job) → job_of words ≡ Some other → RepliesToInput (reading_of other) (source i) a → RepliesToInput (reading_of job) (source i) a
     replied job asked a other is answer = subst (λ (x : Job). RepliesToInput (reading_of x) (source i) a) (same_Some _ _ (sym is ∙ asked)) answer
 
-    -- what `reduce` gives means the same as what the input had
-    pub reduced_means : MeansTheSame → (status : Status) → Ends source sink errors status words i j o p e f → job_of words ≡ Some jobs.Reduce → status ≡ statuses.Done
-        → IfSome (source i).left (λ text. (out : List ℕ) × KeepsMeaning text out × Grows out)
-    reduced_means law status h asked is_done =
+    -- what a job on a model gives is such for what the input had
+    pub given_is_such : (job : Job) (of_model : ModelJob) → reading_of job ≡ readings.Model of_model → (IsSuch : List ℕ → List ℕ → Type 0) → WritesSuch of_model IsSuch
+        → (status : Status) → Ends source sink errors status words i j o p e f → job_of words ≡ Some job → status ≡ statuses.Done → IfSome (source i).left (λ text. (out : List ℕ) × IsSuch text out × Grows out)
+    given_is_such job of_model is IsSuch law status h asked is_done =
         let done = (subst (λ (s : Status). Ends source sink errors s words i j o p e f) is_done h).0 in
-        let answer = replied jobs.Reduce asked (Given ends.Done done.2.bytes) done.0 done.1 done.2.answer in
-        if_told (source i).left answer.text (λ text. (out : List ℕ) × KeepsMeaning text out × Grows out) answer.told (done.2.bytes, law answer.text done.2.bytes ends.Done answer.answers, done.2.output_grown)
+        let answer = subst (λ (reading : Reading). RepliesToInput reading (source i) (Given ends.Done done.2.bytes)) is (replied job asked (Given ends.Done done.2.bytes) done.0 done.1 done.2.answer) in
+        if_told (source i).left answer.text (λ text. (out : List ℕ) × IsSuch text out × Grows out) answer.told (done.2.bytes, law answer.text done.2.bytes ends.Done answer.answers, done.2.output_grown)
 
     -- what `certify` finds sound means the same
     pub certified_means : SoundMeansTheSame → (status : Status) → Ends source sink errors status words i j o p e f → job_of words ≡ Some jobs.Certify → status ≡ statuses.Done → IfSome (source i).left Certifies

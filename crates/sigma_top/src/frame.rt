@@ -15,6 +15,8 @@ ghost use Rattle.job_answers.specs.declared.answer.Answer.{Answer};
 ghost use Rattle.job_answers.specs.Answers.{IsWithin, Answers, Responds, MayStopShort};
 ghost use Rattle.job_answers.specs.CertifyAnswer.{Certifies};
 ghost use Rattle.job_answers.specs.Delivery.{DeliversSome};
+ghost use Rattle.job_answers.specs.FuseAnswer.{FusesTheSame};
+ghost use Rattle.job_answers.specs.NarrowAnswer.{NarrowsTheSame};
 ghost use Rattle.job_answers.specs.ReduceAnswer.{KeepsMeaning};
 ghost use Rattle.job_answers.specs.RunAnswer.{RunFitsRoom};
 ghost use Rattle.job_answers.specs.Statuses.{status_of_answer, bytes_of_answer};
@@ -26,8 +28,9 @@ use crate::text_taking::{Taken, take_text};
 use command_words::{ModelJob, Reading, WordsError};
 use job_answers::{
     Failure, ReadingError, Said, Status, answer_document, answer_model, answers_keep_their_laws,
-    complaint_answer, deliver, readable_models_are_reduced, sound_documents_mean_the_same,
-    too_long_answer, written_models_mean_the_same,
+    complaint_answer, deliver, fused_models_mean_the_same, narrower_models_mean_the_same,
+    readable_models_are_reduced, sound_documents_mean_the_same, too_long_answer,
+    written_models_mean_the_same,
 };
 use sig_base::{Sink, Source, put};
 use std::alloc::Global;
@@ -166,10 +169,20 @@ pub fn sigma<S: Source, K: Sink, E: Sink>(
     ensures reduced { job_of (map string_bytes words.now) ≡ Some Job.Reduce → result ≡ Status.Done → IfSome (S.seen input.old).left (λ text.
         (out : List ℕ) × KeepsMeaning text out × GrowsBy (K.seen output.old).written (K.seen output.new).written out) }
 
+    // What `fuse` writes is what fusing makes of the model that was read, and means the same.
+    ensures fused { job_of (map string_bytes words.now) ≡ Some Job.Fuse → result ≡ Status.Done → IfSome (S.seen input.old).left (λ text.
+        (out : List ℕ) × FusesTheSame text out × GrowsBy (K.seen output.old).written (K.seen output.new).written out) }
+
+    // What `narrow` writes is the model that was read with the ranges that it needs, and means the same.
+    ensures narrowed { job_of (map string_bytes words.now) ≡ Some Job.Narrow → result ≡ Status.Done → IfSome (S.seen input.old).left (λ text.
+        (out : List ℕ) × NarrowsTheSame text out × GrowsBy (K.seen output.old).written (K.seen output.new).written out) }
+
     // The two models of a document that `certify` finds sound mean the same.
     ensures certified { job_of (map string_bytes words.now) ≡ Some Job.Certify → result ≡ Status.Done → IfSome (S.seen input.old).left Certifies }
 {
     written_models_mean_the_same();
+    fused_models_mean_the_same();
+    narrower_models_mean_the_same();
     sound_documents_mean_the_same();
     readable_models_are_reduced();
     work(alloc, words, input, output, errors)

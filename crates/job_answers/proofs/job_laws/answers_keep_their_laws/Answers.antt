@@ -1,8 +1,13 @@
+use Rattle.model_core.specs.Rules.Fuse.{Fused}
+use Rattle.model_core.specs.Ranges.Narrowed.{IsNarrowed}
 use Rattle.job_answers.proofs.JobLaws.{keeps_laws}
 use Rattle.job_answers.proofs.ReduceLaws.{OneStrategy}
+use Rattle.job_answers.proofs.RewritingLaws.{BecomesOne}
 use Rattle.job_answers.proofs.job_laws.answers_keep_their_laws.Goals as goal
 
 pub returns : goal.returns
 returns c = λ reading.
     let only : OneStrategy = record { applications = c.strategies_are_determined.ensures.applications; reduced = c.strategies_are_determined.ensures.reduced } in
-    keeps_laws only c.strategies_end.ensures reading
+    let fuses : BecomesOne Fused = record { ends = λ g valid. c.fusing_ends.ensures.ends g; determined = c.fusing_ends.ensures.determined } in
+    let narrows : BecomesOne IsNarrowed = record { ends = c.narrowed_models_mean_the_same.ensures.exists; determined = c.narrowed_models_mean_the_same.ensures.determined } in
+    keeps_laws only c.strategies_end.ensures fuses narrows reading

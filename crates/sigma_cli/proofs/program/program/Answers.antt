@@ -26,5 +26,11 @@ at_zero (Err e) Asked Holds exit number status is known h = tt
 pub returns-clause-reduced : goal.returns-clause-reduced
 returns-clause-reduced g c = at_zero c.args.words _ _ _ _ c.work-status.result c.from.ensures c.number.ensures c.work-status.ensures.reduced
 
+pub returns-clause-fused : goal.returns-clause-fused
+returns-clause-fused g c = at_zero c.args.words _ _ _ _ c.work-status.result c.from.ensures c.number.ensures c.work-status.ensures.fused
+
+pub returns-clause-narrowed : goal.returns-clause-narrowed
+returns-clause-narrowed g c = at_zero c.args.words _ _ _ _ c.work-status.result c.from.ensures c.number.ensures c.work-status.ensures.narrowed
+
 pub returns-clause-certified : goal.returns-clause-certified
 returns-clause-certified g c = at_zero c.args.words _ _ _ _ c.work-status.result c.from.ensures c.number.ensures c.work-status.ensures.certified

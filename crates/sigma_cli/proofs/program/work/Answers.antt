@@ -7,6 +7,8 @@ use Rattle.command_words.specs.Jobs.{job_of}
 use Rattle.command_words.specs.declared.job.Job.TheVariants as jobs
 use Rattle.job_answers.specs.declared.status.Status.TheVariants as statuses
 use Rattle.job_answers.specs.CertifyAnswer.{Certifies}
+use Rattle.job_answers.specs.FuseAnswer.{FusesTheSame}
+use Rattle.job_answers.specs.NarrowAnswer.{NarrowsTheSame}
 use Rattle.job_answers.specs.ReduceAnswer.{KeepsMeaning}
 use Rattle.sigma_cli.proofs.program.work.Goals as goal
 
@@ -20,6 +22,20 @@ returns-in-Ok-clause-reduced g c =
     (λ words. job_of (map string_bytes words) ≡ Some jobs.Reduce → c.sigma.result ≡ statuses.Done
     → IfSome (g.S.Source.seen c.args.input.now).left (λ text. (out : List ℕ) × KeepsMeaning text out × GrowsBy (g.K.Sink.seen c.args.output.now).written (g.K.Sink.seen c.sigma.new.output).written out))
     c.in-Ok.is c.deref.ensures.value c.sigma.ensures.reduced
+
+pub returns-in-Ok-clause-fused : goal.returns-in-Ok-clause-fused
+returns-in-Ok-clause-fused g c =
+    of_words c.args.words c.in-Ok.words vec_items c.deref.result.now
+    (λ words. job_of (map string_bytes words) ≡ Some jobs.Fuse → c.sigma.result ≡ statuses.Done
+    → IfSome (g.S.Source.seen c.args.input.now).left (λ text. (out : List ℕ) × FusesTheSame text out × GrowsBy (g.K.Sink.seen c.args.output.now).written (g.K.Sink.seen c.sigma.new.output).written out))
+    c.in-Ok.is c.deref.ensures.value c.sigma.ensures.fused
+
+pub returns-in-Ok-clause-narrowed : goal.returns-in-Ok-clause-narrowed
+returns-in-Ok-clause-narrowed g c =
+    of_words c.args.words c.in-Ok.words vec_items c.deref.result.now
+    (λ words. job_of (map string_bytes words) ≡ Some jobs.Narrow → c.sigma.result ≡ statuses.Done
+    → IfSome (g.S.Source.seen c.args.input.now).left (λ text. (out : List ℕ) × NarrowsTheSame text out × GrowsBy (g.K.Sink.seen c.args.output.now).written (g.K.Sink.seen c.sigma.new.output).written out))
+    c.in-Ok.is c.deref.ensures.value c.sigma.ensures.narrowed
 
 pub returns-in-Ok-clause-certified : goal.returns-in-Ok-clause-certified
 returns-in-Ok-clause-certified g c =

@@ -1,6 +1,11 @@
-use Rattle.std.specs.Prelude.{map}
+use Rattle.std.proofs.Common.{refl, map}
 use Rattle.std.specs.String.{string_bytes}
-use Rattle.sigma_top.proofs.TopCall.{within_room, reduced_means, certified_means, complete, reduces_what_reads}
+use Rattle.command_words.specs.declared.job.Job.TheVariants as jobs
+use Rattle.command_words.specs.declared.reading.ModelJob.TheVariants as models
+use Rattle.job_answers.specs.ReduceAnswer.{KeepsMeaning}
+use Rattle.job_answers.specs.FuseAnswer.{FusesTheSame}
+use Rattle.job_answers.specs.NarrowAnswer.{NarrowsTheSame}
+use Rattle.sigma_top.proofs.TopCall.{within_room, given_is_such, certified_means, complete, reduces_what_reads}
 use Rattle.sigma_top.proofs.frame.sigma.Goals as goal
 
 pub returns-clause-complete : goal.returns-clause-complete
@@ -20,8 +25,18 @@ returns-clause-within_room g c = λ until seed events starts room asked is_short
 
 pub returns-clause-reduced : goal.returns-clause-reduced
 returns-clause-reduced g c = λ asked is_done.
-    reduced_means g.S.Source.seen g.K.Sink.seen g.E.Sink.seen (map string_bytes c.args.words.now) c.args.input.now c.work.new.input c.args.output.now c.work.new.output c.args.errors.now c.work.new.errors
-    c.written_models_mean_the_same.ensures c.work.result c.work.ensures asked is_done
+    given_is_such g.S.Source.seen g.K.Sink.seen g.E.Sink.seen (map string_bytes c.args.words.now) c.args.input.now c.work.new.input c.args.output.now c.work.new.output c.args.errors.now c.work.new.errors
+    jobs.Reduce models.Reduce refl KeepsMeaning c.written_models_mean_the_same.ensures c.work.result c.work.ensures asked is_done
+
+pub returns-clause-fused : goal.returns-clause-fused
+returns-clause-fused g c = λ asked is_done.
+    given_is_such g.S.Source.seen g.K.Sink.seen g.E.Sink.seen (map string_bytes c.args.words.now) c.args.input.now c.work.new.input c.args.output.now c.work.new.output c.args.errors.now c.work.new.errors
+    jobs.Fuse models.Fuse refl FusesTheSame c.fused_models_mean_the_same.ensures c.work.result c.work.ensures asked is_done
+
+pub returns-clause-narrowed : goal.returns-clause-narrowed
+returns-clause-narrowed g c = λ asked is_done.
+    given_is_such g.S.Source.seen g.K.Sink.seen g.E.Sink.seen (map string_bytes c.args.words.now) c.args.input.now c.work.new.input c.args.output.now c.work.new.output c.args.errors.now c.work.new.errors
+    jobs.Narrow models.Narrow refl NarrowsTheSame c.narrower_models_mean_the_same.ensures c.work.result c.work.ensures asked is_done
 
 pub returns-clause-certified : goal.returns-clause-certified
 returns-clause-certified g c = λ asked is_done.
