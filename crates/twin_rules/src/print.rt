@@ -1,0 +1,14 @@
+//! What is kept of a vertex while twins are fused.
+
+/// What is kept of a vertex, by which most vertices that do something else are told apart from it at once.
+#[derive(Clone, Copy)]
+pub(crate) struct Print {
+    /// The print of its parameters, its changes, and its edges without their targets.
+    pub(crate) doing: u64,
+    /// The print of the numbers of the vertices that its edges lead to.
+    pub(crate) aims: u64,
+    /// The number that stands for it wherever an edge leads to it. It stays when the vertex moves up.
+    pub(crate) number: u64,
+    /// Whether it is watched, or its events are cancelled.
+    pub(crate) barred: bool,
+}

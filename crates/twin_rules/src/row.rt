@@ -1,0 +1,64 @@
+//! One vertex beside those behind it, most of which are told apart from it at once.
+
+ghost use Rattle.std.specs.Prelude.{◌≡◌, ℕ, false};
+ghost use Rattle.model_core.specs.EventGraph.{EventGraph};
+ghost use Rattle.model_core.specs.Code.Views.{graph_of};
+ghost use Rattle.twin_rules.specs.Inner.AskedPairs.{are_alike, some_leads};
+ghost use Rattle.twin_rules.specs.Inner.HeldPrints.{ArePrints};
+ghost use Rattle.twin_rules.specs.Inner.MarkedVertices.{has_mark};
+ghost use Rattle.twin_rules.specs.Inner.Rows.{fits, IsRow};
+
+use crate::marks::Marks;
+use crate::print::Print;
+use crate::prints::Prints;
+use model_core::Model;
+
+/// What is kept of a vertex, and the vertices that its edges lead to.
+#[derive(Drop)]
+pub(crate) struct Row {
+    print: Option<Print>,
+    leads: Marks,
+    /// Whether an edge of the vertex leads back to it.
+    loops: bool,
+}
+
+/// The vertices that the edges of the vertex at this place lead to.
+fn led_to(model: &Model, place: usize) -> Marks
+    ensures { (v : ℕ) → has_mark result v ≡ false → some_leads (graph_of model.now) place v ≡ false }
+{
+    match model.vertices.as_slice().get(place) {
+        Some(vertex) => Marks::led_to(vertex.edges.as_slice()),
+        None => Marks::none(),
+    }
+}
+
+/// Whether two vertices of which this is kept may be alike, where it is told whether the first leads to one of the two.
+fn fits(own: Print, other: Print, leads: bool) -> bool
+    ensures { result ≡ fits own other leads }
+{
+    own.doing == other.doing && (own.aims == other.aims || leads) && !own.barred && !other.barred
+}
+
+impl Row {
+    /// The row of the vertex at a place.
+    pub(crate) fn of(model: &Model, prints: &Prints, keep: usize) -> Row
+        ensures { IsRow (graph_of model.now) prints.now keep result }
+    {
+        let leads = led_to(model, keep);
+        Row {
+            print: prints.at(keep),
+            loops: leads.has(keep),
+            leads,
+        }
+    }
+
+    /// Whether the vertex may be alike with the one at this place. It tells that they aren't from little.
+    pub(crate) fn may_fit(&self, prints: &Prints, gone: usize) -> bool
+        ensures { (g : EventGraph) (keep : ℕ) → ArePrints g prints.now → IsRow g prints.now keep self.now → result ≡ false → are_alike g keep gone ≡ false }
+    {
+        match (self.print, prints.at(gone)) {
+            (Some(own), Some(other)) => { fits(own, other, self.loops || self.leads.has(gone)) }
+            _ => true,
+        }
+    }
+}
