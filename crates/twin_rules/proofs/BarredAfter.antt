@@ -10,11 +10,11 @@ use Rattle.model_core.specs.Rules.Fuse.{fused_place, fused, can_be_cancelled}
 use Rattle.model_core.proofs.EachOne.{either_false}
 use Rattle.twin_rules.proofs.AlikeVertices.{AreAlike}
 use Rattle.twin_rules.proofs.StillApart.{itself, places_same, unwatched-before, uncancelled-before}
-use Rattle.twin_rules.specs.Inner.MarkedVertices.{one_cancels_it, is_barred}
+use Rattle.twin_rules.specs.Inner.MarkedVertices.{one_marks, is_barred}
 
 -- ---- tests that nothing passes
 
-none-after : {A B : Type 0} (f : A → B) (test also : A → Bool) (test_too : B → Bool) → ((x : A) → test x ≡ false → also x ≡ false → test_too (f x) ≡ false) → (xs : List A) → list_any test xs ≡ false → list_any also xs ≡ false → list_any test_too (map f xs) ≡ false
+pub none-after : {A B : Type 0} (f : A → B) (test also : A → Bool) (test_too : B → Bool) → ((x : A) → test x ≡ false → also x ≡ false → test_too (f x) ≡ false) → (xs : List A) → list_any test xs ≡ false → list_any also xs ≡ false → list_any test_too (map f xs) ≡ false
 none-after f test also test_too on [] none none_too = refl
 none-after f test also test_too on (x ∷ xs) none none_too =
     let (here, later) = either_false (test x) (list_any test xs) none in
@@ -46,7 +46,7 @@ module _ (g : EventGraph) (keep gone : ℕ) (are : AreAlike g keep gone) (x : �
   p = place_without gone
 
   -- what leads neither there nor to `gone` doesn't lead there afterwards
-  leads-after : (t : ℕ) → (t == x) ≡ false → (t == gone) ≡ false → (f t == p x) ≡ false
+  pub leads-after : (t : ℕ) → (t == x) ≡ false → (t == gone) ≡ false → (f t == p x) ≡ false
   leads-after t other stays = ap (λ k. k == p x) (itself g keep gone are t stays) ∙ (places_same g keep gone are x x apart apart t stays ∙ other)
 
   unwatched-after : is_watched_vertex g x ≡ false → is_watched_vertex h (p x) ≡ false
@@ -64,8 +64,8 @@ module _ (g : EventGraph) (keep gone : ℕ) (are : AreAlike g keep gone) (x : �
 
   uncancelled-after : can_be_cancelled g x ≡ false → can_be_cancelled h (p x) ≡ false
   uncancelled-after none =
-      none-after (vertex_renumbered f) (one_cancels_it x) (one_cancels_it gone) (one_cancels_it (p x)) (λ (v : EventVertex). edges-after v.edges) (remove g.vertices gone)
-      (none-left (one_cancels_it x) g.vertices gone none) (none-left (one_cancels_it gone) g.vertices gone are.gone_uncancelled)
+      none-after (vertex_renumbered f) (one_marks true x) (one_marks true gone) (one_marks true (p x)) (λ (v : EventVertex). edges-after v.edges) (remove g.vertices gone)
+      (none-left (one_marks true x) g.vertices gone none) (none-left (one_marks true gone) g.vertices gone are.gone_uncancelled)
 
   pub barred-after : is_barred h (p x) ≡ is_barred g x
   barred-after = ap₂ (λ a b. a || b)

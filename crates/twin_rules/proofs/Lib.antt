@@ -18,3 +18,4 @@ pub mod PrintsRenewed
 pub mod PrintLists
 pub mod SkippedPlaces
 pub mod AlikeByTests
+pub mod TargetsAfter

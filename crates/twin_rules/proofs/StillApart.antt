@@ -26,7 +26,7 @@ none-of_map f test test_too back (x ∷ xs) none =
     let (here, later) = either_false (test_too (f x)) (list_any test_too (map f xs)) none in
     ap₂ (λ a b. a || b) (back x here) (none-of_map f test test_too back xs later)
 
-none-at : {A : Type 0} (test : A → Bool) (xs : List A) (k : ℕ) (d : A) → list_any test xs ≡ false → test d ≡ false → test (slice_index_or xs k d) ≡ false
+pub none-at : {A : Type 0} (test : A → Bool) (xs : List A) (k : ℕ) (d : A) → list_any test xs ≡ false → test d ≡ false → test (slice_index_or xs k d) ≡ false
 none-at test [] k d none out = out
 none-at test (x ∷ xs) zero d none out = (either_false (test x) (list_any test xs) none).0
 none-at test (x ∷ xs) (suc k) d none out = none-at test xs k d (either_false (test x) (list_any test xs) none).1 out

@@ -4,3 +4,4 @@ pub mod Fingerprints
 pub mod MarkedVertices
 pub mod HeldPrints
 pub mod Rows
+pub mod LedTo

@@ -8,6 +8,7 @@ ghost use Rattle.model_core.specs.EventGraph.{EventGraph};
 ghost use Rattle.model_core.specs.Rules.MarkedPlaces.{place_without};
 ghost use Rattle.model_core.specs.Rules.Fuse.{fused, first_twins};
 ghost use Rattle.model_core.specs.Code.Views.{graph_of, edge_of};
+ghost use Rattle.twin_rules.specs.Inner.LedTo.{NoneLeadsTo};
 ghost use Rattle.twin_rules.specs.Inner.AskedPairs.{is_before_pair, has_changed, was_asked, next_changed, SkipsUnchanged, NoneAlike, NoneAlikeBefore, place_before, some_leads};
 
 use model_core::{Edge, Model};
@@ -47,7 +48,7 @@ fn some_leads(model: &Model, vertex: usize, target: usize) -> bool
 }
 
 /// The place that a vertex had before the one at `gone` was taken away.
-fn place_before(gone: usize, place: usize) -> usize
+pub(crate) fn place_before(gone: usize, place: usize) -> usize
     requires { place < VERTICES_MAX }
     ensures { result ≡ place_before gone place }
 {
@@ -141,22 +142,24 @@ impl Asked {
         self.changed = [false; VERTICES_MAX];
     }
 
-    /// Whether the vertex has changed, or changes when `gone` is taken away.
-    fn changes(&self, model: &Model, vertex: usize, gone: usize) -> bool
+    /// Whether the vertex has changed, or changes when `gone` is taken away. It may be told that no edge leads to `gone`.
+    fn changes(&self, model: &Model, vertex: usize, gone: usize, led: bool) -> bool
+        requires { led ≡ false → NoneLeadsTo (graph_of model.now) gone }
         ensures { result ≡ (has_changed self.now.changed vertex || some_leads (graph_of model.now) vertex gone) }
     {
-        self.has_changed(vertex) || some_leads(model, vertex, gone)
+        self.has_changed(vertex) || (led && some_leads(model, vertex, gone))
     }
 
     /// Marks the vertices from which an edge leads to `gone`, and gives the others the marks that they had, each at the
     /// place that it has when `gone` is taken away.
-    fn mark(&mut self, model: &Model, gone: usize)
+    fn mark(&mut self, model: &Model, gone: usize, led: bool)
+        requires { led ≡ false → NoneLeadsTo (graph_of model.now) gone }
         ensures keep { self.new.keep ≡ self.old.keep }
         ensures gone { self.new.gone ≡ self.old.gone }
         ensures changed { (k : ℕ) → has_changed self.new.changed k ≡ (has_changed self.old.changed (place_before gone k) || some_leads (graph_of model.now) (place_before gone k) gone) }
     {
         for place in 0..VERTICES_MAX {
-            self.changed[place] = self.changes(model, place_before(gone, place), gone);
+            self.changed[place] = self.changes(model, place_before(gone, place), gone, led);
         }
     }
 
@@ -188,17 +191,18 @@ impl Asked {
     }
 
     /// Follows the model when its first twins, `keep` and `gone`, are fused, before which it may be known that no pair is
-    /// alike.
-    pub(crate) fn fuse(&mut self, model: &Model, keep: usize, gone: usize, known: bool)
+    /// alike. It may be told that no edge leads to `gone`.
+    pub(crate) fn fuse(&mut self, model: &Model, keep: usize, gone: usize, led: bool, known: bool)
         requires asked { NoneAlike (graph_of model.now) self.old }
         requires found { first_twins (graph_of model.now) ≡ Some (keep, gone) }
+        requires led { led ≡ false → NoneLeadsTo (graph_of model.now) gone }
         requires known { known ≡ true → NoneAlikeBefore (graph_of model.now) (Some (keep, gone)) }
         ensures asked { NoneAlike (fused (graph_of model.now) keep gone) self.new }
         ensures skips { SkipsUnchanged self.new }
         ensures changed { (x : ℕ) → has_changed self.new.changed x ≡ false → some_leads (graph_of model.now) (place_before gone x) gone ≡ false }
     {
         self.look_up_to(keep, gone, known);
-        self.mark(model, gone);
+        self.mark(model, gone, led);
         self.move_up(gone);
         self.find_next();
     }

@@ -1,12 +1,15 @@
 //! Marks on vertices: on those that edges lead to, and on those that are watched or cancelled.
 
-ghost use Rattle.std.specs.Prelude.{◌≡◌, ◌<◌, ◌==◌, ◌||◌, ℕ, false, map};
+ghost use Rattle.std.specs.Prelude.{◌≡◌, ◌<◌, ◌==◌, ◌&&◌, ◌||◌, ℕ, false, map};
 ghost use Rattle.std.specs.List.{list_any};
 ghost use Rattle.sig_base.specs.declared.limits.TheConstants.{VERTICES_MAX as LIMIT};
 ghost use Rattle.model_core.specs.Run.History.{watches};
 ghost use Rattle.model_core.specs.Code.Views.{graph_of, edge_of, vertex_of, watched_of};
-ghost use Rattle.twin_rules.specs.Inner.MarkedVertices.{has_mark, marks_at, one_cancels_it, is_barred};
+ghost use Rattle.twin_rules.specs.Inner.AskedPairs.{place_before};
+ghost use Rattle.twin_rules.specs.Inner.LedTo.{MarksTargets};
+ghost use Rattle.twin_rules.specs.Inner.MarkedVertices.{has_mark, marks_at, one_marks, is_barred};
 
+use crate::asked::place_before;
 use model_core::{Edge, Model, Vertex, Watch};
 use sig_base::VERTICES_MAX;
 
@@ -63,12 +66,12 @@ impl Marks {
         }
     }
 
-    /// Marks the vertices whose events are cancelled.
-    fn mark_cancelled(&mut self, vertices: &[Vertex])
-        ensures { (x : ℕ) → has_mark self.new x ≡ (has_mark self.old x || list_any (one_cancels_it x) (map vertex_of vertices.now)) }
+    /// Marks the targets of the edges of vertices, or only of those that cancel their events.
+    fn mark_all(&mut self, cancelled: bool, vertices: &[Vertex])
+        ensures { (x : ℕ) → has_mark self.new x ≡ (has_mark self.old x || list_any (one_marks cancelled x) (map vertex_of vertices.now)) }
     {
         for vertex in vertices {
-            self.mark_targets(true, vertex.edges.as_slice());
+            self.mark_targets(cancelled, vertex.edges.as_slice());
         }
     }
 
@@ -97,7 +100,7 @@ impl Marks {
     {
         let mut marks = Marks::none();
         marks.mark_watched(model.watch.as_slice());
-        marks.mark_cancelled(model.vertices.as_slice());
+        marks.mark_all(true, model.vertices.as_slice());
         marks
     }
 
@@ -108,5 +111,34 @@ impl Marks {
         let mut marks = Marks::none();
         marks.mark_targets(false, edges);
         marks
+    }
+
+    /// The vertices to which an edge leads.
+    pub(crate) fn targets(model: &Model) -> Marks
+        ensures { MarksTargets (graph_of model.now) result }
+    {
+        let mut marks = Marks::none();
+        marks.mark_all(false, model.vertices.as_slice());
+        marks
+    }
+
+    /// Gives each vertex but the one at `gone` its mark, where it is when that one is taken away.
+    fn forget(&mut self, gone: usize)
+        ensures { (x : ℕ) → has_mark self.new x ≡ has_mark self.old (place_before gone x) }
+    {
+        for place in 0..VERTICES_MAX {
+            self.marks[place] = self.has(place_before(gone, place));
+        }
+    }
+
+    /// Follows the marks when `gone` is taken away and `keep` takes its mark.
+    pub(crate) fn fuse(&mut self, keep: usize, gone: usize)
+        ensures { (x : ℕ) → has_mark self.new x ≡ (has_mark self.old (place_before gone x) || (has_mark self.old gone && (keep == x))) }
+    {
+        let marked = self.has(gone);
+        self.forget(gone);
+        if marked {
+            self.mark(keep);
+        }
     }
 }

@@ -14,9 +14,9 @@ has_mark m v = slice_index_or m.marks v true
 abbrev pub marks_at : Bool → ℕ → EventEdge → Bool
 marks_at cancelled v e = cond cancelled (cancels v e) (leads_to v e)
 
--- one of the vertex's edges cancels events of the vertex at this place
-abbrev pub one_cancels_it : ℕ → EventVertex → Bool
-one_cancels_it v w = list_any (cancels v) w.edges
+-- one of the edges of this vertex leads to the one at this place, or only counts where it cancels its events
+abbrev pub one_marks : Bool → ℕ → EventVertex → Bool
+one_marks cancelled v w = list_any (marks_at cancelled v) w.edges
 
 -- the vertex is watched, or its events can be cancelled
 abbrev pub is_barred : EventGraph → ℕ → Bool
