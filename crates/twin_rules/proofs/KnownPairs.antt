@@ -48,6 +48,20 @@ one-more-known g keep gone none here y less = by (last-or-before y gone less) wh
 before-or-from : (from y : ℕ) → (y < from) ⊎ (from ≤ y)
 before-or-from from y = grind arith
 
+from-or-after : (place y : ℕ) → place ≤ y → (y ≡ place) ⊎ (place + 1 ≤ y)
+from-or-after place y at = grind arith
+
+-- those from a place on that are passed over, one more, and those behind it
+pub passed-on : (g : EventGraph) (keep from place to : ℕ) → ((y : ℕ) → from ≤ y → y < place → are_alike g keep y ≡ false) → are_alike g keep place ≡ false → ((y : ℕ) → place + 1 ≤ y → y < to → are_alike g keep y ≡ false) → (y : ℕ) → from ≤ y → y < to → are_alike g keep y ≡ false
+passed-on g keep from place to none here more y at less = by (before-or-from place y) where
+  behind : (y ≡ place) ⊎ (place + 1 ≤ y) → are_alike g keep y ≡ false
+  behind (inl same) = ap (are_alike g keep) same ∙ here
+  behind (inr later) = more y later less
+
+  by : (y < place) ⊎ (place ≤ y) → are_alike g keep y ≡ false
+  by (inl before) = none y at before
+  by (inr from_here) = behind (from-or-after place y from_here)
+
 pub known-until : (g : EventGraph) (keep from to : ℕ) → ((y : ℕ) → y < from → are_alike g keep y ≡ false) → ((y : ℕ) → from ≤ y → y < to → are_alike g keep y ≡ false) → (y : ℕ) → y < to → are_alike g keep y ≡ false
 known-until g keep from to none more y less = by (before-or-from from y) where
   by : (y < from) ⊎ (from ≤ y) → are_alike g keep y ≡ false

@@ -10,7 +10,7 @@ ghost use Rattle.twin_rules.specs.Inner.Rows.{IsRow};
 use crate::asked::Asked;
 use crate::conditions::{are_alike, is_within_limits};
 use crate::prints::Prints;
-use crate::row::Row;
+use crate::row::{Row, next_like};
 use model_core::Model;
 
 /// Whether two vertices may be fused. `known` stays where it is known that they are alike only if they may.
@@ -61,13 +61,16 @@ fn first_twin_of(
     ensures known { known.new ≡ true → (known.old ≡ true) × NoneAlikeWith (graph_of model.now) keep result }
 {
     let count = model.vertices.len();
+    let mut gone = next_like(model, prints, asked, keep, keep + 1);
+    if gone >= count {
+        return None;
+    }
     let row = Row::of(model, prints, keep);
-    let mut gone = asked.next(keep, keep + 1);
     while gone < count {
         if are_twins(model, short, prints, &row, keep, gone, known) {
             return Some(gone);
         }
-        gone = asked.next(keep, gone + 1);
+        gone = next_like(model, prints, asked, keep, gone + 1);
     }
     None
 }

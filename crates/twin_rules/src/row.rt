@@ -1,13 +1,14 @@
 //! One vertex beside those behind it, most of which are told apart from it at once.
 
-ghost use Rattle.std.specs.Prelude.{◌≡◌, ℕ, false};
+ghost use Rattle.std.specs.Prelude.{◌≡◌, ◌<◌, ◌≤◌, ℕ, false};
 ghost use Rattle.model_core.specs.EventGraph.{EventGraph};
 ghost use Rattle.model_core.specs.Code.Views.{graph_of};
-ghost use Rattle.twin_rules.specs.Inner.AskedPairs.{are_alike, some_leads};
+ghost use Rattle.twin_rules.specs.Inner.AskedPairs.{are_alike, some_leads, SkipsUnchanged, NoneAlike};
 ghost use Rattle.twin_rules.specs.Inner.HeldPrints.{ArePrints};
 ghost use Rattle.twin_rules.specs.Inner.MarkedVertices.{has_mark};
 ghost use Rattle.twin_rules.specs.Inner.Rows.{fits, IsRow};
 
+use crate::asked::Asked;
 use crate::marks::Marks;
 use crate::print::Print;
 use crate::prints::Prints;
@@ -37,6 +38,38 @@ fn fits(own: Print, other: Print, leads: bool) -> bool
     ensures { result ≡ fits own other leads }
 {
     own.doing == other.doing && (own.aims == other.aims || leads) && !own.barred && !other.barred
+}
+
+/// Whether two vertices may be alike by what is kept of them, wherever their edges lead.
+fn may_do_the_same(prints: &Prints, keep: usize, gone: usize) -> bool
+    ensures { (g : EventGraph) → ArePrints g prints.now → result ≡ false → are_alike g keep gone ≡ false }
+{
+    match (prints.at(keep), prints.at(gone)) {
+        (Some(own), Some(other)) => fits(own, other, true),
+        _ => true,
+    }
+}
+
+/// The next vertex from this place on that may be alike with the one at `keep`, or a place behind all vertices.
+pub(crate) fn next_like(
+    model: &Model,
+    prints: &Prints,
+    asked: &Asked,
+    keep: usize,
+    from: usize,
+) -> usize
+    requires prints { ArePrints (graph_of model.now) prints.now }
+    requires asked { NoneAlike (graph_of model.now) asked.now }
+    requires skips { SkipsUnchanged asked.now }
+    ensures behind { from ≤ result }
+    ensures passed { (y : ℕ) → from ≤ y → y < result → are_alike (graph_of model.now) keep y ≡ false }
+{
+    let count = model.vertices.len();
+    let mut gone = asked.next(keep, from);
+    while gone < count && !may_do_the_same(prints, keep, gone) {
+        gone = asked.next(keep, gone + 1);
+    }
+    gone
 }
 
 impl Row {
