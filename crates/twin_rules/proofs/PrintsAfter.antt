@@ -13,7 +13,7 @@ use Rattle.model_core.proofs.EachOne.{every-fails}
 use Rattle.model_core.proofs.FusedPlaces.{get-without, fused-get, standing-itself}
 use Rattle.twin_rules.specs.declared.print.Print.{Print}
 use Rattle.twin_rules.specs.Inner.AskedPairs.{has_changed, place_before, some_leads}
-use Rattle.twin_rules.specs.Inner.Fingerprints.{vertex_print, aims_print}
+use Rattle.twin_rules.specs.Inner.Fingerprints.{half, vertex_print, aims_print}
 use Rattle.twin_rules.specs.Inner.MarkedVertices.{is_barred}
 use Rattle.twin_rules.specs.Inner.HeldPrints.{number_in, ArePrints, ArePrintsBut}
 use Rattle.twin_rules.proofs.AlikeVertices.{AreAlike}
@@ -43,8 +43,8 @@ module _ (g : EventGraph) (keep gone : ℕ) (are : AreAlike g keep gone) (known 
       let held = prints (place_before gone x) p was in
       let there : vertex_at h x ≡ vertex_renumbered (fused_place keep gone) (vertex_at g (place_before gone x)) = ap (vertex_at h) (sym back) ∙ placed g keep gone are (place_before gone x) apart in
       record {
-        doing = held.doing ∙ sym (ap vertex_print there ∙ print-renumbered (fused_place keep gone) (vertex_at g (place_before gone x)));
+        doing = held.doing ∙ ap half (sym (ap vertex_print there ∙ print-renumbered (fused_place keep gone) (vertex_at g (place_before gone x))));
         barred = held.barred ∙ sym (ap (is_barred h) (sym back) ∙ barred-after g keep gone are (place_before gone x) apart);
-        aims = λ stays. held.aims tt ∙ sym (ap (λ (v : EventVertex). aims_print (number_in left) v.edges) there
-            ∙ aims-moved (fused_place keep gone) (number_in known) (number_in left) gone same-number (vertex_at g (place_before gone x)).edges (every-fails (leads_to gone) (vertex_at g (place_before gone x)).edges (unchanged x stays)));
+        aims = λ stays. held.aims tt ∙ ap half (sym (ap (λ (v : EventVertex). aims_print (number_in left) v.edges) there
+            ∙ aims-moved (fused_place keep gone) (number_in known) (number_in left) gone same-number (vertex_at g (place_before gone x)).edges (every-fails (leads_to gone) (vertex_at g (place_before gone x)).edges (unchanged x stays))));
       }

@@ -9,6 +9,7 @@ use Rattle.model_core.specs.EventGraph.{EventGraph}
 use Rattle.model_core.specs.Run.Step.{vertex_at}
 use Rattle.twin_rules.specs.declared.print.Print.{Print}
 use Rattle.twin_rules.specs.Inner.AskedPairs.{has_changed}
+use Rattle.twin_rules.specs.Inner.Fingerprints.{half}
 use Rattle.twin_rules.specs.Inner.HeldPrints.{number_in, aims_at, IsPrintBut, ArePrints, ArePrintsBut, ArePrintsOfAll, IsRenewed}
 use Rattle.twin_rules.proofs.PrintLaws.{aims-same}
 
@@ -84,7 +85,7 @@ module _ (g : EventGraph) (old now : List Print) (changed : List Bool) (place : 
         record {
           doing = held.doing;
           barred = held.barred;
-          aims = λ known. aims-same (number_in now) (number_in old) so_far.numbers (vertex_at g place).edges;
+          aims = λ known. ap half (aims-same (number_in now) (number_in old) so_far.numbers (vertex_at g place).edges);
         }
 
     there : (x : ℕ) (p : Print) → x ≡ place → (o : Option Print) → slice_get now place ≡ o → slice_get next x ≡ Some p → IsPrintBut g old ((x < place + 1) ⊎ (has_changed changed x ≡ false)) x p
@@ -114,7 +115,7 @@ all-renewed g old now changed place past so_far x p is =
     record {
       doing = (so_far.kept x p is).doing;
       barred = (so_far.kept x p is).barred;
-      aims = λ known. (so_far.kept x p is).aims (inl (omega (arith, inside, long, past))) ∙ sym (aims-same (number_in now) (number_in old) so_far.numbers (vertex_at g x).edges);
+      aims = λ known. (so_far.kept x p is).aims (inl (omega (arith, inside, long, past))) ∙ ap half (sym (aims-same (number_in now) (number_in old) so_far.numbers (vertex_at g x).edges));
     }
 
 -- ---- at first

@@ -3,6 +3,7 @@
 use Rattle.std.proofs.Common.{◌≡◌, ◌≢◌, ◌⊎◌, inl, inr, ℕ, zero, suc, ◌+◌, ◌<◌, ◌≤◌, Bool, true, false, cond, List, get_or, set, length, refl, ◌∙◌, ap, subst, arith}
 use Rattle.std.specs.Prelude.{replicate}
 use Rattle.std.proofs.lemmas.List.{get_or-set_same, get_or-set_other, get_or_past}
+use Rattle.sig_base.specs.declared.limits.TheConstants.{VERTICES_MAX}
 use Rattle.twin_rules.specs.Inner.AskedPairs.{has_changed}
 
 -- from this place on it is known where vertices have changed; `ahead` is the first of those
@@ -42,6 +43,10 @@ one-before changed next p ahead below skips = by (has_changed changed p) refl wh
       either (inr later) =
           let there : get_or (set next p (cond b p ahead)) v v ≡ get_or next v v = get_or-set_other next p v (cond b p ahead) v (later-apart p v later) in
           skips.far v k later behind (subst (λ n. k < n) there less)
+
+pub either-small : (b : Bool) (place ahead : ℕ) → place ≤ VERTICES_MAX → ahead ≤ VERTICES_MAX → cond b place ahead ≤ VERTICES_MAX
+either-small true place ahead small small_too = small
+either-small false place ahead small small_too = small_too
 
 -- ---- at first
 

@@ -10,7 +10,7 @@ use Rattle.model_core.specs.Rules.Fuse.{standing_for}
 use Rattle.model_core.proofs.EachOne.{either_false}
 use Rattle.twin_rules.specs.declared.print.Print.{Print}
 use Rattle.twin_rules.specs.Inner.AskedPairs.{are_alike, some_leads}
-use Rattle.twin_rules.specs.Inner.Fingerprints.{list_print, change_print, edge_print, vertex_print}
+use Rattle.twin_rules.specs.Inner.Fingerprints.{half, list_print, change_print, edge_print, vertex_print}
 use Rattle.twin_rules.specs.Inner.HeldPrints.{number_in, aims_at, ArePrints}
 use Rattle.twin_rules.specs.Inner.Rows.{fits}
 use Rattle.twin_rules.proofs.AlikeVertices.{AreAlike}
@@ -55,7 +55,7 @@ same-targets keep gone number (a ∷ as_) (b ∷ bs) none none_too same =
     ap₂ (λ n ns. n ∷ ns) (ap number (same-target keep gone a.target b.target here here_too (ap (λ (e : EventEdge). e.target) first))) (same-targets keep gone number as_ bs later later_too rest)
 
 same-aims : (g : EventGraph) (keep gone : ℕ) (known : List Print) → AreAlike g keep gone → some_leads g keep keep ≡ false → some_leads g keep gone ≡ false → aims_at g known keep ≡ aims_at g known gone
-same-aims g keep gone known are loops leads = ap list_print (same-targets keep gone (number_in known) (vertex_at g keep).edges (vertex_at g gone).edges loops leads are.edges)
+same-aims g keep gone known are loops leads = ap (λ ns. half (list_print ns)) (same-targets keep gone (number_in known) (vertex_at g keep).edges (vertex_at g gone).edges loops leads are.edges)
 
 -- ---- so they fit
 
@@ -72,7 +72,7 @@ module _ (g : EventGraph) (keep gone : ℕ) (known : List Print) (prints : ArePr
 
   alike-fit : AreAlike g keep gone → fits own other leads ≡ true
   alike-fit are =
-      let doing : (own.doing == other.doing) ≡ true = eq-eqb own.doing other.doing ((prints keep own is).doing ∙ (same-doing g keep gone are ∙ sym ((prints gone other is_other).doing))) in
+      let doing : (own.doing == other.doing) ≡ true = eq-eqb own.doing other.doing ((prints keep own is).doing ∙ (ap half (same-doing g keep gone are) ∙ sym ((prints gone other is_other).doing))) in
       let mine : own.barred ≡ false = (prints keep own is).barred ∙ ap₂ (λ a b. a || b) are.keep_unwatched are.keep_uncancelled in
       let others : other.barred ≡ false = (prints gone other is_other).barred ∙ ap₂ (λ a b. a || b) are.gone_unwatched are.gone_uncancelled in
       λ i. doing i && aims-fit are leads refl i && not (mine i) && not (others i)

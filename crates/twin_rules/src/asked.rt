@@ -22,7 +22,7 @@ pub(crate) struct Asked {
     gone: usize,
     changed: [bool; VERTICES_MAX],
     /// For each place one that isn't before it, and not behind the next vertex that has changed.
-    next: [usize; VERTICES_MAX],
+    next: [u16; VERTICES_MAX],
 }
 
 /// Whether one of the edges leads to the vertex at this place.
@@ -105,7 +105,7 @@ impl Asked {
         ensures { result ≡ next_changed self.now from }
     {
         match self.next.get(from) {
-            Some(next) => *next,
+            Some(next) => *next as usize,
             None => from,
         }
     }
@@ -128,7 +128,7 @@ impl Asked {
         for step in 0..VERTICES_MAX {
             let place = VERTICES_MAX - 1 - step;
             next = self.next_from(place, next);
-            self.next[place] = next;
+            self.next[place] = next as u16;
         }
     }
 

@@ -5,7 +5,7 @@ ghost use Rattle.std.specs.Prelude.{◌≡◌, ℕ, map};
 ghost use Rattle.std.specs.Option.{option_map};
 ghost use Rattle.model_core.specs.EventGraph.{EventEdge, Expression, Location, StateChange};
 ghost use Rattle.model_core.specs.Code.Views.{operator_of, expression_of, location_of, choice_of, change_of, edge_delay_of, edge_kind_of, edge_of, vertex_of};
-ghost use Rattle.twin_rules.specs.Inner.Fingerprints.{mixed, list_print, truth_print, operator_print, expression_print, index_print, location_print, choice_print, change_print, delay_print, kind_print, edge_print, vertex_print};
+ghost use Rattle.twin_rules.specs.Inner.Fingerprints.{mixed, half, list_print, truth_print, operator_print, expression_print, index_print, location_print, choice_print, change_print, delay_print, kind_print, edge_print, vertex_print};
 
 use model_core::{Change, Choice, Delay, Edge, EdgeForm, Expr, Op, Target, Vertex};
 
@@ -17,6 +17,13 @@ pub(crate) fn mixed(print: u64, word: u64) -> u64
     ensures { result ≡ mixed print word }
 {
     print.wrapping_mul(FACTOR).wrapping_add(word)
+}
+
+/// The upper half of a print, which depends on all words in it.
+pub(crate) fn half(print: u64) -> u32
+    ensures { result ≡ half print }
+{
+    (mixed(print, 0) >> 32) as u32
 }
 
 /// What a list of which may be printed.

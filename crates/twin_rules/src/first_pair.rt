@@ -104,6 +104,7 @@ pub fn first_twins(model: &Model) -> Option<(usize, usize)>
     ensures { result ≡ first_twins (graph_of model.now) }
 {
     let asked = Asked::none();
-    let prints = Prints::of(model, &asked);
+    let mut prints = Prints::none();
+    prints.fill(model, &asked);
     first_twins_in(model, false, &prints, &asked, &mut true)
 }

@@ -7,12 +7,12 @@ ghost use Rattle.model_core.specs.Run.Step.{vertex_at};
 ghost use Rattle.model_core.specs.Code.Views.{graph_of, edge_of};
 ghost use Rattle.twin_rules.specs.declared.print.Print.{Print as Kept};
 ghost use Rattle.twin_rules.specs.Inner.AskedPairs.{has_changed};
-ghost use Rattle.twin_rules.specs.Inner.Fingerprints.{aims_print, vertex_print};
+ghost use Rattle.twin_rules.specs.Inner.Fingerprints.{half, aims_print, vertex_print};
 ghost use Rattle.twin_rules.specs.Inner.MarkedVertices.{has_mark};
 ghost use Rattle.twin_rules.specs.Inner.HeldPrints.{number_in, aims_at, ArePrints, ArePrintsBut, ArePrintsOfAll, IsRenewed};
 
 use crate::asked::Asked;
-use crate::fingerprint::{mixed, vertex_print};
+use crate::fingerprint::{half, mixed, vertex_print};
 use crate::marks::Marks;
 use crate::print::Print;
 use crate::same_doing::vertex_at;
@@ -40,7 +40,7 @@ impl std::marker::Model for Prints {
 
 impl Prints {
     /// Nothing is kept.
-    fn none() -> Prints
+    pub(crate) fn none() -> Prints
         ensures { result ≡ [] }
     {
         let nothing = Print {
@@ -86,7 +86,7 @@ impl Prints {
     }
 
     /// Keeps another print of the targets of a vertex's edges, if anything is kept of it.
-    fn set_aims(&mut self, place: usize, aims: u64)
+    fn set_aims(&mut self, place: usize, aims: u32)
         ensures length { length self.new ≡ length self.old }
         ensures others { (x : ℕ) → (x == place) ≡ false → slice_get self.new x ≡ slice_get self.old x }
         ensures here { (p : Kept) → slice_get self.old place ≡ Some p → slice_get self.new place ≡ Some (record p { aims = aims }) }
@@ -102,7 +102,7 @@ impl Prints {
         ensures { result ≡ number_in self.now place }
     {
         match self.at(place) {
-            Some(print) => print.number,
+            Some(print) => print.number as u64,
             None => VERTICES_MAX as u64,
         }
     }
@@ -119,12 +119,12 @@ impl Prints {
     }
 
     /// The print of the targets of the vertex's edges.
-    fn aims_at(&self, model: &Model, place: usize) -> u64
+    fn aims_at(&self, model: &Model, place: usize) -> u32
         ensures { result ≡ aims_at (graph_of model.now) self.now place }
     {
         match model.vertices.as_slice().get(place) {
-            Some(vertex) => self.aims(vertex.edges.as_slice()),
-            None => 0,
+            Some(vertex) => half(self.aims(vertex.edges.as_slice())),
+            None => half(0),
         }
     }
 
@@ -150,37 +150,37 @@ impl Prints {
 
     /// What is kept of a vertex at first: nothing yet of its targets.
     fn first_print(model: &Model, barred: &Marks, place: usize) -> Print
-        requires { place < length model.now.vertices }
-        ensures doing { result.doing ≡ vertex_print (vertex_at (graph_of model.now) place) }
+        requires there { place < length model.now.vertices }
+        requires within { place < LIMIT }
+        ensures doing { result.doing ≡ half (vertex_print (vertex_at (graph_of model.now) place)) }
         ensures barred { result.barred ≡ has_mark barred.now place }
     {
         Print {
-            doing: vertex_print(vertex_at(model, place)),
+            doing: half(vertex_print(vertex_at(model, place))),
             aims: 0,
-            number: place as u64,
+            number: place as u16,
             barred: barred.has(place),
         }
     }
 
-    /// What is kept of the vertices at first: nothing yet of their targets.
-    fn without_aims(model: &Model) -> Prints
-        ensures { ArePrintsOfAll (graph_of model.now) result }
+    /// Keeps what is to be kept of the vertices at first: nothing yet of their targets.
+    fn fill_without_aims(&mut self, model: &Model)
+        requires { self.old ≡ [] }
+        ensures { ArePrintsOfAll (graph_of model.now) self.new }
     {
         let barred = Marks::barred(model);
-        let mut prints = Prints::none();
         for place in 0..model.vertices.len().min(VERTICES_MAX) {
-            prints.push(Prints::first_print(model, &barred, place));
+            self.push(Prints::first_print(model, &barred, place));
         }
-        prints
     }
 
-    /// What is kept of the vertices, each of which counts as changed.
-    pub(crate) fn of(model: &Model, asked: &Asked) -> Prints
-        requires { (k : ℕ) → has_changed asked.now.changed k ≡ true }
-        ensures { ArePrints (graph_of model.now) result }
+    /// Keeps what is to be kept of the vertices, each of which counts as changed.
+    pub(crate) fn fill(&mut self, model: &Model, asked: &Asked)
+        requires empty { self.old ≡ [] }
+        requires changed { (k : ℕ) → has_changed asked.now.changed k ≡ true }
+        ensures { ArePrints (graph_of model.now) self.new }
     {
-        let mut prints = Prints::without_aims(model);
-        prints.renew(model, asked);
-        prints
+        self.fill_without_aims(model);
+        self.renew(model, asked);
     }
 }

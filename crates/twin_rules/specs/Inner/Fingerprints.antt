@@ -1,10 +1,14 @@
 -- Prints of what vertices do. Equal parts have equal prints, and that is all that is asked of them.
-use Rattle.std.specs.Prelude.{ℕ, ◌+◌, ◌*◌, ◌%◌, ◌^◌, Bool, true, false, List, [], ◌∷◌, map, Option, Some, None, unsigned_abs}
+use Rattle.std.specs.Prelude.{ℕ, ◌+◌, ◌*◌, ◌/◌, ◌%◌, ◌^◌, Bool, true, false, List, [], ◌∷◌, map, Option, Some, None, unsigned_abs}
 use Rattle.model_core.specs.EventGraph.{EventVertex, EventEdge, EdgeKind, Schedule, Urgent, CancelNext, CancelEqual, CancelAll, Delay, Fixed, Drawn, StateChange, Set, Draw, Choice, Uniform, ByTable, Location, Operator, Add, Subtract, Multiply, Divide, Remainder, Least, Greatest, Equal, NotEqual, Below, AtMost, Above, AtLeast, And, Or, Expression, Number, Truth, Clock, Scalar, Cell, Negative, Not, Binary, If}
 
 -- a print with one more word in it
 unfoldable pub mixed : ℕ → ℕ → ℕ
 mixed print word = (print * 6364136223846793005 % 2 ^ 64 + word) % 2 ^ 64
+
+-- the upper half of a print
+unfoldable pub half : ℕ → ℕ
+half print = mixed print 0 / 2 ^ 32
 
 -- a print with the words of a list in it
 abbrev pub list_print_on : ℕ → List ℕ → ℕ

@@ -6,7 +6,7 @@ use Rattle.model_core.specs.EventGraph.{EventGraph}
 use Rattle.model_core.specs.Run.Step.{vertex_at}
 use Rattle.twin_rules.specs.declared.print.Print.{Print}
 use Rattle.twin_rules.specs.Inner.AskedPairs.{has_changed}
-use Rattle.twin_rules.specs.Inner.Fingerprints.{vertex_print, aims_print}
+use Rattle.twin_rules.specs.Inner.Fingerprints.{half, vertex_print, aims_print}
 use Rattle.twin_rules.specs.Inner.MarkedVertices.{is_barred}
 
 -- the number that stands for the vertex at this place; one of which nothing is kept has that of all these
@@ -15,11 +15,11 @@ number_in known v = option_map_or (λ (p : Print). p.number) (slice_get known v)
 
 -- the print of the targets of the vertex's edges
 abbrev pub aims_at : EventGraph → List Print → ℕ → ℕ
-aims_at g known x = aims_print (number_in known) (vertex_at g x).edges
+aims_at g known x = half (aims_print (number_in known) (vertex_at g x).edges)
 
 -- it is what is kept of the vertex at this place, but that its aims may be old
 pub record IsPrintBut (g : EventGraph) (known : List Print) (aims_hold : Type 0) (x : ℕ) (p : Print) : Type 0 where
-  pub doing : p.doing ≡ vertex_print (vertex_at g x)
+  pub doing : p.doing ≡ half (vertex_print (vertex_at g x))
   pub barred : p.barred ≡ is_barred g x
   pub aims : aims_hold → p.aims ≡ aims_at g known x
 
@@ -33,7 +33,7 @@ ArePrintsBut g known changed = (x : ℕ) (p : Print) → slice_get known x ≡ S
 
 -- it is, but for all aims
 abbrev pub ArePrintsOfAll : EventGraph → List Print → Type 0
-ArePrintsOfAll g known = (x : ℕ) (p : Print) → slice_get known x ≡ Some p → (p.doing ≡ vertex_print (vertex_at g x)) × (p.barred ≡ is_barred g x)
+ArePrintsOfAll g known = (x : ℕ) (p : Print) → slice_get known x ≡ Some p → (p.doing ≡ half (vertex_print (vertex_at g x))) × (p.barred ≡ is_barred g x)
 
 -- the second list has the aims of the vertex at this place anew, and all else of the first
 pub record IsRenewed (g : EventGraph) (old now : List Print) (place : ℕ) : Type 0 where

@@ -1,13 +1,13 @@
 -- One place before the other, and all in the end.
-use Rattle.std.proofs.Common.{refl, rules, arith, sym, ◌∙◌, ap, subst, cond, set, ◌≡◌, ◌-◌, ◌+◌, ℕ, List, Bool}
+use Rattle.std.proofs.Common.{refl, rules, arith, sym, ◌∙◌, ap, subst, cond, set, ◌≡◌, ◌-◌, ◌+◌, ◌≤◌, ℕ, List, Bool}
 use Rattle.std.proofs.lemmas.List.{length-set}
 use Rattle.sig_base.specs.declared.limits.TheConstants.{VERTICES_MAX}
 use Rattle.twin_rules.specs.Inner.AskedPairs.{has_changed}
-use Rattle.twin_rules.proofs.SkippedPlaces.{SkipsFrom, skips-nothing, one-before}
+use Rattle.twin_rules.proofs.SkippedPlaces.{SkipsFrom, skips-nothing, one-before, either-small}
 use Rattle.twin_rules.proofs.asked.Asked.find_next.Goals as goal
 
 pub loop-step-init : goal.loop-step-init
-loop-step-init c = record { keep = refl; gone = refl; changed = refl; long = search rules; skips = skips-nothing c.args.self.now.changed c.args.self.now.next VERTICES_MAX (search rules) }
+loop-step-init c = record { keep = refl; gone = refl; changed = refl; small = omega arith; long = search rules; skips = skips-nothing c.args.self.now.changed c.args.self.now.next VERTICES_MAX (search rules) }
 
 pub loop-step-preserved : goal.loop-step-preserved
 loop-step-preserved c =
@@ -26,6 +26,7 @@ loop-step-preserved c =
       keep = so_far.keep;
       gone = so_far.gone;
       changed = so_far.changed;
+      small = subst (λ (r : ℕ). r ≤ VERTICES_MAX) (sym is) (either-small (has_changed changed place) place ahead (omega arith) so_far.small);
       long = length-set next place c.next_from-next.result ∙ long;
       skips = subst (λ (r : ℕ). SkipsFrom changed (set next place r) (VERTICES_MAX - (step + 1)) r) (sym is)
           (subst (λ (n : ℕ). SkipsFrom changed (set next place (cond (has_changed changed place) place ahead)) n (cond (has_changed changed place) place ahead)) here
