@@ -14,10 +14,12 @@ use crate::print::Print;
 use crate::prints::Prints;
 use model_core::Model;
 
-/// What is kept of a vertex, and the vertices that its edges lead to.
+/// A vertex that is compared with those behind it.
 #[derive(Drop)]
 pub(crate) struct Row {
+    /// What is kept of it.
     print: Option<Print>,
+    /// The vertices that its edges lead to.
     leads: Marks,
     /// Whether an edge of the vertex leads back to it.
     loops: bool,
