@@ -1,5 +1,5 @@
 -- What holds of a model between two fusings, as the loop over the first twins makes them.
-use Rattle.std.proofs.Common.{◌≡◌, ℕ, ◌<◌, ◌≤◌, ◌-◌, ◌^◌, nat_le, min, Bool, true, length, None, Some, ap, ◌∙◌, subst, arith}
+use Rattle.std.proofs.Common.{◌≡◌, ℕ, ◌≤◌, nat_le, Bool, true, length, None, Some, ap, ◌∙◌, subst, arith}
 use Rattle.std.proofs.lemmas.Bool.Decides.{nat_tests}
 use Rattle.sig_base.specs.declared.limits.TheConstants.{TEXT_MAX}
 use Rattle.model_core.specs.EventGraph.{EventGraph}
@@ -29,10 +29,3 @@ one-more-fused begun now next short keep gone found is so_far = record {
 
 pub all-fused : (begun now : EventGraph) (short : Bool) → first_twins now ≡ None → FusedSoFar begun now short → Fused begun now
 all-fused begun now short none so_far = so_far.leads now (no_twins none)
-
-capped : (limit top whole seen : ℕ) → limit < top → seen ≡ min whole top → nat_le seen limit ≡ true → nat_le whole limit ≡ true
-capped limit top whole seen beyond is less = grind (arith, nat_tests)
-
--- a length that is counted up to a number beyond the limit
-pub counted-short : (g : EventGraph) (seen : ℕ) → seen ≡ min (length (canonical g)) (2 ^ 64 - 1) → nat_le seen TEXT_MAX ≡ true → has_short_text g ≡ true
-counted-short g seen is less = capped TEXT_MAX (2 ^ 64 - 1) (length (canonical g)) seen (omega arith) is less

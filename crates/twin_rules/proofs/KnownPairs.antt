@@ -9,6 +9,7 @@ use Rattle.model_core.specs.Rules.Conditions.{first_failed}
 use Rattle.model_core.specs.Rules.Fuse.{fuse_conditions, are_twins}
 use Rattle.model_core.proofs.BothTrue.{and_first, and_second}
 use Rattle.model_core.proofs.Among.{either_true}
+use Rattle.twin_rules.proofs.StillAsked.{alike_told}
 use Rattle.twin_rules.specs.Inner.AskedPairs.{are_alike, NoneAlikeBefore, NoneAlikeWith}
 
 -- where one of the first conditions fails, one of all fails
@@ -43,6 +44,41 @@ one-more-known g keep gone none here y less = by (last-or-before y gone less) wh
   by : (y < gone) ⊎ (y ≡ gone) → are_alike g keep y ≡ false
   by (inl before) = none y before
   by (inr same) = ap (are_alike g keep) same ∙ here
+
+before-or-from : (from y : ℕ) → (y < from) ⊎ (from ≤ y)
+before-or-from from y = grind arith
+
+from-or-after : (place y : ℕ) → place ≤ y → (y ≡ place) ⊎ (place + 1 ≤ y)
+from-or-after place y at = grind arith
+
+-- those from a place on that are passed over, one more, and those behind it
+pub passed-on : (g : EventGraph) (keep from place to : ℕ) → ((y : ℕ) → from ≤ y → y < place → are_alike g keep y ≡ false) → are_alike g keep place ≡ false → ((y : ℕ) → place + 1 ≤ y → y < to → are_alike g keep y ≡ false) → (y : ℕ) → from ≤ y → y < to → are_alike g keep y ≡ false
+passed-on g keep from place to none here more y at less = by (before-or-from place y) where
+  behind : (y ≡ place) ⊎ (place + 1 ≤ y) → are_alike g keep y ≡ false
+  behind (inl same) = ap (are_alike g keep) same ∙ here
+  behind (inr later) = more y later less
+
+  by : (y < place) ⊎ (place ≤ y) → are_alike g keep y ≡ false
+  by (inl before) = none y at before
+  by (inr from_here) = behind (from-or-after place y from_here)
+
+pub known-until : (g : EventGraph) (keep from to : ℕ) → ((y : ℕ) → y < from → are_alike g keep y ≡ false) → ((y : ℕ) → from ≤ y → y < to → are_alike g keep y ≡ false) → (y : ℕ) → y < to → are_alike g keep y ≡ false
+known-until g keep from to none more y less = by (before-or-from from y) where
+  by : (y < from) ⊎ (from ≤ y) → are_alike g keep y ≡ false
+  by (inl before) = none y before
+  by (inr at) = more y at less
+
+beyond-all : (g : EventGraph) (keep y : ℕ) → length g.vertices ≤ y → are_alike g keep y ≡ false
+beyond-all g keep y past = by (are_alike g keep y) refl where
+  by : (b : Bool) → are_alike g keep y ≡ b → b ≡ false
+  by false told = refl
+  by true told = let less = (alike_told g keep y told).within in absurd (omega (arith, less, past))
+
+pub none-at-all : (g : EventGraph) (keep from : ℕ) → length g.vertices ≤ from → ((y : ℕ) → y < from → are_alike g keep y ≡ false) → NoneAlikeWith g keep None
+none-at-all g keep from past none y = by (before-or-from from y) where
+  by : (y < from) ⊎ (from ≤ y) → are_alike g keep y ≡ false
+  by (inl before) = none y before
+  by (inr at) = beyond-all g keep y (omega (arith, past, at))
 
 pub one-more-row : (g : EventGraph) (keep : ℕ) → ((x y : ℕ) → x < keep → are_alike g x y ≡ false) → NoneAlikeWith g keep None → (x y : ℕ) → x < keep + 1 → are_alike g x y ≡ false
 one-more-row g keep none here x y less = by (last-or-before x keep less) where

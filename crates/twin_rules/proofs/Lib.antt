@@ -10,3 +10,12 @@ pub mod FusedSoFar
 pub mod Marking
 pub mod StillAsked
 pub mod KnownPairs
+pub mod BarredAfter
+pub mod PrintLaws
+pub mod PrintsAfter
+pub mod TellingApart
+pub mod PrintsRenewed
+pub mod PrintLists
+pub mod SkippedPlaces
+pub mod AlikeByTests
+pub mod TargetsAfter

@@ -2,16 +2,19 @@
 use Rattle.std.proofs.Common.{◌≡◌, ◌⊎◌, inl, inr, ℕ, zero, suc, ◌+◌, ◌<◌, ◌≤◌, nat_lt, Bool, true, false, ◌||◌, cond, List, [], ◌∷◌, length, refl, sym, ◌∙◌, ap, arith}
 use Rattle.std.proofs.Math.ListN.{set}
 use Rattle.std.proofs.lemmas.List.{length-set, get_or-set_same, get_or-set_other}
-use Rattle.model_core.specs.EventGraph.{EventGraph}
-use Rattle.twin_rules.specs.Inner.AskedPairs.{has_changed, place_before, some_leads}
+use Rattle.twin_rules.specs.Inner.AskedPairs.{has_changed, place_before}
 
-pub record MarkedSoFar (g : EventGraph) (gone : ℕ) (old now : List Bool) (place : ℕ) : Type 0 where
+pub or-false : (a : Bool) → a ≡ (a || false)
+or-false true = refl
+or-false false = refl
+
+pub record MarkedSoFar (more : ℕ → Bool) (gone : ℕ) (old now : List Bool) (place : ℕ) : Type 0 where
   pub long : length now ≡ length old
-  pub done : (k : ℕ) → k < place → has_changed now k ≡ (has_changed old (place_before gone k) || some_leads g (place_before gone k) gone)
+  pub done : (k : ℕ) → k < place → has_changed now k ≡ (has_changed old (place_before gone k) || more (place_before gone k))
   pub left : (k : ℕ) → place ≤ k → has_changed now k ≡ has_changed old k
 
-pub nothing-marked : (g : EventGraph) (gone : ℕ) (old : List Bool) → MarkedSoFar g gone old old 0
-nothing-marked g gone old = record { long = refl; done = λ k less. absurd (omega (arith, less)); left = λ k at. refl }
+pub nothing-marked : (more : ℕ → Bool) (gone : ℕ) (old : List Bool) → MarkedSoFar more gone old old 0
+nothing-marked more gone old = record { long = refl; done = λ k less. absurd (omega (arith, less)); left = λ k at. refl }
 
 at-or-behind : (gone k : ℕ) → k ≤ place_before gone k
 at-or-behind gone k = by (nat_lt k gone) where
@@ -22,20 +25,20 @@ at-or-behind gone k = by (nat_lt k gone) where
 last-or-before : (k place : ℕ) → k < place + 1 → (k < place) ⊎ (k ≡ place)
 last-or-before k place less = grind arith
 
-pub one-more-marked : (g : EventGraph) (gone : ℕ) (old now : List Bool) (place : ℕ) (b : Bool) → place < length now → b ≡ (has_changed now (place_before gone place) || some_leads g (place_before gone place) gone) → MarkedSoFar g gone old now place → MarkedSoFar g gone old (set now place b) (place + 1)
-one-more-marked g gone old now place b below is so_far = record {
+pub one-more-marked : (more : ℕ → Bool) (gone : ℕ) (old now : List Bool) (place : ℕ) (b : Bool) → place < length now → b ≡ (has_changed now (place_before gone place) || more (place_before gone place)) → MarkedSoFar more gone old now place → MarkedSoFar more gone old (set now place b) (place + 1)
+one-more-marked more gone old now place b below is so_far = record {
   long = length-set now place b ∙ so_far.long;
   done = λ k less. by k (last-or-before k place less);
   left = λ k at. get_or-set_other now place k b true (omega (arith, at)) ∙ so_far.left k (omega (arith, at));
 } where
-  by : (k : ℕ) → (k < place) ⊎ (k ≡ place) → has_changed (set now place b) k ≡ (has_changed old (place_before gone k) || some_leads g (place_before gone k) gone)
+  by : (k : ℕ) → (k < place) ⊎ (k ≡ place) → has_changed (set now place b) k ≡ (has_changed old (place_before gone k) || more (place_before gone k))
   by k (inl less) = get_or-set_other now place k b true (omega (arith, less)) ∙ so_far.done k less
   by k (inr same) =
       ap (has_changed (set now place b)) same
       ∙ (get_or-set_same now place b true below
       ∙ (is
-      ∙ (ap (λ c. c || some_leads g (place_before gone place) gone) (so_far.left (place_before gone place) (at-or-behind gone place))
-      ∙ ap (λ k. has_changed old (place_before gone k) || some_leads g (place_before gone k) gone) (sym same))))
+      ∙ (ap (λ c. c || more (place_before gone place)) (so_far.left (place_before gone place) (at-or-behind gone place))
+      ∙ ap (λ k. has_changed old (place_before gone k) || more (place_before gone k)) (sym same))))
 
 beyond : (marks : List Bool) (k : ℕ) → length marks ≤ k → has_changed marks k ≡ true
 beyond [] k at = refl
@@ -46,10 +49,10 @@ inside-or-beyond : (k n : ℕ) → (k < n) ⊎ (n ≤ k)
 inside-or-beyond k n = grind arith
 
 -- all are marked in the end
-pub all-marked : (g : EventGraph) (gone : ℕ) (old now : List Bool) (place : ℕ) → length old ≤ place → MarkedSoFar g gone old now place → (k : ℕ) → has_changed now k ≡ (has_changed old (place_before gone k) || some_leads g (place_before gone k) gone)
-all-marked g gone old now place past so_far k = by (inside-or-beyond k place) where
-  by : (k < place) ⊎ (place ≤ k) → has_changed now k ≡ (has_changed old (place_before gone k) || some_leads g (place_before gone k) gone)
+pub all-marked : (more : ℕ → Bool) (gone : ℕ) (old now : List Bool) (place : ℕ) → length old ≤ place → MarkedSoFar more gone old now place → (k : ℕ) → has_changed now k ≡ (has_changed old (place_before gone k) || more (place_before gone k))
+all-marked more gone old now place past so_far k = by (inside-or-beyond k place) where
+  by : (k < place) ⊎ (place ≤ k) → has_changed now k ≡ (has_changed old (place_before gone k) || more (place_before gone k))
   by (inl less) = so_far.done k less
   by (inr at) =
       let behind = at-or-behind gone k in
-      so_far.left k at ∙ (beyond old k (omega (arith, past, at)) ∙ ap (λ b. b || some_leads g (place_before gone k) gone) (sym (beyond old (place_before gone k) (omega (arith, past, at, behind)))))
+      so_far.left k at ∙ (beyond old k (omega (arith, past, at)) ∙ ap (λ b. b || more (place_before gone k)) (sym (beyond old (place_before gone k) (omega (arith, past, at, behind)))))

@@ -26,7 +26,7 @@ none-of_map f test test_too back (x ∷ xs) none =
     let (here, later) = either_false (test_too (f x)) (list_any test_too (map f xs)) none in
     ap₂ (λ a b. a || b) (back x here) (none-of_map f test test_too back xs later)
 
-none-at : {A : Type 0} (test : A → Bool) (xs : List A) (k : ℕ) (d : A) → list_any test xs ≡ false → test d ≡ false → test (slice_index_or xs k d) ≡ false
+pub none-at : {A : Type 0} (test : A → Bool) (xs : List A) (k : ℕ) (d : A) → list_any test xs ≡ false → test d ≡ false → test (slice_index_or xs k d) ≡ false
 none-at test [] k d none out = out
 none-at test (x ∷ xs) zero d none out = (either_false (test x) (list_any test xs) none).0
 none-at test (x ∷ xs) (suc k) d none out = none-at test xs k d (either_false (test x) (list_any test xs) none).1 out
@@ -40,7 +40,7 @@ none-with test (x ∷ xs) (suc k) d none here =
 
 -- ---- places back
 
-before-without : (gone v : ℕ) → (v == gone) ≡ false → place_before gone (place_without gone v) ≡ v
+pub before-without : (gone v : ℕ) → (v == gone) ≡ false → place_before gone (place_without gone v) ≡ v
 before-without gone v apart = by (beside gone v apart) where
   by : BesideIt gone v → place_before gone (place_without gone v) ≡ v
   by (before below is) = ap (place_before gone) is ∙ ap (λ b. cond b v (v + 1)) (let e : nat_lt v gone ≡ true = grind (arith, nat_tests) in e)
@@ -74,10 +74,10 @@ module _ (g : EventGraph) (keep gone : ℕ) (are : AreAlike g keep gone) where
   abbrev p : ℕ → ℕ
   p = place_without gone
 
-  placed : (x : ℕ) → (x == gone) ≡ false → vertex_at h (p x) ≡ vertex_renumbered f (vertex_at g x)
+  pub placed : (x : ℕ) → (x == gone) ≡ false → vertex_at h (p x) ≡ vertex_renumbered f (vertex_at g x)
   placed x apart = at-map (vertex_renumbered f) (remove g.vertices gone) (p x) no_vertex ∙ ap (vertex_renumbered f) (at-without g.vertices gone x no_vertex apart)
 
-  itself : (x : ℕ) → (x == gone) ≡ false → f x ≡ p x
+  pub itself : (x : ℕ) → (x == gone) ≡ false → f x ≡ p x
   itself x apart = ap p (standing-itself keep gone are.first x apart)
 
   self : (a : ℕ) → (a == a) ≡ true
@@ -95,7 +95,7 @@ module _ (g : EventGraph) (keep gone : ℕ) (are : AreAlike g keep gone) where
 
   -- ---- watched
 
-  unwatched-before : (x : ℕ) → (x == gone) ≡ false → is_watched_vertex h (p x) ≡ false → is_watched_vertex g x ≡ false
+  pub unwatched-before : (x : ℕ) → (x == gone) ≡ false → is_watched_vertex h (p x) ≡ false → is_watched_vertex g x ≡ false
   unwatched-before x apart none = none-of_map (watched_renumbered f) (watches x) (watches (p x)) one g.watch none where
     one : (w : Watched) → watches (p x) (watched_renumbered f w) ≡ false → watches x w ≡ false
     one (WatchedVariable v) e = refl
@@ -116,7 +116,7 @@ module _ (g : EventGraph) (keep gone : ℕ) (are : AreAlike g keep gone) where
   keep-apart : (keep == gone) ≡ false
   keep-apart = let e = are.first in grind (arith, nat_tests)
 
-  uncancelled-before : (x : ℕ) → (x == gone) ≡ false → can_be_cancelled h (p x) ≡ false → can_be_cancelled g x ≡ false
+  pub uncancelled-before : (x : ℕ) → (x == gone) ≡ false → can_be_cancelled h (p x) ≡ false → can_be_cancelled g x ≡ false
   uncancelled-before x apart none =
       let others : list_any (one_cancels x) (remove g.vertices gone) ≡ false = none-of_map (vertex_renumbered f) (one_cancels x) (one_cancels (p x)) (λ v. edges-before x apart v.edges) (remove g.vertices gone) none in
       let at_keep : list_any (cancels (p x)) (vertex_at h (p keep)).edges ≡ false = none-at (one_cancels (p x)) h.vertices (p keep) no_vertex none refl in
@@ -133,7 +133,7 @@ module _ (g : EventGraph) (keep gone : ℕ) (are : AreAlike g keep gone) where
       by true = x-stays
       by false = apart
 
-    places_same : (t : ℕ) → (t == gone) ≡ false → (p t == p y) ≡ (t == y)
+    pub places_same : (t : ℕ) → (t == gone) ≡ false → (p t == p y) ≡ (t == y)
     places_same t apart = by (beside gone t apart) (beside gone y y-stays) where
       by : BesideIt gone t → BesideIt gone y → (p t == p y) ≡ (t == y)
       by (before a is) (before b is_too) = ap₂ (λ i j. i == j) is is_too

@@ -65,13 +65,13 @@ where_after gone k = by (nat_lt gone k) refl where
   by true is = moves (grind (arith, nat_tests)) (ap (λ b. cond b (k - 1) k) is)
   by false is = stays (grind (arith, nat_tests)) (ap (λ b. cond b (k - 1) k) is)
 
-stays-apart : (gone x : ℕ) → (place_before gone x == gone) ≡ false
+pub stays-apart : (gone x : ℕ) → (place_before gone x == gone) ≡ false
 stays-apart gone x = by (where_before gone x) where
   by : Before gone x → (place_before gone x == gone) ≡ false
   by (front less is) = ap (λ k. k == gone) is ∙ (let e : (x == gone) ≡ false = grind (arith, nat_tests) in e)
   by (back more is) = ap (λ k. k == gone) is ∙ (let e : ((x + 1) == gone) ≡ false = grind (arith, nat_tests) in e)
 
-and-back : (gone x : ℕ) → place_without gone (place_before gone x) ≡ x
+pub and-back : (gone x : ℕ) → place_without gone (place_before gone x) ≡ x
 and-back gone x = by (where_before gone x) where
   by : Before gone x → place_without gone (place_before gone x) ≡ x
   by (front less is) = ap (place_without gone) is ∙ ap (λ b. cond b (x - 1) x) (let e : nat_lt gone x ≡ false = grind (arith, nat_tests) in e)

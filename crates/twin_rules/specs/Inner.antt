@@ -1,2 +1,7 @@
 -- The code of this crate, restated for its proofs. Nobody has to believe these.
 pub mod AskedPairs
+pub mod Fingerprints
+pub mod MarkedVertices
+pub mod HeldPrints
+pub mod Rows
+pub mod LedTo

@@ -1,14 +1,15 @@
 //! Which pairs of vertices were looked at and aren't alike, so that after a fuse only those are looked at again in which
 //! something changed.
 
-ghost use Rattle.std.specs.Prelude.{◌≡◌, ◌<◌, ◌||◌, ℕ, Some, map, true, false, cond, ◌==◌};
+ghost use Rattle.std.specs.Prelude.{◌≡◌, ◌<◌, ◌≤◌, ◌||◌, ℕ, Some, map, true, false, cond, ◌==◌};
 ghost use Rattle.std.specs.List.{list_any};
 ghost use Rattle.model_core.specs.Rules.Merge.{leads_to};
 ghost use Rattle.model_core.specs.EventGraph.{EventGraph};
 ghost use Rattle.model_core.specs.Rules.MarkedPlaces.{place_without};
 ghost use Rattle.model_core.specs.Rules.Fuse.{fused, first_twins};
 ghost use Rattle.model_core.specs.Code.Views.{graph_of, edge_of};
-ghost use Rattle.twin_rules.specs.Inner.AskedPairs.{is_before_pair, has_changed, was_asked, NoneAlike, NoneAlikeBefore, place_before, some_leads};
+ghost use Rattle.twin_rules.specs.Inner.LedTo.{NoneLeadsTo};
+ghost use Rattle.twin_rules.specs.Inner.AskedPairs.{is_before_pair, has_changed, was_asked, next_changed, SkipsUnchanged, NoneAlike, NoneAlikeBefore, place_before, some_leads};
 
 use model_core::{Edge, Model};
 use sig_base::VERTICES_MAX;
@@ -20,6 +21,8 @@ pub(crate) struct Asked {
     keep: usize,
     gone: usize,
     changed: [bool; VERTICES_MAX],
+    /// For each place one that isn't before it, and not behind the next vertex that has changed.
+    next: [u16; VERTICES_MAX],
 }
 
 /// Whether one of the edges leads to the vertex at this place.
@@ -45,7 +48,7 @@ fn some_leads(model: &Model, vertex: usize, target: usize) -> bool
 }
 
 /// The place that a vertex had before the one at `gone` was taken away.
-fn place_before(gone: usize, place: usize) -> usize
+pub(crate) fn place_before(gone: usize, place: usize) -> usize
     requires { place < VERTICES_MAX }
     ensures { result ≡ place_before gone place }
 {
@@ -53,19 +56,23 @@ fn place_before(gone: usize, place: usize) -> usize
 }
 
 impl Asked {
-    /// No pair was looked at.
+    /// No pair was looked at, and each vertex counts as changed.
     pub(crate) fn none() -> Asked
         ensures keep { result.keep ≡ 0 }
         ensures gone { result.gone ≡ 0 }
+        ensures changed { (k : ℕ) → has_changed result.changed k ≡ true }
+        ensures skips { SkipsUnchanged result }
     {
         Asked {
             keep: 0,
             gone: 0,
-            changed: [false; VERTICES_MAX],
+            changed: [true; VERTICES_MAX],
+            next: [0; VERTICES_MAX],
         }
     }
 
-    fn has_changed(&self, vertex: usize) -> bool
+    /// Whether the vertex has changed since the pairs were looked at.
+    pub(crate) fn has_changed(&self, vertex: usize) -> bool
         ensures { result ≡ has_changed self.now.changed vertex }
     {
         match self.changed.get(vertex) {
@@ -80,11 +87,49 @@ impl Asked {
         x < self.keep || (x == self.keep && y < self.gone)
     }
 
-    /// Whether the pair was looked at, and neither of the two has changed since then.
-    pub(crate) fn has(&self, x: usize, y: usize) -> bool
-        ensures { result ≡ was_asked self.now x y }
+    /// A place from which on vertices are to be looked at beside this one: all from the given place up to there were.
+    pub(crate) fn next(&self, keep: usize, from: usize) -> usize
+        requires skips { SkipsUnchanged self.now }
+        ensures behind { from ≤ result }
+        ensures asked { (y : ℕ) → from ≤ y → y < result → was_asked self.now keep y ≡ true }
     {
-        self.is_before_pair(x, y) && !self.has_changed(x) && !self.has_changed(y)
+        if keep < self.keep && !self.has_changed(keep) {
+            self.next_changed(from).max(from)
+        } else {
+            from
+        }
+    }
+
+    /// No place behind the next vertex, from this place on, that has changed.
+    fn next_changed(&self, from: usize) -> usize
+        ensures { result ≡ next_changed self.now from }
+    {
+        match self.next.get(from) {
+            Some(next) => *next as usize,
+            None => from,
+        }
+    }
+
+    /// The next vertex that has changed, from this place on, where it is told which is the next one behind it.
+    fn next_from(&self, place: usize, next: usize) -> usize
+        ensures { result ≡ cond (has_changed self.now.changed place) place next }
+    {
+        if self.has_changed(place) { place } else { next }
+    }
+
+    /// Finds the next vertex that has changed, from each place on.
+    fn find_next(&mut self)
+        ensures keep { self.new.keep ≡ self.old.keep }
+        ensures gone { self.new.gone ≡ self.old.gone }
+        ensures changed { self.new.changed ≡ self.old.changed }
+        ensures skips { SkipsUnchanged self.new }
+    {
+        let mut next = VERTICES_MAX;
+        for step in 0..VERTICES_MAX {
+            let place = VERTICES_MAX - 1 - step;
+            next = self.next_from(place, next);
+            self.next[place] = next as u16;
+        }
     }
 
     /// All pairs before this one were looked at just now.
@@ -97,22 +142,24 @@ impl Asked {
         self.changed = [false; VERTICES_MAX];
     }
 
-    /// Whether the vertex has changed, or changes when `gone` is taken away.
-    fn changes(&self, model: &Model, vertex: usize, gone: usize) -> bool
+    /// Whether the vertex has changed, or changes when `gone` is taken away. It may be told that no edge leads to `gone`.
+    fn changes(&self, model: &Model, vertex: usize, gone: usize, led: bool) -> bool
+        requires { led ≡ false → NoneLeadsTo (graph_of model.now) gone }
         ensures { result ≡ (has_changed self.now.changed vertex || some_leads (graph_of model.now) vertex gone) }
     {
-        self.has_changed(vertex) || some_leads(model, vertex, gone)
+        self.has_changed(vertex) || (led && some_leads(model, vertex, gone))
     }
 
     /// Marks the vertices from which an edge leads to `gone`, and gives the others the marks that they had, each at the
     /// place that it has when `gone` is taken away.
-    fn mark(&mut self, model: &Model, gone: usize)
+    fn mark(&mut self, model: &Model, gone: usize, led: bool)
+        requires { led ≡ false → NoneLeadsTo (graph_of model.now) gone }
         ensures keep { self.new.keep ≡ self.old.keep }
         ensures gone { self.new.gone ≡ self.old.gone }
         ensures changed { (k : ℕ) → has_changed self.new.changed k ≡ (has_changed self.old.changed (place_before gone k) || some_leads (graph_of model.now) (place_before gone k) gone) }
     {
         for place in 0..VERTICES_MAX {
-            self.changed[place] = self.changes(model, place_before(gone, place), gone);
+            self.changed[place] = self.changes(model, place_before(gone, place), gone, led);
         }
     }
 
@@ -144,15 +191,19 @@ impl Asked {
     }
 
     /// Follows the model when its first twins, `keep` and `gone`, are fused, before which it may be known that no pair is
-    /// alike.
-    pub(crate) fn fuse(&mut self, model: &Model, keep: usize, gone: usize, known: bool)
+    /// alike. It may be told that no edge leads to `gone`.
+    pub(crate) fn fuse(&mut self, model: &Model, keep: usize, gone: usize, led: bool, known: bool)
         requires asked { NoneAlike (graph_of model.now) self.old }
         requires found { first_twins (graph_of model.now) ≡ Some (keep, gone) }
+        requires led { led ≡ false → NoneLeadsTo (graph_of model.now) gone }
         requires known { known ≡ true → NoneAlikeBefore (graph_of model.now) (Some (keep, gone)) }
-        ensures { NoneAlike (fused (graph_of model.now) keep gone) self.new }
+        ensures asked { NoneAlike (fused (graph_of model.now) keep gone) self.new }
+        ensures skips { SkipsUnchanged self.new }
+        ensures changed { (x : ℕ) → has_changed self.new.changed x ≡ false → some_leads (graph_of model.now) (place_before gone x) gone ≡ false }
     {
         self.look_up_to(keep, gone, known);
-        self.mark(model, gone);
+        self.mark(model, gone, led);
         self.move_up(gone);
+        self.find_next();
     }
 }

@@ -3,12 +3,15 @@
 ghost use Rattle.std.specs.Prelude.{◌≡◌, ◌<◌, ◌&&◌, true, None, take, length};
 ghost use Rattle.model_core.specs.Rules.Conditions.{first_failed};
 ghost use Rattle.model_core.specs.Rules.Fuse.{fused, has_short_text, fuse_conditions};
-ghost use Rattle.twin_rules.specs.Inner.AskedPairs.{are_alike};
+ghost use Rattle.twin_rules.specs.Inner.AskedPairs.{are_alike, alike_by};
+ghost use Rattle.twin_rules.specs.Inner.HeldPrints.{ArePrints};
+ghost use Rattle.twin_rules.specs.Inner.MarkedVertices.{is_barred};
 ghost use Rattle.model_core.specs.Code.Views.{graph_of};
 
+use crate::prints::Prints;
 use crate::same_doing::{have_same_edges, have_same_events};
-use crate::untouched::{are_uncancelled, are_unwatched};
-use model_core::Model;
+use crate::untouched::{are_uncancelled, are_unwatched, can_be_cancelled};
+use model_core::{Model, is_watched};
 use model_print::fused_length;
 use sig_base::TEXT_MAX;
 
@@ -63,14 +66,37 @@ pub(crate) fn failed_fuse(model: &Model, short: bool, keep: usize, gone: usize) 
     }
 }
 
-/// Whether two vertices meet all conditions but that on the limits. What they do is looked at first, since that tells most
-/// of them apart at once.
-pub(crate) fn are_alike(model: &Model, keep: usize, gone: usize) -> bool
+/// Whether a vertex is watched or its events are cancelled.
+fn is_barred(model: &Model, prints: &Prints, vertex: usize) -> bool
+    requires { ArePrints (graph_of model.now) prints.now }
+    ensures { result ≡ is_barred (graph_of model.now) vertex }
+{
+    match prints.at(vertex) {
+        Some(print) => print.barred,
+        None => is_watched(model, vertex) || can_be_cancelled(model, vertex),
+    }
+}
+
+/// Whether two vertices aren't watched, no edge cancels their events, and they do the same.
+fn do_the_same(model: &Model, prints: &Prints, keep: usize, gone: usize) -> bool
+    requires prints { ArePrints (graph_of model.now) prints.now }
+    requires keep { keep < length model.now.vertices }
+    requires gone { gone < length model.now.vertices }
+    ensures { result ≡ alike_by (graph_of model.now) keep gone }
+{
+    keep < gone
+        && !is_barred(model, prints, keep)
+        && !is_barred(model, prints, gone)
+        && have_same_edges(model, keep, gone)
+        && have_same_events(model, keep, gone)
+}
+
+/// Whether two vertices meet all conditions but that on the limits.
+pub(crate) fn are_alike(model: &Model, prints: &Prints, keep: usize, gone: usize) -> bool
+    requires prints { ArePrints (graph_of model.now) prints.now }
     requires keep { keep < length model.now.vertices }
     requires gone { gone < length model.now.vertices }
     ensures { result ≡ are_alike (graph_of model.now) keep gone }
 {
-    have_same_events(model, keep, gone)
-        && have_same_edges(model, keep, gone)
-        && failed_before_limits(model, keep, gone).is_none()
+    do_the_same(model, prints, keep, gone)
 }

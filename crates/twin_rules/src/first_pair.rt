@@ -3,29 +3,38 @@
 ghost use Rattle.std.specs.Prelude.{◌≡◌, ◌<◌, true, false, length};
 ghost use Rattle.model_core.specs.Rules.Fuse.{has_short_text, are_twins, first_twin_of, first_twins};
 ghost use Rattle.model_core.specs.Code.Views.{graph_of};
-ghost use Rattle.twin_rules.specs.Inner.AskedPairs.{are_alike, NoneAlike, NoneAlikeBefore, NoneAlikeWith};
+ghost use Rattle.twin_rules.specs.Inner.AskedPairs.{are_alike, SkipsUnchanged, NoneAlike, NoneAlikeBefore, NoneAlikeWith};
+ghost use Rattle.twin_rules.specs.Inner.HeldPrints.{ArePrints};
+ghost use Rattle.twin_rules.specs.Inner.Rows.{IsRow};
 
 use crate::asked::Asked;
 use crate::conditions::{are_alike, is_within_limits};
+use crate::prints::Prints;
+use crate::row::{Row, next_like};
 use model_core::Model;
 
 /// Whether two vertices may be fused. `known` stays where it is known that they are alike only if they may.
 fn are_twins(
     model: &Model,
     short: bool,
-    asked: &Asked,
+    prints: &Prints,
+    row: &Row,
     keep: usize,
     gone: usize,
     known: &mut bool,
 ) -> bool
     requires short { short ≡ true → has_short_text (graph_of model.now) ≡ true }
-    requires asked { NoneAlike (graph_of model.now) asked.now }
+    requires prints { ArePrints (graph_of model.now) prints.now }
+    requires row { IsRow (graph_of model.now) prints.now keep row.now }
     requires keep { keep < length model.now.vertices }
     requires gone { gone < length model.now.vertices }
     ensures twins { result ≡ are_twins (graph_of model.now) keep gone }
     ensures known { known.new ≡ true → (known.old ≡ true) × (result ≡ false → are_alike (graph_of model.now) keep gone ≡ false) }
 {
-    if asked.has(keep, gone) || !are_alike(model, keep, gone) {
+    if !row.may_fit(prints, gone) {
+        return false;
+    }
+    if !are_alike(model, prints, keep, gone) {
         return false;
     }
     let within = is_within_limits(model, short, keep, gone);
@@ -38,21 +47,30 @@ fn are_twins(
 fn first_twin_of(
     model: &Model,
     short: bool,
+    prints: &Prints,
     asked: &Asked,
     keep: usize,
     known: &mut bool,
 ) -> Option<usize>
     requires short { short ≡ true → has_short_text (graph_of model.now) ≡ true }
+    requires prints { ArePrints (graph_of model.now) prints.now }
     requires asked { NoneAlike (graph_of model.now) asked.now }
+    requires skips { SkipsUnchanged asked.now }
     requires keep { keep < length model.now.vertices }
     ensures found { result ≡ first_twin_of (graph_of model.now) keep }
     ensures known { known.new ≡ true → (known.old ≡ true) × NoneAlikeWith (graph_of model.now) keep result }
 {
     let count = model.vertices.len();
-    for gone in keep + 1..count {
-        if are_twins(model, short, asked, keep, gone, known) {
+    let mut gone = next_like(model, prints, asked, keep, keep + 1);
+    if gone >= count {
+        return None;
+    }
+    let row = Row::of(model, prints, keep);
+    while gone < count {
+        if are_twins(model, short, prints, &row, keep, gone, known) {
             return Some(gone);
         }
+        gone = next_like(model, prints, asked, keep, gone + 1);
     }
     None
 }
@@ -62,16 +80,19 @@ fn first_twin_of(
 pub(crate) fn first_twins_in(
     model: &Model,
     short: bool,
+    prints: &Prints,
     asked: &Asked,
     known: &mut bool,
 ) -> Option<(usize, usize)>
     requires short { short ≡ true → has_short_text (graph_of model.now) ≡ true }
+    requires prints { ArePrints (graph_of model.now) prints.now }
     requires asked { NoneAlike (graph_of model.now) asked.now }
+    requires skips { SkipsUnchanged asked.now }
     ensures found { result ≡ first_twins (graph_of model.now) }
     ensures known { known.new ≡ true → NoneAlikeBefore (graph_of model.now) result }
 {
     for keep in 0..model.vertices.len() {
-        if let Some(gone) = first_twin_of(model, short, asked, keep, known) {
+        if let Some(gone) = first_twin_of(model, short, prints, asked, keep, known) {
             return Some((keep, gone));
         }
     }
@@ -82,5 +103,8 @@ pub(crate) fn first_twins_in(
 pub fn first_twins(model: &Model) -> Option<(usize, usize)>
     ensures { result ≡ first_twins (graph_of model.now) }
 {
-    first_twins_in(model, false, &Asked::none(), &mut true)
+    let asked = Asked::none();
+    let mut prints = Prints::none();
+    prints.fill(model, &asked);
+    first_twins_in(model, false, &prints, &asked, &mut true)
 }

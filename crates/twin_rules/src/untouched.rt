@@ -8,7 +8,7 @@ ghost use Rattle.model_core.specs.Code.Views.{graph_of};
 use model_core::{Model, is_watched, one_cancels};
 
 /// Whether some edge of the model cancels events of the vertex.
-fn can_be_cancelled(model: &Model, target: usize) -> bool
+pub(crate) fn can_be_cancelled(model: &Model, target: usize) -> bool
     ensures { result ≡ can_be_cancelled (graph_of model.now) target }
 {
     for vertex in model.vertices.as_slice() {

@@ -1,16 +1,25 @@
 -- Which pairs of vertices are known not to be alike, so that they needn't be looked at again.
-use Rattle.std.specs.Prelude.{◌≡◌, ℕ, ◌+◌, ◌<◌, ◌==◌, nat_lt, Bool, true, false, not, ◌&&◌, ◌||◌, cond, List, take, slice_index_or, Option, Some, None, is_none}
+use Rattle.std.specs.Prelude.{◌≡◌, ℕ, ◌+◌, ◌<◌, ◌≤◌, ◌==◌, nat_lt, nat_eq, Bool, true, false, not, ◌&&◌, ◌||◌, cond, List, take, slice_index_or, Option, Some, None, is_none}
 use Rattle.std.specs.List.{list_any}
+use lib.Pointwise.{pointwise}
 use Rattle.model_core.specs.EventGraph.{EventGraph}
 use Rattle.model_core.specs.Run.Step.{vertex_at}
 use Rattle.model_core.specs.Rules.Conditions.{first_failed}
 use Rattle.model_core.specs.Rules.Merge.{leads_to}
-use Rattle.model_core.specs.Rules.Fuse.{fuse_conditions}
+use Rattle.model_core.specs.Rules.Fuse.{same_changes, same_edges_for, fuse_conditions}
+use Rattle.twin_rules.specs.Inner.MarkedVertices.{is_barred}
 use Rattle.twin_rules.specs.declared.asked.Asked.{Asked}
 
 -- the two vertices meet all conditions but that on the limits
 abbrev pub are_alike : EventGraph → ℕ → ℕ → Bool
 are_alike g keep gone = is_none (first_failed (take 5 (fuse_conditions g keep gone)))
+
+-- the same, told from what is known of each vertex and from what they do
+abbrev pub alike_by : EventGraph → ℕ → ℕ → Bool
+alike_by g keep gone =
+    let a = vertex_at g keep in
+    let b = vertex_at g gone in
+    nat_lt keep gone && (not (is_barred g keep) && (not (is_barred g gone) && (same_edges_for keep gone a.edges b.edges && (pointwise nat_eq a.parameters b.parameters && same_changes a.changes b.changes))))
 
 -- the pair (x, y) comes before the pair (keep, gone), by its first vertex and then by its second
 abbrev pub is_before_pair : ℕ → ℕ → ℕ → ℕ → Bool
@@ -22,6 +31,14 @@ has_changed changed v = slice_index_or changed v true
 
 abbrev pub was_asked : Asked → ℕ → ℕ → Bool
 was_asked a x y = is_before_pair a.keep a.gone x y && not (has_changed a.changed x) && not (has_changed a.changed y)
+
+-- a place no further than the next vertex, from this one on, that has changed
+abbrev pub next_changed : Asked → ℕ → ℕ
+next_changed a v = slice_index_or a.next v v
+
+-- the vertices between a place and that one haven't changed
+abbrev pub SkipsUnchanged : Asked → Type 0
+SkipsUnchanged a = (v k : ℕ) → v ≤ k → k < next_changed a v → has_changed a.changed k ≡ false
 
 -- no pair that was asked is alike
 abbrev pub NoneAlike : EventGraph → Asked → Type 0

@@ -1,4 +1,4 @@
-use Rattle.std.proofs.Common.{◌≡◌, ℕ, ◌<◌, true, false, length}
+use Rattle.std.proofs.Common.{◌≡◌, ℕ, ◌<◌, ◌-◌, true, false, length}
 use Rattle.model_core.specs.Rules.Fuse.{are_twins, first_twin_of}
 use Rattle.model_core.specs.Code.Views.{graph_of}
 use Rattle.twin_rules.specs.Inner.AskedPairs.{are_alike}
@@ -10,3 +10,6 @@ invariant-loop-gone l = record {
   found : first_passing (are_twins (graph_of l.model) l.keep) l.gone (length l.model.vertices) ≡ first_twin_of (graph_of l.model) l.keep;
   known : l.known ≡ true → (l.initial.known ≡ true) × ((y : ℕ) → y < l.gone → are_alike (graph_of l.model) l.keep y ≡ false);
 }
+
+abbrev pub decreases-loop-gone : goal.decreases-loop-gone
+decreases-loop-gone l = length l.model.vertices - l.gone

@@ -1,0 +1,126 @@
+-- The aims of one vertex after another are printed anew.
+use Rattle.std.proofs.Common.{◌≡◌, ◌⊎◌, inl, inr, ℕ, zero, suc, ◌+◌, ◌<◌, ◌≤◌, ◌==◌, Bool, true, false, List, [], ◌∷◌, length, slice_get, Option, Some, None, refl, sym, ◌∙◌, ap, subst, arith}
+use Rattle.std.specs.Option.{option_map_or}
+use Rattle.std.proofs.lemmas.Bool.{false≢true}
+use Rattle.std.proofs.lemmas.Bool.Decides.{nat_tests}
+use Rattle.sig_base.specs.declared.limits.TheConstants.{VERTICES_MAX}
+use Rattle.mark_laws.proofs.EntailedMarks.{same-place}
+use Rattle.model_core.specs.EventGraph.{EventGraph}
+use Rattle.model_core.specs.Run.Step.{vertex_at}
+use Rattle.twin_rules.specs.declared.print.Print.{Print}
+use Rattle.twin_rules.specs.Inner.AskedPairs.{has_changed}
+use Rattle.twin_rules.specs.Inner.Fingerprints.{half}
+use Rattle.twin_rules.specs.Inner.HeldPrints.{number_in, aims_at, IsPrintBut, ArePrints, ArePrintsBut, ArePrintsOfAll, IsRenewed}
+use Rattle.twin_rules.proofs.PrintLaws.{aims-same}
+
+-- the aims of the vertices before this place, and of those that haven't changed, are as they shall be
+pub record RenewedSoFar (g : EventGraph) (old now : List Print) (changed : List Bool) (place : ℕ) : Type 0 where
+  pub long : length now ≡ length old
+  pub numbers : (v : ℕ) → number_in now v ≡ number_in old v
+  pub kept : (x : ℕ) (p : Print) → slice_get now x ≡ Some p → IsPrintBut g old ((x < place) ⊎ (has_changed changed x ≡ false)) x p
+
+pub nothing-renewed : (g : EventGraph) (old : List Print) (changed : List Bool) → ArePrintsBut g old changed → RenewedSoFar g old old changed 0
+nothing-renewed g old changed prints = record {
+  long = refl;
+  numbers = λ v. refl;
+  kept = λ x p is. record { doing = (prints x p is).doing; barred = (prints x p is).barred; aims = λ known. by x p is known };
+} where
+  by : (x : ℕ) (p : Print) → slice_get old x ≡ Some p → (x < 0) ⊎ (has_changed changed x ≡ false) → p.aims ≡ aims_at g old x
+  by x p is (inl none) = absurd (omega (arith, none))
+  by x p is (inr stays) = (prints x p is).aims stays
+
+here-or-not : (x place : ℕ) → x < place + 1 → (x < place) ⊎ (x ≡ place)
+here-or-not x place less = grind arith
+
+module _ (g : EventGraph) (old now : List Print) (changed : List Bool) (place : ℕ) (so_far : RenewedSoFar g old now changed place) where
+  -- one that hasn't changed is as it shall be
+  pub one-passed : has_changed changed place ≡ false → RenewedSoFar g old now changed (place + 1)
+  one-passed stays = record {
+    long = so_far.long;
+    numbers = so_far.numbers;
+    kept = λ x p is. record { doing = (so_far.kept x p is).doing; barred = (so_far.kept x p is).barred; aims = λ known. by x p is known };
+  } where
+    at : (x : ℕ) (p : Print) → slice_get now x ≡ Some p → (x < place) ⊎ (x ≡ place) → p.aims ≡ aims_at g old x
+    at x p is (inl less) = (so_far.kept x p is).aims (inl less)
+    at x p is (inr same) = (so_far.kept x p is).aims (inr (ap (has_changed changed) same ∙ stays))
+
+    by : (x : ℕ) (p : Print) → slice_get now x ≡ Some p → (x < place + 1) ⊎ (has_changed changed x ≡ false) → p.aims ≡ aims_at g old x
+    by x p is (inl less) = at x p is (here-or-not x place less)
+    by x p is (inr stays) = (so_far.kept x p is).aims (inr stays)
+
+  abbrev number_of : Option Print → ℕ
+  number_of o = option_map_or (λ (p : Print). p.number) o VERTICES_MAX
+
+  -- what is renewed has its number and all but its aims
+  pub one-renewed : (next : List Print) → IsRenewed g now next place → RenewedSoFar g old next changed (place + 1)
+  one-renewed next renewed = record {
+    long = renewed.long ∙ so_far.long;
+    numbers = λ v. numbers v ∙ so_far.numbers v;
+    kept = λ x p is. kept x p is;
+  } where
+    same-number : (v : ℕ) (b : Bool) → (v == place) ≡ b → (o : Option Print) → slice_get now place ≡ o → number_in next v ≡ number_in now v
+    same-number v false apart o found = ap number_of (renewed.others v apart)
+    same-number v true here (Some p) found =
+        let at = same-place v place here in
+        ap (number_in next) at ∙ (ap number_of (renewed.here p found) ∙ (ap number_of (sym found) ∙ ap (number_in now) (sym at)))
+    same-number v true here None found =
+        let at = same-place v place here in
+        ap (number_in next) at ∙ (ap number_of (renewed.beyond found) ∙ (ap number_of (sym found) ∙ ap (number_in now) (sym at)))
+
+    numbers : (v : ℕ) → number_in next v ≡ number_in now v
+    numbers v = same-number v (v == place) refl (slice_get now place) refl
+
+    told : (x : ℕ) → x < place + 1 → (x == place) ≡ false → x < place
+    told x less apart = grind (arith, nat_tests)
+
+    elsewhere : (x : ℕ) (p : Print) → (x == place) ≡ false → slice_get now x ≡ Some p → (x < place + 1) ⊎ (has_changed changed x ≡ false) → p.aims ≡ aims_at g old x
+    elsewhere x p apart was (inl less) = (so_far.kept x p was).aims (inl (told x less apart))
+    elsewhere x p apart was (inr stays) = (so_far.kept x p was).aims (inr stays)
+
+    here : (x : ℕ) (p q : Print) → x ≡ place → slice_get now place ≡ Some q → slice_get next x ≡ Some p → IsPrintBut g old ((x < place + 1) ⊎ (has_changed changed x ≡ false)) x p
+    here x p q at found is =
+        let held = so_far.kept place q found in
+        let made : record q { aims = aims_at g now place } ≡ p = (let both : Some (record q { aims = aims_at g now place }) ≡ Some p = sym (renewed.here q found) ∙ (ap (slice_get next) (sym at) ∙ is) in cc) in
+        subst (λ (y : ℕ × Print). IsPrintBut g old ((y.0 < place + 1) ⊎ (has_changed changed y.0 ≡ false)) y.0 y.1) (λ i. (sym at i, made i))
+        record {
+          doing = held.doing;
+          barred = held.barred;
+          aims = λ known. ap half (aims-same (number_in now) (number_in old) so_far.numbers (vertex_at g place).edges);
+        }
+
+    there : (x : ℕ) (p : Print) → x ≡ place → (o : Option Print) → slice_get now place ≡ o → slice_get next x ≡ Some p → IsPrintBut g old ((x < place + 1) ⊎ (has_changed changed x ≡ false)) x p
+    there x p at (Some q) found is = here x p q at found is
+    there x p at None found is = let no : Some p ≡ None = sym is ∙ (ap (slice_get next) at ∙ renewed.beyond found) in cc
+
+    either : (x : ℕ) (p : Print) (b : Bool) → (x == place) ≡ b → slice_get next x ≡ Some p → IsPrintBut g old ((x < place + 1) ⊎ (has_changed changed x ≡ false)) x p
+    either x p true at is = there x p (same-place x place at) (slice_get now place) refl is
+    either x p false apart is =
+        let was : slice_get now x ≡ Some p = sym (renewed.others x apart) ∙ is in
+        record { doing = (so_far.kept x p was).doing; barred = (so_far.kept x p was).barred; aims = elsewhere x p apart was }
+
+    kept : (x : ℕ) (p : Print) → slice_get next x ≡ Some p → IsPrintBut g old ((x < place + 1) ⊎ (has_changed changed x ≡ false)) x p
+    kept x p is = either x p (x == place) refl is
+
+-- ---- in the end
+
+within : (now : List Print) (x : ℕ) (p : Print) → slice_get now x ≡ Some p → x < length now
+within [] x p is = cc
+within (q ∷ now) zero p is = omega arith
+within (q ∷ now) (suc x) p is = let less = within now x p is in omega (arith, less)
+
+pub all-renewed : (g : EventGraph) (old now : List Print) (changed : List Bool) (place : ℕ) → length old ≤ place → RenewedSoFar g old now changed place → ArePrints g now
+all-renewed g old now changed place past so_far x p is =
+    let inside = within now x p is in
+    let long = so_far.long in
+    record {
+      doing = (so_far.kept x p is).doing;
+      barred = (so_far.kept x p is).barred;
+      aims = λ known. (so_far.kept x p is).aims (inl (omega (arith, inside, long, past))) ∙ ap half (sym (aims-same (number_in now) (number_in old) so_far.numbers (vertex_at g x).edges));
+    }
+
+-- ---- at first
+
+pub all-old : (g : EventGraph) (known : List Print) (changed : List Bool) → ArePrintsOfAll g known → ((k : ℕ) → has_changed changed k ≡ true) → ArePrintsBut g known changed
+all-old g known changed prints all x p is =
+    let (doing, barred) = prints x p is in
+    record { doing = doing; barred = barred; aims = λ stays. absurd (false≢true (sym stays ∙ all x)) }

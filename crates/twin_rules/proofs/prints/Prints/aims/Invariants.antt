@@ -1,0 +1,10 @@
+use Rattle.std.proofs.Common.{◌≡◌, map, drop}
+use Rattle.model_core.specs.EventGraph.{EventEdge}
+use Rattle.model_core.specs.Code.Views.{edge_of}
+use Rattle.twin_rules.specs.Inner.Fingerprints.{list_print_on, aims_print}
+use Rattle.twin_rules.specs.Inner.HeldPrints.{number_in}
+use Rattle.twin_rules.proofs.prints.Prints.aims.Given as goal
+
+-- the edges from this one on make the print of all of the print so far
+abbrev pub invariant-loop-edge : goal.invariant-loop-edge
+invariant-loop-edge l = list_print_on l.print (map (λ (e : EventEdge). number_in l.self e.target) (map edge_of (drop l.edge-index l.edges))) ≡ aims_print (number_in l.self) (map edge_of l.edges)

@@ -1,0 +1,11 @@
+use Rattle.std.proofs.Common.{◌≡◌, length}
+use Rattle.model_core.specs.Code.Views.{graph_of}
+use Rattle.twin_rules.specs.Inner.HeldPrints.{ArePrintsOfAll}
+use Rattle.twin_rules.proofs.prints.Prints.fill_without_aims.Given as goal
+
+-- what is kept is kept of the vertices before this place
+abbrev pub invariant-loop-place : goal.invariant-loop-place
+invariant-loop-place l = record {
+  long : length l.self ≡ l.place;
+  kept : ArePrintsOfAll (graph_of l.model) l.self;
+}

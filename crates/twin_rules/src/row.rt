@@ -1,0 +1,99 @@
+//! One vertex beside those behind it, most of which are told apart from it at once.
+
+ghost use Rattle.std.specs.Prelude.{◌≡◌, ◌<◌, ◌≤◌, ℕ, false};
+ghost use Rattle.model_core.specs.EventGraph.{EventGraph};
+ghost use Rattle.model_core.specs.Code.Views.{graph_of};
+ghost use Rattle.twin_rules.specs.Inner.AskedPairs.{are_alike, some_leads, SkipsUnchanged, NoneAlike};
+ghost use Rattle.twin_rules.specs.Inner.HeldPrints.{ArePrints};
+ghost use Rattle.twin_rules.specs.Inner.MarkedVertices.{has_mark};
+ghost use Rattle.twin_rules.specs.Inner.Rows.{fits, IsRow};
+
+use crate::asked::Asked;
+use crate::marks::Marks;
+use crate::print::Print;
+use crate::prints::Prints;
+use model_core::Model;
+
+/// A vertex that is compared with those behind it.
+#[derive(Drop)]
+pub(crate) struct Row {
+    /// What is kept of it.
+    print: Option<Print>,
+    /// The vertices that its edges lead to.
+    leads: Marks,
+    /// Whether an edge of the vertex leads back to it.
+    loops: bool,
+}
+
+/// The vertices that the edges of the vertex at this place lead to.
+fn led_to(model: &Model, place: usize) -> Marks
+    ensures { (v : ℕ) → has_mark result v ≡ false → some_leads (graph_of model.now) place v ≡ false }
+{
+    match model.vertices.as_slice().get(place) {
+        Some(vertex) => Marks::led_to(vertex.edges.as_slice()),
+        None => Marks::none(),
+    }
+}
+
+/// Whether two vertices of which this is kept may be alike, where it is told whether the first leads to one of the two.
+fn fits(own: Print, other: Print, leads: bool) -> bool
+    ensures { result ≡ fits own other leads }
+{
+    own.doing == other.doing && (own.aims == other.aims || leads) && !own.barred && !other.barred
+}
+
+/// Whether two vertices may be alike by what is kept of them, wherever their edges lead.
+fn may_do_the_same(prints: &Prints, keep: usize, gone: usize) -> bool
+    ensures { (g : EventGraph) → ArePrints g prints.now → result ≡ false → are_alike g keep gone ≡ false }
+{
+    match (prints.at(keep), prints.at(gone)) {
+        (Some(own), Some(other)) => fits(own, other, true),
+        _ => true,
+    }
+}
+
+/// The next vertex from this place on that may be alike with the one at `keep`, or a place behind all vertices.
+pub(crate) fn next_like(
+    model: &Model,
+    prints: &Prints,
+    asked: &Asked,
+    keep: usize,
+    from: usize,
+) -> usize
+    requires prints { ArePrints (graph_of model.now) prints.now }
+    requires asked { NoneAlike (graph_of model.now) asked.now }
+    requires skips { SkipsUnchanged asked.now }
+    ensures behind { from ≤ result }
+    ensures passed { (y : ℕ) → from ≤ y → y < result → are_alike (graph_of model.now) keep y ≡ false }
+{
+    let count = model.vertices.len();
+    let mut gone = asked.next(keep, from);
+    while gone < count && !may_do_the_same(prints, keep, gone) {
+        gone = asked.next(keep, gone + 1);
+    }
+    gone
+}
+
+impl Row {
+    /// The row of the vertex at a place.
+    pub(crate) fn of(model: &Model, prints: &Prints, keep: usize) -> Row
+        ensures { IsRow (graph_of model.now) prints.now keep result }
+    {
+        let leads = led_to(model, keep);
+        Row {
+            print: prints.at(keep),
+            loops: leads.has(keep),
+            leads,
+        }
+    }
+
+    /// Whether the vertex may be alike with the one at this place. It tells that they aren't from little.
+    pub(crate) fn may_fit(&self, prints: &Prints, gone: usize) -> bool
+        ensures { (g : EventGraph) (keep : ℕ) → ArePrints g prints.now → IsRow g prints.now keep self.now → result ≡ false → are_alike g keep gone ≡ false }
+    {
+        match (self.print, prints.at(gone)) {
+            (Some(own), Some(other)) => { fits(own, other, self.loops || self.leads.has(gone)) }
+            _ => true,
+        }
+    }
+}
