@@ -22,13 +22,13 @@ use Rattle.model_core.specs.Ranges.Inductive.{is_fixed, Encloses, FitsVariable, 
 use Rattle.model_core.specs.Ranges.Inference.{hull, grown_range, ends_moved, each_variable, first_range, next_range, round}
 use Rattle.range_infer.proofs.NarrowModels.{fits_everywhere}
 
-holds-itself : (r : VarRange) → Encloses r r
+pub holds-itself : (r : VarRange) → Encloses r r
 holds-itself r = record { low = omega (arith, ints); high = omega (arith, ints) }
 
-holds-trans : (a b c : VarRange) → Encloses a b → Encloses b c → Encloses a c
+pub holds-trans : (a b c : VarRange) → Encloses a b → Encloses b c → Encloses a c
 holds-trans a b c i j = record { low = omega (arith, ints, i.low, j.low); high = omega (arith, ints, i.high, j.high) }
 
-wider : (o : Option VarRange) (a b : VarRange) → Encloses b a → IfSome o (Encloses a) → IfSome o (Encloses b)
+pub wider : (o : Option VarRange) (a b : VarRange) → Encloses b a → IfSome o (Encloses a) → IfSome o (Encloses b)
 wider None a b h i = tt
 wider (Some k) a b h i = holds-trans b a k h i
 
@@ -115,6 +115,17 @@ ends_moved-holds late d r n a b c = (record { low = low_end (late && int_lt n.lo
   high_inside : (t : Bool) → cond t d.hi n.hi ≤ℤ d.hi
   high_inside true = omega (arith, ints)
   high_inside false = b.high
+
+-- the moved ends hold what they were to move to
+pub ends_moved-takes : (late : Bool) (d r n : VarRange) → Encloses d n → Encloses (ends_moved late d r n) n
+ends_moved-takes late d r n inside = record { low = low_end (late && int_lt n.lo r.lo); high = high_end (late && int_lt r.hi n.hi) } where
+  low_end : (t : Bool) → cond t d.lo n.lo ≤ℤ n.lo
+  low_end true = inside.low
+  low_end false = omega (arith, ints)
+
+  high_end : (t : Bool) → n.hi ≤ℤ cond t d.hi n.hi
+  high_end true = inside.high
+  high_end false = omega (arith, ints)
 
 -- ends that stay weren't to move
 low_stays : (late : Bool) (d r n : ℤ) → d ≤ℤ n → n ≤ℤ r → cond (late && int_lt n r) d n ≡ r → r ≤ℤ n

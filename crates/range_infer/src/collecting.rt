@@ -79,7 +79,7 @@ fn add_targets(
 }
 
 /// Adds what a change sets or draws.
-fn add_change(
+pub(crate) fn add_change(
     alloc: Global,
     out: &mut Vec<Incoming>,
     model: &Model,
@@ -172,7 +172,7 @@ fn can_be_true(
 }
 
 /// Adds what an edge carries, if it schedules where its condition can be true.
-fn add_edge(
+pub(crate) fn add_edge(
     alloc: Global,
     out: &mut Vec<Incoming>,
     model: &Model,
