@@ -79,6 +79,8 @@ fn add_targets(
 }
 
 /// Adds what a change sets or draws.
+// Called for each change of a model in many rounds, from two places, as `add_edge` is for each edge.
+#[inline(always)]
 pub(crate) fn add_change(
     alloc: Global,
     out: &mut Vec<Incoming>,
@@ -172,6 +174,7 @@ fn can_be_true(
 }
 
 /// Adds what an edge carries, if it schedules where its condition can be true.
+#[inline(always)]
 pub(crate) fn add_edge(
     alloc: Global,
     out: &mut Vec<Incoming>,
