@@ -153,6 +153,11 @@ variable_given g f v small = get_or-map-range_with_len f 0 (length g.variables) 
 pub variables_given : (g : EventGraph) (f : ℕ → VarRange) → length (each_variable g f) ≡ length g.variables
 variables_given g f = length-map-range_with_len f 0 (length g.variables)
 
+-- where a round changes nothing, each range stays
+pub stays_at : (g : EventGraph) (ranges : List VarRange) (k : ℕ) → round g k ranges ≡ ranges → (v : ℕ) → v < length g.variables → next_range g (nat_le 17 k) (incoming g ranges) ranges v ≡ range_at ranges v
+stays_at g ranges k stays v small =
+    sym (variable_given g (next_range g (nat_le 17 k) (incoming g ranges) ranges) v small) ∙ ap (λ (rs : List VarRange). range_at rs v) stays
+
 -- what is known of ranges between two rounds
 pub record Growing (g : EventGraph) (ranges : List VarRange) : Type 0 where
   pub fitting : Fitting g ranges
@@ -207,12 +212,8 @@ module _ (g : EventGraph) (ranges : List VarRange) (growing : Growing g ranges) 
 
   -- ---- where a round changes nothing
 
-  pub stays_at : (k : ℕ) → round g k ranges ≡ ranges → (v : ℕ) → v < length g.variables → next_range g (nat_le 17 k) (incoming g ranges) ranges v ≡ range_at ranges v
-  stays_at k stays v small =
-      sym (variable_given g (next_range g (nat_le 17 k) (incoming g ranges) ranges) v small) ∙ ap (λ (rs : List VarRange). range_at rs v) stays
-
   -- a range that stays holds what it would have grown to
-  pub enough : (late : Bool) (takes : List Incoming) (v : ℕ) → is_fixed g v ≡ false → next_range g late takes ranges v ≡ range_at ranges v → Encloses (range_at ranges v) (fold (grown_range g v) (range_at ranges v) takes)
+  enough : (late : Bool) (takes : List Incoming) (v : ℕ) → is_fixed g v ≡ false → next_range g late takes ranges v ≡ range_at ranges v → Encloses (range_at ranges v) (fold (grown_range g v) (range_at ranges v) takes)
   enough late takes v free stays =
       let r = range_at ranges v in
       let n = fold (grown_range g v) r takes in
@@ -236,7 +237,7 @@ module _ (g : EventGraph) (ranges : List VarRange) (growing : Growing g ranges) 
     by true is small = as_declared v ((fits v).fixed is)
     by false free small =
         every-map (λ (i : Incoming). i.variable ≡ v → IfSome (kept_range (variable_at g v) i.bounds) (Encloses (range_at ranges v))) (Own v) (λ i h same. own v i (h same) same) (incoming g ranges)
-        (all-taken g v (ordered v) (range_at ranges v) (range_at ranges v) (incoming g ranges) (enough (nat_le 17 k) (incoming g ranges) v free (stays_at k stays v small)))
+        (all-taken g v (ordered v) (range_at ranges v) (range_at ranges v) (incoming g ranges) (enough (nat_le 17 k) (incoming g ranges) v free (stays_at g ranges k stays v small)))
 
     there : (b : Bool) → nat_lt v (length g.variables) ≡ b → AllByRecursion (Own v) (incoming g ranges)
     there true e = by (is_fixed g v) refl (grind (arith, nat_tests))
