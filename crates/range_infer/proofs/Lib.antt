@@ -15,6 +15,9 @@ mod OneRound
 mod OpenEnds
 mod RoundsEnd
 mod OneInference
+mod UnmovedParts
+mod PassedOver
+mod PartsBeside
 mod NumbersHeld
 pub mod Overlays
 mod VariablesOfModel

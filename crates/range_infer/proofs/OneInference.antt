@@ -12,7 +12,7 @@ use Rattle.model_core.specs.Ranges.OtherRanges.{declared_range, no_range, range_
 use Rattle.model_core.specs.Ranges.Incoming.{incoming}
 use Rattle.model_core.specs.Ranges.Inductive.{is_fixed}
 use Rattle.model_core.specs.Ranges.Inference.{grown_range, ends_moved, each_variable, next_range, round, after_rounds, IsInferred}
-use Rattle.range_infer.proofs.OneRound.{variable_given, variables_given}
+use Rattle.range_infer.proofs.OneRound.{variable_given, variables_given, stays_at}
 
 -- an end that is where it was doesn't move
 low_rests : (late : Bool) (d r : ℤ) → cond (late && int_lt r r) d r ≡ r
@@ -32,9 +32,6 @@ module _ (g : EventGraph) (ranges : List VarRange) (k : ℕ) (stays : round g k 
 
   as_many : length ranges ≡ length g.variables
   as_many = sym (ap length stays) ∙ variables_given g (next_range g (nat_le 17 k) takes ranges)
-
-  stays_at : (v : ℕ) → v < length g.variables → next_range g (nat_le 17 k) takes ranges v ≡ range_at ranges v
-  stays_at v small = sym (variable_given g (next_range g (nat_le 17 k) takes ranges) v small) ∙ ap (λ (rs : List VarRange). range_at rs v) stays
 
   -- what an early round leaves as it is, a late one leaves so
   next_stays : (late : Bool) (v : ℕ) → next_range g false takes ranges v ≡ range_at ranges v → next_range g late takes ranges v ≡ range_at ranges v
@@ -58,7 +55,7 @@ module _ (g : EventGraph) (ranges : List VarRange) (k : ℕ) (stays : round g k 
     by false is =
         let next : ℕ → VarRange = next_range g (nat_le 17 j) takes ranges in
         let early : (v : ℕ) → v < length g.variables → next_range g false takes ranges v ≡ range_at ranges v =
-        λ v small. ap (λ (late : Bool). next_range g late takes ranges v) (sym is) ∙ stays_at v small in
+        λ v small. ap (λ (late : Bool). next_range g late takes ranges v) (sym is) ∙ stays_at g ranges k stays v small in
         ext_get_or no_range (round g j ranges) ranges (variables_given g next ∙ sym as_many) (λ v small.
         let there : v < length g.variables = omega (arith, small, variables_given g next) in
         variable_given g next v there ∙ next_stays (nat_le 17 j) v (early v there))

@@ -22,13 +22,13 @@ use Rattle.model_core.specs.Ranges.Inductive.{is_fixed, Encloses, FitsVariable, 
 use Rattle.model_core.specs.Ranges.Inference.{hull, grown_range, ends_moved, each_variable, first_range, next_range, round}
 use Rattle.range_infer.proofs.NarrowModels.{fits_everywhere}
 
-holds-itself : (r : VarRange) → Encloses r r
+pub holds-itself : (r : VarRange) → Encloses r r
 holds-itself r = record { low = omega (arith, ints); high = omega (arith, ints) }
 
-holds-trans : (a b c : VarRange) → Encloses a b → Encloses b c → Encloses a c
+pub holds-trans : (a b c : VarRange) → Encloses a b → Encloses b c → Encloses a c
 holds-trans a b c i j = record { low = omega (arith, ints, i.low, j.low); high = omega (arith, ints, i.high, j.high) }
 
-wider : (o : Option VarRange) (a b : VarRange) → Encloses b a → IfSome o (Encloses a) → IfSome o (Encloses b)
+pub wider : (o : Option VarRange) (a b : VarRange) → Encloses b a → IfSome o (Encloses a) → IfSome o (Encloses b)
 wider None a b h i = tt
 wider (Some k) a b h i = holds-trans b a k h i
 
@@ -116,6 +116,17 @@ ends_moved-holds late d r n a b c = (record { low = low_end (late && int_lt n.lo
   high_inside true = omega (arith, ints)
   high_inside false = b.high
 
+-- the moved ends hold what they were to move to
+pub ends_moved-takes : (late : Bool) (d r n : VarRange) → Encloses d n → Encloses (ends_moved late d r n) n
+ends_moved-takes late d r n inside = record { low = low_end (late && int_lt n.lo r.lo); high = high_end (late && int_lt r.hi n.hi) } where
+  low_end : (t : Bool) → cond t d.lo n.lo ≤ℤ n.lo
+  low_end true = inside.low
+  low_end false = omega (arith, ints)
+
+  high_end : (t : Bool) → n.hi ≤ℤ cond t d.hi n.hi
+  high_end true = inside.high
+  high_end false = omega (arith, ints)
+
 -- ends that stay weren't to move
 low_stays : (late : Bool) (d r n : ℤ) → d ≤ℤ n → n ≤ℤ r → cond (late && int_lt n r) d n ≡ r → r ≤ℤ n
 low_stays late d r n a b e = by late (int_lt n r) refl e where
@@ -141,6 +152,11 @@ variable_given g f v small = get_or-map-range_with_len f 0 (length g.variables) 
 
 pub variables_given : (g : EventGraph) (f : ℕ → VarRange) → length (each_variable g f) ≡ length g.variables
 variables_given g f = length-map-range_with_len f 0 (length g.variables)
+
+-- where a round changes nothing, each range stays
+pub stays_at : (g : EventGraph) (ranges : List VarRange) (k : ℕ) → round g k ranges ≡ ranges → (v : ℕ) → v < length g.variables → next_range g (nat_le 17 k) (incoming g ranges) ranges v ≡ range_at ranges v
+stays_at g ranges k stays v small =
+    sym (variable_given g (next_range g (nat_le 17 k) (incoming g ranges) ranges) v small) ∙ ap (λ (rs : List VarRange). range_at rs v) stays
 
 -- what is known of ranges between two rounds
 pub record Growing (g : EventGraph) (ranges : List VarRange) : Type 0 where
@@ -196,12 +212,8 @@ module _ (g : EventGraph) (ranges : List VarRange) (growing : Growing g ranges) 
 
   -- ---- where a round changes nothing
 
-  pub stays_at : (k : ℕ) → round g k ranges ≡ ranges → (v : ℕ) → v < length g.variables → next_range g (nat_le 17 k) (incoming g ranges) ranges v ≡ range_at ranges v
-  stays_at k stays v small =
-      sym (variable_given g (next_range g (nat_le 17 k) (incoming g ranges) ranges) v small) ∙ ap (λ (rs : List VarRange). range_at rs v) stays
-
   -- a range that stays holds what it would have grown to
-  pub enough : (late : Bool) (takes : List Incoming) (v : ℕ) → is_fixed g v ≡ false → next_range g late takes ranges v ≡ range_at ranges v → Encloses (range_at ranges v) (fold (grown_range g v) (range_at ranges v) takes)
+  enough : (late : Bool) (takes : List Incoming) (v : ℕ) → is_fixed g v ≡ false → next_range g late takes ranges v ≡ range_at ranges v → Encloses (range_at ranges v) (fold (grown_range g v) (range_at ranges v) takes)
   enough late takes v free stays =
       let r = range_at ranges v in
       let n = fold (grown_range g v) r takes in
@@ -225,7 +237,7 @@ module _ (g : EventGraph) (ranges : List VarRange) (growing : Growing g ranges) 
     by true is small = as_declared v ((fits v).fixed is)
     by false free small =
         every-map (λ (i : Incoming). i.variable ≡ v → IfSome (kept_range (variable_at g v) i.bounds) (Encloses (range_at ranges v))) (Own v) (λ i h same. own v i (h same) same) (incoming g ranges)
-        (all-taken g v (ordered v) (range_at ranges v) (range_at ranges v) (incoming g ranges) (enough (nat_le 17 k) (incoming g ranges) v free (stays_at k stays v small)))
+        (all-taken g v (ordered v) (range_at ranges v) (range_at ranges v) (incoming g ranges) (enough (nat_le 17 k) (incoming g ranges) v free (stays_at g ranges k stays v small)))
 
     there : (b : Bool) → nat_lt v (length g.variables) ≡ b → AllByRecursion (Own v) (incoming g ranges)
     there true e = by (is_fixed g v) refl (grind (arith, nat_tests))

@@ -79,21 +79,23 @@ fn add_targets(
 }
 
 /// Adds what a change sets or draws.
-fn add_change(
-    alloc: Global,
+// Called for each change of a model in many rounds, from two places, as `add_edge` is for each edge.
+#[inline(always)]
+pub(crate) fn add_change(
     out: &mut Vec<Incoming>,
     model: &Model,
     ranges: &[VarRange],
+    left: &mut Vec<LeftRange>,
     change: &Change,
 ) -> Result<(), NoMemory>
     requires many { length ranges.now ≡ length model.now.vars }
-    ensures { OnOk result (out.new.items ≡ out.old.items ++ into_change (graph_of model.now) (with_ranges (graph_of model.now).variables ranges.now) (change_of change.now)) }
+    ensures out { OnOk result (out.new.items ≡ out.old.items ++ into_change (graph_of model.now) (ranges_left (graph_of model.now) ranges.now left.old.items) (change_of change.now)) }
+    ensures left { OnOk result (left.new.items ≡ left.old.items) }
 {
     match change {
         Change::Set { targets, values } => {
-            let mut left = Vec::new(alloc);
             let targets = targets.as_slice();
-            add_targets(out, model, ranges, &mut left, targets, values.as_slice())
+            add_targets(out, model, ranges, left, targets, values.as_slice())
         }
         Change::Draw {
             target,
@@ -134,107 +136,125 @@ fn can_schedule(form: &EdgeForm) -> bool
 
 /// Adds what the parameters of the vertex take that an edge schedules where its condition is true.
 fn add_carried(
-    alloc: Global,
     out: &mut Vec<Incoming>,
     model: &Model,
     ranges: &[VarRange],
+    left: &mut Vec<LeftRange>,
     edge: &Edge,
 ) -> Result<(), NoMemory>
     requires many { length ranges.now ≡ length model.now.vars }
-    ensures { OnOk result (out.new.items ≡ out.old.items ++ assigned (refined (expression_of edge.now.condition) true (with_ranges (graph_of model.now).variables ranges.now)) (vertex_at (graph_of model.now) edge.now.target).parameters (map expression_of edge.now.values)) }
+    ensures out { OnOk result (out.new.items ≡ out.old.items ++ assigned (refined (expression_of edge.now.condition) true (ranges_left (graph_of model.now) ranges.now left.old.items)) (vertex_at (graph_of model.now) edge.now.target).parameters (map expression_of edge.now.values)) }
+    ensures left { OnOk result (left.new.items ≡ left.old.items) }
 {
-    let mut left = Vec::new(alloc);
-    refine(model, ranges, &mut left, &edge.condition, true)?;
+    let before = left.len();
+    refine(model, ranges, left, &edge.condition, true)?;
     let params = parameters_at(model, edge.target);
-    add_parameters(
-        out,
-        model,
-        ranges,
-        &mut left,
-        params,
-        edge.values.as_slice(),
-    )
+    add_parameters(out, model, ranges, left, params, edge.values.as_slice())?;
+    left.truncate(before);
+    Ok(())
 }
 
 /// Whether an expression can be true.
 fn can_be_true(
-    alloc: Global,
     model: &Model,
     ranges: &[VarRange],
+    left: &mut Vec<LeftRange>,
     expr: &Expr,
 ) -> Result<bool, NoMemory>
     requires many { length ranges.now ≡ length model.now.vars }
-    ensures { IfOk result (λ can. can ≡ (bounds_under refined (with_ranges (graph_of model.now).variables ranges.now) (expression_of expr.now)).can_true) }
+    ensures value { IfOk result (λ can. can ≡ (bounds_under refined (ranges_left (graph_of model.now) ranges.now left.old.items) (expression_of expr.now)).can_true) }
+    ensures left { OnOk result (left.new.items ≡ left.old.items) }
 {
-    let mut left = Vec::new(alloc);
-    let bounds = bounds_left(model, ranges, &mut left, expr)?;
+    let bounds = bounds_left(model, ranges, left, expr)?;
     Ok(bounds.can_true)
 }
 
 /// Adds what an edge carries, if it schedules where its condition can be true.
-fn add_edge(
-    alloc: Global,
+#[inline(always)]
+pub(crate) fn add_edge(
     out: &mut Vec<Incoming>,
     model: &Model,
     ranges: &[VarRange],
+    left: &mut Vec<LeftRange>,
     edge: &Edge,
 ) -> Result<(), NoMemory>
     requires many { length ranges.now ≡ length model.now.vars }
-    ensures { OnOk result (out.new.items ≡ out.old.items ++ into_edge (graph_of model.now) (with_ranges (graph_of model.now).variables ranges.now) (edge_of edge.now)) }
+    ensures out { OnOk result (out.new.items ≡ out.old.items ++ into_edge (graph_of model.now) (ranges_left (graph_of model.now) ranges.now left.old.items) (edge_of edge.now)) }
+    ensures left { OnOk result (left.new.items ≡ left.old.items) }
 {
     if !can_schedule(&edge.form) {
         return Ok(());
     }
-    if can_be_true(alloc, model, ranges, &edge.condition)? {
-        add_carried(alloc, out, model, ranges, edge)?;
+    if can_be_true(model, ranges, left, &edge.condition)? {
+        add_carried(out, model, ranges, left, edge)?;
     }
     Ok(())
 }
 
 fn add_changes(
-    alloc: Global,
     out: &mut Vec<Incoming>,
     model: &Model,
     ranges: &[VarRange],
+    left: &mut Vec<LeftRange>,
     changes: &[Change],
 ) -> Result<(), NoMemory>
     requires many { length ranges.now ≡ length model.now.vars }
-    ensures { OnOk result (out.new.items ≡ out.old.items ++ flat_map (into_change (graph_of model.now) (with_ranges (graph_of model.now).variables ranges.now)) (map change_of changes.now)) }
+    ensures out { OnOk result (out.new.items ≡ out.old.items ++ flat_map (into_change (graph_of model.now) (ranges_left (graph_of model.now) ranges.now left.old.items)) (map change_of changes.now)) }
+    ensures left { OnOk result (left.new.items ≡ left.old.items) }
 {
     for change in changes {
-        add_change(alloc, out, model, ranges, change)?;
+        add_change(out, model, ranges, left, change)?;
     }
     Ok(())
 }
 
 fn add_edges(
-    alloc: Global,
     out: &mut Vec<Incoming>,
     model: &Model,
     ranges: &[VarRange],
+    left: &mut Vec<LeftRange>,
     edges: &[Edge],
 ) -> Result<(), NoMemory>
     requires many { length ranges.now ≡ length model.now.vars }
-    ensures { OnOk result (out.new.items ≡ out.old.items ++ flat_map (into_edge (graph_of model.now) (with_ranges (graph_of model.now).variables ranges.now)) (map edge_of edges.now)) }
+    ensures out { OnOk result (out.new.items ≡ out.old.items ++ flat_map (into_edge (graph_of model.now) (ranges_left (graph_of model.now) ranges.now left.old.items)) (map edge_of edges.now)) }
+    ensures left { OnOk result (left.new.items ≡ left.old.items) }
 {
     for edge in edges {
-        add_edge(alloc, out, model, ranges, edge)?;
+        add_edge(out, model, ranges, left, edge)?;
     }
     Ok(())
 }
 
 fn add_vertex(
-    alloc: Global,
     out: &mut Vec<Incoming>,
     model: &Model,
     ranges: &[VarRange],
+    left: &mut Vec<LeftRange>,
     vertex: &Vertex,
 ) -> Result<(), NoMemory>
     requires many { length ranges.now ≡ length model.now.vars }
-    ensures { OnOk result (out.new.items ≡ out.old.items ++ into_vertex (graph_of model.now) (with_ranges (graph_of model.now).variables ranges.now) (vertex_of vertex.now)) }
+    ensures out { OnOk result (out.new.items ≡ out.old.items ++ into_vertex (graph_of model.now) (ranges_left (graph_of model.now) ranges.now left.old.items) (vertex_of vertex.now)) }
+    ensures left { OnOk result (left.new.items ≡ left.old.items) }
 {
-    add_changes(alloc, out, model, ranges, vertex.changes.as_slice())?;
-    add_edges(alloc, out, model, ranges, vertex.edges.as_slice())
+    add_changes(out, model, ranges, left, vertex.changes.as_slice())?;
+    add_edges(out, model, ranges, left, vertex.edges.as_slice())
+}
+
+fn add_vertices(
+    out: &mut Vec<Incoming>,
+    model: &Model,
+    ranges: &[VarRange],
+    left: &mut Vec<LeftRange>,
+    vertices: &[Vertex],
+) -> Result<(), NoMemory>
+    requires many { length ranges.now ≡ length model.now.vars }
+    ensures out { OnOk result (out.new.items ≡ out.old.items ++ flat_map (into_vertex (graph_of model.now) (ranges_left (graph_of model.now) ranges.now left.old.items)) (map vertex_of vertices.now)) }
+    ensures left { OnOk result (left.new.items ≡ left.old.items) }
+{
+    for vertex in vertices {
+        add_vertex(out, model, ranges, left, vertex)?;
+    }
+    Ok(())
 }
 
 /// All that a model's variables take under these ranges, one for each variable.
@@ -247,8 +267,13 @@ pub(crate) fn incoming(
     ensures { IfOk result (λ all. all.items ≡ incoming (graph_of model.now) ranges.now) }
 {
     let mut out = Vec::new(alloc);
-    for vertex in model.vertices.as_slice() {
-        add_vertex(alloc, &mut out, model, ranges, vertex)?;
-    }
+    let mut left = Vec::new(alloc);
+    add_vertices(
+        &mut out,
+        model,
+        ranges,
+        &mut left,
+        model.vertices.as_slice(),
+    )?;
     Ok(out)
 }

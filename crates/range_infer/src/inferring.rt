@@ -1,41 +1,83 @@
 //! Ranges that a model needs, found in rounds.
 
-ghost use Rattle.std.specs.Prelude.{◌≡◌, ◌≢◌, ◌↔◌, suc, nat_le, length, IsTrue, IfOk};
+ghost use Rattle.std.specs.Prelude.{◌≡◌, true, false, map, IfOk};
 ghost use Rattle.model_core.specs.Static.Reading.{IsValid};
-ghost use Rattle.model_core.specs.Code.Views.{graph_of};
+ghost use Rattle.model_core.specs.Code.Views.{graph_of, vertex_of};
 ghost use Rattle.model_core.specs.Ranges.Inductive.{Fitting, Inductive};
-ghost use Rattle.model_core.specs.Ranges.Inference.{IsInferred};
+ghost use Rattle.model_core.specs.Ranges.Inference.{after_rounds, IsInferred};
+ghost use Rattle.range_infer.specs.declared.inferring.TheConstants.{EARLY_ROUNDS};
+ghost use Rattle.range_infer.specs.Inner.PartReads.{parts_read};
 
+use crate::collecting::incoming;
 use crate::law::rounds_end_with_inductive_ranges;
+use crate::looking_again::taken_again;
+use crate::moves::same_ranges;
+use crate::part_reads::{VertexReads, all_parts_read};
 use crate::rounds::{first_ranges, next_round};
 use model_core::{Model, VarRange};
 use round_trip::validity_is_by_parts;
 use sig_base::{List, NoMemory};
 use std::alloc::Global;
 
-fn is_other(a: VarRange, b: VarRange) -> bool
-    ensures { IsTrue result ↔ (a ≢ b) }
-{
-    a.lo != b.lo || a.hi != b.hi
+/// The number of rounds that look at all parts of a model. An end that a later round would move goes to its declared end.
+const EARLY_ROUNDS: usize = 16;
+
+/// The ranges after early rounds: those that a round left as they were, or those after all of these rounds.
+#[derive(Drop)]
+struct EarlyRounds {
+    ranges: Vec<VarRange>,
+    ended: bool,
 }
 
-fn same_ranges(a: &[VarRange], b: &[VarRange]) -> bool
-    requires { length a.now ≡ length b.now }
-    ensures { IsTrue result ↔ (a.now ≡ b.now) }
+/// Makes rounds until one changes nothing, but no more than the early ones.
+fn early_rounds(alloc: Global, model: &Model) -> Result<EarlyRounds, NoMemory>
+    ensures ended { IfOk result (λ early. early.ended ≡ true → IsInferred (graph_of model.now) early.ranges.items) }
+    ensures going { IfOk result (λ early. early.ended ≡ false → early.ranges.items ≡ after_rounds (graph_of model.now) EARLY_ROUNDS) }
 {
-    for place in 0..a.len() {
-        if is_other(a[place], b[place]) {
-            return false;
+    let mut ranges = first_ranges(alloc, model)?;
+    for _ in 0..EARLY_ROUNDS {
+        let takes = incoming(alloc, model, ranges.as_slice())?;
+        let next = next_round(alloc, model, false, ranges.as_slice(), takes.as_slice())?;
+        if same_ranges(next.as_slice(), ranges.as_slice()) {
+            return Ok(EarlyRounds {
+                ranges,
+                ended: true,
+            });
         }
+        ranges = next;
     }
-    true
+    Ok(EarlyRounds {
+        ranges,
+        ended: false,
+    })
 }
 
-/// Whether the round after so many is a late one.
-fn is_late(rounds: u32) -> bool
-    ensures { result ≡ nat_le 17 (suc rounds) }
+/// The ranges that a model's rounds end with, from those after the early rounds, where its parts read this. A part is looked
+/// at in the first of the late rounds, and then again where the round before moved the range of a variable that it reads.
+fn late_rounds(
+    alloc: Global,
+    model: &Model,
+    reads: &[VertexReads],
+    first: Vec<VarRange>,
+) -> Result<List<VarRange>, NoMemory>
+    requires valid { IsValid (graph_of model.now) }
+    requires reads { reads.now ≡ map parts_read (map vertex_of model.now.vertices) }
+    requires first { first.items ≡ after_rounds (graph_of model.now) EARLY_ROUNDS }
+    ensures { IfOk result (IsInferred (graph_of model.now)) }
 {
-    rounds >= 16
+    validity_is_by_parts();
+    let mut ranges = first;
+    let mut takes = incoming(alloc, model, ranges.as_slice())?;
+    let mut rounds = EARLY_ROUNDS;
+    loop {
+        let next = next_round(alloc, model, true, ranges.as_slice(), takes.as_slice())?;
+        if same_ranges(next.as_slice(), ranges.as_slice()) {
+            return Ok(List::from_vec(ranges));
+        }
+        takes = taken_again(alloc, model, reads, ranges.as_slice(), next.as_slice())?;
+        ranges = next;
+        rounds += 1;
+    }
 }
 
 /// The ranges that a model's rounds end with. They fit it, and no run leaves them.
@@ -45,16 +87,11 @@ pub fn infer(alloc: Global, model: &Model) -> Result<List<VarRange>, NoMemory>
     ensures fitting { IfOk result (Fitting (graph_of model.now)) }
     ensures inductive { IfOk result (Inductive (graph_of model.now)) }
 {
-    validity_is_by_parts();
     rounds_end_with_inductive_ranges();
-    let mut ranges = first_ranges(alloc, model)?;
-    let mut rounds: u32 = 0;
-    loop {
-        let next = next_round(alloc, model, is_late(rounds), ranges.as_slice())?;
-        if same_ranges(next.as_slice(), ranges.as_slice()) {
-            return Ok(List::from_vec(ranges));
-        }
-        ranges = next;
-        rounds += 1;
+    let EarlyRounds { ranges, ended } = early_rounds(alloc, model)?;
+    if ended {
+        return Ok(List::from_vec(ranges));
     }
+    let reads = all_parts_read(alloc, model)?;
+    late_rounds(alloc, model, reads.as_slice(), ranges)
 }

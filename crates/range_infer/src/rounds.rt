@@ -6,12 +6,10 @@ ghost use Rattle.std.specs.List.{fold};
 ghost use Rattle.model_core.specs.Run.State.{variable_at};
 ghost use Rattle.model_core.specs.Code.Views.{graph_of};
 ghost use Rattle.model_core.specs.Ranges.OtherRanges.{declared_range};
-ghost use Rattle.model_core.specs.Ranges.Incoming.{incoming};
 ghost use Rattle.model_core.specs.Ranges.Inductive.{is_fixed};
 ghost use Rattle.model_core.specs.Ranges.Inference.{hull, ends_moved, each_variable, first_range, next_range};
 ghost use Rattle.range_infer.specs.Inner.GrownBy.{grown_by};
 
-use crate::collecting::incoming;
 use crate::fitting::is_fixed;
 use crate::keeping::{declared_range, kept_range};
 use model_core::{Incoming, Model, VarRange};
@@ -144,17 +142,17 @@ fn next_ranges(
     Ok(next)
 }
 
-/// The ranges after one more round.
+/// The ranges after one more round, where variables take this.
 pub(crate) fn next_round(
     alloc: Global,
     model: &Model,
     late: bool,
     ranges: &[VarRange],
+    takes: &[Incoming],
 ) -> Result<Vec<VarRange>, NoMemory>
     requires many { length ranges.now ≡ length model.now.vars }
-    ensures { IfOk result (λ next. next.items ≡ each_variable (graph_of model.now) (next_range (graph_of model.now) late (incoming (graph_of model.now) ranges.now) ranges.now)) }
+    ensures { IfOk result (λ next. next.items ≡ each_variable (graph_of model.now) (next_range (graph_of model.now) late takes.now ranges.now)) }
 {
-    let takes = incoming(alloc, model, ranges)?;
-    let grown = grown(alloc, model, ranges, takes.as_slice())?;
+    let grown = grown(alloc, model, ranges, takes)?;
     next_ranges(alloc, model, late, ranges, grown.as_slice())
 }

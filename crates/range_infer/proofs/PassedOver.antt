@@ -1,0 +1,139 @@
+-- Where ranges hold what was taken, parts that give the same again may be passed over.
+use Rattle.std.proofs.Common.{◌≡◌, ℕ, ◌<◌, ◌==◌, ℤ, nat_le, Bool, true, false, cond, ◌≤ℤ◌, List, [], ◌∷◌, ◌++◌, length, Option, Some, None, refl, sym, ◌∙◌, ap, ap₂, subst, arith}
+use Rattle.std.specs.Prelude.{IfSome}
+use Rattle.std.specs.List.{AllByRecursion, fold, flat_map, list_any}
+use Rattle.std.proofs.lemmas.Int.{ints, clamps}
+use Rattle.std.proofs.lemmas.Bool.Decides.{nat_tests}
+use Rattle.std.proofs.lemmas.List.{ext_get_or}
+use Rattle.std.proofs.lemmas.List.Sums.{fold-append}
+use Rattle.model_core.specs.EventGraph.{EventGraph, EventVertex, EventEdge, StateChange, Variable}
+use Rattle.model_core.specs.Run.State.{variable_at}
+use Rattle.model_core.specs.declared.incoming.Incoming.{Incoming}
+use Rattle.model_core.specs.declared.var_range.VarRange.{VarRange}
+use Rattle.model_core.specs.Ranges.OtherRanges.{declared_range, with_range, with_ranges, no_range, range_at}
+use Rattle.model_core.specs.Ranges.Incoming.{kept_range, into_change, into_edge, into_vertex, incoming}
+use Rattle.model_core.specs.Ranges.Inductive.{is_fixed, Encloses}
+use Rattle.model_core.specs.Ranges.Inference.{hull, grown_range, ends_moved, each_variable, next_range, round}
+use Rattle.model_core.proofs.EachOne.{every-front, every-behind, every-flat_map, every-map, every-fails}
+use Rattle.range_infer.specs.Inner.Moved.{is_moved, MarksMoved}
+use Rattle.range_infer.specs.Inner.PartReads.{set_reads, carried_reads}
+use Rattle.range_infer.specs.Inner.IncomingAgain.{change_again, edge_again, vertex_again, incoming_again, TakesAgain}
+use Rattle.range_infer.proofs.ModelWithRanges.{range_given, as_many_variables}
+use Rattle.range_infer.proofs.OneRound.{holds-itself, holds-trans, wider, Growing, all-holds, all-inside, all-taken, ends_moved-takes, ordered, round-growing, variable_given, variables_given}
+use Rattle.range_infer.proofs.NarrowModels.{fits_everywhere}
+use Rattle.range_infer.proofs.UnmovedParts.{StayElsewhere, change_stays, edge_stays}
+
+hull-stays : (r : VarRange) (o : Option VarRange) → IfSome o (Encloses r) → hull r o ≡ r
+hull-stays r None h = refl
+hull-stays r (Some k) h = ap₂ (λ (x y : ℤ). record { lo = x; hi = y }) (omega (arith, ints, clamps, h.low)) (omega (arith, ints, clamps, h.high))
+
+-- ---- one variable, whose range held what it took
+
+module _ (g : EventGraph) (v : ℕ) (in_order : (variable_at g v).lo ≤ℤ (variable_at g v).hi) (r : VarRange) where
+  abbrev pub IsHeld : Incoming → Type 0
+  IsHeld i = i.variable ≡ v → IfSome (kept_range (variable_at g v) i.bounds) (Encloses r)
+
+  abbrev grow : VarRange → List Incoming → VarRange
+  grow = fold (grown_range g v)
+
+  one_held : (x : VarRange) → Encloses x r → (i : Incoming) → IsHeld i → grown_range g v x i ≡ x
+  one_held x wide i held = by (i.variable == v) refl where
+    by : (b : Bool) → (i.variable == v) ≡ b → cond b (hull x (kept_range (variable_at g v) i.bounds)) x ≡ x
+    by true e = hull-stays x (kept_range (variable_at g v) i.bounds) (wider (kept_range (variable_at g v) i.bounds) r x wide (held (grind (arith, nat_tests))))
+    by false e = refl
+
+  all_held : (x : VarRange) → Encloses x r → (is : List Incoming) → AllByRecursion IsHeld is → grow x is ≡ x
+  all_held x wide [] held = refl
+  all_held x wide (i ∷ is) held = ap (λ (y : VarRange). grow y is) (one_held x wide i held.0) ∙ all_held x wide is held.1
+
+  -- each range that holds this one grows to the same by both
+  abbrev pub GrowAlike : List Incoming → List Incoming → Type 0
+  GrowAlike some all = (x : VarRange) → Encloses x r → grow x some ≡ grow x all
+
+  pub part_alike : (again : Bool) (old all : List Incoming) → AllByRecursion IsHeld old → (again ≡ false → old ≡ all) → GrowAlike (cond again all []) all
+  part_alike true old all held same = λ x wide. refl
+  part_alike false old all held same = λ x wide. sym (all_held x wide all (subst (AllByRecursion IsHeld) (same refl) held))
+
+  pub joined_alike : (some all more others : List Incoming) → GrowAlike some all → GrowAlike more others → GrowAlike (some ++ more) (all ++ others)
+  joined_alike some all more others first second = λ x wide.
+      fold-append (grown_range g v) x some more ∙
+      (ap (λ (y : VarRange). grow y more) (first x wide) ∙
+      (second (grow x all) (holds-trans (grow x all) x r (all-holds g v in_order x all) wide) ∙ sym (fold-append (grown_range g v) x all others)))
+
+  pub each_alike : {A : Type 0} (some all : A → List Incoming) (xs : List A) → AllByRecursion (λ x. GrowAlike (some x) (all x)) xs → GrowAlike (flat_map some xs) (flat_map all xs)
+  each_alike some all [] alike = λ x wide. refl
+  each_alike some all (x ∷ xs) alike = joined_alike (some x) (all x) (flat_map some xs) (flat_map all xs) alike.0 (each_alike some all xs alike.1)
+
+  -- ---- the parts of a model
+
+  module _ (moved : List Bool) (old new : List Variable) (stay : StayElsewhere moved old new) where
+    change_alike : (c : StateChange) → AllByRecursion IsHeld (into_change g old c) → GrowAlike (change_again g new moved c) (into_change g new c)
+    change_alike c held =
+        part_alike (list_any (is_moved moved) (set_reads c)) (into_change g old c) (into_change g new c) held (λ none. change_stays moved g old new stay c (every-fails (is_moved moved) (set_reads c) none))
+
+    edge_alike : (e : EventEdge) → AllByRecursion IsHeld (into_edge g old e) → GrowAlike (edge_again g new moved e) (into_edge g new e)
+    edge_alike e held =
+        part_alike (list_any (is_moved moved) (carried_reads e)) (into_edge g old e) (into_edge g new e) held (λ none. edge_stays moved g old new stay e (every-fails (is_moved moved) (carried_reads e) none))
+
+    vertex_alike : (u : EventVertex) → AllByRecursion IsHeld (into_vertex g old u) → GrowAlike (vertex_again g new moved u) (into_vertex g new u)
+    vertex_alike u held =
+        let changes = flat_map (into_change g old) u.changes in
+        let edges = flat_map (into_edge g old) u.edges in
+        joined_alike (flat_map (change_again g new moved) u.changes) (flat_map (into_change g new) u.changes) (flat_map (edge_again g new moved) u.edges) (flat_map (into_edge g new) u.edges)
+        (each_alike (change_again g new moved) (into_change g new) u.changes (every-map (λ (c : StateChange). AllByRecursion IsHeld (into_change g old c)) (λ (c : StateChange). GrowAlike (change_again g new moved c) (into_change g new c)) change_alike u.changes (every-flat_map IsHeld (into_change g old) u.changes (every-front IsHeld changes edges held))))
+        (each_alike (edge_again g new moved) (into_edge g new) u.edges (every-map (λ (e : EventEdge). AllByRecursion IsHeld (into_edge g old e)) (λ (e : EventEdge). GrowAlike (edge_again g new moved e) (into_edge g new e)) edge_alike u.edges (every-flat_map IsHeld (into_edge g old) u.edges (every-behind IsHeld changes edges held))))
+
+    pub vertices_alike : (us : List EventVertex) → AllByRecursion IsHeld (flat_map (into_vertex g old) us) → GrowAlike (flat_map (vertex_again g new moved) us) (flat_map (into_vertex g new) us)
+    vertices_alike us held =
+        each_alike (vertex_again g new moved) (into_vertex g new) us (every-map (λ (u : EventVertex). AllByRecursion IsHeld (into_vertex g old u)) (λ (u : EventVertex). GrowAlike (vertex_again g new moved u) (into_vertex g new u)) vertex_alike us (every-flat_map IsHeld (into_vertex g old) us held))
+
+-- ---- all variables, after a round
+
+-- what is taken so leads to the same next ranges as all that is taken
+abbrev pub StandsFor : EventGraph → List VarRange → List Incoming → Type 0
+StandsFor g ranges takes = (late : Bool) → each_variable g (next_range g late takes ranges) ≡ each_variable g (next_range g late (incoming g ranges) ranges)
+
+module _ (g : EventGraph) (before ranges : List VarRange) (growing : Growing g before) (k : ℕ) (made : ranges ≡ round g k before) where
+  now_growing : Growing g ranges
+  now_growing = subst (Growing g) (sym made) (round-growing g before growing k)
+
+  -- what was taken under the ranges before the round is held after it
+  held : (v : ℕ) → v < length g.variables → is_fixed g v ≡ false → AllByRecursion (IsHeld g v (ordered g before growing v) (range_at ranges v)) (incoming g before)
+  held v small free =
+      let d = declared_range (variable_at g v) in
+      let r = range_at before v in
+      let n = fold (grown_range g v) r (incoming g before) in
+      let given : range_at ranges v ≡ ends_moved (nat_le 17 k) d r n =
+      ap (λ (rs : List VarRange). range_at rs v) made ∙ (variable_given g (next_range g (nat_le 17 k) (incoming g before) before) v small ∙ ap (λ (b : Bool). cond b r (ends_moved (nat_le 17 k) d r n)) free) in
+      let inside : Encloses d n = all-inside g v (ordered g before growing v) r (incoming g before) (fits_everywhere g before growing.fitting v).inside in
+      all-taken g v (ordered g before growing v) r (range_at ranges v) (incoming g before) (subst (λ (x : VarRange). Encloses x n) (sym given) (ends_moved-takes (nat_le 17 k) d r n inside))
+
+  module _ (moved : List Bool) (marks : MarksMoved before ranges moved) where
+    stay : StayElsewhere moved (with_ranges g.variables before) (with_ranges g.variables ranges)
+    stay = record {
+      as_many = as_many_variables g.variables before ∙ sym (as_many_variables g.variables ranges);
+      each = λ v still.
+          range_given g.variables before growing.fitting.as_many v ∙
+          (ap (with_range (variable_at g v)) ((marks v).0 still) ∙ sym (range_given g.variables ranges now_growing.fitting.as_many v));
+    }
+
+    next_alike : (late : Bool) (v : ℕ) → v < length g.variables → next_range g late (incoming_again g ranges moved) ranges v ≡ next_range g late (incoming g ranges) ranges v
+    next_alike late v small = by (is_fixed g v) refl where
+      r : VarRange
+      r = range_at ranges v
+
+      by : (b : Bool) → is_fixed g v ≡ b → cond b r (ends_moved late (declared_range (variable_at g v)) r (fold (grown_range g v) r (incoming_again g ranges moved))) ≡ cond b r (ends_moved late (declared_range (variable_at g v)) r (fold (grown_range g v) r (incoming g ranges)))
+      by true is = refl
+      by false free =
+          ap (ends_moved late (declared_range (variable_at g v)) r) (vertices_alike g v (ordered g before growing v) r moved (with_ranges g.variables before) (with_ranges g.variables ranges) stay g.vertices (held v small free) r (holds-itself r))
+
+    stands : StandsFor g ranges (incoming_again g ranges moved)
+    stands late =
+        let some : ℕ → VarRange = next_range g late (incoming_again g ranges moved) ranges in
+        let all : ℕ → VarRange = next_range g late (incoming g ranges) ranges in
+        ext_get_or no_range (each_variable g some) (each_variable g all) (variables_given g some ∙ sym (variables_given g all)) (λ v small.
+        let there : v < length g.variables = omega (arith, small, variables_given g some) in
+        variable_given g some v there ∙ (next_alike late v there ∙ sym (variable_given g all v there)))
+
+  pub stands_again : (takes : List Incoming) → TakesAgain g before ranges takes → StandsFor g ranges takes
+  stands_again takes again = subst (StandsFor g ranges) (sym again.are) (stands again.moved again.marks)

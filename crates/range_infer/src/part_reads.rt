@@ -1,0 +1,113 @@
+//! The variables that each change and each edge of a model reads where it gives something to variables.
+
+ghost use Rattle.std.specs.Prelude.{◌≡◌, ◌++◌, map, OnOk, IfOk};
+ghost use Rattle.std.specs.List.{flat_map};
+ghost use Rattle.model_core.specs.Rules.Uses.{variables_in};
+ghost use Rattle.model_core.specs.Code.Views.{expression_of, change_of, edge_of, vertex_of};
+ghost use Rattle.range_infer.specs.Inner.PartReads.{set_reads, carried_reads, parts_read};
+
+use model_core::{Change, Edge, Expr, Model, Vertex};
+use sig_base::{List, NoMemory};
+use std::alloc::Global;
+
+/// The variables that the changes and the edges of a vertex read, one list for each.
+#[derive(Drop)]
+pub(crate) struct VertexReads {
+    pub(crate) sets: List<List<usize>>,
+    pub(crate) carried: List<List<usize>>,
+}
+
+/// Adds the variables that stand in an expression.
+fn add_variables(out: &mut Vec<usize>, expr: &Expr) -> Result<(), NoMemory>
+    ensures { OnOk result (out.new.items ≡ out.old.items ++ variables_in (expression_of expr.now)) }
+{
+    match expr {
+        Expr::Int(_) | Expr::Truth(_) | Expr::Clk => {}
+        Expr::Scalar(v) => out.push(*v)?,
+        Expr::Cell(v, index) => {
+            out.push(*v)?;
+            add_variables(out, index)?;
+        }
+        Expr::Neg(a) | Expr::Not(a) => add_variables(out, a)?,
+        Expr::Binary(_, left, right) => {
+            add_variables(out, left)?;
+            add_variables(out, right)?;
+        }
+        Expr::If(test, yes, no) => {
+            add_variables(out, test)?;
+            add_variables(out, yes)?;
+            add_variables(out, no)?;
+        }
+    }
+    Ok(())
+}
+
+/// Adds the variables that stand in expressions.
+fn add_all_variables(out: &mut Vec<usize>, exprs: &[Expr]) -> Result<(), NoMemory>
+    ensures { OnOk result (out.new.items ≡ out.old.items ++ flat_map variables_in (map expression_of exprs.now)) }
+{
+    for expr in exprs {
+        add_variables(out, expr)?;
+    }
+    Ok(())
+}
+
+/// The variables in the values that a change sets.
+fn set_reads(alloc: Global, change: &Change) -> Result<List<usize>, NoMemory>
+    ensures { IfOk result (λ reads. reads ≡ set_reads (change_of change.now)) }
+{
+    let mut reads = Vec::new(alloc);
+    if let Change::Set { targets: _, values } = change {
+        add_all_variables(&mut reads, values.as_slice())?;
+    }
+    Ok(List::from_vec(reads))
+}
+
+/// The variables in the condition of an edge and in what it carries.
+fn carried_reads(alloc: Global, edge: &Edge) -> Result<List<usize>, NoMemory>
+    ensures { IfOk result (λ reads. reads ≡ carried_reads (edge_of edge.now)) }
+{
+    let mut reads = Vec::new(alloc);
+    add_variables(&mut reads, &edge.condition)?;
+    add_all_variables(&mut reads, edge.values.as_slice())?;
+    Ok(List::from_vec(reads))
+}
+
+fn all_set_reads(alloc: Global, changes: &[Change]) -> Result<List<List<usize>>, NoMemory>
+    ensures { IfOk result (λ all. all ≡ map set_reads (map change_of changes.now)) }
+{
+    let mut all = Vec::new(alloc);
+    for change in changes {
+        all.push(set_reads(alloc, change)?)?;
+    }
+    Ok(List::from_vec(all))
+}
+
+fn all_carried_reads(alloc: Global, edges: &[Edge]) -> Result<List<List<usize>>, NoMemory>
+    ensures { IfOk result (λ all. all ≡ map carried_reads (map edge_of edges.now)) }
+{
+    let mut all = Vec::new(alloc);
+    for edge in edges {
+        all.push(carried_reads(alloc, edge)?)?;
+    }
+    Ok(List::from_vec(all))
+}
+
+fn parts_read(alloc: Global, vertex: &Vertex) -> Result<VertexReads, NoMemory>
+    ensures { IfOk result (λ reads. reads ≡ parts_read (vertex_of vertex.now)) }
+{
+    let sets = all_set_reads(alloc, vertex.changes.as_slice())?;
+    let carried = all_carried_reads(alloc, vertex.edges.as_slice())?;
+    Ok(VertexReads { sets, carried })
+}
+
+/// The variables that each change and each edge of each vertex reads.
+pub(crate) fn all_parts_read(alloc: Global, model: &Model) -> Result<List<VertexReads>, NoMemory>
+    ensures { IfOk result (λ all. all ≡ map parts_read (map vertex_of model.now.vertices)) }
+{
+    let mut all = Vec::new(alloc);
+    for vertex in model.vertices.as_slice() {
+        all.push(parts_read(alloc, vertex)?)?;
+    }
+    Ok(List::from_vec(all))
+}
