@@ -1,0 +1,6 @@
+mod FittingEdges
+mod FittingVertices
+mod MadeInTurn
+mod NumberedNames
+mod ValidGenerated
+mod WordsInTurn
