@@ -1,0 +1,9 @@
+-- How an array is told from a scalar, where the code has asked for its size.
+use Rattle.std.proofs.Common.{◌≡◌, ◌≢◌, ℕ, zero, suc, List, ◌++◌, refl}
+use Rattle.std.specs.Prelude.{codes, decimal}
+use Rattle.describe.specs.Description.{variable_phrase}
+
+-- the name of what isn't a scalar
+pub array_phrase : (name : List ℕ) (n : ℕ) → n ≢ 0 → variable_phrase name n ≡ codes "The array " ++ name ++ codes " of " ++ decimal n ++ codes " cells"
+array_phrase name zero some = absurd (some refl)
+array_phrase name (suc n) some = refl

@@ -1,0 +1,3 @@
+pub mod ArrayPhrases
+pub mod Assignments
+pub mod PiecesAdded
