@@ -11,7 +11,7 @@ use Rattle.model_core.specs.Static.Reading.{Reads}
 use Rattle.job_answers.specs.declared.answer.Answer.{Answer}
 use Rattle.job_answers.specs.declared.complaint.Complaint.{Complaint}
 use Rattle.job_answers.specs.AnswerForms.{refused, too_long}
-use Rattle.job_answers.specs.AnswerLaws.{DocumentParts, KeepsAnswerLaws}
+use Rattle.job_answers.specs.AnswerLaws.{DocumentParts, MayBeAsked, KeepsAnswerLaws}
 use Rattle.job_answers.specs.Answers.{AnswersModel, AnswersDocument, IsRefused, Responds, IsWithin, IsOver, Answers}
 use Rattle.job_answers.specs.Complaints.{IsComplaint, HasComplaint, message_of, byte_line}
 use Rattle.job_answers.specs.DocumentComplaints.{IsDocumentComplaint}
@@ -46,26 +46,27 @@ module _ (complaints : ComplaintLaws) (faults : FaultLaws) (text : List ℕ) whe
   refusal : (IsSo : Complaint → ℕ → Type 0) (what : Complaint) (at : ℕ) → IsSo what at → IsRefused IsSo (refused (byte_line at (message_of what)))
   refusal IsSo what at is = record { what = what; at = at; complaint = is; told = refl }
 
-  text_answered : (reading : Reading) → KeepsAnswerLaws reading → IsWithin (limit_of reading) text → (a : Answer) × Responds reading text a
-  text_answered (readings.Model job) laws within = by (complaints.some text within)
+  text_answered : (reading : Reading) → KeepsAnswerLaws reading → MayBeAsked reading → IsWithin (limit_of reading) text → (a : Answer) × Responds reading text a
+  text_answered (readings.Model job) laws asked within = by (complaints.some text within)
     where
       by : HasComplaint text ⊎ ((g : EventGraph) × Reads text g) → (a : Answer) × Responds (readings.Model job) text a
       by (inl c) = (_, inl (refusal (IsComplaint text) c.0 c.1 c.2))
       by (inr r) = let w = laws.exists r.0 (text, r.1) in (w.0, inr (r.0, r.1, w.1))
-  text_answered (readings.Document job) laws within = by (document_or_complaint faults text within)
+  text_answered (readings.Document job) laws asked within = by (document_or_complaint faults text within)
     where
       by : ReadDocument faults text ⊎ HasDocumentComplaint text → (a : Answer) × Responds (readings.Document job) text a
       by (inl r) =
           let w = laws.exists (r.original, r.applications, r.reduced) tt in
           (w.0, inr (record { original = r.original; applications = r.applications; reduced = r.reduced; reads = r.reads; told = w.1 }))
       by (inr c) = (_, inl (refusal (IsDocumentComplaint text) c.0 c.1 c.2))
+  text_answered (readings.Nothing job) laws asked within = laws.exists tt asked
 
-  answered : (reading : Reading) → KeepsAnswerLaws reading → IsWithin (limit_of reading) text ⊎ IsOver (limit_of reading) text → (a : Answer) × Answers reading text a
-  answered reading laws (inl within) = let w = text_answered reading laws within in (w.0, inr (within, w.1))
-  answered reading laws (inr over) = (refused too_long, inl (over, refl))
+  answered : (reading : Reading) → KeepsAnswerLaws reading → MayBeAsked reading → IsWithin (limit_of reading) text ⊎ IsOver (limit_of reading) text → (a : Answer) × Answers reading text a
+  answered reading laws asked (inl within) = let w = text_answered reading laws asked within in (w.0, inr (within, w.1))
+  answered reading laws asked (inr over) = (refused too_long, inl (over, refl))
 
-  pub has_answer : (reading : Reading) → KeepsAnswerLaws reading → (a : Answer) × Answers reading text a
-  has_answer reading laws = answered reading laws (within_or_over (limit_of reading) text)
+  pub has_answer : (reading : Reading) → KeepsAnswerLaws reading → MayBeAsked reading → (a : Answer) × Answers reading text a
+  has_answer reading laws asked = answered reading laws asked (within_or_over (limit_of reading) text)
 
   -- ---- and no other
 
@@ -82,6 +83,7 @@ module _ (complaints : ComplaintLaws) (faults : FaultLaws) (text : List ℕ) whe
         let same = one_document faults text y.original y.reduced x.original x.reduced y.applications x.applications y.reads x.reads in
         let parts : ◌≡◌ {A = DocumentParts} (y.original, y.applications, y.reduced) (x.original, x.applications, x.reduced) = λ i. (same.originals i, same.applications i, same.reduced i) in
         laws.one (x.original, x.applications, x.reduced) a b x.told (subst (λ (d : DocumentParts). AnswersDocument job d.0 d.1 d.2 b) parts y.told)
+    one_response (readings.Nothing job) laws a b x y = laws.one tt a b x y
 
     pub one_answer : (reading : Reading) → KeepsAnswerLaws reading → (a b : Answer) → Answers reading text a → Answers reading text b → a ≡ b
     one_answer reading laws a b (inl x) (inl y) = x.1 ∙ sym y.1

@@ -27,6 +27,7 @@ IsRefusedStatus a = status_of_answer a ≡ statuses.Refused
 unreadable_over : (reading : Reading) (text : List ℕ) → IsOver (limit_of reading) text → IsUnreadable reading text
 unreadable_over (readings.Model job) text over = λ g reads. let fits = reads.fits in omega (arith, over, fits)
 unreadable_over (readings.Document job) text over = λ original applications reduced reads. let fits = reads.fits in omega (arith, over, fits)
+unreadable_over (readings.Nothing job) text over = over
 
 pub refused_over : (reading : Reading) (text : List ℕ) → IsOver (limit_of reading) text → Answers reading text (refused too_long) × IsUnreadable reading text
 refused_over reading text over = (inl (over, refl), unreadable_over reading text over)
@@ -57,6 +58,7 @@ module _ (complaints : ComplaintLaws) (faults : FaultLaws) (text : List ℕ) whe
       (λ e original applications reduced reads. no_document_complaint faults text h.what h.at original applications reduced h.complaint reads, λ none. ap status_of_answer h.told)
   response_refused (readings.Document job) laws a (inr h) =
       (λ e. absurd (laws.unrefused (h.original, h.applications, h.reduced) a h.told e), λ none. absurd (none h.original h.applications h.reduced h.reads))
+  response_refused (readings.Nothing job) laws a h = (λ e. absurd (laws.unrefused tt a h e), λ none. absurd none)
 
   pub refused_is_unreadable : (reading : Reading) → KeepsAnswerLaws reading → (a : Answer) → Answers reading text a → IsRefusedStatus a ↔ IsUnreadable reading text
   refused_is_unreadable reading laws a (inl h) = (λ e. unreadable_over reading text h.0, λ none. ap status_of_answer h.1)

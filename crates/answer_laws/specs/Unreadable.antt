@@ -16,10 +16,11 @@ IsNoModel text = (g : EventGraph) → Reads text g → ⊥
 abbrev pub IsNoDocument : List ℕ → Type 0
 IsNoDocument text = (original : EventGraph) (applications : List RuleApplication) (reduced : EventGraph) → ReadsDocument text original applications reduced → ⊥
 
--- the text reads as nothing that is read
+-- the text reads as nothing that is read; of a job that reads nothing, no text is that
 abbrev pub IsUnreadable : Reading → List ℕ → Type 0
 IsUnreadable (readings.Model job) text = IsNoModel text
 IsUnreadable (readings.Document job) text = IsNoDocument text
+IsUnreadable (readings.Nothing job) text = ⊥
 
 -- something is to be complained of at some byte of a document
 abbrev pub HasDocumentComplaint : List ℕ → Type 0

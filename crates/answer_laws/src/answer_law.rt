@@ -11,6 +11,7 @@ ghost use Rattle.model_core.specs.Rules.Reduction.{RuleApplication, Strategy};
 ghost use Rattle.job_answers.specs.declared.answer.Answer.{Answer};
 ghost use Rattle.job_answers.specs.declared.status.Status.{Status};
 ghost use Rattle.job_answers.specs.AnswerForms.{refused, too_long};
+ghost use Rattle.job_answers.specs.AnswerLaws.{MayBeAsked};
 ghost use Rattle.job_answers.specs.Answers.{IsOver, Answers};
 ghost use Rattle.job_answers.specs.Complaints.{HasComplaint};
 ghost use Rattle.job_answers.specs.Statuses.{status_of_answer};
@@ -25,7 +26,7 @@ use text_laws::texts_read_as_one_model;
 /// one model that the text reads as, the one list of applications of rules to it, and the one model reduced to.
 pub fn answers_are_determined()
     ensures answer { (job : Job) (text : List ℕ) (a b : Answer) → Answers (reading_of job) text a → Answers (reading_of job) text b → a ≡ b }
-    ensures has_answer { (job : Job) (text : List ℕ) → (a : Answer) × Answers (reading_of job) text a }
+    ensures has_answer { (job : Job) (text : List ℕ) → MayBeAsked (reading_of job) → (a : Answer) × Answers (reading_of job) text a }
     ensures model { (text : List ℕ) (g h : EventGraph) → Reads text g → Reads text h → g ≡ h }
     ensures applications { (g : EventGraph) (a b : List RuleApplication) (h k : EventGraph) → Strategy g a h → Strategy g b k → a ≡ b }
     ensures reduced { (g : EventGraph) (a b : List RuleApplication) (h k : EventGraph) → Strategy g a h → Strategy g b k → h ≡ k }

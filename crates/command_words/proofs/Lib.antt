@@ -1,1 +1,14 @@
-pub mod ArgumentLaws
+pub mod Spelling
+pub mod KnownRules
+pub mod JoinedArguments
+pub mod SettledArguments
+pub mod ClapTurns
+pub mod ClapEnd
+pub mod WholeArguments
+pub mod ClapTakes
+pub mod ClapLaw
+pub mod FittingArguments
+pub mod HyphenWords
+pub mod JobOptions
+pub mod JobLaw
+pub mod ClapCalls

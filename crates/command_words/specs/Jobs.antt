@@ -22,7 +22,9 @@ command_of word =
     else (if pointwise nat_eq word (codes "conflicts") then Some commands.Conflicts
     else (if pointwise nat_eq word (codes "fuse") then Some commands.Fuse
     else (if pointwise nat_eq word (codes "narrow") then Some commands.Narrow
-    else (if pointwise nat_eq word (codes "run") then Some commands.Run else None))))))))
+    else (if pointwise nat_eq word (codes "describe") then Some commands.Describe
+    else (if pointwise nat_eq word (codes "run") then Some commands.Run
+    else (if pointwise nat_eq word (codes "trial") then Some commands.Trial else None))))))))))
 
 -- the options that a command takes
 abbrev pub options_of : Command → List (List ℕ)
@@ -34,7 +36,9 @@ options_of commands.Uses = []
 options_of commands.Conflicts = []
 options_of commands.Fuse = []
 options_of commands.Narrow = []
+options_of commands.Describe = []
 options_of commands.Run = codes "until" ∷ codes "seed" ∷ codes "events" ∷ codes "start" ∷ codes "room" ∷ []
+options_of commands.Trial = codes "seed" ∷ codes "vertices" ∷ codes "until" ∷ codes "events" ∷ []
 
 -- ---- the job of a command and its options
 
@@ -51,31 +55,54 @@ greatest_room = 4194304
 abbrev pub usual_room : ℕ
 usual_room = 4096
 
+-- the values that the option of each name is given
+abbrev pub Values : Type 0
+Values = List ℕ → List (List ℕ)
+
 -- `run` needs its stop time, seed and event budget, and may have starting values and room
-abbrev pub run_of : List PlainArgument → Option Job
-run_of given = run_with
-    (needed (number_within 0 STOP_MAX) (values_of (codes "until") given))
-    (needed (number_within 0 (2 ^ 64 - 1)) (values_of (codes "seed") given))
-    (needed (number_within 1 EVENTS_MAX) (values_of (codes "events") given))
-    (besides [] starting_values (values_of (codes "start") given))
-    (besides usual_room (number_within 0 greatest_room) (values_of (codes "room") given))
+abbrev pub run_of : Values → Option Job
+run_of values = run_with
+    (needed (number_within 0 STOP_MAX) (values (codes "until")))
+    (needed (number_within 0 (2 ^ 64 - 1)) (values (codes "seed")))
+    (needed (number_within 1 EVENTS_MAX) (values (codes "events")))
+    (besides [] starting_values (values (codes "start")))
+    (besides usual_room (number_within 0 greatest_room) (values (codes "room")))
+
+-- the job of a trial, where each of these is there
+abbrev pub trial_with : Option ℕ → Option ℕ → Option ℕ → Option ℕ → Option Job
+trial_with (Some seed) (Some vertices) (Some until) (Some events) = Some (jobs.Trial seed vertices until events)
+trial_with seed vertices until events = None
+
+-- the most vertices that a made model can have
+abbrev pub most_made : ℕ
+most_made = 500
+
+-- `trial` needs its seed, how many vertices there are, its stop time and event budget
+abbrev pub trial_of : Values → Option Job
+trial_of values = trial_with
+    (needed (number_within 0 (2 ^ 64 - 1)) (values (codes "seed")))
+    (needed (number_within 1 most_made) (values (codes "vertices")))
+    (needed (number_within 0 STOP_MAX) (values (codes "until")))
+    (needed (number_within 1 EVENTS_MAX) (values (codes "events")))
 
 -- the job of a command with these options
-abbrev pub job_with : Command → List PlainArgument → Option Job
-job_with commands.Check given = Some jobs.Check
-job_with commands.Print given = Some jobs.Print
-job_with commands.Reduce given = Some jobs.Reduce
-job_with commands.Certify given = Some jobs.Certify
-job_with commands.Uses given = Some jobs.Uses
-job_with commands.Conflicts given = Some jobs.Conflicts
-job_with commands.Fuse given = Some jobs.Fuse
-job_with commands.Narrow given = Some jobs.Narrow
-job_with commands.Run given = run_of given
+abbrev pub job_with : Command → Values → Option Job
+job_with commands.Check values = Some jobs.Check
+job_with commands.Print values = Some jobs.Print
+job_with commands.Reduce values = Some jobs.Reduce
+job_with commands.Certify values = Some jobs.Certify
+job_with commands.Uses values = Some jobs.Uses
+job_with commands.Conflicts values = Some jobs.Conflicts
+job_with commands.Fuse values = Some jobs.Fuse
+job_with commands.Narrow values = Some jobs.Narrow
+job_with commands.Describe values = Some jobs.Describe
+job_with commands.Run values = run_of values
+job_with commands.Trial values = trial_of values
 
 -- there is one command, and no option but those that it takes
 abbrev pub job_asked : Option Command → List PlainArgument → Option Job
 job_asked None given = None
-job_asked (Some command) given = if has_only_options (options_of command) given then job_with command given else None
+job_asked (Some command) given = if has_only_options (options_of command) given then job_with command (λ name. values_of name given) else None
 
 -- the command that the words name, where there is one word
 abbrev pub only_command : List (List ℕ) → Option Command

@@ -1,12 +1,14 @@
 -- What each job reads, and what it asks of that.
-use Rattle.std.specs.Prelude.{◌≤◌, ℕ, Option, Some}
+use Rattle.std.specs.Prelude.{◌≤◌, ℕ, Option, Some, None}
 use Rattle.sig_base.specs.declared.limits.TheConstants.{TEXT_MAX, DOCUMENT_MAX, STOP_MAX, EVENTS_MAX}
 use Rattle.command_words.specs.declared.job.Job.{Job}
 use Rattle.command_words.specs.declared.job.Job.TheVariants as jobs
+use Rattle.command_words.specs.declared.reading.BareJob.TheVariants as bare
 use Rattle.command_words.specs.declared.reading.DocumentJob.TheVariants as documents
 use Rattle.command_words.specs.declared.reading.ModelJob.TheVariants as models
 use Rattle.command_words.specs.declared.reading.Reading.{Reading}
 use Rattle.command_words.specs.declared.reading.Reading.TheVariants as readings
+use Rattle.command_words.specs.Jobs.{most_made}
 
 -- what a job reads, and what it asks of that
 abbrev pub reading_of : Job → Reading
@@ -18,15 +20,19 @@ reading_of jobs.Uses = readings.Model models.Uses
 reading_of jobs.Conflicts = readings.Model models.Conflicts
 reading_of jobs.Fuse = readings.Model models.Fuse
 reading_of jobs.Narrow = readings.Model models.Narrow
+reading_of jobs.Describe = readings.Model models.Describe
 reading_of (jobs.Run until seed events starts room) =
     readings.Model (models.Run (record { until = until; seed = seed; events = events; starts = starts; room = room }))
+reading_of (jobs.Trial seed vertices until events) = readings.Nothing (bare.Trial (record { seed = seed; vertices = vertices; until = until; events = events }))
 
--- the most bytes that the text may have; `None` would be of a job that reads no text
+-- the most bytes that the text may have: `None` of a job that reads no text
 abbrev pub limit_of : Reading → Option ℕ
 limit_of (readings.Model job) = Some TEXT_MAX
 limit_of (readings.Document job) = Some DOCUMENT_MAX
+limit_of (readings.Nothing job) = None
 
--- what is asked for keeps its limits: the stop time and the event budget of a run
+-- what is asked for keeps its limits: the stop time and the event budget of a run, and how many vertices a made model has
 abbrev pub KeepsLimits : Reading → Type 0
 KeepsLimits (readings.Model (models.Run options)) = (options.until ≤ STOP_MAX) × (options.events ≤ EVENTS_MAX)
+KeepsLimits (readings.Nothing (bare.Trial options)) = (1 ≤ options.vertices) × (options.vertices ≤ most_made) × (options.until ≤ STOP_MAX) × (options.events ≤ EVENTS_MAX)
 KeepsLimits reading = Unit {0}

@@ -14,7 +14,9 @@ pub(crate) enum Command {
     Conflicts,
     Fuse,
     Narrow,
+    Describe,
     Run,
+    Trial,
 }
 
 impl Command {
@@ -38,8 +40,12 @@ impl Command {
             Some(Command::Fuse)
         } else if word == b"narrow".as_slice() {
             Some(Command::Narrow)
+        } else if word == b"describe".as_slice() {
+            Some(Command::Describe)
         } else if word == b"run".as_slice() {
             Some(Command::Run)
+        } else if word == b"trial".as_slice() {
+            Some(Command::Trial)
         } else {
             None
         }
@@ -52,8 +58,9 @@ impl Command {
         match self {
             Command::Check | Command::Print | Command::Reduce | Command::Certify | Command::Uses =>
                 &[],
-            Command::Conflicts | Command::Fuse | Command::Narrow => &[],
+            Command::Conflicts | Command::Fuse | Command::Narrow | Command::Describe => &[],
             Command::Run => &[b"until", b"seed", b"events", b"start", b"room"],
+            Command::Trial => &[b"seed", b"vertices", b"until", b"events"],
         }
     }
 }

@@ -5,36 +5,41 @@ ghost use Rattle.std.specs.List.{list_any};
 ghost use Rattle.std.specs.Result.{IsErrOf};
 ghost use lib.Pointwise.{pointwise};
 ghost use Rattle.std.specs.String.{string_bytes};
-ghost use Rattle.command_words.specs.Arguments.{command_words, values_of, has_only_options};
 ghost use Rattle.command_words.specs.ArgumentValues.{number_within, starting_values, needed, besides};
-ghost use Rattle.command_words.specs.Inner.ArgumentViews.{plain_argument, AreValues};
 ghost use Rattle.command_words.specs.Inner.Asking.{Asked};
+ghost use Rattle.command_words.specs.Inner.ClapCommand.{has_one_dash, rows_in};
+ghost use Rattle.command_words.specs.Inner.MatchedJobs.{has_only, may_be_given, matched_job, matched_values};
 ghost use Rattle.command_words.specs.Readings.{reading_of, KeepsLimits};
-ghost use Rattle.command_words.specs.Jobs.{usual_room, greatest_room, only_command, run_of, job_with, job_of};
+ghost use Rattle.command_words.specs.Jobs.{usual_room, greatest_room, run_of, trial_of, job_with, job_of};
 
 use crate::argument_values::{number_within, starting_values};
-use crate::arguments::{Argument, arguments};
+use crate::clap_matches::{matched, option_names, text_of, with_program};
 use crate::command::Command;
 use crate::job::Job;
 use crate::run_options::{ROOM_MAX, ROOM_USUAL};
+use crate::trial_options::VERTICES_MADE_MAX;
 use crate::words_error::WordsError;
+use clap::ArgMatches;
 use sig_base::{EVENTS_MAX, List, STOP_MAX};
 use std::alloc::Global;
 
-/// The command, where exactly one word is to be it and names one.
-fn only_command(given: &[Argument<'_>]) -> Option<Command>
-    ensures { result ≡ only_command (command_words (map plain_argument given.now)) }
+/// Whether the word begins with one `-` and no more.
+fn has_one_dash(word: &[u8]) -> bool
+    ensures { result ≡ has_one_dash word.now }
 {
-    let mut command = None;
-    for argument in given {
-        if let Argument::Command(word) = argument {
-            if command.is_some() {
-                return None;
-            }
-            command = Some(*word);
+    word.starts_with(b"-") && !word.starts_with(b"--")
+}
+
+/// Whether one of the words does.
+fn any_has_one_dash(words: &[String]) -> bool
+    ensures { result ≡ list_any has_one_dash (map string_bytes words.now) }
+{
+    for word in words {
+        if has_one_dash(word.as_bytes()) {
+            return true;
         }
     }
-    Command::of_word(command?)
+    false
 }
 
 /// Whether the name is among the names.
@@ -49,100 +54,74 @@ fn is_among(names: &[&[u8]], name: &[u8]) -> bool
     false
 }
 
-/// Whether each option that is given has one of the names.
-fn has_only_options(names: &[&[u8]], given: &[Argument<'_>]) -> bool
-    ensures { result ≡ has_only_options (map (λ name. name.now) names.now) (map plain_argument given.now) }
+/// Whether the option isn't given, or is one of these.
+fn may_be_given(options: &[&[u8]], matches: &ArgMatches<'_>, name: &str) -> bool
+    ensures { result ≡ may_be_given (map (λ n. n.now) options.now) (rows_in matches.now) name.now }
 {
-    for argument in given {
-        if let Argument::Option { name, .. } = argument {
-            if !is_among(names, name) {
-                return false;
-            }
+    text_of(matches, name).is_none() || is_among(options, name.as_bytes())
+}
+
+/// Whether no option is given but these.
+fn has_only(options: &[&[u8]], matches: &ArgMatches<'_>) -> bool
+    ensures { result ≡ has_only (map (λ name. name.now) options.now) (rows_in matches.now) }
+{
+    for name in option_names() {
+        if !may_be_given(options, matches, name) {
+            return false;
         }
     }
     true
 }
 
-/// The values that an option is given.
-#[derive(Clone, Copy, Debug)]
-enum Values<'a> {
-    None,
-    One(&'a [u8]),
-    Several,
-}
-
-/// The values that are given to the option of this name.
-fn values_of<'a>(given: &[Argument<'a>], name: &[u8]) -> Values<'a>
-    ensures { AreValues (values_of name.now (map plain_argument given.now)) result }
-{
-    let mut found = None;
-    for argument in given {
-        if let Argument::Option { name: other, value } = argument {
-            if *other == name {
-                if found.is_some() {
-                    return Values::Several;
-                }
-                found = Some(*value);
-            }
-        }
-    }
-    match found {
-        Some(value) => Values::One(value),
-        None => Values::None,
-    }
-}
-
 /// The number of an option that has to be given.
 fn needed_number(
-    given: &[Argument<'_>],
-    name: &[u8],
+    matches: &ArgMatches<'_>,
+    name: &str,
     lowest: u64,
     highest: u64,
 ) -> Result<u64, WordsError>
-    ensures asked { Asked (needed (number_within lowest highest) (values_of name.now (map plain_argument given.now))) result }
-    ensures within { IfOk result (λ n. n ≤ highest) }
+    ensures asked { Asked (needed (number_within lowest highest) (matched_values (rows_in matches.now) name.now)) result }
+    ensures within { IfOk result (λ n. (lowest ≤ n) × (n ≤ highest)) }
 {
-    match values_of(given, name) {
-        Values::One(value) => number_within(lowest, highest, value).ok_or(WordsError::BadWords),
-        Values::None | Values::Several => Err(WordsError::BadWords),
+    match text_of(matches, name) {
+        Some(value) => number_within(lowest, highest, value).ok_or(WordsError::BadWords),
+        None => Err(WordsError::BadWords),
     }
 }
 
 /// The room of a run, in pending events.
-fn room_of(given: &[Argument<'_>]) -> Result<usize, WordsError>
-    ensures { Asked (besides usual_room (number_within 0 greatest_room) (values_of (codes "room") (map plain_argument given.now))) result }
+fn room_of(matches: &ArgMatches<'_>) -> Result<usize, WordsError>
+    ensures { Asked (besides usual_room (number_within 0 greatest_room) (matched_values (rows_in matches.now) (codes "room"))) result }
 {
-    match values_of(given, b"room") {
-        Values::None => Ok(ROOM_USUAL),
-        Values::One(value) => match number_within(0, ROOM_MAX as u64, value) {
+    match text_of(matches, "room") {
+        Some(value) => match number_within(0, ROOM_MAX as u64, value) {
             Some(room) => Ok(room as usize),
             None => Err(WordsError::BadWords),
         },
-        Values::Several => Err(WordsError::BadWords),
+        None => Ok(ROOM_USUAL),
     }
 }
 
 /// The starting values of a run.
-fn starts_of(alloc: Global, given: &[Argument<'_>]) -> Result<List<i64>, WordsError>
-    ensures { Asked (besides [] starting_values (values_of (codes "start") (map plain_argument given.now))) result }
+fn starts_of(alloc: Global, matches: &ArgMatches<'_>) -> Result<List<i64>, WordsError>
+    ensures { Asked (besides [] starting_values (matched_values (rows_in matches.now) (codes "start"))) result }
 {
-    match values_of(given, b"start") {
-        Values::None => Ok(List::new(alloc)),
-        Values::One(value) => starting_values(alloc, value),
-        Values::Several => Err(WordsError::BadWords),
+    match text_of(matches, "start") {
+        Some(value) => starting_values(alloc, value),
+        None => Ok(List::new(alloc)),
     }
 }
 
 /// The job `run`, by its options.
-fn run_of(alloc: Global, given: &[Argument<'_>]) -> Result<Job, WordsError>
-    ensures asked { Asked (run_of (map plain_argument given.now)) result }
+fn run_of(alloc: Global, matches: &ArgMatches<'_>) -> Result<Job, WordsError>
+    ensures asked { Asked (run_of (matched_values (rows_in matches.now))) result }
     ensures within { IfOk result (λ job. KeepsLimits (reading_of job)) }
 {
-    let until = needed_number(given, b"until", 0, STOP_MAX)?;
-    let seed = needed_number(given, b"seed", 0, u64::MAX)?;
-    let events = needed_number(given, b"events", 1, EVENTS_MAX)?;
-    let room = room_of(given)?;
-    let starts = starts_of(alloc, given)?;
+    let until = needed_number(matches, "until", 0, STOP_MAX)?;
+    let seed = needed_number(matches, "seed", 0, u64::MAX)?;
+    let events = needed_number(matches, "events", 1, EVENTS_MAX)?;
+    let room = room_of(matches)?;
+    let starts = starts_of(alloc, matches)?;
     Ok(Job::Run {
         until,
         seed,
@@ -152,9 +131,26 @@ fn run_of(alloc: Global, given: &[Argument<'_>]) -> Result<Job, WordsError>
     })
 }
 
+/// The job `trial`, by its options.
+fn trial_of(matches: &ArgMatches<'_>) -> Result<Job, WordsError>
+    ensures asked { Asked (trial_of (matched_values (rows_in matches.now))) result }
+    ensures within { IfOk result (λ job. KeepsLimits (reading_of job)) }
+{
+    let seed = needed_number(matches, "seed", 0, u64::MAX)?;
+    let vertices = needed_number(matches, "vertices", 1, VERTICES_MADE_MAX as u64)? as usize;
+    let until = needed_number(matches, "until", 0, STOP_MAX)?;
+    let events = needed_number(matches, "events", 1, EVENTS_MAX)?;
+    Ok(Job::Trial {
+        seed,
+        vertices,
+        until,
+        events,
+    })
+}
+
 /// The job of a command and its options.
-fn job_with(alloc: Global, command: Command, given: &[Argument<'_>]) -> Result<Job, WordsError>
-    ensures asked { Asked (job_with command (map plain_argument given.now)) result }
+fn job_with(alloc: Global, command: Command, matches: &ArgMatches<'_>) -> Result<Job, WordsError>
+    ensures asked { Asked (job_with command (matched_values (rows_in matches.now))) result }
     ensures within { IfOk result (λ job. KeepsLimits (reading_of job)) }
 {
     match command {
@@ -165,25 +161,45 @@ fn job_with(alloc: Global, command: Command, given: &[Argument<'_>]) -> Result<J
         Command::Conflicts => Ok(Job::Conflicts),
         Command::Fuse => Ok(Job::Fuse),
         Command::Narrow => Ok(Job::Narrow),
+        Command::Describe => Ok(Job::Describe),
         Command::Certify => Ok(Job::Certify),
-        Command::Run => run_of(alloc, given),
+        Command::Run => run_of(alloc, matches),
+        Command::Trial => trial_of(matches),
     }
 }
 
-/// The job that the words, without the program's name, ask for.
+/// The job that the matches ask for.
+fn matched_job(alloc: Global, matches: &ArgMatches<'_>) -> Result<Job, WordsError>
+    ensures asked { Asked (matched_job (rows_in matches.now)) result }
+    ensures within { IfOk result (λ job. KeepsLimits (reading_of job)) }
+{
+    let command = match text_of(matches, "command") {
+        Some(word) => match Command::of_word(word) {
+            Some(command) => command,
+            None => return Err(WordsError::BadWords),
+        },
+        None => return Err(WordsError::BadWords),
+    };
+    if !has_only(command.options(), matches) {
+        return Err(WordsError::BadWords);
+    }
+    job_with(alloc, command, matches)
+}
+
+/// The job that the words, without the program's name, ask for. `clap` reads them; but it takes a single `-` as the
+/// value of an option, so words that begin with one `-`, which are part of no job, are refused before.
 pub fn words(alloc: Global, words: &[String]) -> Result<Job, WordsError>
     ensures ok { IfOk result (λ job. job_of (map string_bytes words.now) ≡ Some job) }
     // What it asks for keeps its limits.
     ensures within { IfOk result (λ job. KeepsLimits (reading_of job)) }
     ensures bad_words { IsErrOf result WordsError.BadWords → job_of (map string_bytes words.now) ≡ None }
 {
-    let given = arguments(alloc, words)?;
-    let command = match only_command(given.as_slice()) {
-        Some(command) => command,
-        None => return Err(WordsError::BadWords),
-    };
-    if !has_only_options(command.options(), given.as_slice()) {
+    if any_has_one_dash(words) {
         return Err(WordsError::BadWords);
     }
-    job_with(alloc, command, given.as_slice())
+    let named = with_program(alloc, words)?;
+    match matched(alloc, named.as_slice())? {
+        Some(matches) => matched_job(alloc, &matches),
+        None => Err(WordsError::BadWords),
+    }
 }

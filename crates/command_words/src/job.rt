@@ -3,8 +3,9 @@
 ghost use Rattle.std.specs.Prelude.{◌≡◌};
 ghost use Rattle.command_words.specs.Readings.{reading_of};
 
-use crate::reading::{DocumentJob, ModelJob, Reading};
+use crate::reading::{BareJob, DocumentJob, ModelJob, Reading};
 use crate::run_options::RunOptions;
+use crate::trial_options::TrialOptions;
 use sig_base::List;
 
 /// A job of the program.
@@ -26,6 +27,8 @@ pub enum Job {
     Fuse,
     /// The model with the ranges declared that it needs.
     Narrow,
+    /// The model in English sentences.
+    Describe,
     /// The watched history of a run of the model, as it happens.
     Run {
         /// The stop time, in ticks.
@@ -38,6 +41,17 @@ pub enum Job {
         starts: List<i64>,
         /// The pending events for which there is room from the beginning.
         room: usize,
+    },
+    /// How large a model is that a number makes, what is left of it when it is reduced, and how a run of each goes.
+    Trial {
+        /// The number that makes the model, and the seed of the random streams.
+        seed: u64,
+        /// How many vertices the model has.
+        vertices: usize,
+        /// The stop time, in ticks.
+        until: u64,
+        /// The event budget: the most steps that are made.
+        events: u64,
     },
 }
 
@@ -55,6 +69,7 @@ impl Job {
             Job::Conflicts => Reading::Model(ModelJob::Conflicts),
             Job::Fuse => Reading::Model(ModelJob::Fuse),
             Job::Narrow => Reading::Model(ModelJob::Narrow),
+            Job::Describe => Reading::Model(ModelJob::Describe),
             Job::Run {
                 until,
                 seed,
@@ -67,6 +82,17 @@ impl Job {
                 events,
                 starts,
                 room,
+            })),
+            Job::Trial {
+                seed,
+                vertices,
+                until,
+                events,
+            } => Reading::Nothing(BareJob::Trial(TrialOptions {
+                seed,
+                vertices,
+                until,
+                events,
             })),
         }
     }

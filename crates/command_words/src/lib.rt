@@ -2,16 +2,18 @@
 #![tactic(auto)]
 
 mod argument_values;
-mod arguments;
+mod clap_matches;
 mod command;
 mod command_line;
 mod job;
 mod reading;
 mod run_options;
+mod trial_options;
 mod words_error;
 
 pub use command_line::words;
 pub use job::Job;
-pub use reading::{DocumentJob, ModelJob, Reading};
+pub use reading::{BareJob, DocumentJob, ModelJob, Reading};
 pub use run_options::RunOptions;
+pub use trial_options::TrialOptions;
 pub use words_error::WordsError;

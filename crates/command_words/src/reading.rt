@@ -1,9 +1,10 @@
-//! What a job reads, and what it asks of that. What goes by it has no case for a job that reads something else.
+//! What a job reads, if anything, and what it asks of that. What goes by it has no case for a job that reads something else.
 
 ghost use Rattle.std.specs.Prelude.{◌≡◌};
 ghost use Rattle.command_words.specs.Readings.{limit_of};
 
 use crate::run_options::RunOptions;
+use crate::trial_options::TrialOptions;
 use sig_base::{DOCUMENT_MAX, TEXT_MAX};
 
 /// What a job reads, and what it asks of that.
@@ -13,6 +14,8 @@ pub enum Reading {
     Model(ModelJob),
     /// A document: two models and a certificate, one behind the other.
     Document(DocumentJob),
+    /// Nothing: the words say all.
+    Nothing(BareJob),
 }
 
 /// What is asked of a model.
@@ -32,6 +35,8 @@ pub enum ModelJob {
     Fuse,
     /// It with the ranges declared that it needs.
     Narrow,
+    /// It in English sentences.
+    Describe,
     /// The watched history of a run of it, as it happens.
     Run(RunOptions),
 }
@@ -43,14 +48,22 @@ pub enum DocumentJob {
     Certify,
 }
 
+/// What is asked without anything to read.
+#[derive(Drop)]
+pub enum BareJob {
+    /// What comes of a model that a number makes.
+    Trial(TrialOptions),
+}
+
 impl Reading {
-    /// The most bytes that the text may have; `None` would be of a job that reads none.
+    /// The most bytes that the text may have: `None` of a job that reads none.
     pub fn limit(&self) -> Option<usize>
         ensures { result ≡ limit_of self.now }
     {
         match self {
             Reading::Model(_) => Some(TEXT_MAX),
             Reading::Document(_) => Some(DOCUMENT_MAX),
+            Reading::Nothing(_) => None,
         }
     }
 }

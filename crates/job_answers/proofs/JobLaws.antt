@@ -1,4 +1,5 @@
 -- The laws of the answers of all jobs, a line a job.
+use Rattle.command_words.specs.declared.reading.BareJob.TheVariants as bare
 use Rattle.command_words.specs.declared.reading.DocumentJob.TheVariants as documents
 use Rattle.command_words.specs.declared.reading.ModelJob.TheVariants as models
 use Rattle.command_words.specs.declared.reading.Reading.{Reading}
@@ -11,17 +12,21 @@ use Rattle.job_answers.proofs.PrintLaws.{print_laws}
 use Rattle.job_answers.proofs.ReduceLaws.{OneStrategy, StrategyEnds, reduce_laws}
 use Rattle.job_answers.proofs.UsesLaws.{uses_laws}
 use Rattle.job_answers.proofs.ConflictsLaws.{conflicts_laws}
+use Rattle.job_answers.proofs.DescribeLaws.{describe_laws}
 use Rattle.job_answers.proofs.RewritingLaws.{BecomesOne, fuse_laws, narrow_laws}
 use Rattle.job_answers.proofs.RunLaws.{run_laws}
+use Rattle.job_answers.proofs.TrialLaws.{OneSummary, trial_laws}
 use Rattle.job_answers.proofs.CertifyLaws.{certify_laws}
 
-pub keeps_laws : OneStrategy → StrategyEnds → BecomesOne Fused → BecomesOne IsNarrowed → (reading : Reading) → KeepsAnswerLaws reading
-keeps_laws only ends fuses narrows (readings.Model models.Check) = check_laws
-keeps_laws only ends fuses narrows (readings.Model models.Print) = print_laws
-keeps_laws only ends fuses narrows (readings.Model models.Reduce) = reduce_laws only ends
-keeps_laws only ends fuses narrows (readings.Model models.Uses) = uses_laws
-keeps_laws only ends fuses narrows (readings.Model models.Conflicts) = conflicts_laws
-keeps_laws only ends fuses narrows (readings.Model models.Fuse) = fuse_laws fuses
-keeps_laws only ends fuses narrows (readings.Model models.Narrow) = narrow_laws narrows
-keeps_laws only ends fuses narrows (readings.Model (models.Run options)) = run_laws options
-keeps_laws only ends fuses narrows (readings.Document documents.Certify) = certify_laws
+pub keeps_laws : OneStrategy → StrategyEnds → BecomesOne Fused → BecomesOne IsNarrowed → OneSummary → (reading : Reading) → KeepsAnswerLaws reading
+keeps_laws only ends fuses narrows trials (readings.Model models.Check) = check_laws
+keeps_laws only ends fuses narrows trials (readings.Model models.Print) = print_laws
+keeps_laws only ends fuses narrows trials (readings.Model models.Reduce) = reduce_laws only ends
+keeps_laws only ends fuses narrows trials (readings.Model models.Uses) = uses_laws
+keeps_laws only ends fuses narrows trials (readings.Model models.Conflicts) = conflicts_laws
+keeps_laws only ends fuses narrows trials (readings.Model models.Fuse) = fuse_laws fuses
+keeps_laws only ends fuses narrows trials (readings.Model models.Narrow) = narrow_laws narrows
+keeps_laws only ends fuses narrows trials (readings.Model models.Describe) = describe_laws
+keeps_laws only ends fuses narrows trials (readings.Model (models.Run options)) = run_laws options
+keeps_laws only ends fuses narrows trials (readings.Document documents.Certify) = certify_laws
+keeps_laws only ends fuses narrows trials (readings.Nothing (bare.Trial options)) = trial_laws trials options

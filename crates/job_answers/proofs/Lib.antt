@@ -6,6 +6,7 @@ pub mod GivenAnswers
 mod CertifyLaws
 mod CheckLaws
 mod ConflictsLaws
+mod DescribeLaws
 mod JobLaws
 mod PassedOn
 mod PrintLaws
@@ -13,4 +14,5 @@ mod ReduceLaws
 mod RewritingLaws
 mod RewrittenMeans
 mod ToldErrors
+mod TrialLaws
 mod UsesLaws

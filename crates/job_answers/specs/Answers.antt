@@ -1,6 +1,8 @@
 -- What is answered to a text, by what a job reads and asks. Nothing is said here of where the text comes from or where the
 -- answer goes.
 use Rattle.std.specs.Prelude.{◌≡◌, ◌≤◌, ◌<◌, ◌⊎◌, ℕ, List, [], length, Option, Some, None}
+use Rattle.command_words.specs.declared.reading.BareJob.{BareJob}
+use Rattle.command_words.specs.declared.reading.BareJob.TheVariants as bare
 use Rattle.command_words.specs.declared.reading.DocumentJob.{DocumentJob}
 use Rattle.command_words.specs.declared.reading.DocumentJob.TheVariants as documents
 use Rattle.command_words.specs.declared.reading.ModelJob.{ModelJob}
@@ -23,14 +25,16 @@ use Rattle.job_answers.specs.UsesAnswer.{uses_answer}
 use Rattle.job_answers.specs.ConflictsAnswer.{conflicts_answer}
 use Rattle.job_answers.specs.FuseAnswer.{IsFusion}
 use Rattle.job_answers.specs.NarrowAnswer.{IsNarrowing}
+use Rattle.job_answers.specs.DescribeAnswer.{describe_answer}
 use Rattle.job_answers.specs.RunAnswer.{run_answer, ExceedsRoom}
 use Rattle.job_answers.specs.CertifyAnswer.{certify_answer}
+use Rattle.job_answers.specs.TrialAnswer.{IsTrial}
 
 -- ---- what is answered for what was read, job by job
 
 -- `check` says that the model is accepted, `print` writes its canonical text, `reduce` another one that means the same with
 -- its certificate, `uses` who uses each variable, `conflicts` which pairs of vertices are in conflict, `fuse` and `narrow`
--- another text that means the same, and `run` the history of a run
+-- another text that means the same, `describe` the model in English, and `run` the history of a run
 abbrev pub AnswersModel : ModelJob → EventGraph → Answer → Type 0
 AnswersModel models.Check g a = a ≡ check_answer g
 AnswersModel models.Print g a = a ≡ print_answer g
@@ -39,11 +43,16 @@ AnswersModel models.Uses g a = a ≡ uses_answer g
 AnswersModel models.Conflicts g a = a ≡ conflicts_answer g
 AnswersModel models.Fuse g a = IsFusion g a
 AnswersModel models.Narrow g a = IsNarrowing g a
+AnswersModel models.Describe g a = a ≡ describe_answer g
 AnswersModel (models.Run options) g a = a ≡ run_answer g options.until options.seed options.events options.starts
 
 -- `certify` says whether the certificate holds
 abbrev pub AnswersDocument : DocumentJob → EventGraph → List RuleApplication → EventGraph → Answer → Type 0
 AnswersDocument documents.Certify original applications reduced a = a ≡ certify_answer original applications reduced
+
+-- `trial` tells what comes of a model that a number makes
+abbrev pub AnswersAlone : BareJob → Answer → Type 0
+AnswersAlone (bare.Trial options) a = IsTrial options a
 
 -- A job on a model that writes as it goes may lack memory behind a front of its bytes: `run` where the run needs more room
 -- than was asked for.
@@ -75,15 +84,17 @@ pub record IsJudged (job : DocumentJob) (text : List ℕ) (a : Answer) : Type 0 
   pub reads : ReadsDocument text original applications reduced
   pub told : AnswersDocument job original applications reduced a
 
--- the text is refused, or it reads as something that has this answer
+-- the text is refused, or it reads as something that has this answer; of a job that reads nothing there is an answer alone
 abbrev pub Responds : Reading → List ℕ → Answer → Type 0
 Responds (readings.Model job) text a = IsRefused (IsComplaint text) a ⊎ ((g : EventGraph) × Reads text g × AnswersModel job g a)
 Responds (readings.Document job) text a = IsRefused (IsDocumentComplaint text) a ⊎ IsJudged job text a
+Responds (readings.Nothing job) text a = AnswersAlone job a
 
 -- where memory may be refused behind a front of the answer's bytes
 abbrev pub MayStopShort : Reading → List ℕ → Type 0
 MayStopShort (readings.Model job) text = (g : EventGraph) × Reads text g × MayFallShort job g
 MayStopShort (readings.Document job) text = ⊥
+MayStopShort (readings.Nothing job) text = ⊥
 
 -- ---- what is answered to any text
 

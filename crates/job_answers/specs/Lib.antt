@@ -9,9 +9,11 @@ pub mod ConflictsAnswer
 pub mod RewrittenAnswer
 pub mod FuseAnswer
 pub mod NarrowAnswer
+pub mod DescribeAnswer
 pub mod StartingValues
 pub mod RunAnswer
 pub mod CertifyAnswer
+pub mod TrialAnswer
 pub mod Answers
 pub mod Statuses
 pub mod AnswerLaws

@@ -2,11 +2,11 @@
 
 ghost use Rattle.std.specs.Prelude.{◌≤◌, length, map, IfOk};
 ghost use Rattle.sig_base.specs.declared.limits.TheConstants.{DOCUMENT_MAX as most_bytes};
-ghost use Rattle.command_words.specs.declared.reading.Reading.TheVariants.{Model as OfModel, Document as OfDocument};
+ghost use Rattle.command_words.specs.declared.reading.Reading.TheVariants.{Model as OfModel, Document as OfDocument, Nothing as OfNothing};
 ghost use Rattle.command_words.specs.Readings.{KeepsLimits};
 ghost use Rattle.model_core.specs.Static.Reading.{IsValid};
 ghost use Rattle.model_core.specs.Code.Views.{graph_of, application_of};
-ghost use Rattle.job_answers.specs.Answers.{AnswersModel, AnswersDocument, MayFallShort, Responds, MayStopShort};
+ghost use Rattle.job_answers.specs.Answers.{AnswersModel, AnswersDocument, AnswersAlone, MayFallShort, Responds, MayStopShort};
 ghost use Rattle.job_answers.specs.Delivery.{DeliversSome};
 
 use crate::acceptance::acceptance;
@@ -20,9 +20,11 @@ use crate::reading_error::ReadingError;
 use crate::reduction::reduction;
 use crate::rewriting::{fusion, narrowing};
 use crate::running::run_model;
+use crate::sentences::sentences;
 use crate::status::Failure;
+use crate::trial::trial;
 use crate::uses_table::uses_table;
-use command_words::{DocumentJob, ModelJob};
+use command_words::{BareJob, DocumentJob, ModelJob};
 use model_core::Model;
 use sig_base::{NoMemory, Sink};
 use std::alloc::Global;
@@ -63,6 +65,11 @@ pub fn answer_model<K: Sink>(
         }
         ModelJob::Fuse => deliver(output, fusion(alloc, model)),
         ModelJob::Narrow => deliver(output, narrowing(alloc, model)),
+        ModelJob::Describe => {
+            let answer = sentences(alloc, &model);
+            forget(model);
+            deliver(output, answer)
+        }
         ModelJob::Run(options) => {
             let said = run_model(alloc, &model, options, output);
             forget(model);
@@ -98,6 +105,16 @@ fn document_text_answer(alloc: Global, job: &DocumentJob, text: &[u8]) -> Result
         }
         Err(ReadingError::At { what, at }) => complaint_answer(alloc, what, at),
         Err(ReadingError::NoMemory) => Err(NoMemory),
+    }
+}
+
+/// Answers what is asked without anything to read, and writes the answer.
+pub fn answer_alone<K: Sink>(alloc: Global, job: &BareJob, output: &mut K) -> Result<Said, Failure>
+    requires { KeepsLimits (OfNothing job.now) }
+    ensures { DeliversSome K.seen (AnswersAlone job.now) ⊥ result output.old output.new }
+{
+    match job {
+        BareJob::Trial(options) => deliver(output, trial(alloc, options)),
     }
 }
 

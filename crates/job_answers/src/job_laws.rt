@@ -5,6 +5,7 @@ ghost use Rattle.job_answers.specs.AnswerLaws.{KeepsAnswerLaws};
 
 use range_infer::narrowed_models_mean_the_same;
 use reducer::{strategies_are_determined, strategies_end};
+use trial_report::trials_are_determined;
 use twin_rules::fusing_ends;
 
 /// Of whatever a job reads there is one answer. What is given has bytes, unless it may have none, and it is no refusal of a
@@ -16,4 +17,5 @@ pub fn answers_keep_their_laws()
     strategies_end();
     fusing_ends();
     narrowed_models_mean_the_same();
+    trials_are_determined();
 }

@@ -20,12 +20,14 @@ mod reduction_law;
 mod rewriting;
 mod rewriting_law;
 mod running;
+mod sentences;
 mod status;
+mod trial;
 mod uses_table;
 mod written_reading;
 
 pub use answer::{Answer, complaint_answer, too_long_answer};
-pub use answering::{answer_document, answer_model};
+pub use answering::{answer_alone, answer_document, answer_model};
 pub use certifying::sound_documents_mean_the_same;
 pub use complaint::Complaint;
 pub use complaint_law::{readable_models_are_reduced, texts_have_one_complaint};

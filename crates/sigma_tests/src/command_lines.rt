@@ -1,9 +1,28 @@
 //! Which job each command line asks for, rule by rule.
 
+use crate::calls::words as split;
 use sig_base::List;
 use sigma_top::{Job, WordsError, words};
 use std::alloc::{AllocError, Global};
 use std::test::*;
+
+const TRIAL: &str = "trial --seed 42 --vertices 2 --until 20 --events 100";
+
+/// Words that ask for no trial, each for one reason.
+const NO_TRIALS: [&str; 12] = [
+    "trial --seed 42 --vertices 0 --until 20 --events 100",
+    "trial --seed 42 --vertices 501 --until 20 --events 100",
+    "trial --seed 42 --vertices 2 --until 20 --events 0",
+    "trial --seed 42 --vertices 2 --until 20 --events 100 --room 1",
+    "trial --seed 42 --vertices 2 --until 20 --events 100 --start=1",
+    "trial --seed 42 --vertices 2 --until 20 --events 100 --vertices 2",
+    "trial --seed 42 --vertices 2 --until 20 --events",
+    "trial --seed 42 --vertices 2 --until 20",
+    "trial --seed 42 --until 20 --events 100",
+    "trial --vertices 2 --until 20 --events 100",
+    "trial --seed 42 --vertices -2 --until 20 --events 100",
+    "trial --seed 42 --vertices 2 --until 20 --events 100 -- trial",
+];
 
 /// What a run is asked for with.
 #[derive(Clone, Copy)]
@@ -310,8 +329,55 @@ fn each_other_command_has_its_word(rt: HostRuntime) -> Result<(), Fail> {
     assert!(rt; matches!(words(rt.alloc(), &fuse), Ok(Job::Fuse)));
     let narrow = given(rt.alloc(), &["narrow"])?;
     assert!(rt; matches!(words(rt.alloc(), &narrow), Ok(Job::Narrow)));
+    let describe = given(rt.alloc(), &["describe"])?;
+    assert!(rt; matches!(words(rt.alloc(), &describe), Ok(Job::Describe)));
     let certify = given(rt.alloc(), &["certify"])?;
     assert!(rt; matches!(words(rt.alloc(), &certify), Ok(Job::Certify)));
+    Ok(())
+}
+
+/// Whether the words ask for a trial with these options.
+fn asks_for_trial(asked: &Result<Job, WordsError>, seed: u64, vertices: usize) -> bool {
+    match asked {
+        Ok(
+            Job::Trial {
+                seed: given,
+                vertices: many,
+                until: 20,
+                events: 100,
+            },
+        ) => *given == seed && *many == vertices,
+        _ => false,
+    }
+}
+
+#[test]
+fn options_of_a_trial_are_read(rt: HostRuntime) -> Result<(), Fail> {
+    for (line, seed, vertices) in [
+        (TRIAL, 42, 2),
+        (
+            "--vertices=500 trial --seed 18446744073709551615 --events=100 --until=20",
+            u64::MAX,
+            500,
+        ),
+        (
+            "--vertices 01 --seed=0 --events 0100 --until 20 -- trial",
+            0,
+            1,
+        ),
+    ] {
+        let given = split(rt.alloc(), line)?;
+        assert!(rt; asks_for_trial(&words(rt.alloc(), &given), seed, vertices));
+    }
+    Ok(())
+}
+
+#[test]
+fn other_words_are_no_trial(rt: HostRuntime) -> Result<(), Fail> {
+    for line in NO_TRIALS {
+        let given = split(rt.alloc(), line)?;
+        assert!(rt; asks_for_no_job(&words(rt.alloc(), &given)));
+    }
     Ok(())
 }
 

@@ -25,6 +25,8 @@ mod reductions;
 #[cfg(test)]
 mod rewritten_models;
 #[cfg(test)]
+mod trials;
+#[cfg(test)]
 mod versions;
 
 pub use endings::{calls_end_so, calls_never_end_so};

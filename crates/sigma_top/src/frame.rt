@@ -27,10 +27,10 @@ use crate::model_reading::model_of;
 use crate::text_taking::{Taken, take_text};
 use command_words::{ModelJob, Reading, WordsError};
 use job_answers::{
-    Failure, ReadingError, Said, Status, answer_document, answer_model, answers_keep_their_laws,
-    complaint_answer, deliver, fused_models_mean_the_same, narrower_models_mean_the_same,
-    readable_models_are_reduced, sound_documents_mean_the_same, too_long_answer,
-    written_models_mean_the_same,
+    Failure, ReadingError, Said, Status, answer_alone, answer_document, answer_model,
+    answers_keep_their_laws, complaint_answer, deliver, fused_models_mean_the_same,
+    narrower_models_mean_the_same, readable_models_are_reduced, sound_documents_mean_the_same,
+    too_long_answer, written_models_mean_the_same,
 };
 use sig_base::{Sink, Source, put};
 use std::alloc::Global;
@@ -67,6 +67,7 @@ fn respond<K: Sink>(
     match reading {
         Reading::Model(job) => respond_to_model(alloc, job, text, output),
         Reading::Document(job) => answer_document(alloc, job, text, output),
+        Reading::Nothing(job) => answer_alone(alloc, job, output),
     }
 }
 

@@ -5,6 +5,8 @@
 #[cfg(test)]
 mod chains;
 #[cfg(test)]
+mod described_models;
+#[cfg(test)]
 mod merged_models;
 #[cfg(test)]
 mod narrowed_models;

@@ -12,7 +12,7 @@ returns c =
     let laws = c.answers_keep_their_laws.ensures in
     record {
       answer = λ job text a b x y. one_answer complaints faults text c.texts_read_as_one_model.ensures (reading_of job) (laws (reading_of job)) a b x y;
-      has_answer = λ job text. has_answer complaints faults text (reading_of job) (laws (reading_of job));
+      has_answer = λ job text asked. has_answer complaints faults text (reading_of job) (laws (reading_of job)) asked;
       model = c.texts_read_as_one_model.ensures;
       applications = λ g a b h k x y. c.strategies_are_determined.ensures.applications g h k a b x y;
       reduced = λ g a b h k x y. c.strategies_are_determined.ensures.reduced g h k a b x y;

@@ -3,6 +3,7 @@ use Rattle.model_core.specs.Ranges.Narrowed.{IsNarrowed}
 use Rattle.job_answers.proofs.JobLaws.{keeps_laws}
 use Rattle.job_answers.proofs.ReduceLaws.{OneStrategy}
 use Rattle.job_answers.proofs.RewritingLaws.{BecomesOne}
+use Rattle.job_answers.proofs.TrialLaws.{OneSummary}
 use Rattle.job_answers.proofs.job_laws.answers_keep_their_laws.Goals as goal
 
 pub returns : goal.returns
@@ -10,4 +11,5 @@ returns c = λ reading.
     let only : OneStrategy = record { applications = c.strategies_are_determined.ensures.applications; reduced = c.strategies_are_determined.ensures.reduced } in
     let fuses : BecomesOne Fused = record { ends = λ g valid. c.fusing_ends.ensures.ends g; determined = c.fusing_ends.ensures.determined } in
     let narrows : BecomesOne IsNarrowed = record { ends = c.narrowed_models_mean_the_same.ensures.exists; determined = c.narrowed_models_mean_the_same.ensures.determined } in
-    keeps_laws only c.strategies_end.ensures fuses narrows reading
+    let trials : OneSummary = record { exists = c.trials_are_determined.ensures.exists; one = c.trials_are_determined.ensures.one; has_bytes = c.trials_are_determined.ensures.has_bytes } in
+    keeps_laws only c.strategies_end.ensures fuses narrows trials reading

@@ -1,0 +1,113 @@
+-- What `clap` makes of one word more, and of the end of the words.
+use Rattle.std.proofs.Common.{◌≡◌, ◌∙◌, ◌&&◌, ℕ, Bool, true, false, bytes_eq, refl, List, [], ◌∷◌, Option, Some, None, codes}
+use Rattle.clap.specs.Lexer.{long_of}
+use Rattle.clap.specs.Walk.{Held, Row, Text, Walk, Waiting, finished, idle, is_pending, option, positional, pushed, reacted, settled, subcommand_met, walked}
+use Rattle.clap.specs.Kinds.{Kinds, or_else}
+use Rattle.clap.specs.Faults.{check_fault, defaults_fault, settle_fault, turn_fault, use_fault}
+use Rattle.clap.specs.Simple.{Shape, built}
+use Rattle.command_words.specs.Inner.ClapCommand.{command_line, unless}
+use Rattle.command_words.proofs.KnownRules.{built_word, built_option, built_rules, known, by_id, by_long, itself, second_place}
+use Rattle.command_words.proofs.Spelling.{IsPlain}
+
+pub unless_first : {X : Type 0} (first next : Kinds) (answer : Option X) → unless (or_else first next) answer ≡ unless first (unless next answer)
+unless_first [] next answer = refl
+unless_first (k ∷ ks) next answer = refl
+
+-- the command line with options of these names, as `clap` completes it
+abbrev pub built_shape : List (List ℕ) → Shape
+built_shape names = record (built (command_line [])).top { rules = built_rules names }
+
+-- what is amiss at the end of the words
+abbrev pub last_fault : List (List ℕ) → Held → Kinds
+last_fault names held = or_else (settle_fault (built_rules names) false held)
+    (or_else (defaults_fault (settled (built_rules names) held).rows (built_rules names)) (check_fault (built_shape names) (finished (built_rules names) held) false))
+
+-- the matches of the words that are left, where `clap` takes them
+abbrev pub taken : List (List ℕ) → Walk → List Text → Option (List Row)
+taken names walk [] = unless (last_fault names walk.held) (Some (finished (built_rules names) walk.held))
+taken names walk (word ∷ words) = unless (turn_fault (built_shape names) [] walk word) (taken names (walked (built_rules names) [] walk word) words)
+
+-- where the walk stands between two words
+abbrev pub standing : Held → Waiting → ℕ → Bool → Walk
+standing held waiting position is_behind = record { held = held; waiting = waiting; position = position; is_trailing = is_behind; stopped = None }
+
+-- the option of this name waits for its value
+abbrev pub awaiting : Text → Held → Held
+awaiting name held = record held { pending = Some (name, []) }
+
+-- there are no subcommands
+none_met : (waiting : Waiting) (word : Text) → subcommand_met [] waiting word ≡ None
+none_met idle word = refl
+none_met (option name) word = refl
+none_met positional word = refl
+
+-- `--`
+pub turn_dashes : (names : List (List ℕ)) (held : Held) (waiting : Waiting) (position : ℕ) (word : Text) (words : List Text) → bytes_eq word (codes "--") ≡ true
+    → taken names (standing held waiting position false) (word ∷ words) ≡ taken names (standing held waiting position true) words
+unfolding walked
+turn_dashes names held waiting position word words dashes = rw (none_met waiting word, dashes) refl
+
+-- a name that no option has
+pub turn_unknown : (names : List (List ℕ)) (held : Held) (waiting : Waiting) (position : ℕ) (word : Text) (words : List Text) (name : Text) (value : Option Text)
+    → bytes_eq word (codes "--") ≡ false → long_of word ≡ Some (name, value) → known names name ≡ false
+    → taken names (standing held waiting position false) (word ∷ words) ≡ None
+unfolding walked
+turn_unknown names held waiting position word words name value other long here = rw (none_met waiting word, other, long, by_long names name, here) refl
+
+-- an option with its value in one word
+pub turn_attached : (names : List (List ℕ)) (held : Held) (waiting : Waiting) (position : ℕ) (word : Text) (words : List Text) (name value : Text)
+    → bytes_eq word (codes "--") ≡ false → long_of word ≡ Some (name, Some value) → known names name ≡ true
+    → taken names (standing held waiting position false) (word ∷ words)
+    ≡ unless (settle_fault (built_rules names) false held) (unless (use_fault false (built_option name) (value ∷ []) (settled (built_rules names) held).rows)
+    (taken names (standing (reacted (built_rules names) (built_option name) (value ∷ []) held) idle position false) words))
+unfolding walked
+turn_attached names held waiting position word words name value other long here =
+    rw (none_met waiting word, other, long, by_long names name, here)
+    (unless_first (or_else (settle_fault (built_rules names) false held) (use_fault false (built_option name) (value ∷ []) (settled (built_rules names) held).rows)) [] _
+    ∙ unless_first (settle_fault (built_rules names) false held) (use_fault false (built_option name) (value ∷ []) (settled (built_rules names) held).rows) _)
+
+-- an option that waits for its value
+pub turn_named : (names : List (List ℕ)) (held : Held) (waiting : Waiting) (position : ℕ) (word : Text) (words : List Text) (name : Text)
+    → bytes_eq word (codes "--") ≡ false → long_of word ≡ Some (name, None) → known names name ≡ true
+    → taken names (standing held waiting position false) (word ∷ words)
+    ≡ unless (settle_fault (built_rules names) false held) (taken names (standing (awaiting name (settled (built_rules names) held)) (option name) position false) words)
+unfolding walked
+turn_named names held waiting position word words name other long here =
+    rw (none_met waiting word, other, long, by_long names name, here) (unless_first (settle_fault (built_rules names) false held) [] _)
+
+-- the value of the option that waits for it
+pub turn_value : (names : List (List ℕ)) (held : Held) (name : Text) (position : ℕ) (word : Text) (words : List Text)
+    → known names (codes "command") ≡ false → known names name ≡ true → IsPlain word
+    → taken names (standing (awaiting name held) (option name) position false) (word ∷ words)
+    ≡ taken names (standing (record held { pending = Some (name, word ∷ []) }) idle position false) words
+unfolding walked
+turn_value names held name position word words none here is_plain =
+    rw (is_plain.no_dashes, is_plain.no_long, is_plain.no_short, by_id names name none here, itself name) refl
+
+-- a word that goes to the command, behind `--` or before it
+abbrev pub GoesToCommand : Waiting → Bool → Text → Type 0
+GoesToCommand waiting true word = Unit {0}
+GoesToCommand idle false word = IsPlain word
+GoesToCommand waiting false word = ⊥
+
+and_false : (b : Bool) → (b && false) ≡ false
+and_false true = refl
+and_false false = refl
+
+pub turn_command : (names : List (List ℕ)) (held : Held) (waiting : Waiting) (is_behind : Bool) (word : Text) (words : List Text) → GoesToCommand waiting is_behind word
+    → taken names (standing held waiting 1 is_behind) (word ∷ words)
+    ≡ unless (settle_fault (built_rules names) false held) (taken names (standing (pushed (codes "command") word (settled (built_rules names) held)) idle 2 is_behind) words)
+unfolding walked
+turn_command names held waiting true word words goes = rw (and_false (is_pending built_word held.pending)) refl
+turn_command names held idle false word words is_plain = rw (is_plain.no_dashes, is_plain.no_long, is_plain.no_short, and_false (is_pending built_word held.pending)) refl
+turn_command names held (option name) false word words goes = absurd goes
+turn_command names held positional false word words goes = absurd goes
+
+-- a second word
+pub turn_second : (names : List (List ℕ)) (held : Held) (waiting : Waiting) (is_behind : Bool) (word : Text) (words : List Text) → GoesToCommand waiting is_behind word
+    → taken names (standing held waiting 2 is_behind) (word ∷ words) ≡ None
+unfolding walked
+turn_second names held waiting true word words goes = rw (second_place names) refl
+turn_second names held idle false word words is_plain = rw (is_plain.no_dashes, is_plain.no_long, is_plain.no_short, second_place names) refl
+turn_second names held (option name) false word words goes = absurd goes
+turn_second names held positional false word words goes = absurd goes

@@ -1,0 +1,29 @@
+use Rattle.std.proofs.Common.{◌∙◌, None, Some, ap, map, rules, string_bytes, sym}
+use Rattle.command_words.proofs.JobLaw.{one_dash_no_job}
+use Rattle.command_words.proofs.ClapCalls.{job_told, told_bad, told_ok}
+use Rattle.command_words.proofs.command_line.words.Goals as goal
+
+-- a word begins with one `-`
+pub returns-then-any_has_one_dash-clause-bad_words : goal.returns-then-any_has_one_dash-clause-bad_words
+returns-then-any_has_one_dash-clause-bad_words c = λ _. one_dash_no_job (map string_bytes c.args.words.now) (sym c.any_has_one_dash.ensures ∙ c.if-any_has_one_dash.true)
+
+-- the matches ask for a job or for none
+pub returns-in-Some-clause-ok : goal.returns-in-Some-clause-ok
+returns-in-Some-clause-ok c =
+    told_ok _ _ c.matched_job.result
+    (job_told (map string_bytes c.args.words.now) _ c.in_ok-matches.field-0 (Some c.in-Some.matches) (sym c.if-any_has_one_dash.false ∙ c.any_has_one_dash.ensures)
+    (ap (map (λ w. w.now)) c.as_slice.ensures.value ∙ c.in_ok-named.ensures) c.in-Some.is c.in_ok-matches.ensures)
+    c.matched_job.ensures.asked
+
+pub returns-in-Some-clause-bad_words : goal.returns-in-Some-clause-bad_words
+returns-in-Some-clause-bad_words c =
+    told_bad _ _ c.matched_job.result
+    (job_told (map string_bytes c.args.words.now) _ c.in_ok-matches.field-0 (Some c.in-Some.matches) (sym c.if-any_has_one_dash.false ∙ c.any_has_one_dash.ensures)
+    (ap (map (λ w. w.now)) c.as_slice.ensures.value ∙ c.in_ok-named.ensures) c.in-Some.is c.in_ok-matches.ensures)
+    c.matched_job.ensures.asked
+
+-- there are no matches
+pub returns-clause-bad_words : goal.returns-clause-bad_words
+returns-clause-bad_words c = λ _.
+    job_told (map string_bytes c.args.words.now) _ c.in_ok-matches.field-0 None (sym c.if-any_has_one_dash.false ∙ c.any_has_one_dash.ensures)
+    (ap (map (λ w. w.now)) c.as_slice.ensures.value ∙ c.in_ok-named.ensures) (search rules) c.in_ok-matches.ensures

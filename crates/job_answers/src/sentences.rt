@@ -1,0 +1,20 @@
+//! `describe`: a model in English sentences.
+
+ghost use Rattle.std.specs.Prelude.{◌≡◌, IfOk};
+ghost use Rattle.model_core.specs.Code.Views.{graph_of};
+ghost use Rattle.job_answers.specs.DescribeAnswer.{describe_answer};
+
+use crate::answer::Answer;
+use crate::status::End;
+use describe::describe;
+use model_core::Model;
+use sig_base::NoMemory;
+use std::alloc::Global;
+
+/// The sentences.
+pub fn sentences(alloc: Global, model: &Model) -> Result<Answer, NoMemory>
+    ensures { IfOk result (λ a. a ≡ describe_answer (graph_of model.now)) }
+{
+    let out = describe(alloc, model)?;
+    Ok(Answer::Given(End::Done, out))
+}

@@ -1,0 +1,29 @@
+//! `trial`: what comes of a model that a number makes.
+
+ghost use Rattle.std.specs.Prelude.{IfOk};
+ghost use Rattle.command_words.specs.declared.reading.BareJob.TheVariants.{Trial};
+ghost use Rattle.command_words.specs.declared.reading.Reading.TheVariants.{Nothing};
+ghost use Rattle.command_words.specs.Readings.{KeepsLimits};
+ghost use Rattle.job_answers.specs.TrialAnswer.{IsTrial};
+
+use crate::answer::Answer;
+use crate::status::End;
+use command_words::TrialOptions;
+use sig_base::NoMemory;
+use std::alloc::Global;
+use trial_report::trial_text;
+
+/// The summary.
+pub fn trial(alloc: Global, options: &TrialOptions) -> Result<Answer, NoMemory>
+    requires { KeepsLimits (Nothing (Trial options.now)) }
+    ensures { IfOk result (IsTrial options.now) }
+{
+    let out = trial_text(
+        alloc,
+        options.seed,
+        options.vertices,
+        options.until,
+        options.events,
+    )?;
+    Ok(Answer::Given(End::Done, out))
+}

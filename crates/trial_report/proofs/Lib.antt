@@ -1,0 +1,6 @@
+mod StepsCounted
+mod FewNotes
+mod RunTold
+mod EdgesCounted
+mod SummaryLines
+mod Appending

@@ -1,0 +1,8 @@
+use Rattle.model_core.specs.Code.Views.{graph_of}
+use Rattle.trial_report.proofs.run_measure.begin.Goals as goal
+
+-- a valid model can be run
+pub begin-requires-2-clause-possible : goal.begin-requires-2-clause-possible
+begin-requires-2-clause-possible c =
+    let kept = (c.validity_is_by_parts.ensures.by_parts (graph_of c.args.model.now)).0 c.requires.valid in
+    c.kept_models_can_be_run.ensures (graph_of c.args.model.now) kept.0 kept.1

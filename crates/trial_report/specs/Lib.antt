@@ -1,0 +1,3 @@
+pub mod StepsMade
+pub mod TrialText
+pub mod Inner

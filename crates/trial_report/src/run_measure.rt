@@ -1,0 +1,115 @@
+//! How a run of a model goes: what it comes to, how many events occur, and how many notes its history has.
+
+ghost use Rattle.std.specs.Prelude.{◌≡◌, ◌≤◌, ◌<◌, ◌^◌, [], IfOk};
+ghost use Rattle.model_core.specs.Run.Step.{vertex_at};
+ghost use Rattle.model_core.specs.Static.Reading.{IsValid};
+ghost use Rattle.model_core.specs.Code.Views.{graph_of};
+ghost use Rattle.run_control.specs.Beginning.{BegunRun};
+ghost use Rattle.trial_report.specs.Inner.Measured.{occurred_in, Tells};
+
+use crate::note_count::NoteCount;
+use event_heap::HeapPending;
+use model_core::Model;
+use round_trip::validity_is_by_parts;
+use run_control::{BeginError, Run, kept_models_can_be_run};
+use sig_base::{List, NoMemory, Steps};
+use std::alloc::Global;
+use std::marker::Brand;
+use std::sync::ledger::{Blank, Ledger};
+use watch_trace::{Outcome, Tracer, observe};
+
+/// The pending events for which a run has room from its beginning.
+const ROOM: usize = 4_096;
+
+/// How a run went.
+#[derive(Clone, Copy)]
+pub(crate) struct RunMeasure {
+    pub outcome: Outcome,
+    pub events: u64,
+    pub notes: u64,
+}
+
+/// How many events occurred of a run that made so many turns and came to this outcome: in a turn that faults none does.
+fn occurred_in(turns: u64, outcome: Outcome) -> u64
+    ensures { result ≡ occurred_in turns outcome }
+{
+    match outcome {
+        Outcome::Faulted { .. } => turns.saturating_sub(1),
+        Outcome::Ended { .. } | Outcome::Stopped | Outcome::Budget => turns,
+        Outcome::WriteFault | Outcome::NoMemory => turns,
+    }
+}
+
+/// A run of a model whose first vertex has no parameters, as it begins.
+fn begin<'m>(alloc: Global, model: &'m Model, seed: u64) -> Result<Run<'m, HeapPending>, NoMemory>
+    requires valid { IsValid (graph_of model.now) }
+    requires plain { (vertex_at (graph_of model.now) 0).parameters ≡ [] }
+    ensures { IfOk result (BegunRun model.now seed [] 4096) }
+{
+    validity_is_by_parts();
+    kept_models_can_be_run();
+    let pending = HeapPending::begin(alloc, model.vertices.len())?;
+    match Run::begin(alloc, model, pending, seed, &List::new(alloc), ROOM) {
+        Ok(run) => Ok(run),
+        Err(BeginError::NoMemory) => Err(NoMemory),
+        Err(BeginError::StartCount { .. } | BeginError::StartOutside { .. }) => unreachable!(),
+    }
+}
+
+/// Follows a run that has begun. Its steps are counted by nobody.
+fn follow<'m, L: Ledger>(
+    alloc: Global,
+    model: &'m Model,
+    run: &mut Run<'m, HeapPending>,
+    until: u64,
+    events: u64,
+    blank: Blank,
+) -> Result<RunMeasure, NoMemory>
+    requires name { blank.name ≡ L.name }
+    requires parts { blank.parts ≡ L.parts }
+    requires some { 0 < blank.parts }
+    requires soon { until ≤ 2 ^ 48 }
+    requires budget { events ≤ 2 ^ 40 }
+    requires begun { BegunRun model.now run.old.seed [] 4096 run.old }
+    ensures { IfOk result (Tells (graph_of model.now) run.old.seed until events) }
+{
+    let mut tracer = Tracer::begin(alloc, model)?;
+    let mut count = NoteCount { notes: 0 };
+    let mut steps: Steps<L> = Steps::begin(blank);
+    let outcome = observe(
+        &mut tracer,
+        run,
+        until,
+        events,
+        &mut count,
+        &mut (),
+        &mut steps,
+    );
+    match outcome {
+        Outcome::NoMemory => Err(NoMemory),
+        Outcome::WriteFault => unreachable!(),
+        outcome => Ok(RunMeasure {
+            outcome,
+            events: occurred_in(run.turns(), outcome),
+            notes: count.notes,
+        }),
+    }
+}
+
+/// How a run goes of a model whose first vertex has no parameters, up to a stop time in ticks and for at most so many events.
+pub(crate) fn measure(
+    alloc: Global,
+    model: &Model,
+    seed: u64,
+    until: u64,
+    events: u64,
+) -> Result<RunMeasure, NoMemory>
+    requires valid { IsValid (graph_of model.now) }
+    requires plain { (vertex_at (graph_of model.now) 0).parameters ≡ [] }
+    requires soon { until ≤ 2 ^ 48 }
+    requires budget { events ≤ 2 ^ 40 }
+    ensures { IfOk result (Tells (graph_of model.now) seed until events) }
+{
+    let mut run = begin(alloc, model, seed)?;
+    follow::<Brand>(alloc, model, &mut run, until, events, Blank::new(1))
+}
