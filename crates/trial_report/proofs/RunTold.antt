@@ -11,9 +11,9 @@ use Rattle.watch_trace.specs.declared.outcome.Outcome.{Outcome}
 use Rattle.watch_trace.specs.declared.outcome.Outcome.TheVariants as outcomes
 use Rattle.watch_trace.specs.Tracing.{Tracing, moment_of}
 use Rattle.watch_trace.specs.Following.{outcome_of, seen_from, Completes, Stands, FollowKeeps}
-use Rattle.trial_report.specs.StepsMade.{steps_made, events_of}
-use Rattle.trial_report.specs.Inner.Counted.{Counts}
-use Rattle.trial_report.specs.Inner.Measured.{occurred_in, Tells}
+use Rattle.trial_report.specs.StepsMade.{steps_made, events_occurred}
+use Rattle.trial_report.specs.Inner.Counted.{CountsNotes}
+use Rattle.trial_report.specs.Inner.ToldByMeasures.{occurred_in, Tells}
 use Rattle.trial_report.proofs.StepsCounted.{from_there, none_at_rest, none_at_fault}
 use Rattle.trial_report.proofs.FewNotes.{few_notes}
 
@@ -71,7 +71,7 @@ at-start m seed room r t begun noted =
 
 pub tells : (m : Model) (room until events : ℕ) (r later : Running) (t after : Tracing) (outcome : Outcome) (count : ℕ) (notes rest : List Note)
     → BegunRun m r.seed [] room r → t.noted ≡ None → events ≤ 2 ^ 40 → (outcome ≡ outcomes.WriteFault → ⊥) → (outcome ≡ outcomes.NoMemory → ⊥)
-    → notes ++ rest ≡ (seen_from until events r t).history → Completes (seen_from until events r t) rest outcome → Counts 0 count notes
+    → notes ++ rest ≡ (seen_from until events r t).history → Completes (seen_from until events r t) rest outcome → CountsNotes 0 count notes
     → Stands until events r t outcome later after → FollowKeeps events r t later after
     → Tells (graph_of m) r.seed until events (record { outcome = outcome; events = occurred_in later.turns outcome; notes = count })
 tells m room until events r later t after outcome count notes rest begun noted few well roomy splits completes counted stands keeps =

@@ -12,9 +12,9 @@ use Rattle.watch_trace.specs.Following.{outcome_of}
 use Rattle.trial_report.specs.declared.run_measure.RunMeasure.{RunMeasure}
 use Rattle.std.specs.List.{range_with_len}
 use Rattle.model_gen.specs.Generated.{generated, generated_vertex}
-use Rattle.trial_report.specs.StepsMade.{events_of}
+use Rattle.trial_report.specs.StepsMade.{events_occurred}
 use Rattle.trial_report.specs.TrialText.{without_feed, run_line}
-use Rattle.trial_report.specs.Inner.Measured.{standing_text, measure_line, Tells}
+use Rattle.trial_report.specs.Inner.ToldByMeasures.{standing_text, measure_line, Tells}
 
 feed-goes : (text line : List ℕ) → line ≡ text ++ codes "\n" → text ≡ without_feed line
 feed-goes text line is =
@@ -30,7 +30,7 @@ standing_line until events Going = feed-goes (standing_text until events (outcom
 pub told_line : (name : List ℕ) (g : EventGraph) (seed until events : ℕ) (m : RunMeasure) → Tells g seed until events m → measure_line name until events m ≡ run_line name g seed until events
 told_line name g seed until events m told =
     (λ i. name ++ codes " " ++ standing_text until events (told.outcome i) ++ codes " events " ++ decimal (told.occurred i) ++ codes " notes " ++ decimal (told.noted i) ++ codes "\n")
-    ∙ ap (λ x. name ++ codes " " ++ x ++ codes " events " ++ decimal (events_of g seed [] until events) ++ codes " notes " ++ decimal (length (look g seed [] until events).history) ++ codes "\n")
+    ∙ ap (λ x. name ++ codes " " ++ x ++ codes " events " ++ decimal (events_occurred g seed [] until events) ++ codes " notes " ++ decimal (length (look g seed [] until events).history) ++ codes "\n")
     (standing_line until events (look g seed [] until events).standing)
 
 -- the strategy keeps it that the first vertex has no parameters

@@ -1,3 +1,3 @@
 -- What this crate's code keeps on the way, for its proofs. No public clause cites it, and nobody has to believe it.
 pub mod Counted
-pub mod Measured
+pub mod ToldByMeasures

@@ -1,9 +1,8 @@
 -- How many steps a run makes.
-use Rattle.std.specs.Prelude.{ℕ, zero, suc}
+use Rattle.std.specs.Prelude.{ℕ, zero, suc, ℤ, List}
 use Rattle.model_core.specs.EventGraph.{EventGraph}
 use Rattle.model_core.specs.Run.Machine.{Move, Rests, Fails, Goes}
 use Rattle.model_core.specs.Run.History.{next_move, start}
-use Rattle.std.specs.Prelude.{ℤ, List}
 
 -- one more where a move goes on
 abbrev pub steps_behind : {S : Type 0} → (S → ℕ) → Move S → ℕ
@@ -16,5 +15,5 @@ steps_made move zero s = 0
 steps_made move (suc n) s = steps_behind (steps_made move n) (move s)
 
 -- how many events of a run with this seed and stop time occur, of at most so many
-abbrev pub events_of : EventGraph → ℕ → List ℤ → ℕ → ℕ → ℕ
-events_of g seed starts until n = steps_made (next_move g seed until) n (start g starts)
+abbrev pub events_occurred : EventGraph → ℕ → List ℤ → ℕ → ℕ → ℕ
+events_occurred g seed starts until n = steps_made (next_move g seed until) n (start g starts)

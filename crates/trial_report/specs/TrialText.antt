@@ -8,7 +8,7 @@ use Rattle.model_core.specs.Run.History.{look}
 use Rattle.model_core.specs.Text.HistoryText.{end_line}
 use Rattle.model_core.specs.Rules.Reduction.{RuleApplication, Strategy}
 use Rattle.model_gen.specs.Generated.{generated}
-use Rattle.trial_report.specs.StepsMade.{events_of}
+use Rattle.trial_report.specs.StepsMade.{events_occurred}
 
 -- how many edges a model has
 abbrev pub edges_in : EventGraph → ℕ
@@ -31,7 +31,7 @@ without_feed line = take (length line - 1) line
 abbrev pub run_line : List ℕ → EventGraph → ℕ → ℕ → ℕ → List ℕ
 run_line name g seed until events =
     let seen = look g seed [] until events in
-    name ++ codes " " ++ without_feed (end_line until events seen.standing) ++ codes " events " ++ decimal (events_of g seed [] until events) ++ codes " notes " ++ decimal (length seen.history) ++ codes "\n"
+    name ++ codes " " ++ without_feed (end_line until events seen.standing) ++ codes " events " ++ decimal (events_occurred g seed [] until events) ++ codes " notes " ++ decimal (length seen.history) ++ codes "\n"
 
 -- what there is to tell of a model that is reduced by so many applications, behind how large it is
 abbrev pub reduction_lines : EventGraph → EventGraph → ℕ → ℕ → ℕ → ℕ → List ℕ

@@ -12,9 +12,9 @@ pub(crate) struct NoteCount {
 
 impl NoteTaker<()> for NoteCount {
     ghost use Rattle.std.specs.Prelude.{false};
-    ghost use Rattle.trial_report.specs.Inner.Counted.{Counts, counts_nothing, counts_both};
+    ghost use Rattle.trial_report.specs.Inner.Counted.{CountsNotes, no_note_counted, both_counted};
 
-    ghost takes = { λ g notes s u. Counts s.0.notes u.0.notes notes };
+    ghost takes = { λ g notes s u. CountsNotes s.0.notes u.0.notes notes };
 
     ghost failed = { λ c. false };
 
@@ -37,7 +37,7 @@ impl NoteTaker<()> for NoteCount {
         false
     }
 
-    ghost nothing = { λ g s. counts_nothing s.0.notes };
+    ghost nothing = { λ g s. no_note_counted s.0.notes };
 
-    ghost both = { λ g s t u a b p q. counts_both s.0.notes t.0.notes u.0.notes a b p q };
+    ghost both = { λ g s t u a b p q. both_counted s.0.notes t.0.notes u.0.notes a b p q };
 }

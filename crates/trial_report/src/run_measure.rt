@@ -5,7 +5,7 @@ ghost use Rattle.model_core.specs.Run.Step.{vertex_at};
 ghost use Rattle.model_core.specs.Static.Reading.{IsValid};
 ghost use Rattle.model_core.specs.Code.Views.{graph_of};
 ghost use Rattle.run_control.specs.Beginning.{BegunRun};
-ghost use Rattle.trial_report.specs.Inner.Measured.{occurred_in, Tells};
+ghost use Rattle.trial_report.specs.Inner.ToldByMeasures.{occurred_in, Tells};
 
 use crate::note_count::NoteCount;
 use event_heap::HeapPending;

@@ -5,7 +5,7 @@ ghost use Rattle.model_core.specs.EventGraph.{EventGraph};
 ghost use Rattle.model_core.specs.Run.Step.{vertex_at};
 ghost use Rattle.model_core.specs.Static.Reading.{IsValid};
 ghost use Rattle.model_core.specs.Code.Views.{graph_of};
-ghost use Rattle.trial_report.specs.Inner.Measured.{Tells};
+ghost use Rattle.trial_report.specs.Inner.ToldByMeasures.{Tells};
 ghost use Rattle.trial_report.specs.TrialText.{run_line, reduction_lines, Summarises};
 
 use crate::run_measure::{RunMeasure, measure};

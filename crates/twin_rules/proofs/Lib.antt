@@ -11,7 +11,7 @@ pub mod Marking
 pub mod StillAsked
 pub mod KnownPairs
 pub mod BarredAfter
-pub mod PrintLaws
+pub mod VertexPrints
 pub mod PrintsAfter
 pub mod TellingApart
 pub mod PrintsRenewed

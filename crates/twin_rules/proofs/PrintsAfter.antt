@@ -20,7 +20,7 @@ use Rattle.twin_rules.proofs.AlikeVertices.{AreAlike}
 use Rattle.twin_rules.proofs.StillApart.{placed}
 use Rattle.twin_rules.proofs.StillAsked.{stays-apart, and-back}
 use Rattle.twin_rules.proofs.BarredAfter.{barred-after}
-use Rattle.twin_rules.proofs.PrintLaws.{print-renumbered, aims-moved}
+use Rattle.twin_rules.proofs.VertexPrints.{print-renumbered, aims-moved}
 
 module _ (g : EventGraph) (keep gone : ℕ) (are : AreAlike g keep gone) (known : List Print) (changed : List Bool) where
   abbrev h : EventGraph

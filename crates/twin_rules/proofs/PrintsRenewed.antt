@@ -11,7 +11,7 @@ use Rattle.twin_rules.specs.declared.print.Print.{Print}
 use Rattle.twin_rules.specs.Inner.AskedPairs.{has_changed}
 use Rattle.twin_rules.specs.Inner.Fingerprints.{half}
 use Rattle.twin_rules.specs.Inner.HeldPrints.{number_in, aims_at, IsPrintBut, ArePrints, ArePrintsBut, ArePrintsOfAll, IsRenewed}
-use Rattle.twin_rules.proofs.PrintLaws.{aims-same}
+use Rattle.twin_rules.proofs.VertexPrints.{aims-same}
 
 -- the aims of the vertices before this place, and of those that haven't changed, are as they shall be
 pub record RenewedSoFar (g : EventGraph) (old now : List Print) (changed : List Bool) (place : ℕ) : Type 0 where

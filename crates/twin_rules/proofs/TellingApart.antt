@@ -12,10 +12,10 @@ use Rattle.twin_rules.specs.declared.print.Print.{Print}
 use Rattle.twin_rules.specs.Inner.AskedPairs.{are_alike, some_leads}
 use Rattle.twin_rules.specs.Inner.Fingerprints.{half, list_print, change_print, edge_print, vertex_print}
 use Rattle.twin_rules.specs.Inner.HeldPrints.{number_in, aims_at, ArePrints}
-use Rattle.twin_rules.specs.Inner.Rows.{fits}
+use Rattle.twin_rules.specs.Inner.KeptRows.{prints_agree}
 use Rattle.twin_rules.proofs.AlikeVertices.{AreAlike}
 use Rattle.twin_rules.proofs.StillAsked.{alike_told}
-use Rattle.twin_rules.proofs.PrintLaws.{edges-print, whole_print}
+use Rattle.twin_rules.proofs.VertexPrints.{edges-print, whole_print}
 
 -- ---- what they do
 
@@ -70,14 +70,14 @@ module _ (g : EventGraph) (keep gone : ℕ) (known : List Print) (prints : ArePr
       let same : own.aims ≡ other.aims = (prints keep own is).aims tt ∙ (same-aims g keep gone known are loops leads_there ∙ sym ((prints gone other is_other).aims tt)) in
       ap (λ b. b || false) (eq-eqb own.aims other.aims same)
 
-  alike-fit : AreAlike g keep gone → fits own other leads ≡ true
+  alike-fit : AreAlike g keep gone → prints_agree own other leads ≡ true
   alike-fit are =
       let doing : (own.doing == other.doing) ≡ true = eq-eqb own.doing other.doing ((prints keep own is).doing ∙ (ap half (same-doing g keep gone are) ∙ sym ((prints gone other is_other).doing))) in
       let mine : own.barred ≡ false = (prints keep own is).barred ∙ ap₂ (λ a b. a || b) are.keep_unwatched are.keep_uncancelled in
       let others : other.barred ≡ false = (prints gone other is_other).barred ∙ ap₂ (λ a b. a || b) are.gone_unwatched are.gone_uncancelled in
       λ i. doing i && aims-fit are leads refl i && not (mine i) && not (others i)
 
-  pub told-apart : fits own other leads ≡ false → are_alike g keep gone ≡ false
+  pub told-apart : prints_agree own other leads ≡ false → are_alike g keep gone ≡ false
   told-apart unfit = by (are_alike g keep gone) refl where
     by : (b : Bool) → are_alike g keep gone ≡ b → b ≡ false
     by false told = refl

@@ -3,5 +3,5 @@ pub mod AskedPairs
 pub mod Fingerprints
 pub mod MarkedVertices
 pub mod HeldPrints
-pub mod Rows
+pub mod KeptRows
 pub mod LedTo

@@ -5,7 +5,7 @@ ghost use Rattle.model_core.specs.Rules.Fuse.{has_short_text, are_twins, first_t
 ghost use Rattle.model_core.specs.Code.Views.{graph_of};
 ghost use Rattle.twin_rules.specs.Inner.AskedPairs.{are_alike, SkipsUnchanged, NoneAlike, NoneAlikeBefore, NoneAlikeWith};
 ghost use Rattle.twin_rules.specs.Inner.HeldPrints.{ArePrints};
-ghost use Rattle.twin_rules.specs.Inner.Rows.{IsRow};
+ghost use Rattle.twin_rules.specs.Inner.KeptRows.{IsRow};
 
 use crate::asked::Asked;
 use crate::conditions::{are_alike, is_within_limits};

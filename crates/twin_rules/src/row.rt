@@ -6,7 +6,7 @@ ghost use Rattle.model_core.specs.Code.Views.{graph_of};
 ghost use Rattle.twin_rules.specs.Inner.AskedPairs.{are_alike, some_leads, SkipsUnchanged, NoneAlike};
 ghost use Rattle.twin_rules.specs.Inner.HeldPrints.{ArePrints};
 ghost use Rattle.twin_rules.specs.Inner.MarkedVertices.{has_mark};
-ghost use Rattle.twin_rules.specs.Inner.Rows.{fits, IsRow};
+ghost use Rattle.twin_rules.specs.Inner.KeptRows.{prints_agree, IsRow};
 
 use crate::asked::Asked;
 use crate::marks::Marks;
@@ -36,8 +36,8 @@ fn led_to(model: &Model, place: usize) -> Marks
 }
 
 /// Whether two vertices of which this is kept may be alike, where it is told whether the first leads to one of the two.
-fn fits(own: Print, other: Print, leads: bool) -> bool
-    ensures { result ≡ fits own other leads }
+fn prints_agree(own: Print, other: Print, leads: bool) -> bool
+    ensures { result ≡ prints_agree own other leads }
 {
     own.doing == other.doing && (own.aims == other.aims || leads) && !own.barred && !other.barred
 }
@@ -47,7 +47,7 @@ fn may_do_the_same(prints: &Prints, keep: usize, gone: usize) -> bool
     ensures { (g : EventGraph) → ArePrints g prints.now → result ≡ false → are_alike g keep gone ≡ false }
 {
     match (prints.at(keep), prints.at(gone)) {
-        (Some(own), Some(other)) => fits(own, other, true),
+        (Some(own), Some(other)) => prints_agree(own, other, true),
         _ => true,
     }
 }
@@ -92,7 +92,9 @@ impl Row {
         ensures { (g : EventGraph) (keep : ℕ) → ArePrints g prints.now → IsRow g prints.now keep self.now → result ≡ false → are_alike g keep gone ≡ false }
     {
         match (self.print, prints.at(gone)) {
-            (Some(own), Some(other)) => { fits(own, other, self.loops || self.leads.has(gone)) }
+            (Some(own), Some(other)) => {
+                prints_agree(own, other, self.loops || self.leads.has(gone))
+            }
             _ => true,
         }
     }

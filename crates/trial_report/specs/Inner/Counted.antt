@@ -2,11 +2,11 @@
 use Rattle.std.proofs.Common.{◌≡◌, ℕ, ◌+◌, ◌-◌, ◌^◌, List, [], ◌++◌, length, min, arith, length-append}
 use Rattle.model_core.specs.Run.Machine.{Note}
 
-abbrev pub Counts : ℕ → ℕ → List Note → Type 0
-Counts old new notes = min new (2 ^ 64 - 1) ≡ min (old + length notes) (2 ^ 64 - 1)
+abbrev pub CountsNotes : ℕ → ℕ → List Note → Type 0
+CountsNotes old new notes = min new (2 ^ 64 - 1) ≡ min (old + length notes) (2 ^ 64 - 1)
 
-pub counts_nothing : (s : ℕ) → Counts s s []
-counts_nothing s = omega arith
+pub no_note_counted : (s : ℕ) → CountsNotes s s []
+no_note_counted s = omega arith
 
-pub counts_both : (s t u : ℕ) (a b : List Note) → Counts s t a → Counts t u b → Counts s u (a ++ b)
-counts_both s t u a b first second = omega (arith, first, second, length-append a b)
+pub both_counted : (s t u : ℕ) (a b : List Note) → CountsNotes s t a → CountsNotes t u b → CountsNotes s u (a ++ b)
+both_counted s t u a b first second = omega (arith, first, second, length-append a b)

@@ -1,6 +1,6 @@
 use Rattle.std.proofs.Common.{ℕ, ◌∙◌, ap, sym, subst}
 use Rattle.model_core.specs.Code.Views.{graph_of}
-use Rattle.trial_report.specs.Inner.Measured.{occurred_in, Tells}
+use Rattle.trial_report.specs.Inner.ToldByMeasures.{occurred_in, Tells}
 use Rattle.trial_report.proofs.RunTold.{tells}
 use Rattle.trial_report.proofs.run_measure.follow.Goals as goal
 

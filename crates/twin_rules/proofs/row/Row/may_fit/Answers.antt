@@ -8,9 +8,9 @@ use Rattle.twin_rules.proofs.row.Row.may_fit.Goals as goal
 
 pub returns-after-self : goal.returns-after-self
 returns-after-self c = λ g keep prints row unfit.
-    let none : c.if-self.fits ≡ false → (some_leads g keep keep ≡ false) × (some_leads g keep c.args.gone ≡ false) =
+    let none : c.if-self.prints_agree ≡ false → (some_leads g keep keep ≡ false) × (some_leads g keep c.args.gone ≡ false) =
     elim c.if-self.branch [
-      | then-self w ↦ λ e. absurd (false≢true (sym e ∙ (w.fits-is ∙ w.if-self.true)))
-      | else-self w ↦ λ e. (row.loops w.if-self.false, row.leads c.args.gone (sym w.has.ensures ∙ (sym w.fits-is ∙ e)))
+      | then-self w ↦ λ e. absurd (false≢true (sym e ∙ (w.prints_agree-is ∙ w.if-self.true)))
+      | else-self w ↦ λ e. (row.loops w.if-self.false, row.leads c.args.gone (sym w.has.ensures ∙ (sym w.prints_agree-is ∙ e)))
     ] in
-    told-apart g keep c.args.gone c.args.prints.now prints c.in-Some-Some.own c.in-Some-Some.other (sym row.print ∙ c.in-Some-Some.is-0) (sym c.at.ensures ∙ c.in-Some-Some.is-1) c.if-self.fits none (sym c.fits.ensures ∙ unfit)
+    told-apart g keep c.args.gone c.args.prints.now prints c.in-Some-Some.own c.in-Some-Some.other (sym row.print ∙ c.in-Some-Some.is-0) (sym c.at.ensures ∙ c.in-Some-Some.is-1) c.if-self.prints_agree none (sym c.prints_agree.ensures ∙ unfit)

@@ -7,8 +7,8 @@ use Rattle.twin_rules.specs.Inner.AskedPairs.{some_leads}
 use Rattle.twin_rules.specs.Inner.MarkedVertices.{has_mark}
 
 -- two vertices of which this is kept may be alike, where it is told whether the first leads to one of the two
-abbrev pub fits : Print → Print → Bool → Bool
-fits own other leads = own.doing == other.doing && (own.aims == other.aims || leads) && not own.barred && not other.barred
+abbrev pub prints_agree : Print → Print → Bool → Bool
+prints_agree own other leads = own.doing == other.doing && (own.aims == other.aims || leads) && not own.barred && not other.barred
 
 -- it is the row of the vertex at this place
 pub record IsRow (g : EventGraph) (known : List Print) (keep : ℕ) (row : Row) : Type 0 where

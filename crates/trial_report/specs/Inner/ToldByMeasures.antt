@@ -6,7 +6,7 @@ use Rattle.model_core.specs.Text.HistoryText.{fault_word}
 use Rattle.watch_trace.specs.declared.outcome.Outcome.{Outcome}
 use Rattle.watch_trace.specs.declared.outcome.Outcome.TheVariants as outcomes
 use Rattle.watch_trace.specs.Following.{outcome_of}
-use Rattle.trial_report.specs.StepsMade.{events_of}
+use Rattle.trial_report.specs.StepsMade.{events_occurred}
 use Rattle.trial_report.specs.declared.run_measure.RunMeasure.{RunMeasure}
 
 -- how many events occurred in so many turns: none in one that faults
@@ -30,5 +30,5 @@ measure_line name until events m =
 -- it tells how the run of the graph stands, how many events occurred, and how many notes there are
 pub record Tells (g : EventGraph) (seed until events : ℕ) (m : RunMeasure) : Type 0 where
   pub outcome : m.outcome ≡ outcome_of (look g seed [] until events).standing
-  pub occurred : m.events ≡ events_of g seed [] until events
+  pub occurred : m.events ≡ events_occurred g seed [] until events
   pub noted : m.notes ≡ length (look g seed [] until events).history
