@@ -35,6 +35,7 @@ accepted a words m matches none is =
     let no_fault : fault_of (command_line option_names) words ≡ [] = subst (λ (b : App). is_simple_and_free b ≡ true → fault_of b words ≡ []) is none clap_is_simple in
     rw no_fault (ap (λ rs. Some rs) (rows (and_parts _ _ clap_is_simple).0).0)
 
+-- what it refuses, but for want of memory, has none
 pub refused : (a : App) (words : List Text) (e : Error) → (is_simple_and_free a ≡ true → HasKind (fault_of a words) e) → a ≡ command_line option_names
     → kind_of e ≢ kind.OutOfMemory → None ≡ clap_rows words
 refused a words e kinds is other =

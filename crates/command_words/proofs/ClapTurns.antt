@@ -9,6 +9,7 @@ use Rattle.command_words.specs.Inner.ClapCommand.{command_line, unless}
 use Rattle.command_words.proofs.KnownRules.{built_word, built_option, built_rules, known, by_id, by_long, itself, second_place}
 use Rattle.command_words.proofs.Spelling.{IsPlain}
 
+-- the answer, unless there is one fault or the next
 pub unless_first : {X : Type 0} (first next : Kinds) (answer : Option X) → unless (or_else first next) answer ≡ unless first (unless next answer)
 unless_first [] next answer = refl
 unless_first (k ∷ ks) next answer = refl
@@ -94,6 +95,7 @@ and_false : (b : Bool) → (b && false) ≡ false
 and_false true = refl
 and_false false = refl
 
+-- the first of them
 pub turn_command : (names : List (List ℕ)) (held : Held) (waiting : Waiting) (is_behind : Bool) (word : Text) (words : List Text) → GoesToCommand waiting is_behind word
     → taken names (standing held waiting 1 is_behind) (word ∷ words)
     ≡ unless (settle_fault (built_rules names) false held) (taken names (standing (pushed (codes "command") word (settled (built_rules names) held)) idle 2 is_behind) words)
