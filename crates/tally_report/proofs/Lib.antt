@@ -1,0 +1,7 @@
+mod AreaBounds
+mod ValuesNoted
+mod FirstSums
+mod MapsInPlace
+mod RisingNotes
+mod ItemsTold
+mod RunTallied

@@ -1,0 +1,14 @@
+//! Replications as a report: what is told of one run, the totals of many, and both as rows of a table.
+#![tactic(auto)]
+
+mod item;
+mod run_tally;
+mod sums;
+mod tally_error;
+mod tally_taker;
+mod tallying;
+
+pub use item::{Item, Span};
+pub use run_tally::{RunEnd, RunTally};
+pub use tally_error::TallyError;
+pub use tallying::tally_one;
