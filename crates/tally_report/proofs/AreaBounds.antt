@@ -30,3 +30,7 @@ computed x n f few =
     let ticks : to_z w128 n ≡ pos n = omega (arith, ints, few) in
     let whole = to_z-of_z w128 (x *ℤ pos n) (small-fits n (x *ℤ pos n) (product-small x n f) few) in
     (λ i. to_z w128 (of_z w128 (value i *ℤ ticks i))) ∙ whole
+
+-- what is small over some ticks is so over more
+pub area-longer : (a b : ℕ) (area : ℤ) → a ≤ b → IsSmallArea a area → IsSmallArea b area
+area-longer a b area le small = record { above = omega (arith, ints, le, small.above); below = omega (arith, ints, le, small.below) }

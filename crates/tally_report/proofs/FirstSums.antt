@@ -25,7 +25,7 @@ sums_more g view xs i x within is =
 
 -- ---- no area is under them
 
-no-area : IsSmallArea 0 (pos 0)
+pub no-area : IsSmallArea 0 (pos 0)
 no-area = record { above = omega (arith, ints); below = omega (arith, ints) }
 
 cells-small : (place n k : ℕ) → All (λ (s : Sum). IsSmall 0 s.item) (map (cell_sum place) (range_with_len k n))

@@ -129,7 +129,7 @@ module _ (g : EventGraph) (place end : ℕ) where
 -- ---- all items
 
 -- the sum of an item as a run begins
-abbrev first_sum : ItemOf → Sum
+abbrev pub first_sum : ItemOf → Sum
 first_sum (CellAt place index) = cell_sum place index
 first_sum (VertexAt place) = vertex_sum place
 
@@ -137,11 +137,11 @@ first-at : (g : EventGraph) (place : ℕ) (w : Watched) → sums_at g place w �
 first-at g place (WatchedVariable v) = sym (map-map first_sum (CellAt place) (range_with_len 0 (cells_declared g v)))
 first-at g place (WatchedVertex v) = refl
 
-first-from : (g : EventGraph) (place : ℕ) (ws : List Watched) → sums_from g place ws ≡ map first_sum (items_from g place ws)
+pub first-from : (g : EventGraph) (place : ℕ) (ws : List Watched) → sums_from g place ws ≡ map first_sum (items_from g place ws)
 first-from g place [] = refl
 first-from g place (w ∷ ws) = ap₂ (λ a b. a ++ b) (first-at g place w) (first-from g (suc place) ws) ∙ sym (map-append first_sum (items_at g place w) (items_from g (suc place) ws))
 
-map-each : {A B : Type 0} (f h : A → B) → ((a : A) → f a ≡ h a) → (xs : List A) → map f xs ≡ map h xs
+pub map-each : {A B : Type 0} (f h : A → B) → ((a : A) → f a ≡ h a) → (xs : List A) → map f xs ≡ map h xs
 map-each f h same [] = refl
 map-each f h same (x ∷ xs) = ap₂ (λ a b. a ∷ b) (same x) (map-each f h same xs)
 

@@ -5,3 +5,5 @@ mod MapsInPlace
 mod RisingNotes
 mod ItemsTold
 mod RunTallied
+mod AddedItems
+mod FirstTotals

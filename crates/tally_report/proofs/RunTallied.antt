@@ -22,6 +22,7 @@ use Rattle.tally_report.specs.SmallAreas.{IsSmallArea, IsSmall}
 use Rattle.tally_report.specs.declared.run_tally.RunEnd.{RunEnd}
 use Rattle.tally_report.specs.Inner.Outcomes.{end_of, time_of}
 use Rattle.tally_report.specs.Inner.Sums.{Tallied, behind_notes, run_told}
+use Rattle.tally_report.proofs.AreaBounds.{area-longer}
 use Rattle.tally_report.proofs.RisingNotes.{fine_look, FineLook, RisesTo, EndsBy, note_by}
 use Rattle.tally_report.proofs.ItemsTold.{first_tallied, items_told, latest-behind, since-behind, latest_at, latest_at-by}
 
@@ -100,9 +101,6 @@ followed m starts room until events r t w u outcome notes rest begun noted fresh
     )
 
 -- what is small over some ticks is so over more
-area-longer : (a b : ℕ) (area : ℤ) → a ≤ b → IsSmallArea a area → IsSmallArea b area
-area-longer a b area le small = record { above = omega (arith, ints, le, small.above); below = omega (arith, ints, le, small.below) }
-
 item-longer : (a b : ℕ) (item : Item) → a ≤ b → IsSmall a item → IsSmall b item
 item-longer a b (items.Cell span area) le small = area-longer a b area le small
 item-longer a b (items.Count n) le small = tt

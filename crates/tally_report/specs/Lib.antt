@@ -1,5 +1,6 @@
 pub mod CellCourse
 pub mod Tallying
 pub mod SmallAreas
+pub mod Totalling
 pub mod Refusals
 pub mod Inner

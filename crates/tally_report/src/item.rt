@@ -2,7 +2,8 @@
 
 ghost use Rattle.std.specs.Prelude.{◌≡◌, ◌≤◌, ◌-◌, ℕ, pos, ◌+ℤ◌, ◌*ℤ◌};
 ghost use Rattle.tally_report.specs.CellCourse.{widened};
-ghost use Rattle.tally_report.specs.SmallAreas.{IsSmallArea, IsSmall};
+ghost use Rattle.tally_report.specs.SmallAreas.{IsSmallArea, IsSmall, IsOfRuns};
+ghost use Rattle.tally_report.specs.Totalling.{joined, item_added};
 ghost use Rattle.tally_report.specs.Inner.Sums.{held_until, with_value, counted_once};
 
 /// The values of a cell in a run.
@@ -51,6 +52,23 @@ impl Span {
             last: value,
         }
     }
+}
+
+/// The values of both, where there are any.
+fn joined(span: Option<Span>, other: Option<Span>) -> Option<Span>
+    ensures { result ≡ joined span other }
+{
+    let Some(span) = span else {
+        return other;
+    };
+    let Some(other) = other else {
+        return Some(span);
+    };
+    Some(Span {
+        least: span.least.min(other.least),
+        greatest: span.greatest.max(other.greatest),
+        last: other.last,
+    })
 }
 
 impl Item {
@@ -108,6 +126,34 @@ impl Item {
             Item::Cell { span, area } => Item::Cell { span, area },
             Item::Count { occurrences } => Item::Count {
                 occurrences: occurrences.saturating_add(1),
+            },
+        }
+    }
+
+    /// The item with the same one of a further run.
+    pub(crate) fn plus(self, other: Item) -> Item
+        requires few { IsOfRuns 65535 self }
+        requires one { IsOfRuns 1 other }
+        ensures { result ≡ item_added self other }
+    {
+        match self {
+            Item::Cell { span, area } => match other {
+                Item::Cell {
+                    span: other_span,
+                    area: other_area,
+                } => Item::Cell {
+                    span: joined(span, other_span),
+                    area: area + other_area,
+                },
+                Item::Count { .. } => self,
+            },
+            Item::Count { occurrences } => match other {
+                Item::Count {
+                    occurrences: others,
+                } => Item::Count {
+                    occurrences: occurrences + others,
+                },
+                Item::Cell { .. } => self,
             },
         }
     }

@@ -7,8 +7,10 @@ mod sums;
 mod tally_error;
 mod tally_taker;
 mod tallying;
+mod totals;
 
 pub use item::{Item, Span};
 pub use run_tally::{RunEnd, RunTally};
 pub use tally_error::TallyError;
 pub use tallying::tally_one;
+pub use totals::Totals;
