@@ -7,3 +7,4 @@ mod ItemsTold
 mod RunTallied
 mod AddedItems
 mod FirstTotals
+mod ReportRows

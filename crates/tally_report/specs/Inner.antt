@@ -2,3 +2,4 @@
 pub mod Sums
 pub mod NotesInTurn
 pub mod Outcomes
+pub mod Headings

@@ -1,12 +1,11 @@
 -- The rows of a report, as text with commas.
-use Rattle.std.specs.Prelude.{ℕ, zero, suc, ℤ, List, [], ◌∷◌, ◌++◌, map, Option, Some, None, slice_get, codes, decimal}
+use Rattle.std.specs.Prelude.{ℕ, zero, suc, Bool, true, false, cond, List, [], ◌∷◌, ◌++◌, map, Option, Some, None, slice_get, codes, decimal}
 use Rattle.std.specs.Fmt.{signed_decimal}
 use Rattle.std.specs.List.{flat_map, range_with_len}
 use Rattle.std.specs.Option.{option_map_or}
 use Rattle.csv.specs.Writing.{default_writer, row_text}
 use Rattle.model_core.specs.EventGraph.{EventGraph, Variable, Watched, WatchedVariable, WatchedVertex}
 use Rattle.model_core.specs.Text.Canonical.{vertex_name}
-use Rattle.tally_report.specs.declared.item.Span.{Span}
 use Rattle.tally_report.specs.declared.item.Item.{Item}
 use Rattle.tally_report.specs.declared.item.Item.TheVariants as items
 use Rattle.tally_report.specs.declared.run_tally.RunEnd.{RunEnd}
@@ -50,20 +49,40 @@ end_word ends.Stopped = codes "stopped"
 end_word ends.Fault = codes "fault"
 end_word ends.Budget = codes "budget"
 
--- what stands ahead of an item's name, and whether its last value is told
-pub record RowHead : Type 0 where
+-- what stands ahead of an item's name in a row, and whether its last value is told
+pub record Heading : Type 0 where
   pub run : List ℕ
   pub seed : List ℕ
   pub outcome : List ℕ
   pub time : List ℕ
+  pub last : Bool
 
-abbrev pub run_head : ℕ → ℕ → RunTally → RowHead
-run_head number seed run = record { run = decimal number; seed = decimal seed; outcome = end_word run.end; time = decimal run.time }
+abbrev pub run_heading : ℕ → ℕ → RunTally → Heading
+run_heading number seed run = record { run = decimal number; seed = decimal seed; outcome = end_word run.end; time = decimal run.time; last = true }
 
-abbrev pub total_head : RowHead
-total_head = record { run = codes "total"; seed = []; outcome = []; time = [] }
+abbrev pub total_heading : Heading
+total_heading = record { run = codes "total"; seed = []; outcome = []; time = []; last = false }
 
--- a number, where there is one
-abbrev pub digits_of : Option ℤ → List ℕ
-digits_of None = []
-digits_of (Some x) = signed_decimal x
+-- the fields of an item: least, greatest, last, area and count
+abbrev pub item_fields : Bool → Item → List (List ℕ)
+item_fields last (items.Cell None area) = [] ∷ [] ∷ [] ∷ signed_decimal area ∷ [] ∷ []
+item_fields last (items.Cell (Some s) area) = signed_decimal s.least ∷ signed_decimal s.greatest ∷ cond last (signed_decimal s.last) [] ∷ signed_decimal area ∷ [] ∷ []
+item_fields last (items.Count n) = [] ∷ [] ∷ [] ∷ [] ∷ decimal n ∷ []
+
+abbrev pub item_row : Heading → List ℕ → Item → List ℕ
+item_row h name item = row (h.run ∷ h.seed ∷ h.outcome ∷ h.time ∷ name ∷ item_fields h.last item)
+
+-- ---- the rows
+
+-- a row for each item, beside its name
+abbrev pub item_rows : Heading → List (List ℕ) → List Item → List ℕ
+item_rows h [] items = []
+item_rows h (name ∷ names) [] = []
+item_rows h (name ∷ names) (item ∷ items) = item_row h name item ++ item_rows h names items
+
+-- the rows of the run of this number, from 1
+abbrev pub run_rows : EventGraph → ℕ → ℕ → RunTally → List ℕ
+run_rows g number seed run = item_rows (run_heading number seed run) (item_names g) run.items
+
+abbrev pub total_rows : EventGraph → RunTotals → List ℕ
+total_rows g totals = item_rows total_heading (item_names g) totals.items

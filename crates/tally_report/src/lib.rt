@@ -2,6 +2,8 @@
 #![tactic(auto)]
 
 mod item;
+mod report;
+mod rows;
 mod run_tally;
 mod sums;
 mod tally_error;
@@ -10,6 +12,7 @@ mod tallying;
 mod totals;
 
 pub use item::{Item, Span};
+pub use report::{header_csv, run_csv, totals_csv};
 pub use run_tally::{RunEnd, RunTally};
 pub use tally_error::TallyError;
 pub use tallying::tally_one;

@@ -65,4 +65,11 @@ impl Totals {
         add_items(&mut self.items, run.items.as_slice());
         self.runs += 1;
     }
+
+    /// The items of all runs together.
+    pub(crate) fn items(&self) -> &[Item]
+        ensures { result.now ≡ self.now.items }
+    {
+        self.items.as_slice()
+    }
 }
