@@ -6,7 +6,7 @@ ghost use Rattle.model_core.specs.Code.Views.{graph_of};
 ghost use Rattle.run_control.specs.Beginning.{BegunRun};
 ghost use Rattle.run_control.specs.PossibleModel.{PossibleModel};
 ghost use Rattle.tally_report.specs.Tallying.{tally_of};
-ghost use Rattle.tally_report.specs.SmallAreas.{IsSmall};
+ghost use Rattle.tally_report.specs.SmallAreas.{IsOfRuns};
 ghost use Rattle.tally_report.specs.Refusals.{RefusesTally};
 ghost use Rattle.tally_report.specs.Inner.Outcomes.{end_of, time_of};
 
@@ -65,7 +65,7 @@ fn follow<'m, L: Ledger>(
     requires budget { events ≤ 2 ^ 40 }
     requires begun { (starts : Sequence ℤ) × (room : ℕ) × BegunRun model.now run.old.seed starts room run.old }
     ensures told { IfOk result (λ tally. tally ≡ tally_of (graph_of model.now) until (look_from (graph_of model.now) run.old.seed until events (record { now = run.old.now; noted = None }))) }
-    ensures small { IfOk result (λ tally. All (IsSmall (2 ^ 48)) tally.items) }
+    ensures small { IfOk result (λ tally. All (IsOfRuns 1) tally.items) }
 {
     let mut tracer = Tracer::begin(alloc, model)?;
     let mut taker = TallyTaker::begin(alloc, model)?;
@@ -105,7 +105,7 @@ pub fn tally_one(
     requires budget { events ≤ 2 ^ 40 }
     ensures accepted { IfOk result (λ tally. IsTrue (allowed (graph_of model.now) starts.now)) }
     ensures told { IfOk result (λ tally. tally ≡ tally_of (graph_of model.now) until (look (graph_of model.now) seed starts.now until events)) }
-    ensures small { IfOk result (λ tally. All (IsSmall (2 ^ 48)) tally.items) }
+    ensures small { IfOk result (λ tally. All (IsOfRuns 1) tally.items) }
     ensures err { IfErr result (RefusesTally (graph_of model.now) starts.now) }
 {
     let pending = HeapPending::begin(alloc, model.vertices.len())?;
