@@ -1,0 +1,10 @@
+mod AreaBounds
+mod ValuesNoted
+mod FirstSums
+mod MapsInPlace
+mod RisingNotes
+mod ItemsTold
+mod RunTallied
+mod AddedItems
+mod FirstTotals
+mod ReportRows

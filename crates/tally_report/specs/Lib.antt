@@ -1,0 +1,7 @@
+pub mod CellCourse
+pub mod Tallying
+pub mod SmallAreas
+pub mod Totalling
+pub mod ReportText
+pub mod Refusals
+pub mod Inner

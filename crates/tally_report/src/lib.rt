@@ -1,0 +1,19 @@
+//! Replications as a report: what is told of one run, the totals of many, and both as rows of a table.
+#![tactic(auto)]
+
+mod item;
+mod report;
+mod rows;
+mod run_tally;
+mod sums;
+mod tally_error;
+mod tally_taker;
+mod tallying;
+mod totals;
+
+pub use item::{Item, Span};
+pub use report::{header_csv, run_csv, totals_csv};
+pub use run_tally::{RunEnd, RunTally};
+pub use tally_error::TallyError;
+pub use tallying::tally_one;
+pub use totals::Totals;

@@ -1,0 +1,114 @@
+//! The tally of one run: what is told of it, kept as running sums while it goes.
+
+ghost use Rattle.std.specs.Prelude.{◌≡◌, ℕ, ℤ, List as Sequence, None, ◌≤◌, ◌<◌, ◌^◌, All, IfOk, IfErr, IsTrue};
+ghost use Rattle.model_core.specs.Run.History.{look, look_from, allowed};
+ghost use Rattle.model_core.specs.Code.Views.{graph_of};
+ghost use Rattle.run_control.specs.Beginning.{BegunRun};
+ghost use Rattle.run_control.specs.PossibleModel.{PossibleModel};
+ghost use Rattle.tally_report.specs.Tallying.{tally_of};
+ghost use Rattle.tally_report.specs.SmallAreas.{IsOfRuns};
+ghost use Rattle.tally_report.specs.Refusals.{RefusesTally};
+ghost use Rattle.tally_report.specs.Inner.Outcomes.{end_of, time_of};
+
+use crate::run_tally::{RunEnd, RunTally};
+use crate::tally_error::TallyError;
+use crate::tally_taker::TallyTaker;
+use event_heap::HeapPending;
+use model_core::Model;
+use run_control::Run;
+use sig_base::{List, NoMemory, Steps};
+use std::alloc::Global;
+use std::marker::Brand;
+use std::sync::ledger::{Blank, Ledger};
+use watch_trace::{Outcome, Tracer, observe};
+
+/// The pending events for which a run has room from its beginning.
+const ROOM: usize = 4_096;
+
+/// The end of a run that came to this outcome.
+fn end_of(outcome: Outcome) -> RunEnd
+    ensures { result ≡ end_of outcome }
+{
+    match outcome {
+        Outcome::Ended { .. } => RunEnd::Ended,
+        Outcome::Stopped => RunEnd::Stopped,
+        Outcome::Faulted { .. } => RunEnd::Fault,
+        Outcome::Budget | Outcome::WriteFault | Outcome::NoMemory => RunEnd::Budget,
+    }
+}
+
+/// The time at which a run with this stop time ends that came to this outcome, where its last note has the other time.
+fn time_of(outcome: Outcome, until: u64, latest: u64) -> u64
+    ensures { result ≡ time_of outcome until latest }
+{
+    match outcome {
+        Outcome::Ended { time } => time,
+        Outcome::Stopped => until,
+        Outcome::Faulted { time, .. } => time,
+        Outcome::Budget | Outcome::WriteFault | Outcome::NoMemory => latest,
+    }
+}
+
+/// Follows a run that has begun. Its steps are counted by nobody.
+fn follow<'m, L: Ledger>(
+    alloc: Global,
+    model: &'m Model,
+    run: &mut Run<'m, HeapPending>,
+    until: u64,
+    events: u64,
+    blank: Blank,
+) -> Result<RunTally, NoMemory>
+    requires name { blank.name ≡ L.name }
+    requires parts { blank.parts ≡ L.parts }
+    requires some { 0 < blank.parts }
+    requires soon { until ≤ 2 ^ 48 }
+    requires budget { events ≤ 2 ^ 40 }
+    requires begun { (starts : Sequence ℤ) × (room : ℕ) × BegunRun model.now run.old.seed starts room run.old }
+    ensures told { IfOk result (λ tally. tally ≡ tally_of (graph_of model.now) until (look_from (graph_of model.now) run.old.seed until events (record { now = run.old.now; noted = None }))) }
+    ensures small { IfOk result (λ tally. All (IsOfRuns 1) tally.items) }
+{
+    let mut tracer = Tracer::begin(alloc, model)?;
+    let mut taker = TallyTaker::begin(alloc, model)?;
+    let mut steps: Steps<L> = Steps::begin(blank);
+    let outcome = observe(
+        &mut tracer,
+        run,
+        until,
+        events,
+        &mut taker,
+        &mut (),
+        &mut steps,
+    );
+    match outcome {
+        Outcome::NoMemory => Err(NoMemory),
+        Outcome::WriteFault => unreachable!(),
+        outcome => taker.tally(
+            alloc,
+            end_of(outcome),
+            time_of(outcome, until, taker.latest()),
+        ),
+    }
+}
+
+/// The tally of the run of a model with a seed, up to a stop time in ticks and for at most so many events, that begins with
+/// these starting values, one for each parameter of the first vertex. An error tells why the run can't begin.
+pub fn tally_one(
+    alloc: Global,
+    model: &Model,
+    seed: u64,
+    until: u64,
+    events: u64,
+    starts: &List<i64>,
+) -> Result<RunTally, TallyError>
+    requires possible { PossibleModel (graph_of model.now) }
+    requires soon { until ≤ 2 ^ 48 }
+    requires budget { events ≤ 2 ^ 40 }
+    ensures accepted { IfOk result (λ tally. IsTrue (allowed (graph_of model.now) starts.now)) }
+    ensures told { IfOk result (λ tally. tally ≡ tally_of (graph_of model.now) until (look (graph_of model.now) seed starts.now until events)) }
+    ensures small { IfOk result (λ tally. All (IsOfRuns 1) tally.items) }
+    ensures err { IfErr result (RefusesTally (graph_of model.now) starts.now) }
+{
+    let pending = HeapPending::begin(alloc, model.vertices.len())?;
+    let mut run = Run::begin(alloc, model, pending, seed, starts, ROOM)?;
+    Ok(follow::<Brand>(alloc, model, &mut run, until, events, Blank::new(1))?)
+}
