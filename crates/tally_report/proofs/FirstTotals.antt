@@ -1,5 +1,5 @@
 -- The totals of no run.
-use Rattle.std.proofs.Common.{◌≡◌, ℕ, All, map, refl, sym, ap, ◌∙◌, arith}
+use Rattle.std.proofs.Common.{◌≡◌, All, map, refl, ap, ◌∙◌, arith}
 use Rattle.std.proofs.lemmas.List.Elements.{All-map}
 use Rattle.std.proofs.lemmas.Simd.{map-map}
 use Rattle.model_core.specs.EventGraph.{EventGraph}

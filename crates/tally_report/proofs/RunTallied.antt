@@ -124,7 +124,7 @@ followed m starts room until events r t w u outcome notes rest begun noted fresh
       tallied g until events (look g r.seed starts until events) fine bounded u all outcome is ∙ ap (λ (b : Moment). tally_of g until (look_from g r.seed until events b)) (sym begins-too),
       by_stop g until events (look g r.seed starts until events) fine bounded u all outcome is,
       subst (λ (b : Moment). All FewCounted (tally_of g until (look_from g r.seed until events b)).items) (sym begins-too)
-      (few_counted g until events (look g r.seed starts until events) fine bounded u all outcome is),
+          (few_counted g until events (look g r.seed starts until events) fine bounded u all outcome is),
     )
 
 -- ---- what comes of one run

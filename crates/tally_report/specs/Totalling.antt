@@ -1,5 +1,5 @@
 -- The totals of runs: items that are added up, run by run.
-use Rattle.std.specs.Prelude.{ℕ, suc, ◌+◌, ℤ, pos, ◌+ℤ◌, List, [], ◌∷◌, map, Option, Some, None}
+use Rattle.std.specs.Prelude.{ℕ, suc, ◌+◌, pos, ◌+ℤ◌, List, [], ◌∷◌, map, Option, Some, None}
 use Rattle.std.specs.Int.{int_min, int_max}
 use Rattle.model_core.specs.EventGraph.{EventGraph}
 use Rattle.tally_report.specs.declared.item.Span.{Span}
