@@ -3,5 +3,6 @@ pub mod Tallying
 pub mod SmallAreas
 pub mod Totalling
 pub mod ReportText
+pub mod WorkedReport
 pub mod Refusals
 pub mod Inner
