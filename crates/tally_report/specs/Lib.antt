@@ -4,5 +4,5 @@ pub mod SmallAreas
 pub mod Totalling
 pub mod ReportText
 pub mod WorkedReport
-pub mod Refusals
+pub mod TallyRefusals
 pub mod Inner

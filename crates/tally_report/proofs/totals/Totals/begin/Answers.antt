@@ -2,7 +2,8 @@ use Rattle.std.proofs.Common.{List, All, map, sym, subst, ap, ◌∙◌}
 use Rattle.model_core.specs.Code.Views.{graph_of, watched_of}
 use Rattle.tally_report.specs.declared.item.Item.{Item}
 use Rattle.tally_report.specs.declared.sums.Sum.{Sum}
-use Rattle.tally_report.specs.SmallAreas.{IsSmall, IsOfRuns}
+use Rattle.tally_report.specs.SmallAreas.{IsOfRuns}
+use Rattle.tally_report.specs.Inner.Sums.{IsSmall}
 use Rattle.tally_report.specs.Totalling.{RunTotals}
 use Rattle.tally_report.specs.Inner.Sums.{held_until}
 use Rattle.tally_report.proofs.FirstSums.{first_small}
