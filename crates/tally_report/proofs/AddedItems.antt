@@ -1,5 +1,5 @@
 -- Items that are added up stay of as many runs, and a loop that adds each one.
-use Rattle.std.proofs.Common.{◌≡◌, ℕ, zero, suc, ◌+◌, ◌*◌, ◌^◌, ◌<◌, ◌≤◌, le_trans, List, [], ◌∷◌, ◌++◌, length, map, take, drop, take-append-drop, get_or, slice_set, slice_get, All, Some, None, Option, min, refl, sym, ap, ap₂, ◌∙◌, subst, arith}
+use Rattle.std.proofs.Common.{◌≡◌, ℕ, zero, suc, ◌+◌, ◌*◌, ◌^◌, ◌<◌, ◌≤◌, List, [], ◌∷◌, ◌++◌, length, take, drop, take-append-drop, get_or, slice_set, All, min, refl, sym, ap, ap₂, ◌∙◌, subst, arith}
 use Rattle.std.specs.Prelude.{◌+ℤ◌}
 use Rattle.std.proofs.lemmas.List.Elements.{All-nil, All-cons}
 use Rattle.tally_report.specs.declared.item.Item.{Item}
@@ -20,10 +20,10 @@ one-run-more m (items.Count k) (items.Count l) p q = omega (arith, p, q)
 one-run-more m (items.Cell s a) (items.Count l) p q = more-runs m (m + 1) (items.Cell s a) (omega arith) p
 one-run-more m (items.Count k) (items.Cell t b) p q = omega (arith, p)
 
-head-all : {X : Type 0} (P : X → Type 0) (x : X) (xs : List X) → All P (x ∷ xs) → P x
+pub head-all : {X : Type 0} (P : X → Type 0) (x : X) (xs : List X) → All P (x ∷ xs) → P x
 head-all P x xs all = all 0 x (omega arith)
 
-tail-all : {X : Type 0} (P : X → Type 0) (x : X) (xs : List X) → All P (x ∷ xs) → All P xs
+pub tail-all : {X : Type 0} (P : X → Type 0) (x : X) (xs : List X) → All P (x ∷ xs) → All P xs
 tail-all P x xs all = λ k d within. all (suc k) d (omega (arith, within))
 
 pub all-added : (m : ℕ) (xs ys : List Item) → All (IsOfRuns m) xs → All (IsOfRuns 1) ys → All (IsOfRuns (m + 1)) (items_added xs ys)

@@ -24,8 +24,8 @@ pub small-fits : (n : ℕ) (x : ℤ) → IsSmallArea n x → n < 2 ^ 64 → SFit
 small-fits n x p few = omega (arith, ints, p.above, p.below, few)
 
 -- what the code computes of a product
-pub computed : (x : ℤ) (n : ℕ) → SFits w64 x → n < 2 ^ 64 → to_z w128 (of_z w128 (to_z w128 (of_z w128 (to_z w64 (of_z w64 x))) *ℤ to_z w128 n)) ≡ x *ℤ pos n
-computed x n f few =
+pub area-computed : (x : ℤ) (n : ℕ) → SFits w64 x → n < 2 ^ 64 → to_z w128 (of_z w128 (to_z w128 (of_z w128 (to_z w64 (of_z w64 x))) *ℤ to_z w128 n)) ≡ x *ℤ pos n
+area-computed x n f few =
     let value : to_z w128 (of_z w128 (to_z w64 (of_z w64 x))) ≡ x = omega (arith, ints, f) in
     let ticks : to_z w128 n ≡ pos n = omega (arith, ints, few) in
     let whole = to_z-of_z w128 (x *ℤ pos n) (small-fits n (x *ℤ pos n) (product-small x n f) few) in

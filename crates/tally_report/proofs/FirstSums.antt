@@ -9,7 +9,8 @@ use Rattle.sig_base.proofs.Lists.{seen_more}
 use Rattle.model_core.specs.EventGraph.{EventGraph, Watched, WatchedVariable, WatchedVertex}
 use Rattle.model_core.specs.Saved.Cells.{cells_declared}
 use Rattle.tally_report.specs.declared.sums.Sum.{Sum}
-use Rattle.tally_report.specs.SmallAreas.{IsSmallArea, IsSmall}
+use Rattle.tally_report.specs.SmallAreas.{IsSmallArea}
+use Rattle.tally_report.specs.Inner.Sums.{IsSmall}
 use Rattle.tally_report.specs.Inner.Sums.{cell_sum, vertex_sum, sums_at, sums_from}
 
 one-behind : (g : EventGraph) (k n : ℕ) (xs : List Watched) (y : Watched) → n ≡ k + length xs → sums_from g k (xs ++ y ∷ []) ≡ sums_from g k xs ++ sums_at g n y

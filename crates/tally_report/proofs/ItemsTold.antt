@@ -13,8 +13,8 @@ use Rattle.tally_report.specs.declared.item.Item.{Item}
 use Rattle.tally_report.specs.declared.item.Item.TheVariants as items
 use Rattle.tally_report.specs.declared.sums.Sum.{Sum}
 use Rattle.tally_report.specs.CellCourse.{widened, value_noted, course, span_from, area_from}
-use Rattle.tally_report.specs.Tallying.{ItemOf, CellAt, VertexAt, items_at, items_from, items_of, occurrences, item_told, last_time}
-use Rattle.tally_report.specs.Inner.Sums.{held_until, counted_once, sum_at, sum_on, Tallied, behind_note, behind_notes, cell_sum, vertex_sum, sums_at, sums_from}
+use Rattle.tally_report.specs.Tallying.{ItemOf, CellAt, VertexAt, items_at, items_reported_from, items_reported, occurrences, item_told, last_time}
+use Rattle.tally_report.specs.Inner.Sums.{held_until, occurred_once, sum_at, sum_on, Tallied, behind_note, behind_notes, cell_sum, vertex_sum, sums_at, sums_from}
 use Rattle.tally_report.proofs.RisingNotes.{RisesTo}
 
 -- ---- each sum goes its own way
@@ -65,7 +65,7 @@ abbrev come_to : EventGraph → List Note → ℕ → ℕ → Sum → Item
 come_to g notes since end s = held_until (latest_at notes since) (max (latest_at notes since) end) (sum_behind g notes since s).item
 
 counted-or-not : (place index : ℕ) (span : _) (area : ℤ) (b : Bool)
-    → (let s : Sum = record { place = place; index = index; item = items.Cell span area } in cond b (record s { item = counted_once s.item }) s ≡ s)
+    → (let s : Sum = record { place = place; index = index; item = items.Cell span area } in cond b (record s { item = occurred_once s.item }) s ≡ s)
 counted-or-not place index span area true = refl
 counted-or-not place index span area false = refl
 
@@ -110,15 +110,15 @@ module _ (g : EventGraph) (place end : ℕ) where
   abbrev count : ℕ → Sum
   count n = record { place = place; index = 0; item = items.Count n }
 
-  one-more : (n : ℕ) (b : Bool) → n + 1 < 2 ^ 64 → cond b (record (count n) { item = counted_once (count n).item }) (count n) ≡ count (n + cond b 1 0)
-  one-more n true few = ap count (omega (arith, few))
-  one-more n false few = ap count (omega arith)
+  one-counted : (n : ℕ) (b : Bool) → n + 1 < 2 ^ 64 → cond b (record (count n) { item = occurred_once (count n).item }) (count n) ≡ count (n + cond b 1 0)
+  one-counted n true few = ap count (omega (arith, few))
+  one-counted n false few = ap count (omega arith)
 
   pub count-told : (notes : List Note) (since n : ℕ) → n + length notes < 2 ^ 64 → come_to g notes since end (count n) ≡ items.Count (n + occurrences place notes)
   count-told [] since n few = ap items.Count (omega arith)
   count-told (At time values ∷ notes) since n few = count-told notes (max since time) n (omega (arith, few))
   count-told (On time at values ∷ notes) since n few =
-      ap (come_to g notes since end) (one-more n (place == at) (omega (arith, few)))
+      ap (come_to g notes since end) (one-counted n (place == at) (omega (arith, few)))
       ∙ count-told notes since (n + cond (place == at) 1 0) (below (place == at))
       ∙ ap items.Count (omega arith)
     where
@@ -137,9 +137,9 @@ first-at : (g : EventGraph) (place : ℕ) (w : Watched) → sums_at g place w �
 first-at g place (WatchedVariable v) = sym (map-map first_sum (CellAt place) (range_with_len 0 (cells_declared g v)))
 first-at g place (WatchedVertex v) = refl
 
-pub first-from : (g : EventGraph) (place : ℕ) (ws : List Watched) → sums_from g place ws ≡ map first_sum (items_from g place ws)
+pub first-from : (g : EventGraph) (place : ℕ) (ws : List Watched) → sums_from g place ws ≡ map first_sum (items_reported_from g place ws)
 first-from g place [] = refl
-first-from g place (w ∷ ws) = ap₂ (λ a b. a ++ b) (first-at g place w) (first-from g (suc place) ws) ∙ sym (map-append first_sum (items_at g place w) (items_from g (suc place) ws))
+first-from g place (w ∷ ws) = ap₂ (λ a b. a ++ b) (first-at g place w) (first-from g (suc place) ws) ∙ sym (map-append first_sum (items_at g place w) (items_reported_from g (suc place) ws))
 
 pub map-each : {A B : Type 0} (f h : A → B) → ((a : A) → f a ≡ h a) → (xs : List A) → map f xs ≡ map h xs
 map-each f h same [] = refl
@@ -155,12 +155,12 @@ module _ (g : EventGraph) (notes : List Note) (to end : ℕ) (rises : RisesTo 0 
   item-comes (VertexAt place) = count-told g place end notes 0 0 (omega (arith, few)) ∙ ap items.Count (omega arith)
 
   pub items_told : (t : Tallied) → t ≡ behind_notes g notes (first_tallied g)
-      → map (λ (s : Sum). held_until t.since (max t.since end) s.item) t.sums ≡ map (item_told g notes end) (items_of g)
+      → map (λ (s : Sum). held_until t.since (max t.since end) s.item) t.sums ≡ map (item_told g notes end) (items_reported g)
   items_told t is =
-      let sums : t.sums ≡ map (sum_behind g notes 0) (map first_sum (items_of g)) =
+      let sums : t.sums ≡ map (sum_behind g notes 0) (map first_sum (items_reported g)) =
       ap (λ (t : Tallied). t.sums) is ∙ sums-behind g notes (first_tallied g) ∙ ap (map (sum_behind g notes 0)) (first-from g 0 g.watch) in
       let since : t.since ≡ latest_at notes 0 = ap (λ (t : Tallied). t.since) is ∙ since-behind g notes (first_tallied g) in
       ap₂ (λ (n : ℕ) (xs : List Sum). map (λ (s : Sum). held_until n (max n end) s.item) xs) since sums
-      ∙ map-map (λ (s : Sum). held_until (latest_at notes 0) (max (latest_at notes 0) end) s.item) (sum_behind g notes 0) (map first_sum (items_of g))
-      ∙ map-map (come_to g notes 0 end) first_sum (items_of g)
-      ∙ map-each (λ item. come_to g notes 0 end (first_sum item)) (item_told g notes end) item-comes (items_of g)
+      ∙ map-map (λ (s : Sum). held_until (latest_at notes 0) (max (latest_at notes 0) end) s.item) (sum_behind g notes 0) (map first_sum (items_reported g))
+      ∙ map-map (come_to g notes 0 end) first_sum (items_reported g)
+      ∙ map-each (λ item. come_to g notes 0 end (first_sum item)) (item_told g notes end) item-comes (items_reported g)

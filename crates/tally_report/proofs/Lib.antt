@@ -8,3 +8,4 @@ mod RunTallied
 mod AddedItems
 mod FirstTotals
 mod ReportRows
+mod AddedRuns

@@ -26,8 +26,8 @@ module _ (a b all : List (List ℕ)) (items left : List Item) (whole : all ≡ a
       ∙ append_assoc old (item_rows h a items) (item_rows h b (drop (length a) items))
       ∙ ap (λ rows. old ++ rows) (sym (ap (λ names. item_rows h names items) whole ∙ rows-append h a b items))
 
-  pub left_more : (more : List Item) → more ≡ drop (length b) left → more ≡ drop (length all) items
-  left_more more rest =
+  pub items_left_more : (more : List Item) → more ≡ drop (length b) left → more ≡ drop (length all) items
+  items_left_more more rest =
       rest ∙ ap (drop (length b)) here ∙ drop-drop (length b) (length a) items ∙ ap (λ n. drop n items) (sym (ap length whole ∙ length-append a b))
 
 -- ---- the names of items

@@ -68,9 +68,9 @@ Fine from until (Rests notes end) = Rise 1 from notes until × EndsBy until end
 Fine from until (Fails notes end) = Rise 1 from notes until × EndsBy until end
 Fine from until (Goes notes m) = Rise 2 from notes m.now.clock × (m.now.clock ≤ until) × NoneEarlier m.now.clock m.now.pending
 
-fault-time : {A : Type 0} (t : ℕ) (r : OrFault A) (f : Fault) → faulted_at t r ≡ Err f → f.time ≡ t
-fault-time t (Ok x) f e = cc
-fault-time t (Err kind) f e =
+time-of-fault : {A : Type 0} (t : ℕ) (r : OrFault A) (f : Fault) → faulted_at t r ≡ Err f → f.time ≡ t
+time-of-fault t (Ok x) f e = cc
+time-of-fault t (Err kind) f e =
     let same : record { time = t; kind = kind } ≡ f = cc in
     ap (λ (f : Fault). f.time) (sym same)
 
@@ -91,7 +91,7 @@ module _ (g : EventGraph) (seed until : ℕ) (m : Moment) (by : m.now.clock ≤ 
           later,
         )
     stepped-fine (Err f) e =
-        let time = fault-time n.entry.time (occur g seed (vertex_at g n.entry.vertex) n m.now.state m.now.taken) f e in
+        let time = time-of-fault n.entry.time (occur g seed (vertex_at g n.entry.vertex) n m.now.state m.now.taken) f e in
         (left-for-rises g m until by (nat_lt m.now.clock n.entry.time), omega (arith, time, due))
 
   due-fine : (n : TakenOff) → next_entry m.now.pending ≡ Some n → (b : Bool) → nat_lt until n.entry.time ≡ b

@@ -15,24 +15,25 @@ use Rattle.model_core.specs.Run.Machine.{Note, At, On, Standing, Ended, Stopped,
 use Rattle.watch_trace.specs.declared.outcome.Outcome.{Outcome}
 use Rattle.watch_trace.specs.declared.outcome.Outcome.TheVariants as outcomes
 use Rattle.watch_trace.specs.Following.{outcome_of, seen_from, Completes}
-use Rattle.tally_report.specs.Tallying.{ItemOf, CellAt, VertexAt, items_of, item_told, occurrences, run_end, end_time, last_time, tally_of}
+use Rattle.tally_report.specs.Tallying.{ItemOf, CellAt, VertexAt, items_reported, item_told, occurrences, run_end, end_time, last_time, tally_of}
 use Rattle.tally_report.specs.declared.item.Item.{Item}
 use Rattle.tally_report.specs.declared.item.Item.TheVariants as items
-use Rattle.tally_report.specs.SmallAreas.{IsSmall, IsOfRuns}
+use Rattle.tally_report.specs.SmallAreas.{IsOfRuns}
+use Rattle.tally_report.specs.Inner.Sums.{IsSmall}
 use Rattle.tally_report.specs.declared.run_tally.RunEnd.{RunEnd}
-use Rattle.tally_report.specs.Inner.Outcomes.{end_of, time_of}
-use Rattle.tally_report.specs.Inner.Sums.{Tallied, behind_notes, run_told}
+use Rattle.tally_report.specs.Inner.RunEnds.{end_reached, time_reached}
+use Rattle.tally_report.specs.Inner.Sums.{Tallied, behind_notes, tally_told}
 use Rattle.tally_report.proofs.AreaBounds.{area-longer}
 use Rattle.tally_report.proofs.RisingNotes.{fine_look, FineLook, RisesTo, EndsBy, note_by}
 use Rattle.tally_report.proofs.ItemsTold.{first_tallied, items_told, latest-behind, since-behind, latest_at, latest_at-by}
 
-end-is : (end : Standing) → end_of (outcome_of end) ≡ run_end end
+end-is : (end : Standing) → end_reached (outcome_of end) ≡ run_end end
 end-is (Ended time) = refl
 end-is Stopped = refl
 end-is (Faulted time kind) = refl
 end-is Going = refl
 
-time-is : (until : ℕ) (notes : List Note) (end : Standing) → time_of (outcome_of end) until (last_time 0 notes) ≡ end_time until notes end
+time-is : (until : ℕ) (notes : List Note) (end : Standing) → time_reached (outcome_of end) until (last_time 0 notes) ≡ end_time until notes end
 time-is until notes (Ended time) = refl
 time-is until notes Stopped = refl
 time-is until notes (Faulted time kind) = refl
@@ -68,33 +69,33 @@ occurrences-few place (On time at values ∷ notes) = one (place == at) (occurre
     one true m n few = omega (arith, few)
     one false m n few = omega (arith, few)
 
-few-told : (g : EventGraph) (notes : List Note) (end : ℕ) (item : ItemOf) → length notes ≤ 2 ^ 42 → FewCounted (item_told g notes end item)
-few-told g notes end (CellAt place index) few = tt
-few-told g notes end (VertexAt place) few = let no_more = occurrences-few place notes in omega (arith, few, no_more)
+few-occurrences : (g : EventGraph) (notes : List Note) (end : ℕ) (item : ItemOf) → length notes ≤ 2 ^ 42 → FewCounted (item_told g notes end item)
+few-occurrences g notes end (CellAt place index) few = tt
+few-occurrences g notes end (VertexAt place) few = let no_more = occurrences-few place notes in omega (arith, few, no_more)
 
 module _ (g : EventGraph) (until events : ℕ) (seen : Look) (fine : FineLook 0 until events seen) (bounded : events ≤ 2 ^ 40) (t : Tallied) (is : t ≡ behind_notes g seen.history (first_tallied g)) (outcome : Outcome) (stands : outcome ≡ outcome_of seen.standing) where
   latest : t.latest ≡ last_time 0 seen.history
   latest = ap (λ (t : Tallied). t.latest) is ∙ latest-behind g seen.history (first_tallied g)
 
-  time : time_of outcome until t.latest ≡ end_time until seen.history seen.standing
-  time = ap₂ (λ o n. time_of o until n) stands latest ∙ time-is until seen.history seen.standing
+  time : time_reached outcome until t.latest ≡ end_time until seen.history seen.standing
+  time = ap₂ (λ o n. time_reached o until n) stands latest ∙ time-is until seen.history seen.standing
 
-  pub tallied : run_told (end_of outcome) (time_of outcome until t.latest) t ≡ tally_of g until seen
+  pub tallied : tally_told (end_reached outcome) (time_reached outcome until t.latest) t ≡ tally_of g until seen
   tallied =
-      let end : end_of outcome ≡ run_end seen.standing = ap end_of stands ∙ end-is seen.standing in
+      let end : end_reached outcome ≡ run_end seen.standing = ap end_reached stands ∙ end-is seen.standing in
       let few : length seen.history < 2 ^ 64 = omega (arith, fine.few, bounded) in
-      ap₂ (λ (e : RunEnd) (n : ℕ). run_told e n t) end time
+      ap₂ (λ (e : RunEnd) (n : ℕ). tally_told e n t) end time
       ∙ ap (λ items. record { end = run_end seen.standing; time = end_time until seen.history seen.standing; items = items })
       (items_told g seen.history until (end_time until seen.history seen.standing) fine.rises few t is)
 
   -- few events are counted
   pub few_counted : All FewCounted (tally_of g until seen).items
   few_counted =
-      All-map FewCounted (item_told g seen.history (end_time until seen.history seen.standing)) (items_of g)
-      (λ k d within. few-told g seen.history (end_time until seen.history seen.standing) (slice_index_or (items_of g) k d) (omega (arith, fine.few, bounded)))
+      All-map FewCounted (item_told g seen.history (end_time until seen.history seen.standing)) (items_reported g)
+      (λ k d within. few-occurrences g seen.history (end_time until seen.history seen.standing) (slice_index_or (items_reported g) k d) (omega (arith, fine.few, bounded)))
 
   -- the last time of all is no later than the stop time
-  pub by_stop : max t.since (time_of outcome until t.latest) ≤ until
+  pub by_stop : max t.since (time_reached outcome until t.latest) ≤ until
   by_stop =
       let since : t.since ≡ latest_at seen.history 0 = ap (λ (t : Tallied). t.since) is ∙ since-behind g seen.history (first_tallied g) in
       let at_last = latest_at-by seen.history 0 0 until (omega arith) fine.rises in
@@ -102,14 +103,14 @@ module _ (g : EventGraph) (until events : ℕ) (seen : Look) (fine : FineLook 0 
       omega (arith, since, at_last, end, time)
 
 -- a run that was followed from its beginning, by a taker that had taken nothing
-pub followed : (m : Model) (starts : List ℤ) (room until events : ℕ) (r : Running) (t : Tracing) (w u : Tallied) (outcome : Outcome) (notes rest : List Note)
+pub tallied_from_beginning : (m : Model) (starts : List ℤ) (room until events : ℕ) (r : Running) (t : Tracing) (w u : Tallied) (outcome : Outcome) (notes rest : List Note)
     → BegunRun m r.seed starts room r → t.noted ≡ None → w ≡ first_tallied (graph_of m) → events ≤ 2 ^ 40
     → (outcome ≡ outcomes.WriteFault → ⊥) → (outcome ≡ outcomes.NoMemory → ⊥)
     → notes ++ rest ≡ (seen_from until events r t).history → Completes (seen_from until events r t) rest outcome → u ≡ behind_notes (graph_of r.model) notes w
-    → (run_told (end_of outcome) (time_of outcome until u.latest) u ≡ tally_of (graph_of m) until (look_from (graph_of m) r.seed until events (record { now = r.now; noted = None })))
-    × (max u.since (time_of outcome until u.latest) ≤ until)
+    → (tally_told (end_reached outcome) (time_reached outcome until u.latest) u ≡ tally_of (graph_of m) until (look_from (graph_of m) r.seed until events (record { now = r.now; noted = None })))
+    × (max u.since (time_reached outcome until u.latest) ≤ until)
     × All FewCounted (tally_of (graph_of m) until (look_from (graph_of m) r.seed until events (record { now = r.now; noted = None }))).items
-followed m starts room until events r t w u outcome notes rest begun noted fresh bounded well roomy splits completes taken =
+tallied_from_beginning m starts room until events r t w u outcome notes rest begun noted fresh bounded well roomy splits completes taken =
     let g = graph_of m in
     let moment : Configuration → Option (List (List ℤ)) → Moment = λ c n. record { now = c; noted = n } in
     let begins : moment_of r t ≡ start g starts = ap₂ moment begun.now noted in

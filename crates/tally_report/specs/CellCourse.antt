@@ -6,7 +6,7 @@ use Rattle.model_core.specs.Run.Machine.{Note, At, On}
 use Rattle.tally_report.specs.declared.item.Span.{Span}
 
 -- a value, and the time from which on it holds
-pub record Held : Type 0 where
+pub record ValueSince : Type 0 where
   pub since : ℕ
   pub value : ℤ
 
@@ -24,7 +24,7 @@ abbrev pub value_noted : EventGraph → ℕ → ℕ → List (List ℤ) → ℤ
 value_noted g place index values = slice_index_or (cells_noted g.watch values place) index (pos 0)
 
 -- the course of that cell: its value at each `at` note
-abbrev pub course : EventGraph → ℕ → ℕ → List Note → List Held
+abbrev pub course : EventGraph → ℕ → ℕ → List Note → List ValueSince
 course g place index [] = []
 course g place index (On time at values ∷ notes) = course g place index notes
 course g place index (At time values ∷ notes) = record { since = time; value = value_noted g place index values } ∷ course g place index notes
@@ -33,21 +33,21 @@ course g place index (At time values ∷ notes) = record { since = time; value =
 abbrev pub widened : Span → ℤ → Span
 widened s x = record { least = int_min s.least x; greatest = int_max s.greatest x; last = x }
 
-abbrev pub span_from : Span → List Held → Span
+abbrev pub span_from : Span → List ValueSince → Span
 span_from s [] = s
 span_from s (h ∷ later) = span_from (widened s h.value) later
 
 -- the least, the greatest and the last value of a course, if it has one
-abbrev pub span_of : List Held → Option Span
+abbrev pub span_of : List ValueSince → Option Span
 span_of [] = None
 span_of (h ∷ later) = Some (span_from (record { least = h.value; greatest = h.value; last = h.value }) later)
 
 -- each value times how long it holds, up to the next or, the last one, up to the end
-abbrev pub area_from : Held → List Held → ℕ → ℤ
+abbrev pub area_from : ValueSince → List ValueSince → ℕ → ℤ
 area_from h [] end = h.value *ℤ pos (end - h.since)
 area_from h (k ∷ later) end = h.value *ℤ pos (k.since - h.since) +ℤ area_from k later end
 
 -- the area under a course that ends at a time
-abbrev pub area_of : List Held → ℕ → ℤ
+abbrev pub area_of : List ValueSince → ℕ → ℤ
 area_of [] end = pos 0
 area_of (h ∷ later) end = area_from h later end

@@ -3,5 +3,6 @@ pub mod Tallying
 pub mod SmallAreas
 pub mod Totalling
 pub mod ReportText
-pub mod Refusals
+pub mod WorkedReport
+pub mod TallyRefusals
 pub mod Inner

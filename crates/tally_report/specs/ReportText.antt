@@ -1,5 +1,5 @@
 -- The rows of a report, as text with commas.
-use Rattle.std.specs.Prelude.{ℕ, zero, suc, Bool, true, false, cond, List, [], ◌∷◌, ◌++◌, map, Option, Some, None, slice_get, codes, decimal}
+use Rattle.std.specs.Prelude.{ℕ, zero, suc, Bool, true, false, cond, List, [], ◌∷◌, ◌++◌, map, Some, None, slice_get, codes, decimal}
 use Rattle.std.specs.Fmt.{signed_decimal}
 use Rattle.std.specs.List.{flat_map, range_with_len}
 use Rattle.std.specs.Option.{option_map_or}
@@ -14,11 +14,11 @@ use Rattle.tally_report.specs.declared.run_tally.RunTally.{RunTally}
 use Rattle.tally_report.specs.Totalling.{RunTotals}
 
 -- the text of a row of fields
-abbrev pub row : List (List ℕ) → List ℕ
-row fields = row_text default_writer fields
+abbrev pub row_of_fields : List (List ℕ) → List ℕ
+row_of_fields fields = row_text default_writer fields
 
 abbrev pub header_row : List ℕ
-header_row = row (codes "run" ∷ codes "seed" ∷ codes "outcome" ∷ codes "time" ∷ codes "item" ∷ codes "least" ∷ codes "greatest" ∷ codes "last" ∷ codes "area" ∷ codes "count" ∷ [])
+header_row = row_of_fields (codes "run" ∷ codes "seed" ∷ codes "outcome" ∷ codes "time" ∷ codes "item" ∷ codes "least" ∷ codes "greatest" ∷ codes "last" ∷ codes "area" ∷ codes "count" ∷ [])
 
 -- ---- the names of items
 
@@ -30,11 +30,11 @@ abbrev pub sized_names : List ℕ → ℕ → List (List ℕ)
 sized_names name zero = name ∷ []
 sized_names name (suc n) = map (cell_name name) (range_with_len 0 (suc n))
 
-abbrev pub variable_names : Variable → List (List ℕ)
-variable_names v = sized_names v.name v.size
+abbrev pub names_of_variable : Variable → List (List ℕ)
+names_of_variable v = sized_names v.name v.size
 
 abbrev pub names_watched : EventGraph → Watched → List (List ℕ)
-names_watched g (WatchedVariable v) = option_map_or variable_names (slice_get g.variables v) []
+names_watched g (WatchedVariable v) = option_map_or names_of_variable (slice_get g.variables v) []
 names_watched g (WatchedVertex v) = vertex_name g v ∷ []
 
 -- the names of all items, in the order of the watch list
@@ -70,7 +70,7 @@ item_fields last (items.Cell (Some s) area) = signed_decimal s.least ∷ signed_
 item_fields last (items.Count n) = [] ∷ [] ∷ [] ∷ [] ∷ decimal n ∷ []
 
 abbrev pub item_row : Heading → List ℕ → Item → List ℕ
-item_row h name item = row (h.run ∷ h.seed ∷ h.outcome ∷ h.time ∷ name ∷ item_fields h.last item)
+item_row h name item = row_of_fields (h.run ∷ h.seed ∷ h.outcome ∷ h.time ∷ name ∷ item_fields h.last item)
 
 -- ---- the rows
 

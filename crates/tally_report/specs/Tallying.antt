@@ -21,13 +21,13 @@ abbrev pub items_at : EventGraph → ℕ → Watched → List ItemOf
 items_at g place (WatchedVariable v) = map (CellAt place) (range_with_len 0 (cells_declared g v))
 items_at g place (WatchedVertex v) = VertexAt place ∷ []
 
-abbrev pub items_from : EventGraph → ℕ → List Watched → List ItemOf
-items_from g place [] = []
-items_from g place (w ∷ watch) = items_at g place w ++ items_from g (suc place) watch
+abbrev pub items_reported_from : EventGraph → ℕ → List Watched → List ItemOf
+items_reported_from g place [] = []
+items_reported_from g place (w ∷ watch) = items_at g place w ++ items_reported_from g (suc place) watch
 
 -- all items of a model, in the order of its watch list
-abbrev pub items_of : EventGraph → List ItemOf
-items_of g = items_from g 0 g.watch
+abbrev pub items_reported : EventGraph → List ItemOf
+items_reported g = items_reported_from g 0 g.watch
 
 -- how many `on` notes there are of the vertex at a place
 abbrev pub occurrences : ℕ → List Note → ℕ
@@ -65,4 +65,4 @@ end_time until notes Going = last_time 0 notes
 abbrev pub tally_of : EventGraph → ℕ → Look → RunTally
 tally_of g until seen =
     let time = end_time until seen.history seen.standing in
-    record { end = run_end seen.standing; time = time; items = map (item_told g seen.history time) (items_of g) }
+    record { end = run_end seen.standing; time = time; items = map (item_told g seen.history time) (items_reported g) }

@@ -2,9 +2,10 @@
 
 ghost use Rattle.std.specs.Prelude.{◌≡◌, ◌≤◌, ◌-◌, ℕ, pos, ◌+ℤ◌, ◌*ℤ◌};
 ghost use Rattle.tally_report.specs.CellCourse.{widened};
-ghost use Rattle.tally_report.specs.SmallAreas.{IsSmallArea, IsSmall, IsOfRuns};
-ghost use Rattle.tally_report.specs.Totalling.{joined, item_added};
-ghost use Rattle.tally_report.specs.Inner.Sums.{held_until, with_value, counted_once};
+ghost use Rattle.tally_report.specs.SmallAreas.{IsSmallArea, IsOfRuns};
+ghost use Rattle.tally_report.specs.Inner.Sums.{IsSmall};
+ghost use Rattle.tally_report.specs.Totalling.{spans_joined, item_added};
+ghost use Rattle.tally_report.specs.Inner.Sums.{held_until, with_value, occurred_once};
 
 /// The values of a cell in a run.
 #[derive(Clone, Copy, Debug, PartialEq, Eq)]
@@ -55,8 +56,8 @@ impl Span {
 }
 
 /// The values of both, where there are any.
-fn joined(span: Option<Span>, other: Option<Span>) -> Option<Span>
-    ensures { result ≡ joined span other }
+fn spans_joined(span: Option<Span>, other: Option<Span>) -> Option<Span>
+    ensures { result ≡ spans_joined span other }
 {
     let Some(span) = span else {
         return other;
@@ -118,8 +119,8 @@ impl Item {
     }
 
     /// The item with an event more, up to the last count.
-    pub(crate) fn counted_once(self) -> Item
-        ensures counted { result ≡ counted_once self }
+    pub(crate) fn occurred_once(self) -> Item
+        ensures counted { result ≡ occurred_once self }
         ensures small { (ticks : ℕ) → IsSmall ticks self → IsSmall ticks result }
     {
         match self {
@@ -142,7 +143,7 @@ impl Item {
                     span: other_span,
                     area: other_area,
                 } => Item::Cell {
-                    span: joined(span, other_span),
+                    span: spans_joined(span, other_span),
                     area: area + other_area,
                 },
                 Item::Count { .. } => self,

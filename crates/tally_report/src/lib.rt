@@ -9,11 +9,15 @@ mod sums;
 mod tally_error;
 mod tally_taker;
 mod tallying;
+mod total_laws;
 mod totals;
+mod worked_report;
 
 pub use item::{Item, Span};
 pub use report::{header_csv, run_csv, totals_csv};
 pub use run_tally::{RunEnd, RunTally};
 pub use tally_error::TallyError;
 pub use tallying::tally_one;
+pub use total_laws::{areas_never_overflow, totals_are_added_up};
 pub use totals::Totals;
+pub use worked_report::a_shelf_is_reported;

@@ -3,7 +3,7 @@
 ghost use Rattle.std.specs.Prelude.{◌≡◌, ◌++◌, drop, length, map, IfOk, OnOk};
 ghost use Rattle.std.specs.List.{range_with_len, flat_map};
 ghost use Rattle.model_core.specs.Code.Views.{graph_of, variable_of, watched_of};
-ghost use Rattle.tally_report.specs.ReportText.{cell_name, variable_names, names_watched, header_row, end_word, item_rows, item_names, run_rows, total_rows};
+ghost use Rattle.tally_report.specs.ReportText.{cell_name, names_of_variable, names_watched, header_row, end_word, item_rows, item_names, run_rows, total_rows};
 ghost use Rattle.tally_report.specs.Inner.Headings.{heading_of};
 
 use crate::item::Item;
@@ -54,8 +54,8 @@ fn put_variable<'i>(
     var: &Var,
     items: &'i [Item],
 ) -> Result<&'i [Item], NoMemory>
-    ensures rows { OnOk result (out.new.items ≡ out.old.items ++ item_rows (heading_of head.now) (variable_names (variable_of var.now)) items.now) }
-    ensures left { IfOk result (λ left. left.now ≡ drop (length (variable_names (variable_of var.now))) items.now) }
+    ensures rows { OnOk result (out.new.items ≡ out.old.items ++ item_rows (heading_of head.now) (names_of_variable (variable_of var.now)) items.now) }
+    ensures left { IfOk result (λ left. left.now ≡ drop (length (names_of_variable (variable_of var.now))) items.now) }
 {
     if var.size == 0 {
         return put_next(alloc, out, head, var.name.as_slice(), items);

@@ -2,9 +2,8 @@
 
 ghost use Rattle.std.specs.Prelude.{◌≡◌, ◌++◌, ◌∷◌, [], cond, drop, map, IfOk, OnOk};
 ghost use Rattle.std.specs.Fmt.{signed_decimal};
-ghost use Rattle.csv.specs.Writing.{default_writer, row_text};
 ghost use Rattle.tally_report.specs.declared.item.Item.TheVariants.{Cell as CellItem, Count as CountItem};
-ghost use Rattle.tally_report.specs.ReportText.{row, item_row, item_rows};
+ghost use Rattle.tally_report.specs.ReportText.{row_of_fields, item_row, item_rows};
 ghost use Rattle.tally_report.specs.Inner.Headings.{heading_of};
 
 use crate::item::{Item, Span};
@@ -25,7 +24,7 @@ pub(crate) struct RowHead<'b> {
 
 /// The text of a row.
 pub(crate) fn row(alloc: Global, fields: &[&[u8]]) -> Result<Vec<u8>, NoMemory>
-    ensures { IfOk result (λ text. text.items ≡ row (map (λ f. f.now) fields.now)) }
+    ensures { IfOk result (λ text. text.items ≡ row_of_fields (map (λ f. f.now) fields.now)) }
 {
     let mut writer = WriterBuilder::new().from_writer(Vec::new(alloc));
     if writer.write_fields(fields).is_err() {
@@ -39,7 +38,7 @@ pub(crate) fn row(alloc: Global, fields: &[&[u8]]) -> Result<Vec<u8>, NoMemory>
 
 /// Puts a row.
 fn put_row(alloc: Global, out: &mut Vec<u8>, fields: &[&[u8]]) -> Result<(), NoMemory>
-    ensures { OnOk result (out.new.items ≡ out.old.items ++ row (map (λ f. f.now) fields.now)) }
+    ensures { OnOk result (out.new.items ≡ out.old.items ++ row_of_fields (map (λ f. f.now) fields.now)) }
 {
     out.extend_from_slice(row(alloc, fields)?.as_slice())?;
     Ok(())

@@ -6,7 +6,7 @@ ghost use Rattle.model_core.specs.Run.History.{watched_values};
 ghost use Rattle.model_core.specs.Saved.Cells.{cells_declared};
 ghost use Rattle.model_core.specs.Code.Views.{graph_of, watched_of};
 ghost use Rattle.tally_report.specs.CellCourse.{cells_noted, value_noted};
-ghost use Rattle.tally_report.specs.SmallAreas.{IsSmall};
+ghost use Rattle.tally_report.specs.Inner.Sums.{IsSmall};
 ghost use Rattle.tally_report.specs.Inner.Sums.{cells_there, held_until, sum_at, sum_on, cell_sum, sums_at, sums_from};
 
 use crate::item::Item;
@@ -134,7 +134,7 @@ fn counted(sum: Sum, place: usize) -> Sum
     Sum {
         place: sum.place,
         index: sum.index,
-        item: sum.item.counted_once(),
+        item: sum.item.occurred_once(),
     }
 }
 

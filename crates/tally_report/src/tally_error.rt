@@ -30,7 +30,7 @@ impl From<NoMemory> for TallyError {
 }
 
 impl From<BeginError> for TallyError {
-    ghost use Rattle.tally_report.specs.Refusals.{refusal_of};
+    ghost use Rattle.tally_report.specs.TallyRefusals.{refusal_of};
 
     ghost from_gives = { λ b e. e ≡ refusal_of b };
 

@@ -2,8 +2,8 @@
 
 ghost use Rattle.std.specs.Prelude.{◌≡◌, max, All, map, IfOk};
 ghost use Rattle.model_core.specs.Code.Views.{graph_of, watched_of};
-ghost use Rattle.tally_report.specs.SmallAreas.{IsSmall};
-ghost use Rattle.tally_report.specs.Inner.Sums.{held_until, sums_from, run_told};
+ghost use Rattle.tally_report.specs.Inner.Sums.{IsSmall};
+ghost use Rattle.tally_report.specs.Inner.Sums.{held_until, sums_from, tally_told};
 
 use crate::run_tally::{RunEnd, RunTally};
 use crate::sums::{Sum, count_at, first_sums, items_until, take_values};
@@ -24,7 +24,7 @@ pub(crate) struct TallyTaker {
 
 impl Model for TallyTaker {
     ghost use Rattle.std.specs.Prelude.{All};
-    ghost use Rattle.tally_report.specs.SmallAreas.{IsSmall};
+    ghost use Rattle.tally_report.specs.Inner.Sums.{IsSmall};
     ghost use Rattle.tally_report.specs.Inner.Sums.{Tallied};
 
     ghost Value = { Tallied };
@@ -55,7 +55,7 @@ impl TallyTaker {
 
     /// The tally of a run that came to this end at this time.
     pub fn tally(&self, alloc: Global, end: RunEnd, time: u64) -> Result<RunTally, NoMemory>
-        ensures told { IfOk result (λ run. run ≡ run_told end time self.now) }
+        ensures told { IfOk result (λ run. run ≡ tally_told end time self.now) }
         ensures small { IfOk result (λ run. All (IsSmall (max self.now.since time)) run.items) }
     {
         let upto = self.since.max(time);

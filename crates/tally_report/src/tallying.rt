@@ -7,8 +7,8 @@ ghost use Rattle.run_control.specs.Beginning.{BegunRun};
 ghost use Rattle.run_control.specs.PossibleModel.{PossibleModel};
 ghost use Rattle.tally_report.specs.Tallying.{tally_of};
 ghost use Rattle.tally_report.specs.SmallAreas.{IsOfRuns};
-ghost use Rattle.tally_report.specs.Refusals.{RefusesTally};
-ghost use Rattle.tally_report.specs.Inner.Outcomes.{end_of, time_of};
+ghost use Rattle.tally_report.specs.TallyRefusals.{RefusesTally};
+ghost use Rattle.tally_report.specs.Inner.RunEnds.{end_reached, time_reached};
 
 use crate::run_tally::{RunEnd, RunTally};
 use crate::tally_error::TallyError;
@@ -26,8 +26,8 @@ use watch_trace::{Outcome, Tracer, observe};
 const ROOM: usize = 4_096;
 
 /// The end of a run that came to this outcome.
-fn end_of(outcome: Outcome) -> RunEnd
-    ensures { result ≡ end_of outcome }
+fn end_reached(outcome: Outcome) -> RunEnd
+    ensures { result ≡ end_reached outcome }
 {
     match outcome {
         Outcome::Ended { .. } => RunEnd::Ended,
@@ -38,8 +38,8 @@ fn end_of(outcome: Outcome) -> RunEnd
 }
 
 /// The time at which a run with this stop time ends that came to this outcome, where its last note has the other time.
-fn time_of(outcome: Outcome, until: u64, latest: u64) -> u64
-    ensures { result ≡ time_of outcome until latest }
+fn time_reached(outcome: Outcome, until: u64, latest: u64) -> u64
+    ensures { result ≡ time_reached outcome until latest }
 {
     match outcome {
         Outcome::Ended { time } => time,
@@ -84,8 +84,8 @@ fn follow<'m, L: Ledger>(
         Outcome::WriteFault => unreachable!(),
         outcome => taker.tally(
             alloc,
-            end_of(outcome),
-            time_of(outcome, until, taker.latest()),
+            end_reached(outcome),
+            time_reached(outcome, until, taker.latest()),
         ),
     }
 }

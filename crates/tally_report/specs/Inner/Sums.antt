@@ -10,7 +10,13 @@ use Rattle.tally_report.specs.declared.item.Item.TheVariants as items
 use Rattle.tally_report.specs.declared.run_tally.RunEnd.{RunEnd}
 use Rattle.tally_report.specs.declared.run_tally.RunTally.{RunTally}
 use Rattle.tally_report.specs.declared.sums.Sum.{Sum}
+use Rattle.tally_report.specs.SmallAreas.{IsSmallArea}
 use Rattle.tally_report.specs.CellCourse.{widened, value_noted}
+
+-- an item over so many ticks has a small area
+abbrev pub IsSmall : ℕ → Item → Type 0
+IsSmall ticks (items.Cell span area) = IsSmallArea ticks area
+IsSmall ticks (items.Count n) = Unit
 
 -- the values that a state holds of something watched
 abbrev pub cells_there : State → Watched → List ℤ
@@ -28,9 +34,9 @@ with_value x (items.Cell None area) = items.Cell (Some (record { least = x; grea
 with_value x (items.Cell (Some s) area) = items.Cell (Some (widened s x)) area
 with_value x (items.Count n) = items.Count n
 
-abbrev pub counted_once : Item → Item
-counted_once (items.Cell span area) = items.Cell span area
-counted_once (items.Count n) = items.Count (min (n + 1) (2 ^ 64 - 1))
+abbrev pub occurred_once : Item → Item
+occurred_once (items.Cell span area) = items.Cell span area
+occurred_once (items.Count n) = items.Count (min (n + 1) (2 ^ 64 - 1))
 
 -- a sum behind an `at` note of a time, where the one before was at another
 abbrev pub sum_at : EventGraph → List (List ℤ) → ℕ → ℕ → Sum → Sum
@@ -38,7 +44,7 @@ sum_at g values since time s = record s { item = with_value (value_noted g s.pla
 
 -- a sum behind an `on` note of the vertex at a place
 abbrev pub sum_on : ℕ → Sum → Sum
-sum_on place s = cond (s.place == place) (record s { item = counted_once s.item }) s
+sum_on place s = cond (s.place == place) (record s { item = occurred_once s.item }) s
 
 -- all sums, the time of the latest `at` note, and that of the last note of either kind
 pub record Tallied : Type 0 where
@@ -73,5 +79,5 @@ sums_from g place (w ∷ watch) = sums_at g place w ++ sums_from g (suc place) w
 -- ---- what is told of a run
 
 -- the tally of a run that came to this end at this time
-abbrev pub run_told : RunEnd → ℕ → Tallied → RunTally
-run_told end time t = record { end = end; time = time; items = map (λ (s : Sum). held_until t.since (max t.since time) s.item) t.sums }
+abbrev pub tally_told : RunEnd → ℕ → Tallied → RunTally
+tally_told end time t = record { end = end; time = time; items = map (λ (s : Sum). held_until t.since (max t.since time) s.item) t.sums }

@@ -1,10 +1,9 @@
 use Rattle.std.proofs.Common.{◌≡◌, ℕ, ◌+◌, List, [], ◌∷◌, ◌++◌, length, map, drop, sym, ap, ◌∙◌, arith}
 use Rattle.std.specs.List.{range_with_len}
 use Rattle.std.proofs.lemmas.List.FromFn.{length-map-range_with_len, map-range_with_len_more}
-use Rattle.tally_report.specs.declared.item.Item.{Item}
 use Rattle.tally_report.specs.ReportText.{cell_name, item_rows}
 use Rattle.tally_report.specs.Inner.Headings.{heading_of}
-use Rattle.tally_report.proofs.ReportRows.{rows_more, left_more}
+use Rattle.tally_report.proofs.ReportRows.{rows_more, items_left_more}
 use Rattle.tally_report.proofs.report.put_cells.Goals as goal
 
 pub loop-index-preserved : goal.loop-index-preserved
@@ -20,6 +19,6 @@ loop-index-preserved c =
     let label : c.as_slice.result.now ≡ cell_name name i = c.as_slice.ensures.value ∙ c.in_ok-label.ensures in
     let put = c.in_ok-left.ensures.rows ∙ ap (λ (n : List ℕ). c.loop-index.out.items ++ item_rows h (n ∷ []) c.loop-index.left.now) label in (
       rows_more (some i) one (some (i + 1)) items c.loop-index.left.now whole here h c.args.out.now.items c.loop-index.out.items c.put_next.new.out.items c.loop-index.invariant.0 put,
-      left_more (some i) one (some (i + 1)) items c.loop-index.left.now whole here c.in_ok-left.left.now c.in_ok-left.ensures.left
+      items_left_more (some i) one (some (i + 1)) items c.loop-index.left.now whole here c.in_ok-left.left.now c.in_ok-left.ensures.left
           ∙ ap (λ (n : ℕ). drop n items) (length-map-range_with_len (cell_name name) 0 (i + 1)),
     )

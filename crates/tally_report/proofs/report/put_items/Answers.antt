@@ -6,7 +6,7 @@ use Rattle.model_core.specs.declared.model.Watch.TheVariants as things
 use Rattle.model_core.specs.Code.Views.{graph_of, watched_of}
 use Rattle.tally_report.specs.ReportText.{names_watched, item_rows}
 use Rattle.tally_report.specs.Inner.Headings.{heading_of}
-use Rattle.tally_report.proofs.ReportRows.{rows_more, left_more, names_more}
+use Rattle.tally_report.proofs.ReportRows.{rows_more, items_left_more, names_more}
 use Rattle.tally_report.proofs.report.put_items.Goals as goal
 
 pub loop-watch-preserved : goal.loop-watch-preserved
@@ -24,5 +24,5 @@ loop-watch-preserved c =
     let put = c.in_ok-left.ensures.rows ∙ ap (λ (xs : List Watch). c.loop-watch.out.items ++ item_rows h (names_watched g (watched_of (get_or xs i first))) c.loop-watch.left.now) c.as_slice-watch-items.ensures in
     let rest = c.in_ok-left.ensures.left ∙ ap (λ (xs : List Watch). drop (length (names_watched g (watched_of (get_or xs i first)))) c.loop-watch.left.now) c.as_slice-watch-items.ensures in (
       rows_more (some i) (names_watched g (watched_of w)) (some (i + 1)) items c.loop-watch.left.now whole c.loop-watch.invariant.1 h c.args.out.now.items c.loop-watch.out.items c.put_watched.new.out.items c.loop-watch.invariant.0 put,
-      left_more (some i) (names_watched g (watched_of w)) (some (i + 1)) items c.loop-watch.left.now whole c.loop-watch.invariant.1 c.in_ok-left.left.now rest,
+      items_left_more (some i) (names_watched g (watched_of w)) (some (i + 1)) items c.loop-watch.left.now whole c.loop-watch.invariant.1 c.in_ok-left.left.now rest,
     )

@@ -1,4 +1,4 @@
-use Rattle.std.proofs.Common.{◌≡◌, ℕ, List, length, drop, sym, subst}
+use Rattle.std.proofs.Common.{◌≡◌, ℕ, drop, sym, subst}
 use Rattle.std.specs.Prelude.{IfOk}
 use Rattle.tally_report.proofs.ReportRows.{length-sized_names}
 use Rattle.tally_report.proofs.report.put_variable.Goals as goal

@@ -1,6 +1,6 @@
 use Rattle.std.proofs.Common.{arith, sym, ◌<◌, length, subst}
 use Rattle.std.proofs.lemmas.List.Elements.{All-set}
-use Rattle.tally_report.specs.SmallAreas.{IsSmall}
+use Rattle.tally_report.specs.Inner.Sums.{IsSmall}
 use Rattle.tally_report.specs.Inner.Sums.{sum_on}
 use Rattle.tally_report.specs.declared.sums.Sum.{Sum}
 use Rattle.tally_report.proofs.MapsInPlace.{written_more, as_long}

@@ -1,5 +1,5 @@
 use Rattle.std.proofs.Common.{◌≡◌, ℕ, ◌++◌, map, take, drop, All}
-use Rattle.tally_report.specs.SmallAreas.{IsSmall}
+use Rattle.tally_report.specs.Inner.Sums.{IsSmall}
 use Rattle.tally_report.specs.Inner.Sums.{sum_on}
 use Rattle.tally_report.proofs.sums.count_at.Given as goal
 

@@ -1,5 +1,5 @@
 use Rattle.std.proofs.Common.{◌≡◌, map, take, All}
-use Rattle.tally_report.specs.SmallAreas.{IsSmall}
+use Rattle.tally_report.specs.Inner.Sums.{IsSmall}
 use Rattle.tally_report.specs.Inner.Sums.{held_until}
 use Rattle.tally_report.proofs.sums.items_until.Given as goal
 

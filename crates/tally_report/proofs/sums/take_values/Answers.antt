@@ -2,7 +2,7 @@ use Rattle.std.proofs.Common.{arith, map, ◌<◌, All, length, subst, ◌≡◌
 use Rattle.std.proofs.lemmas.List.{take_all}
 use Rattle.model_core.specs.Run.History.{watched_values}
 use Rattle.model_core.specs.Code.Views.{graph_of, watched_of}
-use Rattle.tally_report.specs.SmallAreas.{IsSmall}
+use Rattle.tally_report.specs.Inner.Sums.{IsSmall}
 use Rattle.tally_report.specs.Inner.Sums.{sum_at}
 use Rattle.tally_report.specs.declared.sums.Sum.{Sum}
 use Rattle.tally_report.proofs.MapsInPlace.{all-written, written_more, All-written_more}

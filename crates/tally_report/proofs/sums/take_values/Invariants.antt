@@ -1,7 +1,7 @@
 use Rattle.std.proofs.Common.{◌≡◌, ◌++◌, map, take, drop, All}
 use Rattle.model_core.specs.Run.History.{watched_values}
 use Rattle.model_core.specs.Code.Views.{graph_of, watched_of}
-use Rattle.tally_report.specs.SmallAreas.{IsSmall}
+use Rattle.tally_report.specs.Inner.Sums.{IsSmall}
 use Rattle.tally_report.specs.Inner.Sums.{sum_at}
 use Rattle.tally_report.proofs.sums.take_values.Given as goal
 

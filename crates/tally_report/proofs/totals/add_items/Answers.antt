@@ -1,8 +1,7 @@
-use Rattle.std.proofs.Common.{◌≡◌, ◌<◌, ◌≤◌, ◌++◌, min, length, take, drop, sym, ◌∙◌, ap, arith, get_or, None, ◌+◌}
+use Rattle.std.proofs.Common.{◌<◌, length, ◌∙◌, arith, get_or, None, ◌+◌}
 use Rattle.std.specs.Prelude.{pos}
 use Rattle.std.proofs.lemmas.List.{get_or_default}
 use Rattle.tally_report.specs.declared.item.Item.TheVariants as items
-use Rattle.tally_report.specs.Totalling.{items_added}
 use Rattle.tally_report.proofs.AddedItems.{added_more, added_all}
 use Rattle.tally_report.proofs.totals.add_items.Goals as goal
 

@@ -1,7 +1,7 @@
 use Rattle.std.proofs.Common.{List, All, map, sym, subst}
 use Rattle.model_core.specs.Code.Views.{graph_of, watched_of}
 use Rattle.tally_report.specs.declared.sums.Sum.{Sum}
-use Rattle.tally_report.specs.SmallAreas.{IsSmall}
+use Rattle.tally_report.specs.Inner.Sums.{IsSmall}
 use Rattle.tally_report.proofs.FirstSums.{first_small}
 use Rattle.tally_report.proofs.tally_taker.TallyTaker.begin.Goals as goal
 

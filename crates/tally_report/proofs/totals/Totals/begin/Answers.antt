@@ -1,10 +1,11 @@
-use Rattle.std.proofs.Common.{◌≡◌, List, All, map, sym, subst, ap, ◌∙◌}
+use Rattle.std.proofs.Common.{List, All, map, sym, subst, ap, ◌∙◌}
 use Rattle.model_core.specs.Code.Views.{graph_of, watched_of}
 use Rattle.tally_report.specs.declared.item.Item.{Item}
 use Rattle.tally_report.specs.declared.sums.Sum.{Sum}
-use Rattle.tally_report.specs.SmallAreas.{IsSmall, IsOfRuns}
+use Rattle.tally_report.specs.SmallAreas.{IsOfRuns}
+use Rattle.tally_report.specs.Inner.Sums.{IsSmall}
 use Rattle.tally_report.specs.Totalling.{RunTotals}
-use Rattle.tally_report.specs.Inner.Sums.{held_until, sums_from}
+use Rattle.tally_report.specs.Inner.Sums.{held_until}
 use Rattle.tally_report.proofs.FirstSums.{first_small}
 use Rattle.tally_report.proofs.FirstTotals.{first_totals, of_no_run}
 use Rattle.tally_report.proofs.totals.Totals.begin.Goals as goal
