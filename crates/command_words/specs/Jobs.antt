@@ -24,7 +24,8 @@ command_of word =
     else (if pointwise nat_eq word (codes "narrow") then Some commands.Narrow
     else (if pointwise nat_eq word (codes "describe") then Some commands.Describe
     else (if pointwise nat_eq word (codes "run") then Some commands.Run
-    else (if pointwise nat_eq word (codes "trial") then Some commands.Trial else None))))))))))
+    else (if pointwise nat_eq word (codes "replicate") then Some commands.Replicate
+    else (if pointwise nat_eq word (codes "trial") then Some commands.Trial else None)))))))))))
 
 -- the options that a command takes
 abbrev pub options_of : Command → List (List ℕ)
@@ -38,6 +39,7 @@ options_of commands.Fuse = []
 options_of commands.Narrow = []
 options_of commands.Describe = []
 options_of commands.Run = codes "until" ∷ codes "seed" ∷ codes "events" ∷ codes "start" ∷ codes "room" ∷ []
+options_of commands.Replicate = codes "until" ∷ codes "seed" ∷ codes "events" ∷ codes "runs" ∷ codes "start" ∷ []
 options_of commands.Trial = codes "seed" ∷ codes "vertices" ∷ codes "until" ∷ codes "events" ∷ []
 
 -- ---- the job of a command and its options
@@ -68,6 +70,24 @@ run_of values = run_with
     (besides [] starting_values (values (codes "start")))
     (besides usual_room (number_within 0 greatest_room) (values (codes "room")))
 
+-- the job of replications, where each of these is there
+abbrev pub replicate_with : Option ℕ → Option ℕ → Option ℕ → Option ℕ → Option (List ℤ) → Option Job
+replicate_with (Some until) (Some seed) (Some events) (Some runs) (Some starts) = Some (jobs.Replicate until seed events runs starts)
+replicate_with until seed events runs starts = None
+
+-- the most runs that can be asked for
+abbrev pub most_runs : ℕ
+most_runs = 65536
+
+-- `replicate` needs its stop time, seed, event budget and how many runs there are, and may have starting values
+abbrev pub replicate_of : Values → Option Job
+replicate_of values = replicate_with
+    (needed (number_within 0 STOP_MAX) (values (codes "until")))
+    (needed (number_within 0 (2 ^ 64 - 1)) (values (codes "seed")))
+    (needed (number_within 1 EVENTS_MAX) (values (codes "events")))
+    (needed (number_within 1 most_runs) (values (codes "runs")))
+    (besides [] starting_values (values (codes "start")))
+
 -- the job of a trial, where each of these is there
 abbrev pub trial_with : Option ℕ → Option ℕ → Option ℕ → Option ℕ → Option Job
 trial_with (Some seed) (Some vertices) (Some until) (Some events) = Some (jobs.Trial seed vertices until events)
@@ -97,6 +117,7 @@ job_with commands.Fuse values = Some jobs.Fuse
 job_with commands.Narrow values = Some jobs.Narrow
 job_with commands.Describe values = Some jobs.Describe
 job_with commands.Run values = run_of values
+job_with commands.Replicate values = replicate_of values
 job_with commands.Trial values = trial_of values
 
 -- there is one command, and no option but those that it takes

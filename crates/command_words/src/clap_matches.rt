@@ -14,7 +14,9 @@ use std::alloc::{AllocError, Global};
 pub(crate) fn option_names() -> &'static [&'static str]
     ensures { map (λ name. name.now) result.now ≡ option_names }
 {
-    &["until", "seed", "events", "start", "room", "vertices"]
+    &[
+        "until", "seed", "events", "start", "room", "runs", "vertices",
+    ]
 }
 
 /// The program, without help and version.

@@ -16,6 +16,7 @@ pub(crate) enum Command {
     Narrow,
     Describe,
     Run,
+    Replicate,
     Trial,
 }
 
@@ -44,6 +45,8 @@ impl Command {
             Some(Command::Describe)
         } else if word == b"run".as_slice() {
             Some(Command::Run)
+        } else if word == b"replicate".as_slice() {
+            Some(Command::Replicate)
         } else if word == b"trial".as_slice() {
             Some(Command::Trial)
         } else {
@@ -60,6 +63,7 @@ impl Command {
                 &[],
             Command::Conflicts | Command::Fuse | Command::Narrow | Command::Describe => &[],
             Command::Run => &[b"until", b"seed", b"events", b"start", b"room"],
+            Command::Replicate => &[b"until", b"seed", b"events", b"runs", b"start"],
             Command::Trial => &[b"seed", b"vertices", b"until", b"events"],
         }
     }

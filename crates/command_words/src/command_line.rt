@@ -10,12 +10,13 @@ ghost use Rattle.command_words.specs.Inner.Asking.{Asked};
 ghost use Rattle.command_words.specs.Inner.ClapCommand.{has_one_dash, rows_in};
 ghost use Rattle.command_words.specs.Inner.MatchedJobs.{has_only, may_be_given, matched_job, matched_values};
 ghost use Rattle.command_words.specs.Readings.{reading_of, KeepsLimits};
-ghost use Rattle.command_words.specs.Jobs.{usual_room, greatest_room, run_of, trial_of, job_with, job_of};
+ghost use Rattle.command_words.specs.Jobs.{usual_room, greatest_room, run_of, replicate_of, trial_of, job_with, job_of};
 
 use crate::argument_values::{number_within, starting_values};
 use crate::clap_matches::{matched, option_names, text_of, with_program};
 use crate::command::Command;
 use crate::job::Job;
+use crate::replicate_options::RUNS_MAX;
 use crate::run_options::{ROOM_MAX, ROOM_USUAL};
 use crate::trial_options::VERTICES_MADE_MAX;
 use crate::words_error::WordsError;
@@ -131,6 +132,25 @@ fn run_of(alloc: Global, matches: &ArgMatches<'_>) -> Result<Job, WordsError>
     })
 }
 
+/// The job `replicate`, by its options.
+fn replicate_of(alloc: Global, matches: &ArgMatches<'_>) -> Result<Job, WordsError>
+    ensures asked { Asked (replicate_of (matched_values (rows_in matches.now))) result }
+    ensures within { IfOk result (λ job. KeepsLimits (reading_of job)) }
+{
+    let until = needed_number(matches, "until", 0, STOP_MAX)?;
+    let seed = needed_number(matches, "seed", 0, u64::MAX)?;
+    let events = needed_number(matches, "events", 1, EVENTS_MAX)?;
+    let runs = needed_number(matches, "runs", 1, RUNS_MAX)?;
+    let starts = starts_of(alloc, matches)?;
+    Ok(Job::Replicate {
+        until,
+        seed,
+        events,
+        runs,
+        starts,
+    })
+}
+
 /// The job `trial`, by its options.
 fn trial_of(matches: &ArgMatches<'_>) -> Result<Job, WordsError>
     ensures asked { Asked (trial_of (matched_values (rows_in matches.now))) result }
@@ -164,6 +184,7 @@ fn job_with(alloc: Global, command: Command, matches: &ArgMatches<'_>) -> Result
         Command::Describe => Ok(Job::Describe),
         Command::Certify => Ok(Job::Certify),
         Command::Run => run_of(alloc, matches),
+        Command::Replicate => replicate_of(alloc, matches),
         Command::Trial => trial_of(matches),
     }
 }

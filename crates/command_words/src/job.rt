@@ -4,6 +4,7 @@ ghost use Rattle.std.specs.Prelude.{◌≡◌};
 ghost use Rattle.command_words.specs.Readings.{reading_of};
 
 use crate::reading::{BareJob, DocumentJob, ModelJob, Reading};
+use crate::replicate_options::ReplicateOptions;
 use crate::run_options::RunOptions;
 use crate::trial_options::TrialOptions;
 use sig_base::List;
@@ -41,6 +42,19 @@ pub enum Job {
         starts: List<i64>,
         /// The pending events for which there is room from the beginning.
         room: usize,
+    },
+    /// The tallies of many runs of the model, each with a seed of its own, and their totals.
+    Replicate {
+        /// The stop time of each run, in ticks.
+        until: u64,
+        /// The seed of the first run's random streams. Each further run has the next number.
+        seed: u64,
+        /// The event budget of each run: the most steps that are made.
+        events: u64,
+        /// How many runs there are.
+        runs: u64,
+        /// A value for each parameter of the vertex that begins the run, in order.
+        starts: List<i64>,
     },
     /// How large a model is that a number makes, what is left of it when it is reduced, and how a run of each goes.
     Trial {
@@ -82,6 +96,19 @@ impl Job {
                 events,
                 starts,
                 room,
+            })),
+            Job::Replicate {
+                until,
+                seed,
+                events,
+                runs,
+                starts,
+            } => Reading::Model(ModelJob::Replicate(ReplicateOptions {
+                until,
+                seed,
+                events,
+                runs,
+                starts,
             })),
             Job::Trial {
                 seed,

@@ -3,6 +3,7 @@
 ghost use Rattle.std.specs.Prelude.{◌≡◌};
 ghost use Rattle.command_words.specs.Readings.{limit_of};
 
+use crate::replicate_options::ReplicateOptions;
 use crate::run_options::RunOptions;
 use crate::trial_options::TrialOptions;
 use sig_base::{DOCUMENT_MAX, TEXT_MAX};
@@ -39,6 +40,8 @@ pub enum ModelJob {
     Describe,
     /// The watched history of a run of it, as it happens.
     Run(RunOptions),
+    /// The tallies of many runs of it, and their totals.
+    Replicate(ReplicateOptions),
 }
 
 /// What is asked of a document.

@@ -15,6 +15,7 @@ use Rattle.job_answers.proofs.ConflictsLaws.{conflicts_laws}
 use Rattle.job_answers.proofs.DescribeLaws.{describe_laws}
 use Rattle.job_answers.proofs.RewritingLaws.{BecomesOne, fuse_laws, narrow_laws}
 use Rattle.job_answers.proofs.RunLaws.{run_laws}
+use Rattle.job_answers.proofs.ReplicateLaws.{replicate_laws}
 use Rattle.job_answers.proofs.TrialLaws.{OneSummary, trial_laws}
 use Rattle.job_answers.proofs.CertifyLaws.{certify_laws}
 
@@ -28,5 +29,6 @@ keeps_laws only ends fuses narrows trials (readings.Model models.Fuse) = fuse_la
 keeps_laws only ends fuses narrows trials (readings.Model models.Narrow) = narrow_laws narrows
 keeps_laws only ends fuses narrows trials (readings.Model models.Describe) = describe_laws
 keeps_laws only ends fuses narrows trials (readings.Model (models.Run options)) = run_laws options
+keeps_laws only ends fuses narrows trials (readings.Model (models.Replicate options)) = replicate_laws options
 keeps_laws only ends fuses narrows trials (readings.Document documents.Certify) = certify_laws
 keeps_laws only ends fuses narrows trials (readings.Nothing (bare.Trial options)) = trial_laws trials options

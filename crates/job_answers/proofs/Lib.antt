@@ -10,7 +10,9 @@ mod DescribeLaws
 mod JobLaws
 mod PassedOn
 mod PrintLaws
+mod PiecesWritten
 mod ReduceLaws
+mod ReplicateLaws
 mod RewritingLaws
 mod RewrittenMeans
 mod ToldErrors

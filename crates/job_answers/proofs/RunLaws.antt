@@ -17,19 +17,16 @@ use Rattle.model_core.specs.Run.Machine.{Note, Look, Standing, Ended, Stopped, F
 use Rattle.model_core.specs.Run.History.{Moment, start, allowed, look, look_from, reached_from}
 use Rattle.model_core.specs.Run.Step.{Configuration}
 use Rattle.model_core.specs.Text.HistoryText.{note_line, end_line, history_text}
-use Rattle.run_control.specs.declared.begin_error.BeginError.{BeginError}
-use Rattle.run_control.specs.Beginning.{RefusesStart, BegunRun}
+use Rattle.run_control.specs.Beginning.{BegunRun}
 use Rattle.run_control.specs.Running.{Running}
 use Rattle.watch_trace.specs.declared.outcome.Outcome.{Outcome}
 use Rattle.watch_trace.specs.declared.outcome.Outcome.TheVariants as outcomes
 use Rattle.watch_trace.specs.Tracing.{Tracing, moment_of}
 use Rattle.watch_trace.specs.Following.{outcome_of, seen_from, Writes, WritesAll, Stands}
 use Rattle.run_laws.proofs.HistoryBytes.{history_has_bytes}
-use Rattle.job_answers.specs.declared.answer.Answer.TheVariants.{Given, Refused}
+use Rattle.job_answers.specs.declared.answer.Answer.TheVariants.{Given}
 use Rattle.job_answers.specs.declared.delivering.Said.{Said}
-use Rattle.job_answers.specs.declared.delivering.Said.TheVariants as said
 use Rattle.job_answers.specs.declared.status.End.{End}
-use Rattle.job_answers.specs.declared.status.Refusal.TheVariants as refusals
 use Rattle.job_answers.specs.declared.status.Failure.{Failure}
 use Rattle.job_answers.specs.declared.status.Failure.TheVariants as failures
 use Rattle.job_answers.specs.declared.status.Status.TheVariants as statuses
@@ -41,9 +38,8 @@ use Rattle.job_answers.specs.StartingValues.{start_refusal}
 use Rattle.job_answers.specs.Statuses.{status_of_answer}
 use Rattle.job_answers.specs.Inner.WritingSteps.{Streamed, Closed}
 use Rattle.job_answers.specs.Inner.RunSteps.{ending, StreamsRun}
-use Rattle.job_answers.specs.Inner.StartSteps.{RefusesRun}
 use Rattle.job_answers.proofs.GivenAnswers.{given_is_no_refusal, some_bytes, end_unrefused}
-use Rattle.job_answers.proofs.StartLaws.{taken_start, refused_start}
+use Rattle.job_answers.proofs.StartLaws.{taken_start}
 use Rattle.job_answers.proofs.Streaming.{closed, closed_in_memory, unstreamed, stopped_short}
 
 -- ---- what is written
@@ -139,21 +135,6 @@ given_run g until seed events starts taken = ap (λ s. refused_or s (told_of g u
 module _ {K : Type 0} (sight : K → Outlet) (g : EventGraph) (until seed events : ℕ) (starts : List ℤ) (room : ℕ) where
   abbrev DeliversRun : Result Said Failure → K → K → Type 0
   DeliversRun r o p = DeliversSome sight (λ a. a ≡ run_answer g until seed events starts) (ExceedsRoom g until seed events starts room) r o p
-
-  -- a run that can't begin is refused
-  pub run_refused : (error : BeginError) (r : Result Said Failure) (o : K) → RefusesStart g starts error → RefusesRun error r → DeliversRun r o o
-  run_refused error (Ok (said.Refused refusals.BadStart line)) o refuses h = inl (record {
-    answer = Refused refusals.BadStart line;
-    holds = ap (λ s. refused_or s (told_of g until events (look g seed starts until events))) (sym (refused_start g starts error line refuses h));
-    delivers = (refl, refl, refl);
-    short = λ e. absurd cc;
-  })
-  run_refused error (Ok (said.Refused refusals.Refused line)) o refuses h = absurd h
-  run_refused error (Ok (said.Gave end)) o refuses h = absurd h
-  run_refused error (Err failures.NoMemory) o refuses h = inr (refl, refl)
-  run_refused error (Err failures.Usage) o refuses h = absurd h
-  run_refused error (Err failures.ReadFault) o refuses h = absurd h
-  run_refused error (Err failures.WriteFault) o refuses h = absurd h
 
   module _ (taken : IsTrue (allowed g starts)) where
     -- its history could not be written

@@ -1,5 +1,5 @@
 -- Which starting values are taken: a run begins with exactly those that aren't refused, and of others the line tells why.
-use Rattle.std.proofs.Common.{◌≡◌, ◌≢◌, ◌==◌, inl, inr, ℕ, zero, suc, add-zero, ◌+◌, ◌<◌, ℤ, pos, true, false, List, [], ◌∷◌, length, get_or, Some, None, refl, sym, ap, ap₂, ◌∙◌, subst, arith}
+use Rattle.std.proofs.Common.{◌≡◌, ◌≢◌, ◌==◌, inl, inr, ℕ, zero, suc, add-zero, ◌+◌, ◌<◌, ℤ, pos, true, false, List, [], ◌∷◌, length, get_or, Some, None, Result, Ok, Err, refl, sym, ap, ap₂, ◌∙◌, subst, arith}
 use Rattle.std.specs.Prelude.{IsTrue, cond}
 use Rattle.std.proofs.lemmas.Bool.{eq-eqb}
 use Rattle.std.proofs.lemmas.Bool.Decides.{eqb_tells}
@@ -8,11 +8,21 @@ use Rattle.model_core.specs.EventGraph.{EventGraph, Variable}
 use Rattle.model_core.proofs.BothTrue.{and_first, and_second}
 use Rattle.model_core.specs.Run.State.{within, no_variable}
 use Rattle.model_core.specs.Run.History.{allowed}
+use Rattle.sig_base.specs.Sink.{Outlet}
 use Rattle.run_control.specs.declared.begin_error.BeginError.{BeginError}
 use Rattle.run_control.specs.declared.begin_error.BeginError.TheVariants as errors
 use Rattle.run_control.specs.Beginning.{parameters, fits_at, RefusesStart}
+use Rattle.job_answers.specs.declared.answer.Answer.{Answer}
+use Rattle.job_answers.specs.declared.answer.Answer.TheVariants.{Refused}
+use Rattle.job_answers.specs.declared.delivering.Said.{Said}
+use Rattle.job_answers.specs.declared.delivering.Said.TheVariants as said
+use Rattle.job_answers.specs.declared.status.Failure.{Failure}
+use Rattle.job_answers.specs.declared.status.Failure.TheVariants as failures
+use Rattle.job_answers.specs.declared.status.Refusal.TheVariants as refusals
+use Rattle.job_answers.specs.Delivery.{DeliversSome}
+use Rattle.job_answers.specs.RunAnswer.{refused_or}
 use Rattle.job_answers.specs.StartingValues.{count_line, outside_line, first_outside, start_refusal}
-use Rattle.job_answers.specs.Inner.StartSteps.{RefusalLine}
+use Rattle.job_answers.specs.Inner.StartSteps.{RefusalLine, RefusesRun}
 
 -- the first value outside its range is the one that is told
 first_told : (place k : ℕ) (vs : List Variable) (xs : List ℤ) → length xs ≡ length vs → k < length xs
@@ -57,3 +67,19 @@ refused_start g starts (errors.StartOutside place value) line refuses told =
     ap (λ b. cond b (first_outside 1 (parameters g) starts) (Some (count_line (length (parameters g)) (length starts)))) (eq-eqb _ _ (sym found.matched))
     ∙ first ∙ ap₂ (λ n x. Some (outside_line n x)) one_more (sym found.is) ∙ ap (λ l. Some l) (sym told)
 refused_start g starts errors.NoMemory line refuses told = absurd told
+
+-- a run that can't begin is refused, whatever would be told of it
+pub start_refused : {K : Type 0} (sight : K → Outlet) (g : EventGraph) (starts : List ℤ) (told : Answer) (Short : Type 0) (error : BeginError) (r : Result Said Failure) (o : K) → ((line : List ℕ) → RefusalLine error line → RefusesStart g starts error) → RefusesRun error r
+    → DeliversSome sight (λ a. a ≡ refused_or (start_refusal g starts) told) Short r o o
+start_refused sight g starts told Short error (Ok (said.Refused refusals.BadStart line)) o refuses h = inl (record {
+  answer = Refused refusals.BadStart line;
+  holds = ap (λ s. refused_or s told) (sym (refused_start g starts error line (refuses line h) h));
+  delivers = (refl, refl, refl);
+  short = λ e. absurd cc;
+})
+start_refused sight g starts told Short error (Ok (said.Refused refusals.Refused line)) o refuses h = absurd h
+start_refused sight g starts told Short error (Ok (said.Gave end)) o refuses h = absurd h
+start_refused sight g starts told Short error (Err failures.NoMemory) o refuses h = inr (refl, refl)
+start_refused sight g starts told Short error (Err failures.Usage) o refuses h = absurd h
+start_refused sight g starts told Short error (Err failures.ReadFault) o refuses h = absurd h
+start_refused sight g starts told Short error (Err failures.WriteFault) o refuses h = absurd h

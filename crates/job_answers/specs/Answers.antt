@@ -27,6 +27,7 @@ use Rattle.job_answers.specs.FuseAnswer.{IsFusion}
 use Rattle.job_answers.specs.NarrowAnswer.{IsNarrowing}
 use Rattle.job_answers.specs.DescribeAnswer.{describe_answer}
 use Rattle.job_answers.specs.RunAnswer.{run_answer, ExceedsRoom}
+use Rattle.job_answers.specs.ReplicateAnswer.{replicate_answer}
 use Rattle.job_answers.specs.CertifyAnswer.{certify_answer}
 use Rattle.job_answers.specs.TrialAnswer.{IsTrial}
 
@@ -34,7 +35,8 @@ use Rattle.job_answers.specs.TrialAnswer.{IsTrial}
 
 -- `check` says that the model is accepted, `print` writes its canonical text, `reduce` another one that means the same with
 -- its certificate, `uses` who uses each variable, `conflicts` which pairs of vertices are in conflict, `fuse` and `narrow`
--- another text that means the same, `describe` the model in English, and `run` the history of a run
+-- another text that means the same, `describe` the model in English, `run` the history of a run, and `replicate` the
+-- report of many runs
 abbrev pub AnswersModel : ModelJob → EventGraph → Answer → Type 0
 AnswersModel models.Check g a = a ≡ check_answer g
 AnswersModel models.Print g a = a ≡ print_answer g
@@ -45,6 +47,7 @@ AnswersModel models.Fuse g a = IsFusion g a
 AnswersModel models.Narrow g a = IsNarrowing g a
 AnswersModel models.Describe g a = a ≡ describe_answer g
 AnswersModel (models.Run options) g a = a ≡ run_answer g options.until options.seed options.events options.starts
+AnswersModel (models.Replicate options) g a = a ≡ replicate_answer g options
 
 -- `certify` says whether the certificate holds
 abbrev pub AnswersDocument : DocumentJob → EventGraph → List RuleApplication → EventGraph → Answer → Type 0
@@ -55,9 +58,10 @@ abbrev pub AnswersAlone : BareJob → Answer → Type 0
 AnswersAlone (bare.Trial options) a = IsTrial options a
 
 -- A job on a model that writes as it goes may lack memory behind a front of its bytes: `run` where the run needs more room
--- than was asked for.
+-- than was asked for, `replicate` anywhere.
 abbrev pub MayFallShort : ModelJob → EventGraph → Type 0
 MayFallShort (models.Run options) g = ExceedsRoom g options.until options.seed options.events options.starts options.room
+MayFallShort (models.Replicate options) g = Unit {0}
 MayFallShort job g = ⊥
 
 -- these bytes are none, of a job that may have none: `uses` where the model has no variables, and `conflicts` where no two

@@ -12,6 +12,7 @@ pub mod NarrowAnswer
 pub mod DescribeAnswer
 pub mod StartingValues
 pub mod RunAnswer
+pub mod ReplicateAnswer
 pub mod CertifyAnswer
 pub mod TrialAnswer
 pub mod Answers

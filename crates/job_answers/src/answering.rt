@@ -18,6 +18,7 @@ use crate::delivering::{Said, deliver};
 use crate::document_reading::{Document, document_of};
 use crate::reading_error::ReadingError;
 use crate::reduction::reduction;
+use crate::replicating::replicate;
 use crate::rewriting::{fusion, narrowing};
 use crate::running::run_model;
 use crate::sentences::sentences;
@@ -72,6 +73,11 @@ pub fn answer_model<K: Sink>(
         }
         ModelJob::Run(options) => {
             let said = run_model(alloc, &model, options, output);
+            forget(model);
+            said
+        }
+        ModelJob::Replicate(options) => {
+            let said = replicate(alloc, &model, options, output);
             forget(model);
             said
         }

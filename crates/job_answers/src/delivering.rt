@@ -18,7 +18,7 @@ pub enum Said {
 }
 
 /// Writes all of the bytes, as one piece.
-fn write_all<K: Sink>(output: &mut K, bytes: &[u8]) -> Result<(), Failure>
+pub(crate) fn write_all<K: Sink>(output: &mut K, bytes: &[u8]) -> Result<(), Failure>
     ensures { Written bytes.now result (K.seen output.old) (K.seen output.new) }
 {
     match put(output, bytes) {

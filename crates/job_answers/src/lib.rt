@@ -17,6 +17,7 @@ mod job_laws;
 mod reading_error;
 mod reduction;
 mod reduction_law;
+mod replicating;
 mod rewriting;
 mod rewriting_law;
 mod running;

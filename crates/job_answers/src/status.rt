@@ -1,7 +1,10 @@
 //! How the program ends.
 
 ghost use Rattle.std.specs.Prelude.{◌≡◌};
+ghost use Rattle.job_answers.specs.declared.status.Failure.TheVariants.{NoMemory as OutOfMemory};
 ghost use Rattle.job_answers.specs.Statuses.{exit_status_of, status_of_end, status_of_refusal, status_of_failure, failure_line};
+
+use sig_base::NoMemory;
 
 /// How a call of the program ended.
 #[derive(Clone, Copy, Debug, PartialEq, Eq)]
@@ -107,6 +110,14 @@ pub enum Failure {
     WriteFault,
     /// Memory was refused.
     NoMemory,
+}
+
+impl From<NoMemory> for Failure {
+    ghost from_gives = { λ _ e. e ≡ OutOfMemory };
+
+    fn from(_error: NoMemory) -> Failure {
+        Failure::NoMemory
+    }
 }
 
 impl Failure {

@@ -24,6 +24,19 @@ const NO_TRIALS: [&str; 12] = [
     "trial --seed 42 --vertices 2 --until 20 --events 100 -- trial",
 ];
 
+/// Words that ask for no replications, each for one reason.
+const NO_REPLICATIONS: [&str; 9] = [
+    "replicate --until 12 --seed 1 --events 100 --runs 0",
+    "replicate --until 12 --seed 1 --events 100 --runs 65537",
+    "replicate --until 12 --seed 1 --events 0 --runs 2",
+    "replicate --until 12 --seed 1 --events 100",
+    "replicate --until 12 --seed 1 --runs 2",
+    "replicate --seed 1 --events 100 --runs 2",
+    "replicate --until 12 --events 100 --runs 2",
+    "replicate --until 12 --seed 1 --events 100 --runs 2 --room 5",
+    "replicate --until 12 --seed 1 --events 100 --runs 2 --runs 2",
+];
+
 /// What a run is asked for with.
 #[derive(Clone, Copy)]
 struct Wanted {
@@ -368,6 +381,64 @@ fn options_of_a_trial_are_read(rt: HostRuntime) -> Result<(), Fail> {
     ] {
         let given = split(rt.alloc(), line)?;
         assert!(rt; asks_for_trial(&words(rt.alloc(), &given), seed, vertices));
+    }
+    Ok(())
+}
+
+/// Whether the words ask for replications with these options.
+fn asks_for_replications(
+    asked: &Result<Job, WordsError>,
+    seed: u64,
+    runs: u64,
+    starts: &[i64],
+) -> bool {
+    match asked {
+        Ok(
+            Job::Replicate {
+                until: 12,
+                seed: given,
+                events: 100,
+                runs: many,
+                starts: values,
+            },
+        ) => *given == seed && *many == runs && values.as_slice() == starts,
+        _ => false,
+    }
+}
+
+#[test]
+fn options_of_replications_are_read(rt: HostRuntime) -> Result<(), Fail> {
+    for (line, seed, runs, starts) in [
+        (
+            "replicate --until 12 --seed 1 --events 100 --runs 2",
+            1,
+            2,
+            [].as_slice(),
+        ),
+        (
+            "--runs=65536 replicate --seed 18446744073709551615 --events=100 --until=12 --start=-3,0",
+            u64::MAX,
+            65_536,
+            [-3, 0].as_slice(),
+        ),
+        (
+            "--runs 01 --seed=0 --events 0100 --until 12 -- replicate",
+            0,
+            1,
+            [].as_slice(),
+        ),
+    ] {
+        let given = split(rt.alloc(), line)?;
+        assert!(rt; asks_for_replications(&words(rt.alloc(), &given), seed, runs, starts));
+    }
+    Ok(())
+}
+
+#[test]
+fn other_words_are_no_replications(rt: HostRuntime) -> Result<(), Fail> {
+    for line in NO_REPLICATIONS {
+        let given = split(rt.alloc(), line)?;
+        assert!(rt; asks_for_no_job(&words(rt.alloc(), &given)));
     }
     Ok(())
 }

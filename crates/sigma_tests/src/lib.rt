@@ -23,6 +23,8 @@ mod models;
 #[cfg(test)]
 mod reductions;
 #[cfg(test)]
+mod replications;
+#[cfg(test)]
 mod rewritten_models;
 #[cfg(test)]
 mod trials;

@@ -1,5 +1,5 @@
 -- What the steps of writing an answer say to one another.
-use Rattle.std.specs.Prelude.{◌≡◌, ◌<◌, ◌⊎◌, ℕ, true, false, List, length, Result, Ok, Err}
+use Rattle.std.specs.Prelude.{◌≡◌, ◌<◌, ◌⊎◌, ℕ, true, false, List, [], length, Result, Ok, Err}
 use Rattle.sig_base.specs.Faults.{HasRisen}
 use Rattle.sig_base.specs.Sink.{Outlet, GrowsBy}
 use Rattle.sig_base.specs.Source.{Stays}
@@ -10,11 +10,18 @@ use Rattle.job_answers.specs.declared.status.Failure.{Failure}
 use Rattle.job_answers.specs.declared.status.Failure.TheVariants as failures
 use Rattle.job_answers.specs.FrontWritten.{GrowsByFront}
 
--- what writing bytes at once did: writing some leaves the output unsettled
+-- what writing bytes at once did: writing some leaves the output unsettled, and writing none leaves it as it was
 abbrev pub Written : {A : Type 0} → List ℕ → Result A Failure → Outlet → Outlet → Type 0
-Written bytes (Ok done) o p = GrowsBy o.written p.written bytes × (0 < length bytes → p.settled ≡ false) × (p.faults ≡ o.faults)
+Written bytes (Ok done) o p = GrowsBy o.written p.written bytes × (0 < length bytes → p.settled ≡ false) × (p.faults ≡ o.faults) × (bytes ≡ [] → p.settled ≡ o.settled)
 Written bytes (Err failures.WriteFault) o p = GrowsByFront o p bytes × (p.settled ≡ false) × HasRisen o.faults p.faults
 Written bytes (Err e) o p = ⊥
+
+-- what writing bytes piece by piece did, where memory may be refused behind a front of them
+abbrev pub InPieces : List ℕ → Result Unit Failure → Outlet → Outlet → Type 0
+InPieces bytes (Ok done) o p = GrowsBy o.written p.written bytes × (0 < length bytes → p.settled ≡ false) × (p.faults ≡ o.faults) × (bytes ≡ [] → p.settled ≡ o.settled)
+InPieces bytes (Err failures.WriteFault) o p = GrowsByFront o p bytes × (p.settled ≡ false) × HasRisen o.faults p.faults
+InPieces bytes (Err failures.NoMemory) o p = GrowsByFront o p bytes × (p.faults ≡ o.faults)
+InPieces bytes (Err e) o p = ⊥
 
 -- What writing some bytes as they come did, of which the end is known at last. Memory may be refused behind a front of
 -- them where this is so.

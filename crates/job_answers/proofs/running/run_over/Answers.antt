@@ -7,13 +7,14 @@ use Rattle.run_control.specs.Running.{Running}
 use Rattle.job_answers.specs.declared.status.End.{End}
 use Rattle.job_answers.specs.declared.status.Failure.{Failure}
 use Rattle.job_answers.specs.Inner.RunSteps.{StreamsRun}
-use Rattle.job_answers.proofs.RunLaws.{run_refused, run_failed, run_told}
+use Rattle.job_answers.proofs.RunLaws.{run_failed, run_told}
+use Rattle.job_answers.proofs.StartLaws.{start_refused}
 use Rattle.job_answers.proofs.running.run_over.Goals as goal
 
 pub returns-in-Err : goal.returns-in-Err
 returns-in-Err g c =
     let options = c.args.options.now in
-    run_refused g.K.Sink.seen (graph_of c.args.model.now) options.until options.seed options.events options.starts options.room c.in-Err.error c.refuse_start.result c.args.output.now c.in-Err.ensures.err c.refuse_start.ensures
+    start_refused g.K.Sink.seen (graph_of c.args.model.now) options.starts _ _ c.in-Err.error c.refuse_start.result c.args.output.now (λ line told. c.in-Err.ensures.err) c.refuse_start.ensures
 
 -- the history, with the seed that was asked for
 told : {K : Type 0} (seen : K → Outlet) (m : Model) (until seed events : ℕ) (starts : List ℤ) (room : ℕ) (run : Running) (r : Result End Failure) (o p : K) → BegunRun m seed starts room run

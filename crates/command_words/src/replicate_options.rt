@@ -1,0 +1,21 @@
+//! What replications of a model are asked for.
+
+use sig_base::List;
+
+/// The most runs that can be asked for.
+pub const RUNS_MAX: u64 = 65_536;
+
+/// What replications are asked for.
+#[derive(Drop)]
+pub struct ReplicateOptions {
+    /// The stop time of each run, in ticks.
+    pub until: u64,
+    /// The seed of the first run's random streams. Each further run has the next number.
+    pub seed: u64,
+    /// The event budget of each run: the most steps that are made.
+    pub events: u64,
+    /// How many runs there are.
+    pub runs: u64,
+    /// A value for each parameter of the vertex that begins the run, in order.
+    pub starts: List<i64>,
+}

@@ -1,0 +1,30 @@
+-- What the steps of the job `replicate` say to one another: what is left of a report, and how far it was written.
+use Rattle.std.specs.Prelude.{◌≡◌, ℕ, zero, suc, ◌+◌, List, ◌++◌, Ok}
+use Rattle.sig_base.specs.Sink.{Outlet}
+use Rattle.command_words.specs.declared.replicate_options.ReplicateOptions.{ReplicateOptions}
+use Rattle.model_core.specs.EventGraph.{EventGraph}
+use Rattle.run_control.specs.declared.begin_error.BeginError.{BeginError}
+use Rattle.run_control.specs.declared.begin_error.BeginError.TheVariants as begins
+use Rattle.tally_report.specs.declared.tally_error.TallyError.{TallyError}
+use Rattle.tally_report.specs.declared.tally_error.TallyError.TheVariants as tallies
+use Rattle.tally_report.specs.ReportText.{total_rows}
+use Rattle.tally_report.specs.Totalling.{RunTotals, with_run}
+use Rattle.job_answers.specs.ReplicateAnswer.{tally_numbered, rows_numbered}
+use Rattle.job_answers.specs.Inner.WritingSteps.{InPieces}
+
+-- why the run that a tally is of can't begin
+abbrev pub begin_error_of : TallyError → BeginError
+begin_error_of (tallies.StartCount needed given) = begins.StartCount needed given
+begin_error_of (tallies.StartOutside place value) = begins.StartOutside place value
+begin_error_of tallies.NoMemory = begins.NoMemory
+
+-- what is left of a report behind the runs of these totals: so many runs from this number on, and the totals
+abbrev pub left_from : EventGraph → ReplicateOptions → RunTotals → ℕ → ℕ → List ℕ
+left_from g o totals number zero = total_rows g totals
+left_from g o totals number (suc n) = rows_numbered g o number ++ left_from g o (with_run totals (tally_numbered g o number)) (number + 1) n
+
+-- all of the bytes were written but these, which are left
+pub record IsWrittenUpTo (left bytes : List ℕ) (o p : Outlet) : Type 0 where
+  pub front : List ℕ
+  pub parts : front ++ left ≡ bytes
+  pub written : InPieces front (Ok tt) o p

@@ -1,0 +1,168 @@
+//! `replicate`: the report of many runs of a model, written run by run, or why they can't begin.
+
+ghost use Rattle.std.specs.Prelude.{◌≡◌, ◌-◌, ◌≤◌, ◌<◌, ◌^◌, All, IfOk, IfErr, IsTrue};
+ghost use Rattle.model_core.specs.Static.Reading.{IsValid};
+ghost use Rattle.model_core.specs.Run.History.{allowed};
+ghost use Rattle.model_core.specs.Code.Views.{graph_of};
+ghost use Rattle.tally_report.specs.TallyRefusals.{RefusesTally};
+ghost use Rattle.tally_report.specs.SmallAreas.{IsOfRuns};
+ghost use Rattle.tally_report.specs.Totalling.{with_run};
+ghost use Rattle.tally_report.specs.ReportText.{run_rows};
+ghost use Rattle.job_answers.specs.ReplicateAnswer.{seed_of_run, tally_numbered, report, replicate_answer};
+ghost use Rattle.job_answers.specs.Delivery.{DeliversSome};
+ghost use Rattle.job_answers.specs.Inner.ReportSteps.{begin_error_of, left_from};
+ghost use Rattle.job_answers.specs.Inner.WritingSteps.{InPieces};
+
+use crate::beginning::refuse_start;
+use crate::delivering::{Said, close, write_all};
+use crate::status::{End, Failure};
+use command_words::ReplicateOptions;
+use model_core::Model;
+use round_trip::validity_is_by_parts;
+use run_control::{BeginError, kept_models_can_be_run};
+use sig_base::Sink;
+use std::alloc::Global;
+use tally_report::{RunTally, TallyError, Totals, header_csv, run_csv, tally_one, totals_csv};
+
+/// The seed of the run of a number, from 1.
+fn seed_of_run(seed: u64, number: u64) -> u64
+    requires { 0 < number }
+    ensures { result ≡ seed_of_run seed number }
+{
+    seed.wrapping_add(number - 1)
+}
+
+/// The tally of the run of a number, from 1.
+fn tally_numbered(
+    alloc: Global,
+    model: &Model,
+    options: &ReplicateOptions,
+    number: u64,
+) -> Result<RunTally, TallyError>
+    requires valid { IsValid (graph_of model.now) }
+    requires soon { options.now.until ≤ 2 ^ 48 }
+    requires budget { options.now.events ≤ 2 ^ 40 }
+    requires first { 0 < number }
+    ensures accepted { IfOk result (λ tally. IsTrue (allowed (graph_of model.now) options.now.starts)) }
+    ensures told { IfOk result (λ tally. tally ≡ tally_numbered (graph_of model.now) options.now number) }
+    ensures small { IfOk result (λ tally. All (IsOfRuns 1) tally.items) }
+    ensures err { IfErr result (RefusesTally (graph_of model.now) options.now.starts) }
+{
+    validity_is_by_parts();
+    kept_models_can_be_run();
+    tally_one(
+        alloc,
+        model,
+        seed_of_run(options.seed, number),
+        options.until,
+        options.events,
+        &options.starts,
+    )
+}
+
+/// Why the run can't begin of which there is no tally.
+fn begin_error_of(error: TallyError) -> BeginError
+    ensures { result ≡ begin_error_of error }
+{
+    match error {
+        TallyError::StartCount { needed, given } => BeginError::StartCount { needed, given },
+        TallyError::StartOutside { place, value } => BeginError::StartOutside { place, value },
+        TallyError::NoMemory => BeginError::NoMemory,
+    }
+}
+
+/// Writes the rows of a run, and adds it to the totals.
+fn tell_run<K: Sink>(
+    alloc: Global,
+    model: &Model,
+    number: u64,
+    seed: u64,
+    tally: &RunTally,
+    totals: &mut Totals,
+    output: &mut K,
+) -> Result<(), Failure>
+    requires few { totals.old.runs < 65536 }
+    requires small { All (IsOfRuns 1) tally.now.items }
+    ensures written { InPieces (run_rows (graph_of model.now) number seed tally.now) result (K.seen output.old) (K.seen output.new) }
+    ensures added { IfOk result (λ done. totals.new ≡ with_run totals.old tally.now) }
+{
+    let rows = run_csv(alloc, model, number, seed, tally)?;
+    write_all(output, rows.as_slice())?;
+    totals.add(tally);
+    Ok(())
+}
+
+/// Writes the rows of the runs from the second one on, and those of the totals, which begin with the first run's.
+fn tell_further<K: Sink>(
+    alloc: Global,
+    model: &Model,
+    options: &ReplicateOptions,
+    totals: Totals,
+    output: &mut K,
+) -> Result<(), Failure>
+    requires valid { IsValid (graph_of model.now) }
+    requires soon { options.now.until ≤ 2 ^ 48 }
+    requires budget { options.now.events ≤ 2 ^ 40 }
+    requires some { 0 < options.now.runs }
+    requires few { options.now.runs ≤ 65536 }
+    requires one { totals.runs ≡ 1 }
+    ensures { InPieces (left_from (graph_of model.now) options.now totals 2 (options.now.runs - 1)) result (K.seen output.old) (K.seen output.new) }
+{
+    let mut totals = totals;
+    for number in 2..options.runs + 1 {
+        let tally = match tally_numbered(alloc, model, options, number) {
+            Ok(tally) => tally,
+            // The first run took the starting values, so that it is memory that lacks.
+            Err(_) => return Err(Failure::NoMemory),
+        };
+        let seed = seed_of_run(options.seed, number);
+        tell_run(alloc, model, number, seed, &tally, &mut totals, output)?;
+    }
+    write_all(output, totals_csv(alloc, model, &totals)?.as_slice())
+}
+
+/// Writes the report whose first run has this tally.
+fn tell_report<K: Sink>(
+    alloc: Global,
+    model: &Model,
+    options: &ReplicateOptions,
+    first: &RunTally,
+    output: &mut K,
+) -> Result<(), Failure>
+    requires valid { IsValid (graph_of model.now) }
+    requires soon { options.now.until ≤ 2 ^ 48 }
+    requires budget { options.now.events ≤ 2 ^ 40 }
+    requires some { 0 < options.now.runs }
+    requires few { options.now.runs ≤ 65536 }
+    requires told { first.now ≡ tally_numbered (graph_of model.now) options.now 1 }
+    requires small { All (IsOfRuns 1) first.now.items }
+    ensures { InPieces (report (graph_of model.now) options.now) result (K.seen output.old) (K.seen output.new) }
+{
+    let mut totals = Totals::begin(alloc, model)?;
+    write_all(output, header_csv(alloc)?.as_slice())?;
+    let seed = seed_of_run(options.seed, 1);
+    tell_run(alloc, model, 1, seed, first, &mut totals, output)?;
+    tell_further(alloc, model, options, totals, output)
+}
+
+/// Writes the report of the runs, each run's rows as it is done.
+pub fn replicate<K: Sink>(
+    alloc: Global,
+    model: &Model,
+    options: &ReplicateOptions,
+    output: &mut K,
+) -> Result<Said, Failure>
+    requires valid { IsValid (graph_of model.now) }
+    requires soon { options.now.until ≤ 2 ^ 48 }
+    requires budget { options.now.events ≤ 2 ^ 40 }
+    requires some { 0 < options.now.runs }
+    requires few { options.now.runs ≤ 65536 }
+    ensures { DeliversSome K.seen (λ a. a ≡ replicate_answer (graph_of model.now) options.now) (Unit {0}) result output.old output.new }
+{
+    let first = match tally_numbered(alloc, model, options, 1) {
+        Ok(tally) => tally,
+        Err(error) => return refuse_start(alloc, begin_error_of(error)),
+    };
+    tell_report(alloc, model, options, &first, output)?;
+    close(output, End::Done)
+}
