@@ -8,8 +8,8 @@ use std::test::*;
 
 const TRIAL: &str = "trial --seed 42 --vertices 2 --until 20 --events 100";
 
-/// Words that ask for no trial, each for one reason.
-const NO_TRIALS: [&str; 12] = [
+/// Words that ask for no trial and no replications, each for one reason.
+const NO_JOBS: [&str; 21] = [
     "trial --seed 42 --vertices 0 --until 20 --events 100",
     "trial --seed 42 --vertices 501 --until 20 --events 100",
     "trial --seed 42 --vertices 2 --until 20 --events 0",
@@ -22,10 +22,6 @@ const NO_TRIALS: [&str; 12] = [
     "trial --vertices 2 --until 20 --events 100",
     "trial --seed 42 --vertices -2 --until 20 --events 100",
     "trial --seed 42 --vertices 2 --until 20 --events 100 -- trial",
-];
-
-/// Words that ask for no replications, each for one reason.
-const NO_REPLICATIONS: [&str; 9] = [
     "replicate --until 12 --seed 1 --events 100 --runs 0",
     "replicate --until 12 --seed 1 --events 100 --runs 65537",
     "replicate --until 12 --seed 1 --events 0 --runs 2",
@@ -435,17 +431,8 @@ fn options_of_replications_are_read(rt: HostRuntime) -> Result<(), Fail> {
 }
 
 #[test]
-fn other_words_are_no_replications(rt: HostRuntime) -> Result<(), Fail> {
-    for line in NO_REPLICATIONS {
-        let given = split(rt.alloc(), line)?;
-        assert!(rt; asks_for_no_job(&words(rt.alloc(), &given)));
-    }
-    Ok(())
-}
-
-#[test]
-fn other_words_are_no_trial(rt: HostRuntime) -> Result<(), Fail> {
-    for line in NO_TRIALS {
+fn other_options_are_no_job(rt: HostRuntime) -> Result<(), Fail> {
+    for line in NO_JOBS {
         let given = split(rt.alloc(), line)?;
         assert!(rt; asks_for_no_job(&words(rt.alloc(), &given)));
     }

@@ -1,15 +1,9 @@
 //! `run` over memory: worked histories, starting values, and a write that fails midway.
 
 use crate::calls::{Answer, Failing, SOUND, called, told};
-use crate::models::{BANK, DRAWN, DRAWN_APART, LOOP};
+use crate::models::{BANK, CLOCK, DRAWN, DRAWN_APART, LOOP, TIGHT};
 use sigma_top::Status;
 use std::test::*;
-
-const CLOCK: &[u8] =
-    b"model CLOCK;\nvar N : 0..3 clip = 0;\nwatch N;\nvertex RUN {\n  set N := N + 1;\n  schedule RUN after 5;\n}\nend\n";
-
-const TIGHT: &[u8] =
-    b"model CLOCK;\nvar N : 0..3 = 0;\nwatch N;\nvertex RUN {\n  set N := N + 1;\n  schedule RUN after 5;\n}\nend\n";
 
 const CUT: &[u8] =
     b"model CUT; var X : 0..9 = 0; watch X, B; vertex RUN { schedule B(3) after 5; schedule B(4) after 5; schedule B(3) after 6; cancel B(3); } vertex B(X) { } end";

@@ -22,3 +22,11 @@ pub const DRAWN: &[u8] =
 /// The same with the draws from two streams.
 pub const DRAWN_APART: &[u8] =
     b"model DRAWN; var X : 1..6 = 1; var Y : 1..6 = 1; watch X; vertex RUN { draw Y from 53 in 1..6; draw X from 54 in 1..6; } end";
+
+/// A variable that stops at its end.
+pub const CLOCK: &[u8] =
+    b"model CLOCK;\nvar N : 0..3 clip = 0;\nwatch N;\nvertex RUN {\n  set N := N + 1;\n  schedule RUN after 5;\n}\nend\n";
+
+/// One that doesn't, so that an event faults.
+pub const TIGHT: &[u8] =
+    b"model CLOCK;\nvar N : 0..3 = 0;\nwatch N;\nvertex RUN {\n  set N := N + 1;\n  schedule RUN after 5;\n}\nend\n";

@@ -1,14 +1,9 @@
 //! `replicate` over memory: worked reports, starting values, and a write that fails behind the first run.
 
 use crate::calls::{Answer, Failing, SOUND, called, done, told};
+use crate::models::{CLOCK, TIGHT};
 use sigma_top::Status;
 use std::test::*;
-
-const CLOCK: &[u8] =
-    b"model CLOCK;\nvar N : 0..3 clip = 0;\nwatch N;\nvertex RUN {\n  set N := N + 1;\n  schedule RUN after 5;\n}\nend\n";
-
-const TIGHT: &[u8] =
-    b"model CLOCK;\nvar N : 0..3 = 0;\nwatch N;\nvertex RUN {\n  set N := N + 1;\n  schedule RUN after 5;\n}\nend\n";
 
 /// Two cells and an event are watched. The first event chooses what the second cell holds.
 const CELLS: &[u8] =
