@@ -8,7 +8,7 @@ ghost use Rattle.describe.specs.Description.{choice_phrase, drawn_phrase};
 
 use itoa::Buffer;
 use model_core::{Choice, Expr, Model, Target};
-use model_print::print_expr;
+use model_print::put_expr;
 use sig_base::{NoMemory, put_bytes, put_number};
 use std::alloc::Global;
 
@@ -29,8 +29,7 @@ pub(crate) fn put_expression(
 ) -> Result<(), NoMemory>
     ensures { OnOk result (out.new.items ≡ out.old.items ++ expression_text (graph_of model.now) (expression_of expr.now)) }
 {
-    let text = print_expr(alloc, expr, model)?;
-    put_bytes(out, text.as_slice())
+    put_expr(alloc, out, expr, model)
 }
 
 /// Adds expressions, each behind a comma and a space.

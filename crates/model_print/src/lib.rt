@@ -19,4 +19,4 @@ pub use lengths::{
     change_length, edge_length, expr_length, fused_length, length_without_edge, printed_length,
     taken_over_length,
 };
-pub use printed::{print, print_expr};
+pub use printed::{print, print_expr, put_expr};

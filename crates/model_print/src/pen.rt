@@ -1,4 +1,5 @@
-//! Where a text goes as it is made: onto a page with room for it, or into a count of its bytes alone.
+//! Where a text goes as it is made: onto a page with room for it, behind other bytes that grow, or into a count of its bytes
+//! alone.
 
 ghost use Rattle.std.specs.Prelude.{◌≡◌, ◌≤◌, ◌-◌, ◌^◌, ℕ, min, List, [], ◌++◌, codes, decimal, vec_capacity, IfOk};
 ghost use Rattle.std.specs.Fmt.{signed_decimal};
@@ -82,6 +83,29 @@ impl Pen for Page {
     fn put_bytes(&mut self, bytes: &[u8]) {
         if bytes.len() <= self.bytes.capacity() - self.bytes.len() {
             self.bytes.extend_from_slice(bytes).unwrap();
+        }
+    }
+}
+
+/// A text that grows. Once memory was refused nothing more is put.
+#[derive(Drop)]
+pub struct Growing {
+    pub bytes: Vec<u8>,
+    pub lacks_memory: bool,
+}
+
+impl Pen for Growing {
+    ghost use Rattle.model_print.specs.Inner.Pens.{Grows, grows_nothing, grows_both};
+
+    ghost adds = { λ s t text. Grows s.bytes.items s.lacks_memory t.bytes.items t.lacks_memory text };
+
+    ghost nothing = { λ s. grows_nothing s.bytes.items s.lacks_memory };
+
+    ghost both = { λ s t u a b. grows_both s.bytes.items s.lacks_memory t.bytes.items t.lacks_memory u.bytes.items u.lacks_memory a b };
+
+    fn put_bytes(&mut self, bytes: &[u8]) {
+        if !self.lacks_memory {
+            self.lacks_memory = self.bytes.extend_from_slice(bytes).is_err();
         }
     }
 }

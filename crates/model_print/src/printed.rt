@@ -1,16 +1,17 @@
 //! Canonical texts in memory.
 
-ghost use Rattle.std.specs.Prelude.{◌≡◌, ◌≤◌, ◌<◌, ◌-◌, ◌^◌, [], vec_capacity, IfOk};
+ghost use Rattle.std.specs.Prelude.{◌≡◌, ◌≤◌, ◌<◌, ◌-◌, ◌^◌, ◌++◌, [], vec_capacity, IfOk, OnOk};
 ghost use Rattle.model_core.specs.Text.Canonical.{canonical, expression_text};
 ghost use Rattle.model_core.specs.Code.Views.{graph_of, expression_of};
 
 use crate::expressions::put_expression;
 use crate::lengths::{expr_length, printed_length};
 use crate::model::put_model;
-use crate::pen::Page;
+use crate::pen::{Growing, Page};
 use model_core::{Expr, Model};
 use sig_base::{NoMemory, Text};
 use std::alloc::Global;
+use std::mem::replace;
 
 /// An empty page with room for a text of this length.
 fn page_for(alloc: Global, length: u64) -> Result<Page, NoMemory>
@@ -44,4 +45,27 @@ pub fn print_expr(alloc: Global, expr: &Expr, model: &Model) -> Result<Text, NoM
     let mut page = page_for(alloc, expr_length(expr, model))?;
     put_expression(&mut page, model, expr);
     Ok(Text::from_vec(page.bytes))
+}
+
+/// Adds the canonical text of an expression of the model to other bytes, with parentheses exactly where they are needed.
+///
+/// A place that no variable, table or vertex has prints as nothing.
+pub fn put_expr(
+    alloc: Global,
+    out: &mut Vec<u8>,
+    expr: &Expr,
+    model: &Model,
+) -> Result<(), NoMemory>
+    ensures { OnOk result (out.new.items ≡ out.old.items ++ expression_text (graph_of model.now) (expression_of expr.now)) }
+{
+    let mut text = Growing {
+        bytes: replace(out, Vec::new(alloc)),
+        lacks_memory: false,
+    };
+    put_expression(&mut text, model, expr);
+    *out = text.bytes;
+    if text.lacks_memory {
+        return Err(NoMemory);
+    }
+    Ok(())
 }
