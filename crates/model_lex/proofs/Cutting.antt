@@ -6,8 +6,9 @@ use Rattle.model_core.specs.declared.token.Token.{Token}
 use Rattle.model_core.specs.declared.token.TokenKind.{TokenKind}
 use Rattle.model_core.specs.Text.Lexing.{Lexeme, LexemeKind, Front, Between, Longest, Neither, front_length, after_front, tokens_from, tokens_of}
 use Rattle.model_core.specs.Code.TokenViews.{lexeme_of, lexeme_kind_of}
-use Rattle.model_lex.specs.Inner.Fronts.{front_at, seen}
-use Rattle.model_lex.specs.declared.front.Front.{Front as CodeFront}
+use Rattle.model_lex.specs.Inner.Fronts.{front_at, Gives, Passes}
+use Rattle.model_lex.specs.declared.lex_error.LexError.{LexError}
+use Rattle.model_lex.specs.declared.lex_error.LexError.TheVariants as errors
 use Rattle.model_lex.proofs.FrontLemmas.{Fits, front-front_at, front_at-fits}
 
 -- tokens that come before what the rest gives
@@ -38,9 +39,9 @@ tokens_from-front at (c ∷ s) some =
     ∙ ap (after_front at (front_at (c ∷ s))) (after_byte at (front_length (front_at (c ∷ s))) c s (front_at-fits (c ∷ s) some).0)
 
 -- up to this place the text is cut into these tokens
-pub record Cut (text : List ℕ) (ts : List Token) (at : ℕ) : Type 0 where
+pub record Cut (text : List ℕ) (ls : List Lexeme) (at : ℕ) : Type 0 where
   pub in_text : at ≤ length text
-  pub whole : joined (map (lexeme_of text) ts) (tokens_from at 0 (drop at text)) ≡ tokens_of text
+  pub whole : joined ls (tokens_from at 0 (drop at text)) ≡ tokens_of text
 
 -- the front at a place, and what is left behind it
 abbrev rest_after : List ℕ → ℕ → ℕ → Result (List Lexeme) ℕ
@@ -55,48 +56,49 @@ front_here text at f inside is =
       subst (Fits (drop at text)) is (front_at-fits (drop at text) some),
     )
 
--- what the code sees in the rest of the text
-pub seen_here : (text : List ℕ) (at : ℕ) (f : CodeFront) → seen (take (length text - at) (drop at text)) f ≡ front_at (take (length text - at) (drop at text)) → front_at (drop at text) ≡ seen (drop at text) f
-seen_here text at f is = sym (subst (λ s. seen s f ≡ front_at s) (take_rest text at) is)
-
 -- where the front is, there is room for it
 pub front_room : (text : List ℕ) (at : ℕ) (f : Front) → at < length text → front_at (drop at text) ≡ f → (0 < front_length f) × (at + front_length f ≤ length text)
 front_room text at f inside is = let fits = (front_here text at f inside is).1 in (omega arith, omega (arith, length-drop at text, fits.1))
 
-pub cut_between : (text : List ℕ) (ts : List Token) (at n : ℕ) → at < length text → front_at (drop at text) ≡ Between n → Cut text ts at → Cut text ts (at + n)
-cut_between text ts at n inside is cut =
-    let here = front_here text at (Between n) inside is in
-    record {
-      in_text = (front_room text at (Between n) inside is).1;
-      whole = ap (joined (map (lexeme_of text) ts)) (sym here.0) ∙ cut.whole;
-    }
-
 -- a byte that begins no token ends the cutting
-pub cut_neither : (text : List ℕ) (ts : List Token) (at : ℕ) → at < length text → front_at (drop at text) ≡ Neither → Cut text ts at → tokens_of text ≡ Err at
-cut_neither text ts at inside is cut = sym cut.whole ∙ ap (joined (map (lexeme_of text) ts)) (front_here text at Neither inside is).0
+pub cut_neither : (text : List ℕ) (ls : List Lexeme) (at : ℕ) → at < length text → front_at (drop at text) ≡ Neither → Cut text ls at → tokens_of text ≡ Err at
+cut_neither text ls at inside is cut = sym cut.whole ∙ ap (joined ls) (front_here text at Neither inside is).0
+
+-- an error tells such a byte
+pub gives_error : {X : Type 0} (view : X → List Lexeme) (text : List ℕ) (ls : List Lexeme) (at : ℕ) (e : LexError) → at < length text → Cut text ls at
+    → ((place : ℕ) → (let r : Result ℕ LexError = Err e in r) ≡ Err (errors.BadByte place) → (place ≡ at) × (front_at (drop at text) ≡ Neither)) → Gives view (Err e) (tokens_of text)
+gives_error view text ls at (errors.BadByte place) inside cut why = let w = why place refl in cut_neither text ls at inside w.1 cut ∙ ap Err (sym w.0)
+gives_error view text ls at errors.NoMemory inside cut why = record {}
 
 -- where the text ends, the tokens are all of its tokens
-pub cut_all : (text : List ℕ) (ts : List Token) (at : ℕ) → length text ≤ at → Cut text ts at → tokens_of text ≡ Ok (map (lexeme_of text) ts)
-cut_all text ts at past cut =
-    sym cut.whole ∙ at_drop_all (λ s. joined (map (lexeme_of text) ts) (tokens_from at 0 s)) text at past ∙ ap Ok (append-nil (map (lexeme_of text) ts))
+pub cut_all : (text : List ℕ) (ls : List Lexeme) (at : ℕ) → length text ≤ at → Cut text ls at → tokens_of text ≡ Ok ls
+cut_all text ls at past cut = sym cut.whole ∙ at_drop_all (λ s. joined ls (tokens_from at 0 s)) text at past ∙ ap Ok (append-nil ls)
 
 -- a token comes after those before it
 joined_longest : (ls : List Lexeme) (at n : ℕ) (kind : LexemeKind) (r : Result (List Lexeme) ℕ) → joined ls (after_front at (Longest n kind) r) ≡ joined (ls ++ record { from = at; to = at + n; kind = kind } ∷ []) r
 joined_longest ls at n kind (Ok later) = ap Ok (sym (append_assoc ls (record { from = at; to = at + n; kind = kind } ∷ []) later))
 joined_longest ls at n kind (Err place) = refl
 
-pub cut_longest : (text : List ℕ) (ts : List Token) (at n : ℕ) (kind : TokenKind) → at < length text → front_at (drop at text) ≡ Longest n (lexeme_kind_of (take n (drop at text)) kind) → Cut text ts at → Cut text (ts ++ record { kind = kind; from = at; to = at + n } ∷ []) (at + n)
-cut_longest text ts at n kind inside is cut =
-    let here = front_here text at (Longest n (lexeme_kind_of (take n (drop at text)) kind)) inside is in
-    let before = map (lexeme_of text) ts in
-    let rest = rest_after text at n in
-    let width : at + n - at ≡ n = omega arith in
-    record {
-      in_text = (front_room text at (Longest n (lexeme_kind_of (take n (drop at text)) kind)) inside is).1;
-      whole =
-          ap (λ ls. joined ls rest) (map_push (lexeme_of text) ts (record { kind = kind; from = at; to = at + n }))
-          ∙ ap (λ m. joined (before ++ record { from = at; to = at + n; kind = lexeme_kind_of (take m (drop at text)) kind } ∷ []) rest) width
-          ∙ sym (joined_longest before at n (lexeme_kind_of (take n (drop at text)) kind) rest)
-          ∙ ap (joined before) (sym here.0)
-          ∙ cut.whole;
-    }
+-- what comes of what the front adds
+joined_passed : (f : Front) (at to : ℕ) (ls ks : List Lexeme) (rest : ℕ → Result (List Lexeme) ℕ) → Passes at f ls ks to → joined ks (rest to) ≡ joined ls (after_front at f (rest (at + front_length f)))
+joined_passed (Between n) at to ls ks rest passes = rw (passes.0, passes.1) refl
+joined_passed (Longest n kind) at to ls ks rest passes = rw (passes.0, passes.1) (sym (joined_longest ls at n kind (rest (at + n))))
+joined_passed Neither at to ls ks rest passes = absurd passes
+
+passed_to : (f : Front) (at to : ℕ) (ls ks : List Lexeme) → Passes at f ls ks to → to ≡ at + front_length f
+passed_to (Between n) at to ls ks passes = passes.0
+passed_to (Longest n kind) at to ls ks passes = passes.0
+passed_to Neither at to ls ks passes = absurd passes
+
+-- the text is cut up to the place behind what stands at a place, which is a later one
+pub cut_on : (text : List ℕ) (ls ks : List Lexeme) (at to : ℕ) → at < length text → Cut text ls at → Passes at (front_at (drop at text)) ls ks to → Cut text ks to × (at < to)
+cut_on text ls ks at to inside cut passes =
+    let f = front_at (drop at text) in
+    let room = front_room text at f inside refl in
+    let is = passed_to f at to ls ks passes in (
+      record {
+        in_text = omega (arith, room.1);
+        whole = joined_passed f at to ls ks (λ n. tokens_from n 0 (drop n text)) passes ∙ ap (joined ls) (sym (front_here text at f inside refl).0) ∙ cut.whole;
+      },
+      omega (arith, room.0),
+    )

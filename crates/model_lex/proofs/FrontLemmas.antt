@@ -45,7 +45,7 @@ both_true true b e = (refl, e)
 both_true false b e = absurd (false≢true e)
 
 -- a run that the first byte begins
-prefix_len-first : (p : ℕ → Bool) (c : ℕ) (s : List ℕ) → p c ≡ true → (1 ≤ prefix_len p (c ∷ s)) × (prefix_len p (c ∷ s) ≤ length (c ∷ s))
+pub prefix_len-first : (p : ℕ → Bool) (c : ℕ) (s : List ℕ) → p c ≡ true → (1 ≤ prefix_len p (c ∷ s)) × (prefix_len p (c ∷ s) ≤ length (c ∷ s))
 prefix_len-first p c s passes =
     let le = prefix_len-le-length p (c ∷ s) in
     (rw passes (omega arith), le)

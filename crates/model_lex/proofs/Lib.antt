@@ -1,7 +1,9 @@
+pub mod ClassFronts
 pub mod Cutting
 pub mod Digits
 pub mod FrontLemmas
 pub mod TokenPlaces
+pub mod TokensAdded
 pub mod ReservedWords
 pub mod SymbolsAmong
 pub mod FrontByFront

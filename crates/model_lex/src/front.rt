@@ -1,60 +1,100 @@
-//! What the bytes of a text begin with.
+//! What a text has at a place: blanks and comments are passed over, tokens are added to a list.
 
-ghost use Rattle.std.specs.Prelude.{◌≡◌, ◌<◌, length};
-ghost use Rattle.model_core.specs.Text.Lexing.{symbol_among, all_symbols};
-ghost use Rattle.model_lex.specs.Inner.Fronts.{front_at, seen};
+ghost use Rattle.std.specs.Prelude.{◌≡◌, ◌≢◌, ◌<◌, ◌+◌, ◌^◌, ◌∷◌, ◌++◌, [], ℕ, Err, drop, length, map, IfOk, OnOk, vec_len, vec_capacity};
+ghost use Rattle.model_core.specs.Code.TokenViews.{lexeme_of};
+ghost use Rattle.model_core.specs.Text.Lexing.{Neither, symbol_among, all_symbols};
+ghost use Rattle.model_lex.specs.Inner.Fronts.{front_at, symbol_seen, Passes};
 
+use crate::classes::{Class, class_of};
+use crate::lex_error::LexError;
 use crate::numbers::literal_value;
-use crate::runs::{comment_length, digits_length, is_blank, word_length};
+use crate::runs::{comment_length, digits_length, word_length};
 use crate::symbols::{symbol_of_one, symbol_of_two};
 use crate::words::word_kind;
-use model_core::TokenKind;
+use model_core::{Symbol, Token, TokenKind};
+use sig_base::NoMemory;
 
-/// What bytes begin with.
-#[derive(Clone, Copy)]
-pub(crate) enum Front {
-    /// So many bytes of blanks or of a comment.
-    Between(usize),
-    /// So many bytes of the longest token, and what it is.
-    Longest(usize, TokenKind),
-    /// A byte that begins no token.
-    Neither,
-}
-
-/// What the bytes begin with. Inlined, since it is asked at each token.
+/// Passes over what the text has at a place, and gives the place behind it. Where that is a token, the longest one, it is
+/// added. Inlined with what it calls, since it is asked at each token and at each blank.
 #[inline(always)]
-pub(crate) fn front_of(bytes: &[u8]) -> Front
-    requires { 0 < length bytes.now }
-    ensures { seen bytes.now result ≡ front_at bytes.now }
+pub(crate) fn pass_over(list: &mut Vec<Token>, text: &[u8], at: usize) -> Result<usize, LexError>
+    requires { at < length text.now }
+    ensures passes { IfOk result (λ to. Passes at (front_at (drop at text.now)) (map (lexeme_of text.now) list.old.items) (map (lexeme_of text.now) list.new.items) to) }
+    ensures bad_byte { (place : ℕ) → result ≡ Err (LexError.BadByte place) → (place ≡ at) × (front_at (drop at text.now) ≡ Neither) }
 {
-    let first = bytes[0];
-    if is_blank(first) {
-        Front::Between(1)
-    } else if first == b'#' {
-        Front::Between(comment_length(bytes))
-    } else if first.is_ascii_alphabetic() {
-        let length = word_length(bytes);
-        Front::Longest(length, word_kind(&bytes[..length]))
-    } else if first.is_ascii_digit() {
-        let length = digits_length(bytes);
-        Front::Longest(length, TokenKind::Number(literal_value(&bytes[..length])))
-    } else {
-        symbol_front(bytes)
+    let bytes = &text[at..];
+    let left = bytes.len();
+    match class_of(bytes[0]) {
+        Class::Blank => Ok(at + 1),
+        Class::Comment => Ok(at + comment_length(bytes)),
+        Class::Name => add(list, TokenKind::Name, at, word_length(bytes), left),
+        Class::Word => {
+            let length = word_length(bytes);
+            add(list, word_kind(&bytes[..length]), at, length, left)
+        }
+        Class::Digit => {
+            let length = digits_length(bytes);
+            let value = literal_value(&bytes[..length]);
+            add(list, TokenKind::Number(value), at, length, left)
+        }
+        Class::Pair => match symbol_front(bytes) {
+            Some((length, symbol)) => add(list, TokenKind::Symbol(symbol), at, length, left),
+            None => Err(LexError::BadByte { at }),
+        },
+        Class::Alone(symbol) => add(list, TokenKind::Symbol(symbol), at, 1, left),
+        Class::Nothing => Err(LexError::BadByte { at }),
     }
 }
 
-/// The longest symbol that the bytes begin with.
-fn symbol_front(bytes: &[u8]) -> Front
+/// The longest symbol that the bytes begin with, behind its length.
+fn symbol_front(bytes: &[u8]) -> Option<(usize, Symbol)>
     requires { 0 < length bytes.now }
-    ensures { seen bytes.now result ≡ symbol_among all_symbols bytes.now }
+    ensures { symbol_seen result ≡ symbol_among all_symbols bytes.now }
 {
     let first = bytes[0];
     let second = if bytes.len() > 1 { bytes[1] } else { 0 };
     if let Some(symbol) = symbol_of_two(first, second) {
-        Front::Longest(2, TokenKind::Symbol(symbol))
+        Some((2, symbol))
     } else if let Some(symbol) = symbol_of_one(first) {
-        Front::Longest(1, TokenKind::Symbol(symbol))
+        Some((1, symbol))
     } else {
-        Front::Neither
+        None
     }
+}
+
+/// Adds the token of so many bytes at a place, at which `left` bytes of the text are left, and gives the place behind it.
+#[inline(always)]
+fn add(
+    list: &mut Vec<Token>,
+    kind: TokenKind,
+    at: usize,
+    length: usize,
+    left: usize,
+) -> Result<usize, LexError>
+    requires left { 0 < left }
+    requires inside { at + length < 2 ^ 64 }
+    ensures added { IfOk result (λ to. (to ≡ at + length) × (list.new.items ≡ list.old.items ++ record { kind = kind; from = at; to = at + length } ∷ [])) }
+    ensures no_memory { (place : ℕ) → result ≢ Err (LexError.BadByte place) }
+{
+    if list.len() == list.capacity() {
+        make_room(list, left)?;
+    }
+    let to = at + length;
+    list.push_reserved(Token { kind, from: at, to });
+    Ok(to)
+}
+
+/// How many tokens a list has room for at first.
+const FIRST_ROOM: usize = 64;
+
+/// Makes room in a full list for as many tokens more as it has, but for no more than there are bytes left, since each token
+/// takes one at least.
+#[cold]
+fn make_room(list: &mut Vec<Token>, left: usize) -> Result<(), NoMemory>
+    requires { 0 < left }
+    ensures items { list.new.items ≡ list.old.items }
+    ensures room { OnOk result (vec_len list.new < vec_capacity list.new) }
+{
+    list.reserve_exact(list.len().max(FIRST_ROOM).min(left))?;
+    Ok(())
 }

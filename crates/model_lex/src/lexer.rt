@@ -1,16 +1,16 @@
 //! Cuts a text into its tokens.
 
-ghost use Rattle.std.specs.Prelude.{◌≡◌, ℕ, [], ◌∷◌, ◌++◌, map, Ok, Err, IfOk, OnOk};
+ghost use Rattle.std.specs.Prelude.{◌≡◌, ℕ, map, Ok, Err, IfOk};
 ghost use Rattle.model_core.specs.Text.Lexing.{tokens_of};
 ghost use Rattle.model_core.specs.Code.TokenViews.{lexeme_of};
 ghost use Rattle.model_lex.specs.Inner.Fronts.{Gives};
 ghost use Rattle.model_lex.specs.Lexemes.{lexemes};
 
-use crate::front::{Front, front_of};
+use crate::front::pass_over;
 use crate::lex_error::LexError;
 use crate::token_list::Tokens;
 use model_core::Token;
-use sig_base::{List, NoMemory};
+use sig_base::List;
 use std::alloc::Global;
 
 /// The tokens of the text, the longest one each time. `BadByte` comes exactly where some byte outside a comment
@@ -30,30 +30,7 @@ fn token_list(alloc: Global, text: &[u8]) -> Result<List<Token>, LexError>
     let mut list = Vec::new(alloc);
     let mut at = 0;
     while at < text.len() {
-        match front_of(&text[at..]) {
-            Front::Between(length) => at += length,
-            Front::Longest(length, kind) => {
-                let to = at + length;
-                push_token(&mut list, Token { kind, from: at, to }, text.len() - at)?;
-                at = to;
-            }
-            Front::Neither => return Err(LexError::BadByte { at }),
-        }
+        at = pass_over(&mut list, text, at)?;
     }
     Ok(List::from_vec(list))
-}
-
-/// How many tokens a list has room for at first.
-const FIRST_ROOM: usize = 64;
-
-/// Adds a token, at which `left` bytes of the text are left. A full list gets room for as many tokens more as it has,
-/// but for no more than there are bytes left, since each token takes one at least.
-fn push_token(list: &mut Vec<Token>, token: Token, left: usize) -> Result<(), NoMemory>
-    ensures { OnOk result (list.new.items ≡ list.old.items ++ token ∷ []) }
-{
-    if list.len() == list.capacity() {
-        list.reserve_exact(list.len().max(FIRST_ROOM).min(left))?;
-    }
-    list.push(token)?;
-    Ok(())
 }

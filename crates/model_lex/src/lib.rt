@@ -1,6 +1,7 @@
 //! The tokens of a text, and the errors of those that read them.
 #![tactic(auto)]
 
+mod classes;
 mod front;
 mod lex_error;
 mod lexer;

@@ -8,16 +8,21 @@ ghost use Rattle.model_core.specs.Text.Lexing.{literal_value};
 /// The first number that is no literal.
 const BEYOND: u64 = 9_223_372_036_854_775_808;
 
+/// Ten times a greater number is no literal.
+const TENTH: u64 = 922_337_203_685_477_580;
+
 /// The number that the digits write in decimal, or `None` above 2^63 - 1.
+#[inline(always)]
 pub(crate) fn literal_value(digits: &[u8]) -> Option<i64>
     requires { AllPass is_ascii_digit digits.now }
     ensures { result ≡ literal_value digits.now }
 {
     let mut value: u64 = 0;
     for digit in digits {
-        value = value
-            .checked_mul(10)?
-            .checked_add(u64::from(*digit - b'0'))?;
+        if value > TENTH {
+            return None;
+        }
+        value = value * 10 + u64::from(*digit - b'0');
     }
     if value < BEYOND {
         Some(value as i64)

@@ -3,14 +3,7 @@
 ghost use Rattle.std.specs.Prelude.{◌≡◌, map};
 ghost use Rattle.std.specs.List.{prefix_len, range_with_len};
 ghost use Rattle.std.specs.Char.{is_ascii_digit};
-ghost use Rattle.model_core.specs.Text.Lexing.{is_blank, is_word_byte, is_comment_byte};
-
-/// Whether the byte is a space, a tab, a carriage return or a line feed.
-pub(crate) fn is_blank(byte: u8) -> bool
-    ensures { result ≡ is_blank byte }
-{
-    byte == b' ' || byte == b'\t' || byte == b'\r' || byte == b'\n'
-}
+ghost use Rattle.model_core.specs.Text.Lexing.{is_word_byte, is_comment_byte};
 
 const YES: bool = true;
 

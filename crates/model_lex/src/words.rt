@@ -8,6 +8,7 @@ ghost use Rattle.model_lex.specs.Inner.Fronts.{words_with_first};
 use model_core::{TokenKind, Word};
 
 /// What a word is: a reserved word or a name. It is compared with the reserved words that have its first letter.
+#[inline(always)]
 pub(crate) fn word_kind(word: &[u8]) -> TokenKind
     requires { 0 < length word.now }
     ensures { lexeme_kind_of word.now result ≡ word_among reserved_words word.now }
@@ -16,6 +17,7 @@ pub(crate) fn word_kind(word: &[u8]) -> TokenKind
 }
 
 /// What a word is, where these are the reserved words.
+#[inline(always)]
 fn kind_among(words: &[(&[u8], Word)], word: &[u8]) -> TokenKind
     ensures { lexeme_kind_of word.now result ≡ word_among (map (λ w. (w.0.now, w.1)) words.now) word.now }
 {

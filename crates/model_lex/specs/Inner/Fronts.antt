@@ -1,21 +1,24 @@
 -- What the code's values stand for, and the front of a text as the code looks for it.
-use Rattle.std.specs.Prelude.{◌≡◌, ℕ, ◌==◌, if◌then◌else◌, List, length, take, filter, slice_index, Option, Some, None, Result, Ok, Err}
+use Rattle.std.specs.Prelude.{◌≡◌, ℕ, ◌+◌, ◌==◌, if◌then◌else◌, List, [], ◌∷◌, ◌++◌, length, take, filter, slice_index, Option, Some, None, Result, Ok, Err}
 use Rattle.std.specs.List.{prefix_len}
 use Rattle.std.specs.Char.{is_ascii_digit, is_ascii_alphabetic}
-use Rattle.model_core.specs.Text.Lexing.{Mark, NumberOf, Front, Between, Longest, Neither, is_blank, is_word_byte, is_comment_byte, reserved_words, all_symbols, word_among, symbol_among, literal_value}
-use Rattle.model_core.specs.Code.TokenViews.{lexeme_kind_of}
+use Rattle.model_core.specs.Text.Lexing.{Lexeme, Mark, NumberOf, Front, Between, Longest, Neither, is_blank, is_word_byte, is_comment_byte, reserved_words, all_symbols, word_among, symbol_among, literal_value}
 use Rattle.model_core.specs.declared.token.Word.{Word}
 use Rattle.model_core.specs.declared.token.Symbol.{Symbol}
-use Rattle.model_lex.specs.declared.front.Front.{Front as CodeFront}
-use Rattle.model_lex.specs.declared.front.Front.TheVariants as code
 use Rattle.model_lex.specs.declared.lex_error.LexError.{LexError}
 use Rattle.model_lex.specs.declared.lex_error.LexError.TheVariants as errors
 
--- what the code's front stands for, at these bytes
-abbrev pub seen : List ℕ → CodeFront → Front
-seen bytes (code.Between n) = Between n
-seen bytes (code.Longest n kind) = Longest n (lexeme_kind_of (take n bytes) kind)
-seen bytes code.Neither = Neither
+-- what a symbol behind its length stands for
+abbrev pub symbol_seen : Option (ℕ × Symbol) → Front
+symbol_seen None = Neither
+symbol_seen (Some (n, s)) = Longest n (Mark s)
+
+-- What stands at a place is passed over: the tokens before and after that, and the place behind it. A byte that begins no
+-- token is not passed over.
+abbrev pub Passes : ℕ → Front → List Lexeme → List Lexeme → ℕ → Type 0
+Passes at (Between n) before after to = (to ≡ at + n) × (after ≡ before)
+Passes at (Longest n kind) before after to = (to ≡ at + n) × (after ≡ before ++ record { from = at; to = at + n; kind = kind } ∷ [])
+Passes at Neither before after to = ⊥
 
 -- a symbol of so many bytes, or what there is otherwise
 abbrev pub symbol_front : ℕ → Option Symbol → Front → Front
