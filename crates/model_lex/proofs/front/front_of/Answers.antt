@@ -1,7 +1,7 @@
 -- The tests of the first byte, in the order in which `front_at` has them.
-use Rattle.std.proofs.Common.{sym, refl, ap, ◌∙◌, ne_eqb}
+use Rattle.std.proofs.Common.{sym, take, refl, ap, ◌∙◌, ne_eqb}
 use Rattle.std.specs.Char.{is_ascii_digit}
-use Rattle.model_core.specs.Text.Lexing.{Longest, NumberOf}
+use Rattle.model_core.specs.Text.Lexing.{Longest, NumberOf, digits_value}
 use Rattle.model_lex.proofs.Digits.{AllPass-prefix}
 use Rattle.model_lex.proofs.FrontLemmas.{word_begins}
 use Rattle.model_lex.proofs.front.front_of.Goals as goal
@@ -27,7 +27,7 @@ returns-then-is_ascii_alphabetic c =
 pub returns-then-is_ascii_digit : goal.returns-then-is_ascii_digit
 returns-then-is_ascii_digit c =
     rw (sym c.is_blank.ensures ∙ c.if-is_blank.false, ne_eqb _ _ c.if-first-eq35.false, sym c.is_ascii_alphabetic.ensures.value ∙ c.if-is_ascii_alphabetic.false, sym c.is_ascii_digit.ensures.value ∙ c.if-is_ascii_digit.true, ← c.digits_length-length.ensures)
-    (ap (λ value. Longest c.digits_length-length.result (NumberOf value)) c.literal_value.ensures)
+    (ap (λ value. Longest c.digits_length-length.result (NumberOf value (digits_value (take c.digits_length-length.result c.args.bytes.now)))) c.literal_value.ensures)
 
 pub returns-else-is_ascii_digit : goal.returns-else-is_ascii_digit
 returns-else-is_ascii_digit c =
