@@ -2,4 +2,5 @@
 pub mod Cells
 pub mod DueOrder
 pub mod SavedRun
+pub mod GoodSnapshots
 pub mod Resuming

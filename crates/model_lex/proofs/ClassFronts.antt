@@ -4,13 +4,13 @@ use lib.Pointwise.{pointwise}
 use Rattle.std.proofs.lemmas.Bool.{false≢true}
 use Rattle.std.proofs.lemmas.List.{get_or-take}
 use Rattle.std.specs.Prelude.{◌==◌, nat_eq, Option, Some, None}
-use Rattle.std.specs.List.{prefix_len, list_any, list_all, starts_with}
+use Rattle.std.specs.List.{prefix_len, list_all}
 use Rattle.std.specs.Option.{option_map_or}
 use Rattle.std.specs.Char.{is_ascii_digit, is_ascii_alphabetic}
 use Rattle.model_lex.proofs.FrontLemmas.{prefix_len-first, word_begins}
 use Rattle.model_core.specs.declared.token.Word.{Word}
 use Rattle.model_core.specs.declared.token.Symbol.{Symbol}
-use Rattle.model_core.specs.Text.Lexing.{LexemeKind, NameOf, NumberOf, Mark, Front, Between, Longest, Neither, is_blank, is_word_byte, is_comment_byte, reserved_words, all_symbols, word_among, symbol_among, literal_value}
+use Rattle.model_core.specs.Text.Lexing.{NameOf, Mark, Front, Between, Longest, Neither, is_blank, is_word_byte, is_comment_byte, all_symbols, word_among, symbol_among}
 use Rattle.model_lex.specs.Inner.Fronts.{front_at, word_at, number_at, words_with_first, symbols_of_length, symbol_front}
 use Rattle.model_lex.specs.Inner.Classes.{class_of, letter_class, begins_one, symbol_with}
 use Rattle.model_lex.specs.declared.classes.Class.{Class}

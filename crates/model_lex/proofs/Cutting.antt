@@ -1,11 +1,8 @@
 -- The tokens so far and those of the rest of the text are the text's tokens.
-use Rattle.std.proofs.Common.{◌≡◌, ℕ, zero, suc, ◌+◌, ◌-◌, ◌<◌, ◌≤◌, List, [], ◌∷◌, ◌++◌, length, take, drop, map, sym, refl, ap, ◌∙◌, subst, arith, add-zero, append_assoc}
+use Rattle.std.proofs.Common.{◌≡◌, ℕ, zero, suc, ◌+◌, ◌-◌, ◌<◌, ◌≤◌, List, [], ◌∷◌, ◌++◌, length, drop, sym, refl, ap, ◌∙◌, subst, arith, add-zero, append_assoc}
 use Rattle.std.specs.Prelude.{Result, Ok, Err}
-use Rattle.std.proofs.lemmas.List.{append-nil, at_drop_all, drop-drop, length-drop, map_push, take_rest}
-use Rattle.model_core.specs.declared.token.Token.{Token}
-use Rattle.model_core.specs.declared.token.TokenKind.{TokenKind}
+use Rattle.std.proofs.lemmas.List.{append-nil, at_drop_all, drop-drop, length-drop}
 use Rattle.model_core.specs.Text.Lexing.{Lexeme, LexemeKind, Front, Between, Longest, Neither, front_length, after_front, tokens_from, tokens_of}
-use Rattle.model_core.specs.Code.TokenViews.{lexeme_of, lexeme_kind_of}
 use Rattle.model_lex.specs.Inner.Fronts.{front_at, Gives, Passes}
 use Rattle.model_lex.specs.declared.lex_error.LexError.{LexError}
 use Rattle.model_lex.specs.declared.lex_error.LexError.TheVariants as errors

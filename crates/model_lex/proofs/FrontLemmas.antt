@@ -10,7 +10,7 @@ use Rattle.std.proofs.lemmas.Slice.Eq.{starts_is}
 use Rattle.std.proofs.lemmas.Bool.{false≢true}
 use Rattle.std.proofs.lemmas.Bool.Decides.{Decides-eqb, nat_tests}
 use Rattle.model_core.specs.declared.token.Symbol.{Symbol}
-use Rattle.model_core.specs.Text.Lexing.{Mark, NumberOf, Front, Between, Longest, front, front_length, is_blank, is_word_byte, is_comment_byte, reserved_words, all_symbols, word_among, symbol_among, literal_value}
+use Rattle.model_core.specs.Text.Lexing.{Mark, NumberOf, Front, Between, Longest, front, front_length, is_blank, is_word_byte, is_comment_byte, reserved_words, all_symbols, word_among, symbol_among, digits_value, literal_value}
 use Rattle.model_lex.specs.Inner.Fronts.{front_at}
 
 length-take_while : (p : ℕ → Bool) (xs : List ℕ) → length (take_while p xs) ≡ prefix_len p xs
@@ -22,7 +22,7 @@ front_by bytes comment word digits =
     cond (is_blank (slice_index bytes 0)) (Between 1)
     (cond (slice_index bytes 0 == 35) (Between comment)
     (cond (is_ascii_alphabetic (slice_index bytes 0)) (Longest word (word_among reserved_words (take_while is_word_byte bytes)))
-    (cond (is_ascii_digit (slice_index bytes 0)) (Longest digits (NumberOf (literal_value (take_while is_ascii_digit bytes))))
+    (cond (is_ascii_digit (slice_index bytes 0)) (let run = take_while is_ascii_digit bytes in Longest digits (NumberOf (literal_value run) (digits_value run)))
     (symbol_among all_symbols bytes))))
 
 pub front-front_at : (c : ℕ) (s : List ℕ) → front c s ≡ front_at (c ∷ s)

@@ -4,15 +4,16 @@ ghost use Rattle.std.specs.Prelude.{◌≡◌, ◌≢◌, ℕ, ◌+◌, ◌≤�
 ghost use Rattle.std.specs.Option.{option_map, IfSome};
 ghost use Rattle.model_core.specs.declared.token.Word.TheVariants.{Not};
 ghost use Rattle.model_core.specs.Code.WrittenViews.{written_name, written_number};
-ghost use Rattle.model_core.specs.Text.Format.{AName, ANumber, AWord, ASymbol, reserved, mark, any_name, any_number};
+ghost use Rattle.model_core.specs.Text.Format.{AName, ASpelled, ANumber, AWord, ASymbol, reserved, mark, this_name, any_name, any_number};
 ghost use Rattle.model_core.specs.Text.FirstWrong.{told_place};
+ghost use Rattle.model_core.specs.Text.SnapshotGrammar.{exact_format};
 ghost use Rattle.text_laws.specs.FirstTokens.{begins_as};
 ghost use Rattle.text_laws.specs.FormatReader.{whole_read};
 ghost use Rattle.text_laws.specs.LanguageReader.{language_reader};
 ghost use Rattle.model_read.specs.ReadCalls.{Returned};
 ghost use Rattle.text_laws.specs.Ladder.{infix_at, at_levels, behind};
 ghost use Rattle.model_read.specs.Infixes.{infix_of};
-ghost use Rattle.model_read.specs.Spelled.{spelled_name};
+ghost use Rattle.model_read.specs.Spelled.{spelled_name, digits_written};
 
 use crate::operators::{CONJUNCTIONS, Infix, infix_of};
 use crate::stop::Stop;
@@ -21,7 +22,7 @@ use sig_base::Name;
 use std::alloc::Global;
 use std::marker::Model;
 
-/// A name as it stands in a text, and the byte at which it begins, counted from 0.
+/// A name or digits as they stand in a text, and the byte at which they begin, counted from 0.
 #[derive(Clone, Copy)]
 pub struct Spelling<'t> {
     pub bytes: &'t [u8],
@@ -124,6 +125,16 @@ impl<'t> Cursor<'t> {
         )
     }
 
+    /// Whether the next token is the name with this spelling.
+    pub fn begins_spelled(&self, spelling: &[u8]) -> bool
+        ensures { result ≡ begins_as (ASpelled spelling.now) self.now }
+    {
+        let [first, ..] = self.tokens else {
+            return false;
+        };
+        first.kind == TokenKind::Name && &self.text[first.from..first.to] == spelling
+    }
+
     /// Refuses any token that is left.
     pub fn end(&self) -> Result<(), Stop>
         ensures { Returned (λ u. u) result self.now (whole_read record {} self.now) }
@@ -155,6 +166,20 @@ impl<'t> Cursor<'t> {
     {
         match self.tokens {
             [first, rest @ ..] if first.kind == TokenKind::Symbol(symbol) => {
+                self.tokens = rest;
+                Ok(first.from)
+            }
+            _ => Err(Stop::Unexpected),
+        }
+    }
+
+    /// Takes the name with this spelling, and gives its place.
+    pub fn this_name(&mut self, spelling: &[u8]) -> Result<usize, Stop>
+        ensures reads { Returned (λ at. at) result self.new (language_reader (this_name spelling.now) self.old) }
+        ensures shorter { IfOk result (λ at. length self.new + 1 ≤ length self.old) }
+    {
+        match self.tokens {
+            [first, rest @ ..] if self.begins_spelled(spelling) => {
                 self.tokens = rest;
                 Ok(first.from)
             }
@@ -226,6 +251,25 @@ impl<'t> Cursor<'t> {
             self.tokens = rest;
             return Ok(RawNumber {
                 value,
+                at: first.from,
+            });
+        }
+        Err(Stop::Unexpected)
+    }
+
+    /// Takes a number, whose digits are left where they stand.
+    #[tactic(auto, unfolding(model_core::specs::Text::SnapshotGrammar::exact_format))]
+    pub fn digits(&mut self) -> Result<Spelling<'t>, Stop>
+        ensures reads { Returned digits_written result self.new (language_reader exact_format self.old) }
+        ensures shorter { IfOk result (λ n. length self.new + 1 ≤ length self.old) }
+    {
+        if let [first, rest @ ..] = self.tokens
+            && let TokenKind::Number(_) = first.kind
+        {
+            let bytes = &self.text[first.from..first.to];
+            self.tokens = rest;
+            return Ok(Spelling {
+                bytes,
                 at: first.from,
             });
         }

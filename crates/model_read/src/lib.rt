@@ -18,7 +18,7 @@ pub use changes::{RawSource, source};
 pub use cursor::{Cursor, Spelling};
 pub use openings::first_too_deep;
 pub use operators::{CONJUNCTIONS, Infix, LEVELS, next_level};
-pub use phrase::{Phrase, Repeated, packed};
+pub use phrase::{Phrase, Repeated, many, packed, separated};
 pub use stop::{Stop, placed};
 pub use text::{begun_model, parse, parse_front};
 pub use vertices::begun_vertex;

@@ -66,7 +66,7 @@ fn and_more<T: Repeated>(
 }
 
 /// Reads any number of phrases.
-pub(crate) fn many<T: Repeated>(alloc: Global, cursor: &mut Cursor<'_>) -> Result<List<T>, Stop>
+pub fn many<T: Repeated>(alloc: Global, cursor: &mut Cursor<'_>) -> Result<List<T>, Stop>
     ensures { Returned (map T.plain) result cursor.new (language_reader (Many T.format) cursor.old) }
 {
     and_more(alloc, cursor, List::new(alloc))
@@ -107,7 +107,7 @@ fn and_others<T: Phrase>(
 }
 
 /// Reads one or more phrases, separated by commas.
-pub(crate) fn separated<T: Phrase>(alloc: Global, cursor: &mut Cursor<'_>) -> Result<List<T>, Stop>
+pub fn separated<T: Phrase>(alloc: Global, cursor: &mut Cursor<'_>) -> Result<List<T>, Stop>
     ensures { Returned (map T.plain) result cursor.new (language_reader (separated T.format) cursor.old) }
 {
     let first = List::of_one(alloc, T::read(alloc, cursor)?)?;

@@ -2,14 +2,18 @@
 
 ghost use Rattle.model_core.specs.declared.token.Word.TheVariants.{Clip};
 ghost use Rattle.model_core.specs.Code.WrittenViews.{written_signed, written_kind, written_literal};
+ghost use Rattle.model_core.specs.Text.Written.{WrittenSigned};
 ghost use Rattle.model_core.specs.Text.Format.{reserved, maybe};
 ghost use Rattle.model_core.specs.Text.Language.{signed_format, kind_format, literal_format};
 ghost use Rattle.text_laws.specs.LanguageReader.{language_reader};
+ghost use Rattle.text_laws.specs.SomeTokens.{signed-some};
 ghost use Rattle.model_read.specs.ReadCalls.{Returned};
 
 use crate::cursor::Cursor;
+use crate::phrase::Phrase;
 use crate::stop::Stop;
 use model_core::{RawKind, RawLiteral, RawSigned, Symbol, Word};
+use std::alloc::Global;
 
 /// Reads a number with an optional `-` before it.
 #[tactic(auto, unfolding(model_core::specs::Text::Language::signed_format))]
@@ -73,4 +77,18 @@ pub(crate) fn literal(cursor: &mut Cursor<'_>) -> Result<RawLiteral, Stop>
         return Ok(RawLiteral::Truth { at, value: false });
     }
     Ok(RawLiteral::Signed(signed(cursor)?))
+}
+
+impl Phrase for RawSigned {
+    ghost Plain = { WrittenSigned };
+
+    ghost plain = { written_signed };
+
+    ghost format = { signed_format };
+
+    fn read(_alloc: Global, cursor: &mut Cursor<'_>) -> Result<RawSigned, Stop> {
+        signed(cursor)
+    }
+
+    ghost some_tokens = { signed-some };
 }

@@ -1,6 +1,7 @@
 -- The canonical text of a spellable model spells a written model of that model.
-use Rattle.std.proofs.Common.{◌≡◌, ℕ, ◌+◌, List, [], ◌∷◌, ◌++◌, length, map, refl, ◌∙◌, append-nil}
-use Rattle.std.specs.Prelude.{Option, Some, codes}
+use Rattle.std.proofs.Common.{◌≡◌, ℕ, ◌+◌, List, [], ◌∷◌, ◌++◌, length, map, refl, sym, ap, ◌∙◌, subst, append-nil}
+use Rattle.std.proofs.lemmas.List.{append_cancel_right}
+use Rattle.std.specs.Prelude.{Option, Some, None, Ok, codes}
 use Rattle.std.specs.List.{AllByRecursion}
 use Rattle.sig_base.specs.declared.limits.TheConstants.{OPENINGS_MAX}
 use Rattle.model_core.specs.declared.token.Word.TheVariants as words
@@ -14,9 +15,14 @@ use Rattle.model_core.specs.Text.Spellable.{extent, IsSpellable, ReadsBack, Spel
 use Rattle.model_core.specs.Static.WrittenByKind.{IsWrittenByKind, VariablesByKind}
 use Rattle.model_core.specs.Text.Language.{VersionLine, text_written, text_format}
 use Rattle.model_core.specs.Text.ModelText.{SpellsText}
+use Rattle.model_core.specs.Text.Lexing.{Lexeme, tokens_of}
+use Rattle.model_core.specs.Text.Openings.{front_to_end, HasFewOpenings}
+use Rattle.model_core.specs.Text.DocumentText.{BeginsWithModel}
 use Rattle.static_laws.specs.FitsVersion.{FitsVersion}
+use Rattle.text_laws.specs.OpeningCount.{deep_from}
+use Rattle.text_laws.proofs.Formats.EndWord.{front-is_text}
 use Rattle.text_laws.proofs.OpeningLaws.{deep-is_counted, none-is_few}
-use Rattle.round_trip.proofs.TokenSteps.{Lexes-nil, Lexes-text, tokens_from_Lexes}
+use Rattle.round_trip.proofs.TokenSteps.{Lexes, Lexes-nil, Lexes-text, tokens_from_Lexes}
 use Rattle.round_trip.proofs.Writing.{Writes, Any, Takes, takes, writes-then, writes-made, writes-before, blank_behind, feed_behind}
 use Rattle.round_trip.proofs.OneToken.{a_word, writes-name, semicolon_text}
 use Rattle.round_trip.proofs.ExpressionText.{is_word}
@@ -90,15 +96,33 @@ module _ (g : EventGraph) (h : IsSpellable g) (back : ReadsBack g) where
   unfolding IsModel
   canonical-spells =
       let whole = text-writes.run 0 in
-      let read = whole.2 [] [] tt (Lexes-nil (0 + length (canonical g))) in (
+      let tokens = whole.1 ++ [] in (
         whole.0,
         record {
-          tokens = read.0;
-          cut = tokens_from_Lexes (canonical g) read.0 (Lexes-text 0 (canonical g ++ []) (canonical g) read.0 (append-nil (canonical g)) read.1);
-          derived = read.3;
-          few_openings = none-is_few OPENINGS_MAX read.0 (deep-is_counted OPENINGS_MAX read.0 ∙ read.2);
+          tokens = tokens;
+          cut = tokens_from_Lexes (canonical g) tokens (Lexes-text 0 (canonical g ++ []) (canonical g) tokens (append-nil (canonical g)) (whole.4 [] [] tt (Lexes-nil (0 + length (canonical g)))));
+          derived = (whole.3 []).1;
+          few_openings = none-is_few OPENINGS_MAX tokens (deep-is_counted OPENINGS_MAX tokens ∙ (whole.3 []).0);
         },
-        whole.1.0,
-        whole.1.1,
-        whole.1.2,
+        whole.2.0,
+        whole.2.1,
+        whole.2.2,
+      )
+
+  -- the model's text stands at the front of any text whose other tokens are known
+  pub canonical-before : (rest : List ℕ) (left : List Lexeme) → Lexes (0 + length (canonical g)) rest left → (w : WrittenModel) × (tokens : List Lexeme) × (tokens_of (canonical g ++ rest) ≡ Ok tokens) × BeginsWithModel tokens w left × (numbered w ≡ Some g) × VariablesByKind w × FitsVersion w.version g
+  unfolding IsModel
+  canonical-before rest left lexed =
+      let whole = text-writes.run 0 in
+      let own = whole.1 in
+      let derived = (whole.3 left).1 in
+      let front : own ≡ front_to_end (own ++ left) = append_cancel_right own (front_to_end (own ++ left)) left (front-is_text (own ++ left) whole.0 left derived).0 in
+      let none : deep_from OPENINGS_MAX OPENINGS_MAX own ≡ None = ap (deep_from OPENINGS_MAX OPENINGS_MAX) (sym (append-nil own)) ∙ (whole.3 []).0 in (
+        whole.0,
+        own ++ left,
+        tokens_from_Lexes (canonical g ++ rest) (own ++ left) (whole.4 rest left tt lexed),
+        record { derived = derived; few_openings = subst (HasFewOpenings OPENINGS_MAX) front (none-is_few OPENINGS_MAX own (deep-is_counted OPENINGS_MAX own ∙ none)) },
+        whole.2.0,
+        whole.2.1,
+        whole.2.2,
       )

@@ -1,5 +1,5 @@
 -- From one level of expressions to another, parentheses, and operands with operators between them: once for all operators.
-use Rattle.std.proofs.Common.{◌≡◌, ℕ, zero, suc, ◌+◌, ◌-◌, ◌≤◌, Bool, true, false, cond, List, [], ◌∷◌, ◌++◌, length, refl, sym, ap, ◌∙◌, subst, arith, append_assoc, append-nil, length-append}
+use Rattle.std.proofs.Common.{◌≡◌, ℕ, zero, suc, ◌+◌, ◌-◌, ◌≤◌, Bool, true, false, cond, List, [], ◌∷◌, ◌++◌, length, refl, sym, ap, ◌∙◌, subst, arith, append_assoc, append-nil}
 use Rattle.std.specs.Prelude.{Option, Some, None, nat_lt, codes}
 use Rattle.std.proofs.lemmas.Grind.{common_steps}
 use Rattle.model_core.specs.Text.Lexing.{Lexeme}
@@ -10,12 +10,13 @@ use Rattle.model_core.specs.Text.Canonical.{level, operand}
 use Rattle.model_core.specs.Text.Spellable.{operand_openings}
 use Rattle.model_core.specs.Text.Format.{ByRule, by_rule, nested, Spells}
 use Rattle.model_core.specs.Text.Expressions.{Level, Whole, Disjunction, Conjunction, Negation, Comparison, Sum, Product, Unary, Primary, LanguageFormat, level_format, moved, joining, grouped, compared, right_side, chain, word_for, comparing, adding, multiplying, comparison_format}
+use Rattle.sig_base.specs.declared.limits.TheConstants.{OPENINGS_MAX}
+use Rattle.text_laws.specs.OpeningCount.{deep_from}
 use Rattle.model_core.specs.EventGraph.{And, Or}
 use Rattle.model_core.specs.declared.token.Word.TheVariants as words
 use Rattle.text_laws.proofs.Formats.RuleNesting.{Into, derives-into}
-use Rattle.round_trip.proofs.TokenSteps.{Lexes-at, Lexes-text}
 use Rattle.round_trip.proofs.LongestTokens.{Ends}
-use Rattle.round_trip.proofs.Writing.{Writes, Any, takes, Takes, writes-then, writes-made, writes-before, writes-text, writes-room, writes-left, writes-right, writes-some, writes-nothing, writes-none, writes-rule}
+use Rattle.round_trip.proofs.Writing.{Writes, lexed-both, Any, takes, Takes, writes-then, writes-made, writes-before, writes-text, writes-room, writes-left, writes-right, writes-some, writes-nothing, writes-none, writes-rule}
 use Rattle.round_trip.proofs.OneToken.{open_text, close_text}
 
 -- ---- from one level to another
@@ -64,7 +65,7 @@ enclosed {G = G} moves h =
     narrowed (writes-before (writes-then (writes-made moved {J = Takes G G} open_text (λ at u. takes (λ w g. moves at w g))) (λ rest e. tt) h) (λ rest e. refl) close_text))))))))
   where
     narrowed : {A : Type 0} {f : LanguageFormat A} {t : List ℕ} {i j : ℕ} {K : A → Type 0} → Writes f t Any i j K → Writes f t Ends i j K
-    narrowed first = record { run = λ at. let x = first.run at in (x.0, x.1, λ rest left e lexed. x.2 rest left tt lexed) }
+    narrowed first = record { run = λ at. let x = first.run at in (x.0, x.1, x.2, x.3, λ rest left e lexed. x.4 rest left tt lexed) }
 
 not_below : (m n : ℕ) → nat_lt m n ≡ false → n ≤ m
 not_below m n e = grind (arith, common_steps)
@@ -118,20 +119,20 @@ writes-right_side {H = H} o first second =
 -- a chain of this level, and an operand behind an operator
 pub writes-chain : {k m : List ℕ} {h i j l : ℕ} {G H : WrittenExpression → Type 0} (J : WrittenExpression → Type 0) {ops : LanguageFormat Operator} (r s : Level) (o : Operator) (c : List ℕ) → Into (by_rule level_format r) (Spells level_format (chain ops s))
     → Writes (ByRule r) k Ends h i G → Writes ops (32 ∷ c) Any i j (λ p. p ≡ o) → Writes (ByRule s) m Ends j l H → ((a b : WrittenExpression) → G a → H b → J (joining a (o, b))) → Writes (chain ops s) (k ++ ((32 ∷ c) ++ m)) Ends h l J
-writes-chain {k} {m} {H = H} J {ops = ops} r s o c inverse first operator second joins = record {
+writes-chain {k} {m} {h} {H = H} J {ops = ops} r s o c inverse first operator second joins = record {
   run = λ at.
       let a = first.run at in
       let b = (writes-right_side {H = H} o operator second).run (at + length k) in (
         joining a.0 b.0,
-        subst (λ (p : Operator). J (joining a.0 (p, b.0.1))) (sym b.1.0) (joins a.0 b.0.1 a.1 b.1.1),
-        λ rest left e lexed.
-            let later = b.2 rest left e (Lexes-at (at + length (k ++ ((32 ∷ c) ++ m))) ((at + length k) + length ((32 ∷ c) ++ m)) rest left (omega (arith, length-append k ((32 ∷ c) ++ m))) lexed) in
-            let sooner = a.2 (((32 ∷ c) ++ m) ++ rest) later.0 refl later.1 in (
-              sooner.0,
-              Lexes-text at (k ++ (((32 ∷ c) ++ m) ++ rest)) ((k ++ ((32 ∷ c) ++ m)) ++ rest) sooner.0 (sym (append_assoc k ((32 ∷ c) ++ m) rest)) sooner.1,
-              sooner.2 ∙ later.2,
-              longer ops s sooner.0 later.0 left a.0 b.0.1 b.0.0 (inverse sooner.0 a.0 later.0 sooner.3) later.3,
+        a.1 ++ b.1,
+        subst (λ (p : Operator). J (joining a.0 (p, b.0.1))) (sym b.2.0) (joins a.0 b.0.1 a.2 b.2.1),
+        λ left.
+            let same = append_assoc a.1 b.1 left in (
+              ap (deep_from OPENINGS_MAX h) same ∙ (a.3 (b.1 ++ left)).0 ∙ (b.3 left).0,
+              subst (λ (ts : List Lexeme). Spells level_format (chain ops s) ts (joining a.0 b.0) left) (sym same)
+                  (longer ops s (a.1 ++ (b.1 ++ left)) (b.1 ++ left) left a.0 b.0.1 b.0.0 (inverse (a.1 ++ (b.1 ++ left)) a.0 (b.1 ++ left) (a.3 (b.1 ++ left)).1) (b.3 left).1),
             ),
+        lexed-both {F = Ends} {H = Ends} k ((32 ∷ c) ++ m) at a.1 b.1 (λ rest e. refl) a.4 b.4,
       );
 }
 

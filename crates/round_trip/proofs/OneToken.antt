@@ -12,9 +12,9 @@ use Rattle.sig_base.specs.declared.limits.TheConstants.{OPENINGS_MAX}
 use Rattle.model_core.specs.declared.token.Word.{Word}
 use Rattle.model_core.specs.declared.token.Symbol.{Symbol}
 use Rattle.model_core.specs.declared.token.Symbol.TheVariants as symbols
-use Rattle.model_core.specs.Text.Lexing.{Lexeme, LexemeKind, NameOf, Reserved, NumberOf, Mark, Longest, front, is_word_byte, word_among, reserved_words, word_front, literal_value}
+use Rattle.model_core.specs.Text.Lexing.{Lexeme, LexemeKind, NameOf, Reserved, NumberOf, Mark, Longest, front, is_word_byte, word_among, reserved_words, word_front, digits_value, literal_value}
 use Rattle.model_core.specs.Text.Openings.{ends_part, is_opening}
-use Rattle.model_core.specs.Text.Format.{Single, TokenSort, AName, ANumber, AWord, ASymbol, sort_of, mark, reserved, any_name, any_number}
+use Rattle.model_core.specs.Text.Format.{Single, TokenSort, AName, ANumber, AWord, ASymbol, sort_as, mark, reserved, any_name, any_number}
 use Rattle.model_core.specs.Text.Spellable.{IsName}
 use Rattle.text_laws.specs.OpeningCount.{deep_from}
 use Rattle.round_trip.proofs.TokenSteps.{Lexes-token, token}
@@ -30,15 +30,17 @@ neither k zero e o = record { passes = λ from to left. rw (e, o) refl }
 neither k (suc i) e o = record { passes = λ from to left. rw (e, o) refl }
 
 -- one token, of which a value is made
-writes-token : {A : Type 0} (s : TokenSort) (f : Lexeme → A) (G : A → Type 0) (c : ℕ) (w : List ℕ) (k : LexemeKind) (F : List ℕ → Type 0) {i j : ℕ}
-    → ((rest : List ℕ) → F rest → front c (w ++ rest) ≡ Longest (suc (length w)) k) → sort_of k ≡ s → Passes k i j → ((from to : ℕ) → G (f (token from to k))) → Writes (Single s f) (c ∷ w) F i j G
+pub writes-token : {A : Type 0} (s : TokenSort) (f : Lexeme → A) (G : A → Type 0) (c : ℕ) (w : List ℕ) (k : LexemeKind) (F : List ℕ → Type 0) {i j : ℕ}
+    → ((rest : List ℕ) → F rest → front c (w ++ rest) ≡ Longest (suc (length w)) k) → sort_as s k ≡ s → Passes k i j → ((from to : ℕ) → G (f (token from to k))) → Writes (Single s f) (c ∷ w) F i j G
 writes-token s f G c w k F is same pass makes = record {
-  run = λ at. (
-    f (token at (at + suc (length w)) k),
-    makes at (at + suc (length w)),
-    λ rest left h lexed.
-        (token at (at + suc (length w)) k ∷ left, Lexes-token at c w rest k left (is rest h) lexed, pass.passes at (at + suc (length w)) left, (same, refl, refl)),
-  );
+  run = λ at.
+      let to = at + suc (length w) in (
+        f (token at to k),
+        token at to k ∷ [],
+        makes at to,
+        λ left. (pass.passes at to left, (same, refl, refl)),
+        λ rest left h lexed. Lexes-token at c w rest k left (is rest h) lexed,
+      );
 }
 
 -- ---- names and reserved words
@@ -118,18 +120,18 @@ record IsNumeral (n : ℕ) (text : List ℕ) : Type 0 where
   pub some : text ≡ [] → ⊥
   pub value : literal_value text ≡ Some (pos n)
 
-all_digits : (ds : List ℕ) → AllBelowBase 10 ds → AllByRecursion (λ x. is_ascii_digit x ≡ true) (map (λ d. 48 + d) ds)
+pub all_digits : (ds : List ℕ) → AllBelowBase 10 ds → AllByRecursion (λ x. is_ascii_digit x ≡ true) (map (λ d. 48 + d) ds)
 all_digits [] h = tt
 all_digits (d ∷ ds) h = let b : d < 10 = h.0 in let a : is_ascii_digit (48 + d) ≡ true = grind (arith, common_steps) in (a, all_digits ds h.1)
 
-digits_back : (ds : List ℕ) → map (λ c. c - 48) (map (λ d. 48 + d) ds) ≡ ds
+pub digits_back : (ds : List ℕ) → map (λ c. c - 48) (map (λ d. 48 + d) ds) ≡ ds
 digits_back [] = refl
 digits_back (d ∷ ds) = let e : (48 + d) - 48 ≡ d = omega arith in λ i. e i ∷ digits_back ds i
 
 chosen : (m n : ℕ) → m ≡ n → n < 2 ^ 63 → (if nat_lt m (2 ^ 63) then Some (pos m) else None) ≡ Some (pos n)
 chosen m n same h = let e : nat_lt m (2 ^ 63) ≡ true = grind (arith, common_steps) in rw (e, same)
 
-some_digits : (ds : List ℕ) → 0 < get_or ds 0 0 → map (λ d. 48 + d) ds ≡ [] → ⊥
+pub some_digits : (ds : List ℕ) → 0 < get_or ds 0 0 → map (λ d. 48 + d) ds ≡ [] → ⊥
 some_digits [] h e = absurd (omega arith)
 some_digits (d ∷ ds) h e = cc
 
@@ -155,7 +157,7 @@ numeral_decimal (suc n) l =
 
 writes-numeral : {i : ℕ} (n : ℕ) (text : List ℕ) → IsNumeral n text → Writes any_number text Ends i i (λ v. v.value ≡ Some (pos n))
 writes-numeral n [] h = absurd (h.some refl)
-writes-numeral {i} n (c ∷ w) h = writes-token ANumber _ (λ v. v.value ≡ Some (pos n)) c w (NumberOf (Some (pos n))) Ends (λ rest e. front_digits c w rest h.all e ∙ ap (λ v. Longest (suc (length w)) (NumberOf v)) h.value) refl (neither (NumberOf (Some (pos n))) i refl refl) (λ from to. refl)
+writes-numeral {i} n (c ∷ w) h = writes-token ANumber _ (λ v. v.value ≡ Some (pos n)) c w (NumberOf (Some (pos n)) (digits_value (c ∷ w))) Ends (λ rest e. front_digits c w rest h.all e ∙ ap (λ v. Longest (suc (length w)) (NumberOf v (digits_value (c ∷ w)))) h.value) refl (neither (NumberOf (Some (pos n)) (digits_value (c ∷ w))) i refl refl) (λ from to. refl)
 
 pub writes-number : {i : ℕ} (n : ℕ) → n < 2 ^ 63 → Writes any_number (decimal n) Ends i i (λ v. v.value ≡ Some (pos n))
 writes-number n l = writes-numeral n (decimal n) (numeral_decimal n l)

@@ -14,7 +14,7 @@ use Rattle.model_core.specs.Text.Grammar.{Grammar, many}
 use Rattle.model_core.specs.Text.Written.{WrittenExpression, WrittenName, WrittenNumber}
 use Rattle.model_core.specs.Text.Numbering.{each_numbered}
 use Rattle.model_core.specs.Text.Spellable.{IsName, HasOne, openings_together}
-use Rattle.model_core.specs.Text.Format.{TokenSort, AName, ANumber, AWord, ASymbol, sort_of, Yields, Single, Apply, Either, Many, derives, name_bytes, number_value, any_name, any_number, mark, reserved, ◌<*◌, ◌*>◌, maybe, at_least_one, separated}
+use Rattle.model_core.specs.Text.Format.{TokenSort, AName, ANumber, AWord, ASymbol, sort_of, sort_as, Yields, Single, Apply, Either, Many, derives, name_bytes, number_value, any_name, any_number, mark, reserved, ◌<*◌, ◌*>◌, maybe, at_least_one, separated}
 use Rattle.model_core.specs.Text.Expressions.{Level, LanguageFormat}
 use Rattle.text_laws.specs.OpeningCount.{deep_from}
 use Rattle.round_trip.proofs.TokensOfTexts.{GoodKind, GoodTokens, IsLiteral}
@@ -68,7 +68,7 @@ steps t left false false is opens (suc k) d = (suc k, refl, rw (is, opens) at d)
 abbrev pub Taken : LexemeKind → ℕ → ℕ → Type 0
 Taken kind k j = Steps (ends_part kind) (is_opening kind) k j
 
-tells-token : {A : Type 0} {levels : Level → Grammar WrittenExpression} (s : TokenSort) (f : Lexeme → A) (R : Telling A) → ((t : Lexeme) → GoodKind t.kind → sort_of t.kind ≡ s → (k j : ℕ) → Taken t.kind k j → R k (f t) j) → Tells levels (Single s f) R
+tells-token : {A : Type 0} {levels : Level → Grammar WrittenExpression} (s : TokenSort) (f : Lexeme → A) (R : Telling A) → ((t : Lexeme) → GoodKind t.kind → sort_as s t.kind ≡ s → (k j : ℕ) → Taken t.kind k j → R k (f t) j) → Tells levels (Single s f) R
 tells-token {A} {levels} s f R makes = record { run = go }
   where
     go : (k : ℕ) (tokens : List Lexeme) (v : A) (left : List Lexeme) → Sound k tokens → derives levels (Single s f) tokens v left → (j : ℕ) × R k v j × Sound j left
@@ -83,13 +83,13 @@ tells-token {A} {levels} s f R makes = record { run = go }
 reserved_kind : (k : LexemeKind) (w : Word) → sort_of k ≡ AWord w → k ≡ Reserved w
 reserved_kind (NameOf b) w e = cc
 reserved_kind (Reserved v) w e = let h : v ≡ w = cc in ap Reserved h
-reserved_kind (NumberOf n) w e = cc
+reserved_kind (NumberOf n m) w e = cc
 reserved_kind (Mark s) w e = cc
 
 mark_kind : (k : LexemeKind) (s : Symbol) → sort_of k ≡ ASymbol s → k ≡ Mark s
 mark_kind (NameOf b) s e = cc
 mark_kind (Reserved v) s e = cc
-mark_kind (NumberOf n) s e = cc
+mark_kind (NumberOf n m) s e = cc
 mark_kind (Mark v) s e = let h : v ≡ s = cc in ap Mark h
 
 -- a reserved word and a symbol
@@ -124,7 +124,7 @@ tells-name = tells-token AName _ AWrittenName (λ t good same k j s. by-kind t.k
     by-kind : (kind : LexemeKind) (from : ℕ) → GoodKind kind → sort_of kind ≡ AName → (k j : ℕ) → Taken kind k j → IsName (name_bytes kind) × (k ≡ j)
     by-kind (NameOf b) from good same k j s = (good, s)
     by-kind (Reserved v) from good same k j s = cc
-    by-kind (NumberOf n) from good same k j s = cc
+    by-kind (NumberOf n m) from good same k j s = cc
     by-kind (Mark v) from good same k j s = cc
 
 pub tells-number : {levels : Level → Grammar WrittenExpression} → Tells levels any_number AWrittenNumber
@@ -133,7 +133,7 @@ tells-number = tells-token ANumber _ AWrittenNumber (λ t good same k j s. by-ki
     by-kind : (kind : LexemeKind) (from : ℕ) → GoodKind kind → sort_of kind ≡ ANumber → (k j : ℕ) → Taken kind k j → IsLiteral (number_value kind) × (k ≡ j)
     by-kind (NameOf b) from good same k j s = cc
     by-kind (Reserved v) from good same k j s = cc
-    by-kind (NumberOf n) from good same k j s = (good, s)
+    by-kind (NumberOf n m) from good same k j s = (good, s)
     by-kind (Mark v) from good same k j s = cc
 
 -- ---- parts in a row

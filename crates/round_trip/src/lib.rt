@@ -2,17 +2,19 @@
 //! no code.
 #![tactic(auto)]
 
-ghost use Rattle.std.specs.Prelude.{◌≡◌, ◌↔◌, ℕ, List, Some, Ok};
+ghost use Rattle.std.specs.Prelude.{◌≡◌, ◌↔◌, ◌++◌, ℕ, List, length, Some, Ok};
 ghost use Rattle.std.specs.List.{AllByRecursion};
 ghost use Rattle.model_core.specs.EventGraph.{EventGraph};
 ghost use Rattle.model_core.specs.Rules.Reduction.{RuleApplication};
 ghost use Rattle.model_core.specs.Rules.Certificate.{certificate};
-ghost use Rattle.model_core.specs.Text.Lexing.{Lexeme, tokens_of};
+ghost use Rattle.model_core.specs.Text.Lexing.{Lexeme, tokens_from, tokens_of};
 ghost use Rattle.model_core.specs.Text.CertificateText.{SpellableApplication, IsCertificate};
 ghost use Rattle.model_core.specs.Text.Written.{WrittenModel};
 ghost use Rattle.model_core.specs.Text.Numbering.{numbered};
 ghost use Rattle.model_core.specs.Text.Canonical.{canonical};
 ghost use Rattle.model_core.specs.Text.ModelText.{SpellsText};
+ghost use Rattle.model_core.specs.Text.DocumentText.{BeginsWithModel};
+ghost use Rattle.model_core.specs.Static.ModelFaults.{Accepted};
 ghost use Rattle.model_core.specs.Static.OwnRules.{KeepsStaticRules};
 ghost use Rattle.model_core.specs.Static.Reading.{Reads, IsValid, ReadsDocument};
 ghost use Rattle.model_core.specs.Static.WrittenByKind.{VariablesByKind};
@@ -36,6 +38,12 @@ pub fn canonical_texts_read_back()
 pub fn validity_is_by_parts()
     ensures by_parts { (g : EventGraph) → IsValid g ↔ KeepsStaticRules g × IsSpellable g }
     ensures reads_back { (g : EventGraph) → IsValid g → Reads (canonical g) g }
+{}
+
+/// The canonical text of a valid model, at the front of any text whose other tokens are known, reads as that model.
+pub fn canonical_texts_stand_in_front()
+    ensures { (g : EventGraph) (rest : List ℕ) (left : List Lexeme) → KeepsStaticRules g → IsSpellable g → tokens_from (length (canonical g)) 0 rest ≡ Ok left
+        → (w : WrittenModel) × (tokens : List Lexeme) × (tokens_of (canonical g ++ rest) ≡ Ok tokens) × BeginsWithModel tokens w left × Accepted w g }
 {}
 
 /// The certificate of applications that a certificate can write reads back as these applications.

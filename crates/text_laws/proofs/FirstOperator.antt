@@ -29,5 +29,5 @@ at_each (Mark symbols.Times) t tokens e = rw e ((refl, refl), (refl, refl), (ref
 at_each (Mark _) t tokens e = rw e ((refl, refl), (refl, refl), (refl, refl), (refl, refl), (refl, refl))
 at_each (Reserved words.And) t tokens e = rw e ((refl, refl), (refl, refl), (refl, refl), (refl, refl), (refl, refl))
 at_each (Reserved _) t tokens e = rw e ((refl, refl), (refl, refl), (refl, refl), (refl, refl), (refl, refl))
-at_each (NumberOf value) t tokens e = rw e ((refl, refl), (refl, refl), (refl, refl), (refl, refl), (refl, refl))
+at_each (NumberOf value exact) t tokens e = rw e ((refl, refl), (refl, refl), (refl, refl), (refl, refl), (refl, refl))
 at_each (NameOf bytes) t tokens e = rw e ((refl, refl), (refl, refl), (refl, refl), (refl, refl), (refl, refl))

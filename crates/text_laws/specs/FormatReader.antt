@@ -1,7 +1,7 @@
 -- The reader of a format: it computes what the format spells, or where it is stuck. A law says so.
 use Rattle.std.specs.Prelude.{ℕ, zero, suc, ◌+◌, ◌*◌, if◌then◌else◌, List, [], ◌∷◌, ◌++◌, length, Result, Ok, Err}
 use Rattle.model_core.specs.Text.Lexing.{Lexeme}
-use Rattle.model_core.specs.Text.Format.{TokenSort, sort_of, Format, Yields, Single, Apply, Either, Many, ByRule}
+use Rattle.model_core.specs.Text.Format.{TokenSort, sort_as, Format, Yields, Single, Apply, Either, Many, ByRule}
 use Rattle.text_laws.specs.FirstTokens.{same_sort, begins_among, Lookahead, first_sorts}
 
 -- the value that was taken and the tokens that are left, or the tokens from the first that can't stand where it stands
@@ -27,7 +27,7 @@ with_front front parse = and_next (λ xs rest. took (front ++ xs) rest) parse
 
 abbrev pub single_at : {A : Type 0} → TokenSort → (Lexeme → A) → Parser A
 single_at s f [] = Err []
-single_at s f (t ∷ tokens) = if same_sort (sort_of t.kind) s then Ok (f t, tokens) else Err (t ∷ tokens)
+single_at s f (t ∷ tokens) = if same_sort (sort_as s t.kind) s then Ok (f t, tokens) else Err (t ∷ tokens)
 
 unfoldable pub many_within : {A : Type 0} → ℕ → List TokenSort → Parser A → Parser (List A)
 many_within zero sorts p tokens = if begins_among sorts tokens then Err tokens else Ok ([], tokens)

@@ -3,6 +3,10 @@ use Rattle.std.specs.Prelude.{◌≡◌, false, refl}
 use Rattle.model_core.specs.Text.Language.{signed_format, variable_format, row_format, table_format, target_format, change_format, schedule_format, urgent_format, cancel_format, edge_format, vertex_format}
 use Rattle.text_laws.specs.FirstTokens.{nullable}
 
+pub signed-some : nullable signed_format ≡ false
+unfolding signed_format
+signed-some = refl
+
 pub variable-some : nullable variable_format ≡ false
 unfolding variable_format
 variable-some = refl

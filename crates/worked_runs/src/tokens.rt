@@ -11,8 +11,8 @@ pub fn longest_tokens_are_taken()
     ensures reserved { tokens_of (codes "end") ≡ Ok (token 0 3 (Reserved words.End) ∷ []) }
     ensures names { tokens_of (codes "end1 end_") ≡ Ok (token 0 4 (NameOf (codes "end1")) ∷ token 5 9 (NameOf (codes "end_")) ∷ []) }
     ensures capital { tokens_of (codes "End") ≡ Ok (token 0 3 (NameOf (codes "End")) ∷ []) }
-    ensures number_first { tokens_of (codes "1end") ≡ Ok (token 0 1 (NumberOf (Some (pos 1))) ∷ token 1 4 (Reserved words.End) ∷ []) }
-    ensures range { tokens_of (codes "0..9") ≡ Ok (token 0 1 (NumberOf (Some (pos 0))) ∷ token 1 3 (Mark symbols.To) ∷ token 3 4 (NumberOf (Some (pos 9))) ∷ []) }
+    ensures number_first { tokens_of (codes "1end") ≡ Ok (token 0 1 (NumberOf (Some (pos 1)) 1) ∷ token 1 4 (Reserved words.End) ∷ []) }
+    ensures range { tokens_of (codes "0..9") ≡ Ok (token 0 1 (NumberOf (Some (pos 0)) 0) ∷ token 1 3 (Mark symbols.To) ∷ token 3 4 (NumberOf (Some (pos 9)) 9) ∷ []) }
     ensures colons { tokens_of (codes ":==:") ≡ Ok (token 0 2 (Mark symbols.Becomes) ∷ token 2 3 (Mark symbols.Equal) ∷ token 3 4 (Mark symbols.Colon) ∷ []) }
     ensures comparisons { tokens_of (codes "<><=>=<") ≡ Ok (token 0 2 (Mark symbols.NotEqual) ∷ token 2 4 (Mark symbols.AtMost) ∷ token 4 6 (Mark symbols.AtLeast) ∷ token 6 7 (Mark symbols.Below) ∷ []) }
 {}
@@ -25,11 +25,11 @@ pub fn blanks_and_comments_are_no_tokens()
     ensures comment_between { tokens_of (codes "or#.\n if") ≡ Ok (token 0 2 (Reserved words.Or) ∷ token 6 8 (Reserved words.If) ∷ []) }
 {}
 
-/// A number has a value up to 2^63 - 1.
+/// A number has a value up to 2^63 - 1. What its digits write is kept, however great.
 pub fn numbers_have_a_limit()
-    ensures zeros { tokens_of (codes "007") ≡ Ok (token 0 3 (NumberOf (Some (pos 7))) ∷ []) }
-    ensures last { tokens_of (codes "9223372036854775807") ≡ Ok (token 0 19 (NumberOf (Some (pos 9223372036854775807))) ∷ []) }
-    ensures beyond { tokens_of (codes "9223372036854775808") ≡ Ok (token 0 19 (NumberOf None) ∷ []) }
+    ensures zeros { tokens_of (codes "007") ≡ Ok (token 0 3 (NumberOf (Some (pos 7)) 7) ∷ []) }
+    ensures last { tokens_of (codes "9223372036854775807") ≡ Ok (token 0 19 (NumberOf (Some (pos 9223372036854775807)) 9223372036854775807) ∷ []) }
+    ensures beyond { tokens_of (codes "9223372036854775808") ≡ Ok (token 0 19 (NumberOf None 9223372036854775808) ∷ []) }
 {}
 
 /// The first byte that begins no token is told, by its place.

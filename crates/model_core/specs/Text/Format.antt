@@ -7,9 +7,11 @@ use Rattle.model_core.specs.Text.Lexing.{Lexeme, LexemeKind, NameOf, Reserved, N
 use Rattle.model_core.specs.Text.Written.{WrittenName, WrittenNumber}
 use Rattle.model_core.specs.Text.Grammar.{Grammar, gives, ◌>>=◌, ◌or◌, many}
 
--- the sorts of tokens that a grammar tells apart: any name, any number, this reserved word, this symbol
+-- the sorts of tokens that a grammar tells apart: any name, the name with this spelling, any number, this reserved word,
+-- this symbol
 pub data TokenSort : Type 0 where
   AName : TokenSort
+  ASpelled : List ℕ → TokenSort
   ANumber : TokenSort
   AWord : Word → TokenSort
   ASymbol : Symbol → TokenSort
@@ -17,8 +19,13 @@ pub data TokenSort : Type 0 where
 abbrev pub sort_of : LexemeKind → TokenSort
 sort_of (NameOf bytes) = AName
 sort_of (Reserved w) = AWord w
-sort_of (NumberOf value) = ANumber
+sort_of (NumberOf value exact) = ANumber
 sort_of (Mark s) = ASymbol s
+
+-- the sort of a token, as one asks who looks for a token of a sort: only who looks for a spelling sees that of a name
+abbrev pub sort_as : TokenSort → LexemeKind → TokenSort
+sort_as (ASpelled bytes) (NameOf spelling) = ASpelled spelling
+sort_as s kind = sort_of kind
 
 -- A format of values of A, where each rule of R is a format of V: no token, one token of a sort, one part and then the
 -- next, one of two, any number of a part, or a rule by its name.
@@ -33,7 +40,7 @@ pub data Format (R : Type 0) (V : Type 0) : Type 0 → Type 1 where
 -- one token of this sort, of which a value is made
 abbrev pub single : {A : Type 0} → TokenSort → (Lexeme → A) → Grammar A
 single s f [] value left = ⊥
-single s f (t ∷ tokens) value left = (sort_of t.kind ≡ s) × (f t ≡ value) × (tokens ≡ left)
+single s f (t ∷ tokens) value left = (sort_as s t.kind ≡ s) × (f t ≡ value) × (tokens ≡ left)
 
 -- what a format derives, where each rule derives this
 abbrev pub derives : {R V A : Type 0} → (R → Grammar V) → Format R V A → Grammar A
@@ -64,8 +71,13 @@ name_bytes (NameOf bytes) = bytes
 name_bytes _ = []
 
 abbrev pub number_value : LexemeKind → Option ℤ
-number_value (NumberOf value) = value
+number_value (NumberOf value exact) = value
 number_value _ = None
+
+-- what the digits of a number write, however great
+abbrev pub number_exact : LexemeKind → ℕ
+number_exact (NumberOf value exact) = exact
+number_exact _ = 0
 
 -- a reserved word and a symbol, as their places
 abbrev pub reserved : {R V : Type 0} → Word → Format R V ℕ
@@ -73,6 +85,10 @@ reserved w = Single (AWord w) (λ t. t.from)
 
 abbrev pub mark : {R V : Type 0} → Symbol → Format R V ℕ
 mark s = Single (ASymbol s) (λ t. t.from)
+
+-- a name with this spelling, as its place
+abbrev pub this_name : {R V : Type 0} → List ℕ → Format R V ℕ
+this_name bytes = Single (ASpelled bytes) (λ t. t.from)
 
 -- a name and a number, with their places
 abbrev pub any_name : {R V : Type 0} → Format R V WrittenName

@@ -9,11 +9,12 @@ use Rattle.model_core.specs.declared.token.Word.TheVariants as words
 use Rattle.model_core.specs.declared.token.Symbol.{Symbol}
 use Rattle.model_core.specs.declared.token.Symbol.TheVariants as symbols
 
--- what a token is: a name with its bytes, a reserved word, a number or nothing above 2^63 - 1, or a symbol
+-- what a token is: a name with its bytes, a reserved word, a number or nothing above 2^63 - 1, beside what its digits write
+-- however great, or a symbol
 pub data LexemeKind : Type 0 where
   NameOf : List ℕ → LexemeKind
   Reserved : Word → LexemeKind
-  NumberOf : Option ℤ → LexemeKind
+  NumberOf : Option ℤ → ℕ → LexemeKind
   Mark : Symbol → LexemeKind
 
 -- a token, the byte at which it begins, and the byte after its last
@@ -112,9 +113,13 @@ abbrev pub word_among : List (List ℕ × Word) → List ℕ → LexemeKind
 word_among [] bytes = NameOf bytes
 word_among (w ∷ ws) bytes = if same_bytes bytes w.0 then Reserved w.1 else word_among ws bytes
 
--- the number that digits write, where it is below 2^63
+-- the number that digits write
+abbrev pub digits_value : List ℕ → ℕ
+digits_value digits = number_from_digits 10 (map (λ c. c - 48) digits)
+
+-- that number, where it is below 2^63
 abbrev pub literal_value : List ℕ → Option ℤ
-literal_value digits = let n = number_from_digits 10 (map (λ c. c - 48) digits) in if nat_lt n (2 ^ 63) then Some (pos n) else None
+literal_value digits = let n = digits_value digits in if nat_lt n (2 ^ 63) then Some (pos n) else None
 
 -- what a text begins with: so many bytes of blanks or of a comment, its longest token, or a byte that begins no token
 pub data Front : Type 0 where
@@ -136,7 +141,7 @@ abbrev pub word_front : List ℕ → Front
 word_front bytes = Longest (length bytes) (word_among reserved_words bytes)
 
 abbrev pub number_front : List ℕ → Front
-number_front digits = Longest (length digits) (NumberOf (literal_value digits))
+number_front digits = Longest (length digits) (NumberOf (literal_value digits) (digits_value digits))
 
 -- what the text c ∷ s begins with
 abbrev pub front : ℕ → List ℕ → Front

@@ -2,7 +2,7 @@
 use Rattle.std.specs.Prelude.{◌≡◌, ℕ, ◌+◌, ◌==◌, if◌then◌else◌, List, [], ◌∷◌, ◌++◌, length, take, filter, slice_index, Option, Some, None, Result, Ok, Err}
 use Rattle.std.specs.List.{prefix_len}
 use Rattle.std.specs.Char.{is_ascii_digit, is_ascii_alphabetic}
-use Rattle.model_core.specs.Text.Lexing.{Lexeme, Mark, NumberOf, Front, Between, Longest, Neither, is_blank, is_word_byte, is_comment_byte, reserved_words, all_symbols, word_among, symbol_among, literal_value}
+use Rattle.model_core.specs.Text.Lexing.{Lexeme, Mark, NumberOf, Front, Between, Longest, Neither, is_blank, is_word_byte, is_comment_byte, reserved_words, all_symbols, word_among, symbol_among, digits_value, literal_value}
 use Rattle.model_core.specs.declared.token.Word.{Word}
 use Rattle.model_core.specs.declared.token.Symbol.{Symbol}
 use Rattle.model_lex.specs.declared.lex_error.LexError.{LexError}
@@ -39,7 +39,7 @@ word_at n bytes = Longest n (word_among reserved_words (take n bytes))
 
 -- the number of so many digits
 abbrev pub number_at : ℕ → List ℕ → Front
-number_at n bytes = Longest n (NumberOf (literal_value (take n bytes)))
+number_at n bytes = let digits = take n bytes in Longest n (NumberOf (literal_value digits) (digits_value digits))
 
 -- what bytes that aren't empty begin with
 abbrev pub front_at : List ℕ → Front

@@ -3,11 +3,12 @@
 use Rattle.std.proofs.lemmas.List.{append_cancel_right}
 use Rattle.std.proofs.Common.{◌≡◌, ℕ, suc, zero, Bool, true, false, List, [], ◌∷◌, ◌++◌, ◌⊎◌, inl, inr, refl, sym, ap, ◌∙◌, subst, append_assoc, append-nil}
 use Rattle.std.specs.Prelude.{not, ◌&&◌}
+use Rattle.model_core.specs.declared.token.Word.{Word}
 use Rattle.model_core.specs.declared.token.Word.TheVariants as words
-use Rattle.model_core.specs.Text.Lexing.{Lexeme, LexemeKind, Reserved}
+use Rattle.model_core.specs.Text.Lexing.{Lexeme, LexemeKind, NameOf, Reserved, NumberOf, Mark}
 use Rattle.model_core.specs.Text.Written.{WrittenModel}
 use Rattle.model_core.specs.Text.Grammar.{Grammar, many}
-use Rattle.model_core.specs.Text.Format.{TokenSort, AWord, sort_of, Format, Yields, Single, Apply, Either, Many, ByRule, single, derives, nested, by_rule, Spells}
+use Rattle.model_core.specs.Text.Format.{TokenSort, AWord, sort_of, sort_as, ASpelled, AName, ANumber, ASymbol, Format, Yields, Single, Apply, Either, Many, ByRule, single, derives, nested, by_rule, Spells}
 use Rattle.model_core.specs.Text.Expressions.{LanguageFormat, Level, Whole, Disjunction, Conjunction, Negation, Comparison, Sum, Product, Unary, Primary, level_format}
 use Rattle.model_core.specs.Text.Language.{signed_format, literal_format, kind_format, variable_format, row_format, table_format, watch_format, target_format, choice_format, source_format, change_format, values_format, when_format, delay_format, timing_format, schedule_format, urgent_format, cancelled_format, cancel_format, edge_format, vertex_format, version_format, text_format, BeginsWithText, IsText}
 use Rattle.model_core.specs.Text.FirstWrong.{CantGoOn, FirstWrong}
@@ -51,9 +52,20 @@ one_token t true e ok rest = absurd (
     )
 one_token t false e ok rest = rw e refl
 
+-- a spelling tells nothing of reserved words
+no-word : (s : TokenSort) (k : LexemeKind) (w : Word) → same_sort (sort_as s k) (AWord w) ≡ same_sort (sort_of k) (AWord w)
+no-word (ASpelled bytes) (NameOf spelling) w = refl
+no-word (ASpelled bytes) (Reserved v) w = refl
+no-word (ASpelled bytes) (NumberOf value exact) w = refl
+no-word (ASpelled bytes) (Mark m) w = refl
+no-word AName k w = refl
+no-word ANumber k w = refl
+no-word (AWord v) k w = refl
+no-word (ASymbol m) k w = refl
+
 single-endless : {A : Type 0} (s : TokenSort) (f : Lexeme → A) → not (same_sort s (AWord words.End)) ≡ true → Endless (single s f)
 single-endless s f ok [] x left d = absurd d
-single-endless s f ok (t ∷ tokens) x left d = (t ∷ [], ap (λ (l : List Lexeme). t ∷ l) d.2, one_token t (is_end_word t.kind) refl (subst (λ (r : TokenSort). not (same_sort r (AWord words.End)) ≡ true) (sym d.0) ok))
+single-endless s f ok (t ∷ tokens) x left d = (t ∷ [], ap (λ (l : List Lexeme). t ∷ l) d.2, one_token t (is_end_word t.kind) refl (ap not (sym (no-word s t.kind words.End)) ∙ subst (λ (r : TokenSort). not (same_sort r (AWord words.End)) ≡ true) (sym d.0) ok))
 
 many-endless : {A : Type 0} (P : Grammar A) → Endless P → Endless (many P)
 many-endless P h tokens [] left d = ([], d, λ rest. refl)
@@ -118,7 +130,7 @@ has_last_end _ = false
 
 the_word : {R V A : Type 0} (env : R → Grammar V) (q : Format R V A) → is_end_part q ≡ true → (between : List Lexeme) (x : A) (left : List Lexeme) → derives env q between x left → (t : Lexeme) × (between ≡ t ∷ left) × (is_end_word t.kind ≡ true)
 the_word env (Single s f) ok [] x left d = absurd d
-the_word env (Single s f) ok (t ∷ rest) x left d = (t, ap (λ (l : List Lexeme). t ∷ l) d.2, end_is t.kind (d.0 ∙ same_sort-true s (AWord words.End) ok))
+the_word env (Single s f) ok (t ∷ rest) x left d = (t, ap (λ (l : List Lexeme). t ∷ l) d.2, end_is t.kind (subst (λ (r : TokenSort). sort_as r t.kind ≡ r) (same_sort-true s (AWord words.End) ok) d.0))
 the_word env _ ok between x left d = absurd cc
 
 with_word : (tokens between left : List Lexeme) → (u : List Lexeme) × (tokens ≡ u ++ between) × GoesOn u → (t : Lexeme) × (between ≡ t ∷ left) × (is_end_word t.kind ≡ true) → FrontBefore tokens left

@@ -4,7 +4,7 @@ use Rattle.std.specs.Prelude.{Some, pos}
 use Rattle.model_core.specs.Text.Lexing.{Lexeme, LexemeKind, NameOf, Reserved, NumberOf, Mark}
 use Rattle.model_core.specs.Text.Written.{WrittenExpression}
 use Rattle.model_core.specs.Text.Expressions.{Level, Whole, Disjunction, Conjunction, Negation, Comparison, Sum, Product, Unary, Primary, of_number, level_format}
-use Rattle.model_core.specs.Text.Format.{TokenSort, AName, ANumber, AWord, ASymbol, Format, by_rule, ByRule, Spells}
+use Rattle.model_core.specs.Text.Format.{TokenSort, AName, ASpelled, ANumber, AWord, ASymbol, Format, by_rule, ByRule, Spells}
 use Rattle.text_laws.specs.FormatReader.{took, rule_at, read_within, many_at, many_within, format_at}
 use Rattle.text_laws.specs.LanguageReader.{level_lookahead}
 use Rattle.text_laws.proofs.Formats.RuleLaws.{sound}
@@ -16,12 +16,13 @@ token_of k = record { from = 0; to = 0; kind = k }
 pub one : (s : TokenSort) → IsOne s
 unfolding token_of
 one AName = (token_of (NameOf []), refl)
-one ANumber = (token_of (NumberOf (Some (pos 0))), refl)
+one (ASpelled bytes) = (token_of (NameOf bytes), refl)
+one ANumber = (token_of (NumberOf (Some (pos 0)) 0), refl)
 one (AWord w) = (token_of (Reserved w), refl)
 one (ASymbol s) = (token_of (Mark s), refl)
 
 zero_token : List Lexeme
-zero_token = token_of (NumberOf (Some (pos 0))) ∷ []
+zero_token = token_of (NumberOf (Some (pos 0)) 0) ∷ []
 
 the_zero : WrittenExpression
 the_zero = of_number (record { value = Some (pos 0); at = 0 })

@@ -3,7 +3,7 @@ use Rattle.std.proofs.Common.{◌≡◌, ℕ, zero, suc, ◌+◌, ◌*◌, ◌�
 use Rattle.std.specs.Prelude.{not, ◌&&◌, ◌||◌, Ok, Err}
 use Rattle.model_core.specs.Text.Lexing.{Lexeme}
 use Rattle.model_core.specs.Text.Grammar.{Grammar, many}
-use Rattle.model_core.specs.Text.Format.{TokenSort, sort_of, Format, Yields, Single, Apply, Either, Many, ByRule, derives, nested, by_rule, Spells, single}
+use Rattle.model_core.specs.Text.Format.{TokenSort, sort_as, Format, Yields, Single, Apply, Either, Many, ByRule, derives, nested, by_rule, Spells, single}
 use Rattle.text_laws.specs.FirstTokens.{same_sort, begins_among, apart, Lookahead, nullable, first_sorts, stop_sorts, fine, AreFine}
 use Rattle.text_laws.specs.FormatReader.{Parse, Parser, took, stuck, and_next, single_at, many_within, many_at, reads, read_within, rule_at, format_at}
 use Rattle.text_laws.proofs.Formats.TokenSorts.{both, not_true, chosen, same_reading}
@@ -32,7 +32,7 @@ choice-left false x y n h g = g
 
 token-left : {A : Type 0} (s : TokenSort) (f : Lexeme → A) → NoLonger (single_at s f)
 token-left s f [] = omega arith
-token-left s f (t ∷ tokens) = choice-left (same_sort (sort_of t.kind) s) (took (f t) tokens) (stuck (t ∷ tokens)) (length (t ∷ tokens)) (omega arith) (omega arith)
+token-left s f (t ∷ tokens) = choice-left (same_sort (sort_as s t.kind) s) (took (f t) tokens) (stuck (t ∷ tokens)) (length (t ∷ tokens)) (omega arith) (omega arith)
 
 repeated-left : {A : Type 0} (p : Parser A) → NoLonger p → (n : ℕ) (sorts : List TokenSort) → NoLonger (many_within n sorts p)
 unfolding many_within
@@ -77,8 +77,8 @@ then-alike next local shorter t these those a b (inr (inr h)) = inr (inr (let k 
 
 begins-alike : (sorts : List TokenSort) (t : Lexeme) (these those u : List Lexeme) → begins_among sorts (u ++ (t ∷ these)) ≡ begins_among sorts (u ++ (t ∷ those))
 begins-alike [] t these those u = refl
-begins-alike (s ∷ sorts) t these those [] = ap (λ b. same_sort (sort_of t.kind) s || b) (begins-alike sorts t these those [])
-begins-alike (s ∷ sorts) t these those (k ∷ u) = ap (λ b. same_sort (sort_of k.kind) s || b) (begins-alike sorts t these those (k ∷ u))
+begins-alike (s ∷ sorts) t these those [] = ap (λ b. same_sort (sort_as s t.kind) s || b) (begins-alike sorts t these those [])
+begins-alike (s ∷ sorts) t these those (k ∷ u) = ap (λ b. same_sort (sort_as s k.kind) s || b) (begins-alike sorts t these those (k ∷ u))
 
 choice-alike : {A : Type 0} (t : Lexeme) (these those : List Lexeme) (c b : Bool) (w x y z : Parse A) → c ≡ b → Alike (t ∷ these) (t ∷ those) w y → Alike (t ∷ these) (t ∷ those) x z → Alike (t ∷ these) (t ∷ those) (cond c w x) (cond b y z)
 choice-alike t these those c b w x y z e h g = subst (λ (d : Bool). Alike (t ∷ these) (t ∷ those) (cond c w x) (cond d y z)) e (pick c)
@@ -91,8 +91,8 @@ gives-local : {A : Type 0} (x : A) → Local (λ tokens. took x tokens)
 gives-local x t these those u = inl (x, u, refl, refl)
 
 token-local : {A : Type 0} (s : TokenSort) (f : Lexeme → A) → Local (single_at s f)
-token-local s f t these those [] = choice-alike t these those (same_sort (sort_of t.kind) s) (same_sort (sort_of t.kind) s) _ _ _ _ refl (inr (inr (omega arith))) (inr (inl ([], refl, refl)))
-token-local s f t these those (k ∷ u) = choice-alike t these those (same_sort (sort_of k.kind) s) (same_sort (sort_of k.kind) s) _ _ _ _ refl (inl (f k, u, refl, refl)) (inr (inl (k ∷ u, refl, refl)))
+token-local s f t these those [] = choice-alike t these those (same_sort (sort_as s t.kind) s) (same_sort (sort_as s t.kind) s) _ _ _ _ refl (inr (inr (omega arith))) (inr (inl ([], refl, refl)))
+token-local s f t these those (k ∷ u) = choice-alike t these those (same_sort (sort_as s k.kind) s) (same_sort (sort_as s k.kind) s) _ _ _ _ refl (inl (f k, u, refl, refl)) (inr (inl (k ∷ u, refl, refl)))
 
 repeated-local : {A : Type 0} (p : Parser A) → NoLonger p → Local p → (n : ℕ) (sorts : List TokenSort) → Local (many_within n sorts p)
 unfolding many_within
@@ -236,7 +236,7 @@ Sample {A} P = (w : List Lexeme) × (x : A) × ((l : List Lexeme) → P (w ++ l)
 
 -- a token of the sort
 abbrev pub IsOne : TokenSort → Type 0
-IsOne s = (t : Lexeme) × (sort_of t.kind ≡ s)
+IsOne s = (t : Lexeme) × (sort_as s t.kind ≡ s)
 
 pub sample : {R V A : Type 0} (env : R → Grammar V) → ((s : TokenSort) → IsOne s) → ((r : R) → Sample (env r)) → (f : Format R V A) → Sample (derives env f)
 sample env one h (Yields x) = ([], x, λ l. (refl, refl))
@@ -262,7 +262,7 @@ then_stuck {A} next (Err s) rest e = inl (ap (λ (l : List Lexeme). stuck {A = A
 
 token-viable : {A : Type 0} (s : TokenSort) (f : Lexeme → A) → ((s : TokenSort) → IsOne s) → Viable (single s f) (single_at s f)
 token-viable s f one [] rest e = let t = one s in ([], t.0 ∷ [], f t.0, rests [] rest e, λ l. (t.1, refl, refl))
-token-viable s f one (k ∷ tokens) rest e = elim (chosen (same_sort (sort_of k.kind) s) (took (f k) tokens) (stuck (k ∷ tokens)) (stuck rest) e) [
+token-viable s f one (k ∷ tokens) rest e = elim (chosen (same_sort (sort_as s k.kind) s) (took (f k) tokens) (stuck (k ∷ tokens)) (stuck rest) e) [
   | inl w ↦ absurd (let g = w.1 in cc)
   | inr w ↦ let t = one s in ([], t.0 ∷ [], f t.0, rests (k ∷ tokens) rest w.1, λ l. (t.1, refl, refl))
 ]

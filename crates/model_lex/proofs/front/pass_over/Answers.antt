@@ -1,7 +1,8 @@
 -- The class of the first byte tells what the text has there.
-use Rattle.std.proofs.Common.{◌≡◌, ◌∙◌, ap, arith, drop, length, refl, slice_index, sym, take}
+use Rattle.std.proofs.Common.{◌≡◌, ◌∙◌, ap, arith, slice_index, sym, take}
 use Rattle.std.specs.Char.{is_ascii_digit}
-use Rattle.model_core.specs.Text.Lexing.{Between, Longest, NameOf, NumberOf}
+use Rattle.model_core.specs.Text.Lexing.{Between, Longest, NameOf, NumberOf, digits_value}
+use Rattle.model_core.specs.declared.token.TokenKind.TheVariants.{Number}
 use Rattle.model_core.specs.Code.TokenViews.{lexeme_kind_of}
 use Rattle.model_lex.specs.Inner.Fronts.{front_at, symbol_seen}
 use Rattle.model_lex.specs.declared.classes.Class.TheVariants as classes
@@ -26,9 +27,9 @@ word c =
     sym (ap (Longest c.word_length-length.result) c.word_kind.ensures
     ∙ rw c.word_length-length.ensures (class-front _ classes.Word (has_bytes c.args.text.now c.args.at c.requires) (sym c.in-Word.is ∙ c.class_of.ensures)))
 
-number : (c : After-literal_value-value) → front_at (bytes_from c.args.text.now c.args.at) ≡ Longest c.digits_length-length.result (NumberOf c.literal_value-value.result)
+number : (c : After-literal_value-value) → front_at (bytes_from c.args.text.now c.args.at) ≡ Longest c.digits_length-length.result (lexeme_kind_of (take c.digits_length-length.result (bytes_from c.args.text.now c.args.at)) (Number c.literal_value-value.result))
 number c =
-    sym (ap (λ value. Longest c.digits_length-length.result (NumberOf value)) c.literal_value-value.ensures
+    sym (ap (λ value. Longest c.digits_length-length.result (NumberOf value (digits_value (take c.digits_length-length.result (bytes_from c.args.text.now c.args.at))))) c.literal_value-value.ensures
     ∙ rw c.digits_length-length.ensures (class-front _ classes.Digit (has_bytes c.args.text.now c.args.at c.requires) (sym c.in-Digit.is ∙ c.class_of.ensures)))
 
 pair : (c : After-symbol_front) → front_at (bytes_from c.args.text.now c.args.at) ≡ symbol_seen c.symbol_front.result

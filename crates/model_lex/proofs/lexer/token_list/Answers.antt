@@ -1,5 +1,4 @@
-use Rattle.std.proofs.Common.{◌∙◌, ap, arith, map}
-use Rattle.std.specs.Prelude.{Err}
+use Rattle.std.proofs.Common.{arith, map}
 use Rattle.std.proofs.lemmas.Result.{err_from_is_err_and}
 use Rattle.model_core.specs.Code.TokenViews.{lexeme_of}
 use Rattle.model_lex.proofs.Cutting.{cut_all, cut_on, gives_error}
