@@ -1,5 +1,5 @@
 -- What operators and sizes are written as, where the code has asked which they are.
-use Rattle.std.proofs.Common.{◌≡◌, ℕ, zero, suc, List, ◌++◌, refl, arith}
+use Rattle.std.proofs.Common.{◌≡◌, ◌∙◌, ℕ, zero, suc, List, ◌++◌, append_assoc, ap, sym, refl, arith}
 use Rattle.std.specs.Prelude.{codes, decimal}
 use Rattle.model_core.specs.EventGraph.{Operator, Add, Subtract, Multiply, Divide, Remainder, Least, Greatest, Equal, NotEqual, Below, AtMost, Above, AtLeast, And, Or, Expression}
 use Rattle.model_core.specs.Text.Canonical.{operator_level, operator_text, binary_text, infix_text, size_text}
@@ -7,6 +7,10 @@ use Rattle.model_core.specs.Text.Canonical.{operator_level, operator_text, binar
 pub size_written : (n : ℕ) → ¬ n ≡ 0 → size_text n ≡ codes "[" ++ decimal n ++ codes "]"
 size_written zero other = absurd (other refl)
 size_written (suc n) other = refl
+
+-- what stands between two operands is put in one piece
+pub put_at_once : (left space op right : List ℕ) → left ++ (space ++ op ++ space) ++ right ≡ left ++ space ++ op ++ space ++ right
+put_at_once left space op right = ap (λ x. x ++ right) (sym (append_assoc left (space ++ op) space) ∙ ap (λ x. x ++ space) (sym (append_assoc left space op)))
 
 module _ (a : Expression) (left : List ℕ) (b : Expression) (right : List ℕ) where
   -- an operator of the tightest level stands before its operands

@@ -5,7 +5,7 @@ ghost use Rattle.model_core.specs.Text.Canonical.{truth_text, level as level_of,
 ghost use Rattle.model_core.specs.Code.Views.{graph_of, expression_of};
 
 use crate::names::put_variable_name;
-use crate::operators::{left_level, operator_level, put_operator, right_level};
+use crate::operators::{left_level, operator_level, put_call, put_infix, right_level};
 use crate::pen::{Pen, put_comma, put_signed};
 use model_core::{Expr, Model};
 
@@ -85,17 +85,14 @@ pub(crate) fn put_expression<P: Pen>(out: &mut P, model: &Model, expr: &Expr)
         Expr::Not(truth) => put_behind(out, model, b"not ", NOT_LEVEL, truth),
         Expr::Binary(op, left, right) => {
             if operator_level(*op) == CALL_LEVEL {
-                put_operator(out, *op);
-                out.put_bytes(b"(");
+                put_call(out, *op);
                 put_expression(out, model, left);
                 put_comma(out);
                 put_expression(out, model, right);
                 out.put_bytes(b")");
             } else {
                 put_operand(out, model, left_level(*op), left);
-                out.put_bytes(b" ");
-                put_operator(out, *op);
-                out.put_bytes(b" ");
+                put_infix(out, *op);
                 put_operand(out, model, right_level(*op), right);
             }
         }

@@ -1,6 +1,6 @@
 //! Operators: how each is written, and how tightly it binds.
 
-ghost use Rattle.std.specs.Prelude.{◌≡◌};
+ghost use Rattle.std.specs.Prelude.{◌≡◌, ◌++◌, codes};
 ghost use Rattle.model_core.specs.Text.Canonical.{operator_level as level_of, left_level as left_level_of, right_level as right_level_of, operator_text};
 ghost use Rattle.model_core.specs.Code.Views.{operator_of};
 
@@ -39,26 +39,39 @@ pub(crate) fn right_level(op: Op) -> u8
     operator_level(op) + 1
 }
 
-/// Puts an operator's sign or word.
-pub(crate) fn put_operator<P: Pen>(out: &mut P, op: Op)
-    ensures { P.adds out.old out.new (operator_text (operator_of op)) }
+/// Puts `min` or `max` and the parenthesis behind it.
+pub(crate) fn put_call<P: Pen>(out: &mut P, op: Op)
+    requires { level_of (operator_of op) ≡ 8 }
+    ensures { P.adds out.old out.new (operator_text (operator_of op) ++ codes "(") }
+{
+    if op == Op::Min {
+        out.put_bytes(b"min(");
+    } else {
+        out.put_bytes(b"max(");
+    }
+}
+
+/// Puts an operator between two spaces, as it stands between its operands. In one piece, since most pieces of an expression
+/// are such.
+pub(crate) fn put_infix<P: Pen>(out: &mut P, op: Op)
+    ensures { P.adds out.old out.new (codes " " ++ operator_text (operator_of op) ++ codes " ") }
 {
     let text: &[u8] = match op {
-        Op::Add => b"+",
-        Op::Sub => b"-",
-        Op::Mul => b"*",
-        Op::Div => b"/",
-        Op::Rem => b"%",
-        Op::Min => b"min",
-        Op::Max => b"max",
-        Op::Eq => b"=",
-        Op::Ne => b"<>",
-        Op::Lt => b"<",
-        Op::Le => b"<=",
-        Op::Gt => b">",
-        Op::Ge => b">=",
-        Op::And => b"and",
-        Op::Or => b"or",
+        Op::Add => b" + ",
+        Op::Sub => b" - ",
+        Op::Mul => b" * ",
+        Op::Div => b" / ",
+        Op::Rem => b" % ",
+        Op::Min => b" min ",
+        Op::Max => b" max ",
+        Op::Eq => b" = ",
+        Op::Ne => b" <> ",
+        Op::Lt => b" < ",
+        Op::Le => b" <= ",
+        Op::Gt => b" > ",
+        Op::Ge => b" >= ",
+        Op::And => b" and ",
+        Op::Or => b" or ",
     };
     out.put_bytes(text);
 }
