@@ -1,6 +1,6 @@
 -- The count of openings, one token further.
-use Rattle.std.proofs.Common.{◌≡◌, ℕ, zero, suc, ◌+◌, ◌<◌, Bool, true, false, List, ◌∷◌, length, get_or, map, drop, refl, sym, ap, ◌∙◌}
-use Rattle.std.proofs.lemmas.List.{drop_more}
+use Rattle.std.proofs.Common.{◌≡◌, ℕ, zero, suc, ◌+◌, ◌<◌, ◌≤◌, Bool, true, false, List, [], ◌∷◌, arith, length, get_or, map, drop, refl, sym, ap, ◌∙◌}
+use Rattle.std.proofs.lemmas.List.{drop-drop, drop-map, drop_more, get_or-drop, length-drop}
 use Rattle.std.specs.Prelude.{Option}
 use Rattle.model_core.specs.declared.token.Token.{Token}
 use Rattle.model_core.specs.Text.Lexing.{Lexeme, LexemeKind}
@@ -48,3 +48,36 @@ pub behind-other : (limit room after : ℕ) (text : List ℕ) (tokens : List Tok
     → deep_from limit room (map (lexeme_of text) (drop i tokens)) ≡ total → deep_from limit after (map (lexeme_of text) (drop (i + 1) tokens)) ≡ total
 behind-other limit room after text tokens i d total ends opens h tells e says f g =
     further limit room after text tokens i d total h (λ others. passed limit room (lexeme_of text (get_or tokens i d)) others (sym (tells _) ∙ e) (sym (says _) ∙ f) ∙ ap (λ (n : ℕ). deep_from limit n others) (sym g))
+
+-- Up to the end of a part that has fewer tokens before it than there is room for openings nothing is found, and behind it
+-- there is all the room again.
+pub at_end : (limit n room : ℕ) (ls rest : List Lexeme) (t : Lexeme) → drop n ls ≡ t ∷ rest → ends_part t.kind ≡ true → n ≤ room → room ≤ limit → deep_from limit room ls ≡ deep_from limit limit rest
+at_end limit zero room ls rest t is ends fits within = ap (deep_from limit room) is ∙ ended limit room t rest ends
+at_end limit (suc n) room [] rest t is ends fits within = absurd cc
+at_end limit (suc n) zero (l ∷ ls) rest t is ends fits within = absurd (omega (arith, fits))
+at_end limit (suc n) (suc room) (l ∷ ls) rest t is ends fits within = go (ends_part l.kind) (is_opening l.kind) refl refl (λ r some less. at_end limit n r ls rest t is ends some less)
+  where
+    go : (b c : Bool) → ends_part l.kind ≡ b → is_opening l.kind ≡ c → ((r : ℕ) → n ≤ r → r ≤ limit → deep_from limit r ls ≡ deep_from limit limit rest) → deep_from limit (suc room) (l ∷ ls) ≡ deep_from limit limit rest
+    go true c e f more = rw e (more limit (omega arith) (omega arith))
+    go false true e f more = rw (e, f) (more room (omega arith) (omega arith))
+    go false false e f more = rw (e, f) (more (suc room) (omega arith) (omega arith))
+
+-- where a part ends that so many tokens before it can't fill, what is found behind it is what is found from here
+pub passed_over : (limit at n : ℕ) (text : List ℕ) (tokens : List Token) (d : Token) (total : Option ℕ) → n ≤ limit → at + n < length tokens → ends_part (lexeme_of text (get_or tokens (at + n) d)).kind ≡ true
+    → deep_from limit limit (map (lexeme_of text) (drop at tokens)) ≡ total → deep_from limit limit (map (lexeme_of text) (drop (at + (n + 1)) tokens)) ≡ total
+passed_over limit at n text tokens d total fits below ends so_far =
+    let behind : drop n (map (lexeme_of text) (drop at tokens)) ≡ lexeme_of text (get_or tokens (at + n) d) ∷ map (lexeme_of text) (drop (at + n + 1) tokens) =
+    drop-map (lexeme_of text) n (drop at tokens) ∙ ap (map (lexeme_of text)) (drop-drop n at tokens ∙ drop_more tokens (at + n) d below) in
+    let same : at + n + 1 ≡ at + (n + 1) = omega arith in
+    ap (λ k. deep_from limit limit (map (lexeme_of text) (drop k tokens))) (sym same)
+    ∙ sym (at_end limit n limit (map (lexeme_of text) (drop at tokens)) _ (lexeme_of text (get_or tokens (at + n) d)) behind ends fits (omega arith))
+    ∙ so_far
+
+-- the same of the tokens from a place on
+pub passed_on : (limit at n : ℕ) (text : List ℕ) (tokens rest : List Token) (d : Token) (total : Option ℕ) → rest ≡ drop at tokens → at ≤ length tokens → n ≤ limit → n < length rest → ((bytes : List ℕ) (d : Token) → ends_part (lexeme_kind_of bytes (get_or rest n d).kind) ≡ true)
+    → deep_from limit limit (map (lexeme_of text) (drop at tokens)) ≡ total → deep_from limit limit (map (lexeme_of text) (drop (at + (n + 1)) tokens)) ≡ total
+passed_on limit at n text tokens rest d total is inside fits below ends so_far =
+    let same : get_or tokens (at + n) d ≡ get_or rest n d = sym (get_or-drop at tokens n d) ∙ ap (λ ts. get_or ts n d) (sym is) in
+    let room = length-drop at tokens ∙ refl in
+    let long = ap length is in
+    passed_over limit at n text tokens d total fits (omega (arith, room, long)) (ap (λ t. ends_part (lexeme_of text t).kind) same ∙ ends _ d) so_far

@@ -1,25 +1,33 @@
 //! How deep the parts of a text go, counted before its grammar is tried.
 
-ghost use Rattle.std.specs.Prelude.{◌≡◌, ◌≤◌, ℕ, List, length, map, take};
+ghost use Rattle.std.specs.Prelude.{◌≡◌, ◌<◌, ◌≤◌, ℕ, List, length, map, slice_index_or, take, true};
+ghost use Rattle.std.specs.Option.{IfSome};
+ghost use Rattle.model_core.specs.declared.token.Token.{Token};
 ghost use Rattle.model_core.specs.Code.TokenViews.{lexeme_kind_of, lexeme_of};
 ghost use Rattle.model_core.specs.Text.Openings.{ends_part, is_opening, too_deep_at, front_to_end};
 
 use model_core::{Symbol, Token, TokenKind, Word};
 
-/// Whether a token of the kind ends a part of a text, and whether it counts as an opening.
-fn effect(kind: TokenKind) -> (bool, bool)
-    ensures ends { (bytes : List ℕ) → result.0 ≡ ends_part (lexeme_kind_of bytes kind) }
-    ensures opens { (bytes : List ℕ) → result.1 ≡ is_opening (lexeme_kind_of bytes kind) }
+/// Whether a token of the kind ends a part of a text.
+fn ends_part(kind: TokenKind) -> bool
+    ensures { (bytes : List ℕ) → result ≡ ends_part (lexeme_kind_of bytes kind) }
 {
     match kind {
-        TokenKind::Name | TokenKind::Number(_) => (false, false),
+        TokenKind::Symbol(Symbol::Semicolon | Symbol::OpenBrace | Symbol::CloseBrace) => true,
+        TokenKind::Symbol(_) | TokenKind::Name | TokenKind::Number(_) | TokenKind::Word(_) => false,
+    }
+}
+
+/// Whether a token of the kind counts as an opening.
+fn opens(kind: TokenKind) -> bool
+    ensures { (bytes : List ℕ) → result ≡ is_opening (lexeme_kind_of bytes kind) }
+{
+    match kind {
+        TokenKind::Name | TokenKind::Number(_) => false,
         TokenKind::Word(Word::Or | Word::And | Word::Not | Word::If | Word::Min | Word::Max) => {
-            (false, true)
+            true
         }
-        TokenKind::Word(_) => (false, false),
-        TokenKind::Symbol(Symbol::Semicolon | Symbol::OpenBrace | Symbol::CloseBrace) => (
-            true, false,
-        ),
+        TokenKind::Word(_) => false,
         TokenKind::Symbol(
             Symbol::Equal
             | Symbol::NotEqual
@@ -34,21 +42,50 @@ fn effect(kind: TokenKind) -> (bool, bool)
             | Symbol::Percent
             | Symbol::OpenParenthesis
             | Symbol::OpenBracket,
-        ) => (false, true),
-        TokenKind::Symbol(_) => (false, false),
+        ) => true,
+        TokenKind::Symbol(_) => false,
     }
 }
 
-/// The byte, from 0, of the first opening that is one more than the limit in its part.
+/// The last token that ends a part and has at most so many tokens before it.
+fn last_end(tokens: &[Token], limit: usize) -> Option<usize>
+    ensures { IfSome result (λ place. (place ≤ limit) × (place < length tokens.now)
+        × ((bytes : List ℕ) (d : Token) → ends_part (lexeme_kind_of bytes (slice_index_or tokens.now place d).kind) ≡ true)) }
+{
+    let mut place = tokens.len();
+    if place > limit {
+        place = limit;
+    }
+    while place > 0 {
+        place -= 1;
+        if ends_part(tokens[place].kind) {
+            return Some(place);
+        }
+    }
+    None
+}
+
+/// The byte, from 0, of the first opening that is one more than the limit in its part. Tokens are passed over up to the last
+/// end of a part that so many can't reach, and counted where a part is longer.
 pub fn first_too_deep(tokens: &[Token], limit: usize) -> Option<usize>
+    ensures { (text : List ℕ) → result ≡ too_deep_at limit (map (lexeme_of text) tokens.now) }
+{
+    let mut at = 0;
+    while let Some(end) = last_end(&tokens[at..], limit) {
+        at += end + 1;
+    }
+    counted_too_deep(&tokens[at..], limit)
+}
+
+/// The same by a count of the openings of each part.
+fn counted_too_deep(tokens: &[Token], limit: usize) -> Option<usize>
     ensures { (text : List ℕ) → result ≡ too_deep_at limit (map (lexeme_of text) tokens.now) }
 {
     let mut room = limit;
     for token in tokens {
-        let (ends, opens) = effect(token.kind);
-        if ends {
+        if ends_part(token.kind) {
             room = limit;
-        } else if opens {
+        } else if opens(token.kind) {
             if room == 0 {
                 return Some(token.from);
             }
