@@ -2,17 +2,17 @@
 
 ghost use Rattle.std.specs.Prelude.{◌≡◌, ◌++◌, ◌-◌, ◌<◌, ◌^◌, false, length, map, min};
 ghost use Rattle.std.specs.List.{flat_map};
-ghost use Rattle.model_core.specs.Text.Canonical.{canonical, expression_text, change_line, edge_line};
+ghost use Rattle.model_core.specs.Text.Canonical.{canonical, expression_text, change_line, edge_line, vertex_lines};
 ghost use Rattle.model_core.specs.Rules.Fuse.{fused};
 ghost use Rattle.model_core.specs.Rules.Merge.{is_watched_vertex, set_parameters};
 ghost use Rattle.model_core.specs.Rules.Prune.{pruned};
-ghost use Rattle.model_core.specs.Code.Views.{graph_of, expression_of, change_of, edge_of};
+ghost use Rattle.model_core.specs.Code.Views.{graph_of, expression_of, change_of, edge_of, vertex_of};
 
 use crate::expressions::put_expression;
 use crate::fused::put_model_fused;
 use crate::model::put_model;
 use crate::pen::Count;
-use crate::vertices::{put_change, put_edge, put_taken_over};
+use crate::vertices::{put_change, put_edge, put_taken_over, put_vertex};
 use crate::without_edge::put_model_without;
 use model_core::{Change, Edge, Expr, Model, Vertex};
 
@@ -49,6 +49,15 @@ pub fn edge_length(edge: &Edge, model: &Model) -> u64
 {
     let mut count = Count { bytes: 0 };
     put_edge(&mut count, model, edge);
+    count.total()
+}
+
+/// How many bytes the lines of a vertex of the model have, or 2^64 - 1 where they have more.
+pub fn vertex_length(vertex: &Vertex, model: &Model) -> u64
+    ensures { result ≡ min (length (vertex_lines (graph_of model.now) (vertex_of vertex.now))) (2 ^ 64 - 1) }
+{
+    let mut count = Count { bytes: 0 };
+    put_vertex(&mut count, model, vertex);
     count.total()
 }
 

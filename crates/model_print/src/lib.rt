@@ -17,6 +17,6 @@ mod without_edge;
 pub use fused::standing_for;
 pub use lengths::{
     change_length, edge_length, expr_length, fused_length, length_without_edge, printed_length,
-    taken_over_length,
+    taken_over_length, vertex_length,
 };
 pub use printed::{print, print_expr, put_expr};
