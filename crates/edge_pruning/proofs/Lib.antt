@@ -1,3 +1,4 @@
+pub mod DroppedLines
 pub mod ListsChanged
 pub mod Shorter
 pub mod SameRuns

@@ -34,7 +34,7 @@ rank-within (false ∷ bs) (x ∷ xs) zero marked below = cc
 rank-within (true ∷ bs) (x ∷ xs) (suc k) marked below = omega (arith, rank-within bs xs k marked (omega arith))
 rank-within (false ∷ bs) (x ∷ xs) (suc k) marked below = rank-within bs xs k marked (omega arith)
 
-get-marked : {A : Type 0} (marks : List Bool) (xs : List A) (k : ℕ) → Marked marks k → slice_get (marked_of marks xs) (rank marks k) ≡ slice_get xs k
+pub get-marked : {A : Type 0} (marks : List Bool) (xs : List A) (k : ℕ) → Marked marks k → slice_get (marked_of marks xs) (rank marks k) ≡ slice_get xs k
 get-marked [] xs k marked = cc
 get-marked (b ∷ bs) [] k marked = refl
 get-marked (true ∷ bs) (x ∷ xs) zero marked = refl
@@ -48,11 +48,11 @@ lines-marked old new (b ∷ bs) [] same = record { at_most = omega arith }
 lines-marked old new (true ∷ bs) (x ∷ xs) same = no_longer-both (no_longer-same (new x) (old x) (same x (inl refl))) (lines-marked old new bs xs (λ y there. same y (inr there)))
 lines-marked old new (false ∷ bs) (x ∷ xs) same = no_longer-both (let e : NoLonger [] (old x) = record { at_most = omega arith } in e) (lines-marked old new bs xs same)
 
-map-alike : {A B : Type 0} (f h : A → B) (xs : List A) → ((x : A) → Among x xs → f x ≡ h x) → map f xs ≡ map h xs
+pub map-alike : {A B : Type 0} (f h : A → B) (xs : List A) → ((x : A) → Among x xs → f x ≡ h x) → map f xs ≡ map h xs
 map-alike f h [] same = refl
 map-alike f h (x ∷ xs) same = ap₂ (λ y ys. y ∷ ys) (same x (inl refl)) (map-alike f h xs (λ y there. same y (inr there)))
 
-flat_map-alike : {A C : Type 0} (f h : A → List C) (xs : List A) → ((x : A) → Among x xs → f x ≡ h x) → flat_map f xs ≡ flat_map h xs
+pub flat_map-alike : {A C : Type 0} (f h : A → List C) (xs : List A) → ((x : A) → Among x xs → f x ≡ h x) → flat_map f xs ≡ flat_map h xs
 flat_map-alike f h [] same = refl
 flat_map-alike f h (x ∷ xs) same = ap₂ (λ y ys. y ++ ys) (same x (inl refl)) (flat_map-alike f h xs (λ y there. same y (inr there)))
 

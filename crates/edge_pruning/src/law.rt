@@ -1,9 +1,13 @@
 //! The laws of prune, settle and drop. The functions do nothing: what they ensure holds of all models.
 
-ghost use Rattle.std.specs.Prelude.{◌≡◌, ◌↔◌, ℕ, ◌<◌, true, None, List, [], length};
+ghost use Rattle.std.specs.Prelude.{◌≡◌, ◌↔◌, ℕ, ◌+◌, ◌<◌, true, false, None, List, [], length};
+ghost use Rattle.std.specs.List.{flat_map};
 ghost use Rattle.model_core.specs.EventGraph.{EventGraph};
+ghost use Rattle.model_core.specs.Run.Step.{vertex_at};
 ghost use Rattle.model_core.specs.Run.Same.{Same};
 ghost use Rattle.model_core.specs.Static.Reading.{IsValid};
+ghost use Rattle.model_core.specs.Text.Canonical.{canonical, vertex_lines};
+ghost use Rattle.model_core.specs.Text.VersionNeeded.{needs_version_two};
 ghost use Rattle.model_core.specs.Rules.Conditions.{first_failed};
 ghost use Rattle.model_core.specs.Rules.Prune.{prune_conditions, pruned, first_prune};
 ghost use Rattle.model_core.specs.Rules.Settle.{settle_conditions, settled, first_settle};
@@ -55,6 +59,13 @@ pub fn dropping_keeps_the_meaning()
 {
     validity_is_by_parts();
 }
+
+/// A drop takes the lines of its vertices from the canonical text, and nothing else, where the text has no line of the version.
+pub fn dropping_takes_lines()
+    ensures { (g : EventGraph) (vertices : List ℕ) → first_failed (drop_conditions g vertices) ≡ None
+        → needs_version_two g ≡ false
+        → length (canonical (dropped g vertices)) + length (flat_map (λ k. vertex_lines g (vertex_at g k)) vertices) ≡ length (canonical g) }
+{}
 
 /// The vertices that passes over edges mark are exactly those that can be reached.
 pub fn marks_are_of_reachable_vertices()
