@@ -24,3 +24,6 @@ pub mod LimitsTold
 pub mod PairsFound
 pub mod RulesOfMergedEdges
 pub mod OneUrgentLess
+pub mod CountedEdges
+pub mod StandAside
+pub mod SingleKept

@@ -1,3 +1,5 @@
 pub mod BetweenSteps
-pub mod Measured
+pub mod Known
+pub mod NothingCounted
 pub mod UrgentVertices
+pub mod Inner

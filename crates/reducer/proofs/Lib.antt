@@ -10,4 +10,4 @@ pub mod StrategyEnds
 pub mod RuleByRule
 pub mod WholeStrategy
 pub mod SweepCode
-pub mod Retained
+pub mod CountsServe

@@ -1,25 +1,27 @@
 //! The rules behind those of edges, one application at a time: drop, merge and slice.
 
-ghost use Rattle.std.specs.Prelude.{map, OnOk, IfOk};
+ghost use Rattle.std.specs.Prelude.{◌≡◌, map, length, OnOk, IfOk};
 ghost use Rattle.model_core.specs.Static.Reading.{IsValid};
 ghost use Rattle.model_core.specs.Code.Views.{graph_of, application_of};
 ghost use Rattle.model_core.specs.Rules.Reached.{unreached};
 ghost use Rattle.model_core.specs.Rules.Merge.{first_merge};
 ghost use Rattle.model_core.specs.Rules.Needed.{unneeded};
 ghost use Rattle.model_core.specs.Rules.Reduction.{drop_of, merge_of, slice_of, first_rule};
-ghost use Rattle.merge_rules.specs.Measured.{IsMeasured};
+ghost use Rattle.merge_rules.specs.Known.{IsKnown};
+ghost use Rattle.merge_rules.specs.NothingCounted.{NothingCounted};
 ghost use Rattle.reducer.specs.Inner.LaterRules.{NoEdgeRule, Made, Finished};
 
 use crate::naming::{Declared, name_at, names_at};
 use edge_pruning::{drop_vertices, dropping_brings_no_rule_of_edges, unreached};
 use merge_rules::{
-    first_merge_measured, merge_measured, merging_brings_no_rule_of_edges,
+    Known, first_merge_measured, merge_measured, merging_brings_no_rule_of_edges,
     merging_takes_an_urgent_edge,
 };
-use model_core::{Application, Model, RuleError, was_made};
-use reduction_cert::chains_keep_the_meaning;
+use model_core::{Application, Model, was_made};
+use reduction_cert::{applications_add_no_variables, chains_keep_the_meaning};
 use sig_base::{List, NoMemory};
 use std::alloc::Global;
+use use_analysis::UseCounts;
 use var_slicing::{slice, slicing_leaves_the_rules_of_edges, unneeded};
 
 /// Applies the first rule again and again, until none is applicable, where no rule of edges is, and notes that.
@@ -38,34 +40,38 @@ pub(crate) fn apply_later_rules(
     merging_brings_no_rule_of_edges();
     merging_takes_an_urgent_edge();
     slicing_leaves_the_rules_of_edges();
-    let mut bytes = None;
-    while apply_one(alloc, model, &mut bytes, applications)? {}
+    applications_add_no_variables();
+    let mut known = Known::nothing();
+    let mut counts = UseCounts::begin(alloc, model)?;
+    while apply_one(alloc, model, &mut known, &mut counts, applications)? {}
     Ok(())
 }
 
 /// Applies the first rule, where no rule of edges is applicable, and notes that, or says that there is none. Beside the
-/// model it keeps how many bytes its canonical text has, where a merge has told it.
+/// model it keeps what is known of it, and counts of uses, which merges use and leave as they were.
 fn apply_one(
     alloc: Global,
     model: &mut Model,
-    bytes: &mut Option<u64>,
+    known: &mut Known,
+    counts: &mut UseCounts,
     applications: &mut Vec<Application>,
 ) -> Result<bool, NoMemory>
     requires valid { IsValid (graph_of model.old) }
     requires no_edge_rule { NoEdgeRule (graph_of model.old) }
-    requires measured { IsMeasured (graph_of model.old) bytes.old }
+    requires known { IsKnown (graph_of model.old) known.old }
+    requires counts { NothingCounted (length model.old.vars) counts.old }
     ensures made { IfOk result (λ made. Made (first_rule (graph_of model.old)) made (graph_of model.old) (graph_of model.new)
         (map application_of applications.old.items) (map application_of applications.new.items)) }
-    ensures measured { OnOk result (IsMeasured (graph_of model.new) bytes.new) }
+    ensures known { OnOk result (IsKnown (graph_of model.new) known.new) }
+    ensures counts { OnOk result (counts.new ≡ counts.old) }
 {
-    if drop_unreached(alloc, model, applications)? {
-        *bytes = None;
+    if drop_unreached(alloc, model, known, applications)? {
         return Ok(true);
     }
-    if merge_first(alloc, model, bytes, applications)? {
+    if merge_first(alloc, model, known, counts, applications)? {
         return Ok(true);
     }
-    *bytes = None;
+    *known = Known::nothing();
     slice_unneeded(alloc, model, applications)
 }
 
@@ -73,10 +79,13 @@ fn apply_one(
 fn drop_unreached(
     alloc: Global,
     model: &mut Model,
+    known: &mut Known,
     applications: &mut Vec<Application>,
 ) -> Result<bool, NoMemory>
-    requires { IsValid (graph_of model.old) }
-    ensures { IfOk result (λ made. Made (drop_of (graph_of model.old) (unreached (graph_of model.old))) made (graph_of model.old) (graph_of model.new)
+    requires valid { IsValid (graph_of model.old) }
+    requires known { IsKnown (graph_of model.old) known.old }
+    ensures known { OnOk result (IsKnown (graph_of model.new) known.new) }
+    ensures made { IfOk result (λ made. Made (drop_of (graph_of model.old) (unreached (graph_of model.old))) made (graph_of model.old) (graph_of model.new)
         (map application_of applications.old.items) (map application_of applications.new.items)) }
 {
     let vertices = unreached(alloc, model)?;
@@ -87,36 +96,36 @@ fn drop_unreached(
     applications.push(Application::Drop {
         vertices: List::from_vec(names),
     })?;
-    was_made(drop_vertices(alloc, model, &vertices))
+    if !was_made(drop_vertices(alloc, model, &vertices))? {
+        return Ok(false);
+    }
+    *known = known.behind_drop();
+    Ok(true)
 }
 
 /// Merges the first vertex that can be merged, and notes that, or says that there is none.
 fn merge_first(
     alloc: Global,
     model: &mut Model,
-    bytes: &mut Option<u64>,
+    known: &mut Known,
+    counts: &mut UseCounts,
     applications: &mut Vec<Application>,
 ) -> Result<bool, NoMemory>
     requires valid { IsValid (graph_of model.old) }
-    requires measured { IsMeasured (graph_of model.old) bytes.old }
+    requires known { IsKnown (graph_of model.old) known.old }
+    requires counts { NothingCounted (length model.old.vars) counts.old }
     ensures made { IfOk result (λ made. Made (merge_of (graph_of model.old) (first_merge (graph_of model.old))) made (graph_of model.old) (graph_of model.new)
         (map application_of applications.old.items) (map application_of applications.new.items)) }
-    ensures measured { OnOk result (IsMeasured (graph_of model.new) bytes.new) }
+    ensures known { OnOk result (IsKnown (graph_of model.new) known.new) }
+    ensures counts { OnOk result (counts.new ≡ counts.old) }
 {
-    let Some((first, second)) = first_merge_measured(model, *bytes) else {
+    let Some((first, second)) = first_merge_measured(model, known, counts) else {
         return Ok(false);
     };
     let vertex = name_at(alloc, model, Declared::Vertices, first)?;
     let target = name_at(alloc, model, Declared::Vertices, second)?;
     applications.push(Application::Merge { vertex, target })?;
-    match merge_measured(alloc, model, *bytes, first, second) {
-        Ok(merged) => {
-            *bytes = Some(merged);
-            Ok(true)
-        }
-        Err(RuleError::Refused { condition: _ }) => Ok(false),
-        Err(RuleError::NoMemory) => Err(NoMemory),
-    }
+    was_made(merge_measured(alloc, model, known, counts, first, second))
 }
 
 /// Slices the variables that aren't needed away, and notes that, or says that there are none.
