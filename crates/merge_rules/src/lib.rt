@@ -4,12 +4,15 @@
 mod at_once;
 mod conditions;
 mod first_pair;
+mod kept_pairs;
+mod kept_search;
 mod law;
 mod merging;
 mod taking_over;
 mod within_limits;
 
 pub use first_pair::{first_merge, first_merge_measured};
+pub use kept_search::KeptPairs;
 pub use law::{
     at_most_one_event_is_urgent, merging_brings_no_rule_of_edges, merging_keeps_the_meaning,
     merging_takes_an_urgent_edge,
