@@ -11,3 +11,4 @@ pub mod RuleByRule
 pub mod WholeStrategy
 pub mod SweepCode
 pub mod Retained
+pub mod KnownBetween
