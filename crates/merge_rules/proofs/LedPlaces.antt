@@ -7,7 +7,8 @@ use Rattle.model_core.specs.Run.Step.{no_vertex}
 use Rattle.model_core.specs.Rules.PlacedEdges.{with_place}
 use Rattle.model_core.specs.Rules.Merge.{leads_to}
 use Rattle.model_core.proofs.PlacesChanged.{length_placed}
-use Rattle.merge_rules.specs.KeptPairs.{edges_leading, edges_to, no_pair, with_more, with_fewer, edges_added, all_edges_added, edges_taken}
+use Rattle.merge_rules.specs.KeptPairs.{edges_leading, edges_to, no_pair}
+use Rattle.merge_rules.specs.Inner.PairMoves.{with_more, with_fewer, edges_added, all_edges_added, edges_taken}
 use Rattle.merge_rules.specs.declared.kept_pairs.KeptPair.{KeptPair}
 
 -- ---- the element at a place

@@ -18,7 +18,8 @@ use Rattle.mark_laws.proofs.Marks.{Marked, rank-apart, marked-placed}
 use Rattle.static_laws.proofs.StaticTwins.DeclaredNames.{every_item}
 use Rattle.run_laws.proofs.MappedVertices.{WatchedTold}
 use Rattle.merge_rules.specs.PairStanding.{target_at_once, pair_fits}
-use Rattle.merge_rules.specs.KeptPairs.{edges_leading, edges_to, is_led_to, TellsFit, IsPair, ArePairs, no_pair, with_fewer, edges_taken, moved_up}
+use Rattle.merge_rules.specs.KeptPairs.{edges_leading, edges_to, is_led_to, TellsFit, IsPair, ArePairs, no_pair}
+use Rattle.merge_rules.specs.Inner.PairMoves.{with_fewer, edges_taken, moved_up}
 use Rattle.merge_rules.specs.declared.kept_pairs.KeptPair.{KeptPair}
 use Rattle.merge_rules.proofs.SingleUrgent.{edges_keep}
 use Rattle.merge_rules.proofs.PairsMoved.{target-alike, fits-moved}

@@ -14,7 +14,8 @@ use Rattle.model_core.specs.Rules.Merge.{merge_conditions, merged_with, merged}
 use Rattle.model_core.proofs.PlacesChanged.{length_placed}
 use Rattle.run_laws.proofs.MappedVertices.{WatchedTold}
 use Rattle.merge_rules.specs.PairStanding.{target_at_once, pair_conditions, pair_fits}
-use Rattle.merge_rules.specs.KeptPairs.{edges_leading, edges_to, TellsFit, IsPair, ArePairs, no_pair, with_more, with_fewer, edges_added, asked_again, led_nowhere, pairs_merged}
+use Rattle.merge_rules.specs.KeptPairs.{edges_leading, edges_to, TellsFit, IsPair, ArePairs, no_pair}
+use Rattle.merge_rules.specs.Inner.PairMoves.{with_more, with_fewer, edges_added, asked_again, led_nowhere, pairs_merged}
 use Rattle.merge_rules.specs.declared.kept_pairs.KeptPair.{KeptPair}
 use Rattle.merge_rules.specs.declared.kept_pairs.Standing.TheVariants as standings
 use Rattle.merge_rules.specs.UrgentVertices.{has_plain}

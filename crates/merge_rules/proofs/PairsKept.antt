@@ -10,7 +10,8 @@ use Rattle.model_core.specs.Rules.PlacedEdges.{with_place}
 use Rattle.model_core.proofs.Images.{at-map}
 use Rattle.model_core.proofs.PlacesChanged.{set-with_place, length_placed}
 use Rattle.merge_rules.specs.PairStanding.{pair_fits}
-use Rattle.merge_rules.specs.KeptPairs.{edges_to, is_led_to, TellsFit, IsPair, ArePairs, no_pair, unasked, with_more, all_edges_added}
+use Rattle.merge_rules.specs.KeptPairs.{edges_to, is_led_to, TellsFit, IsPair, ArePairs, no_pair}
+use Rattle.merge_rules.specs.Inner.PairMoves.{unasked, with_more, all_edges_added}
 use Rattle.merge_rules.specs.declared.kept_pairs.KeptPair.{KeptPair}
 use Rattle.merge_rules.specs.declared.kept_pairs.Standing.{Standing}
 use Rattle.merge_rules.proofs.LedPlaces.{placed-elsewhere, placed-there, all_added-long, all_added-at, some-lead, none-lead}

@@ -4,7 +4,7 @@
 ghost use Rattle.std.specs.Prelude.{◌≡◌, map, OnOk, IfOk};
 ghost use Rattle.model_core.specs.Rules.PlacedEdges.{with_place};
 ghost use Rattle.model_core.specs.Code.Views.{edge_of, vertex_of};
-ghost use Rattle.merge_rules.specs.KeptPairs.{unasked, with_more, with_fewer, edges_added, all_edges_added, edges_taken, asked_again, led_nowhere, pairs_merged, moved_up};
+ghost use Rattle.merge_rules.specs.Inner.PairMoves.{unasked, with_more, with_fewer, edges_added, all_edges_added, edges_taken, asked_again, led_nowhere, pairs_merged, moved_up};
 
 use crate::first_pair::target_at_once;
 use model_core::{Edge, Vertex};

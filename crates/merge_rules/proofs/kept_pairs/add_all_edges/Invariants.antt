@@ -1,6 +1,6 @@
 use Rattle.std.proofs.Common.{◌≡◌, map, drop}
 use Rattle.model_core.specs.Code.Views.{vertex_of}
-use Rattle.merge_rules.specs.KeptPairs.{all_edges_added}
+use Rattle.merge_rules.specs.Inner.PairMoves.{all_edges_added}
 use Rattle.merge_rules.proofs.kept_pairs.add_all_edges.Given as goal
 
 abbrev pub invariant-loop-vertex : goal.invariant-loop-vertex

@@ -1,7 +1,7 @@
 -- The count at the place is one more, or there is no such place.
 use Rattle.std.proofs.Common.{rules, ◌≡◌, ◌+◌, ap, arith}
 use Rattle.model_core.proofs.PlacesChanged.{set-with_place, place-beyond}
-use Rattle.merge_rules.specs.KeptPairs.{with_more}
+use Rattle.merge_rules.specs.Inner.PairMoves.{with_more}
 use Rattle.merge_rules.specs.declared.kept_pairs.KeptPair.{KeptPair}
 use Rattle.merge_rules.proofs.kept_pairs.add_edge.Goals as goal
 

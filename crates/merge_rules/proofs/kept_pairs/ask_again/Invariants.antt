@@ -1,4 +1,4 @@
-use Rattle.merge_rules.specs.KeptPairs.{asked_again}
+use Rattle.merge_rules.specs.Inner.PairMoves.{asked_again}
 use Rattle.sig_base.proofs.Lists.{ChangedTo}
 use Rattle.merge_rules.proofs.kept_pairs.ask_again.Given as goal
 

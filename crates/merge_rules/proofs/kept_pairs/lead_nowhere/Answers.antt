@@ -1,7 +1,7 @@
 -- The vertex at the place leads nowhere, or there is no such place.
 use Rattle.std.proofs.Common.{refl, arith}
 use Rattle.model_core.proofs.PlacesChanged.{set-with_place, place-beyond}
-use Rattle.merge_rules.specs.KeptPairs.{led_nowhere}
+use Rattle.merge_rules.specs.Inner.PairMoves.{led_nowhere}
 use Rattle.merge_rules.proofs.kept_pairs.lead_nowhere.Goals as goal
 
 pub returns-then-first-len : goal.returns-then-first-len

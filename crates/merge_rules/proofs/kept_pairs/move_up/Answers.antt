@@ -1,7 +1,7 @@
 use Rattle.std.proofs.Common.{◌≡◌, ◌∙◌, ◌<◌, sym, ap, map, length, add-one, arith}
 use Rattle.std.proofs.lemmas.List.{take_at, map-id}
 use Rattle.sig_base.proofs.Lists.{ChangedTo-step, ChangedTo-all, ChangedTo-length}
-use Rattle.merge_rules.specs.KeptPairs.{moved_up}
+use Rattle.merge_rules.specs.Inner.PairMoves.{moved_up}
 use Rattle.merge_rules.specs.declared.kept_pairs.KeptPair.{KeptPair}
 use Rattle.merge_rules.proofs.kept_pairs.move_up.Goals as goal
 

@@ -1,4 +1,4 @@
-use Rattle.merge_rules.specs.KeptPairs.{moved_up}
+use Rattle.merge_rules.specs.Inner.PairMoves.{moved_up}
 use Rattle.sig_base.proofs.Lists.{ChangedTo}
 use Rattle.merge_rules.proofs.kept_pairs.move_up.Given as goal
 

@@ -1,7 +1,7 @@
 -- The count at the place is one fewer, or there is no such place.
 use Rattle.std.proofs.Common.{rules, ◌≡◌, ◌-◌, ap, arith}
 use Rattle.model_core.proofs.PlacesChanged.{set-with_place, place-beyond}
-use Rattle.merge_rules.specs.KeptPairs.{with_fewer}
+use Rattle.merge_rules.specs.Inner.PairMoves.{with_fewer}
 use Rattle.merge_rules.specs.declared.kept_pairs.KeptPair.{KeptPair}
 use Rattle.merge_rules.proofs.kept_pairs.take_edge.Goals as goal
 

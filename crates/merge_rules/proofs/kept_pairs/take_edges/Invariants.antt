@@ -1,6 +1,6 @@
 use Rattle.std.proofs.Common.{◌≡◌, map, drop}
 use Rattle.model_core.specs.Code.Views.{edge_of}
-use Rattle.merge_rules.specs.KeptPairs.{edges_taken}
+use Rattle.merge_rules.specs.Inner.PairMoves.{edges_taken}
 use Rattle.merge_rules.proofs.kept_pairs.take_edges.Given as goal
 
 abbrev pub invariant-loop-edge : goal.invariant-loop-edge

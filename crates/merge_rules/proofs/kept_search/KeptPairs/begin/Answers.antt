@@ -1,7 +1,8 @@
 use Rattle.std.proofs.Common.{◌∙◌, sym, ap, map, List, subst}
 use Rattle.model_core.specs.declared.vertex.Vertex.{Vertex}
 use Rattle.model_core.specs.Code.Views.{graph_of, vertex_of}
-use Rattle.merge_rules.specs.KeptPairs.{ArePairs, unasked, all_edges_added}
+use Rattle.merge_rules.specs.KeptPairs.{ArePairs}
+use Rattle.merge_rules.specs.Inner.PairMoves.{unasked, all_edges_added}
 use Rattle.merge_rules.proofs.PairsKept.{are-unasked}
 use Rattle.merge_rules.proofs.kept_search.KeptPairs.begin.Goals as goal
 

@@ -6,7 +6,8 @@ use Rattle.model_core.specs.EventGraph.{EventEdge}
 use Rattle.model_core.specs.Run.Step.{no_vertex, vertex_at}
 use Rattle.model_core.specs.Rules.Drop.{dropped}
 use Rattle.model_core.specs.Code.Views.{graph_of, vertex_of, edge_of}
-use Rattle.merge_rules.specs.KeptPairs.{ArePairs, edges_taken, moved_up}
+use Rattle.merge_rules.specs.KeptPairs.{ArePairs}
+use Rattle.merge_rules.specs.Inner.PairMoves.{edges_taken, moved_up}
 use Rattle.merge_rules.specs.declared.kept_pairs.KeptPair.{KeptPair}
 use Rattle.merge_rules.proofs.LedPlaces.{taken-long}
 use Rattle.merge_rules.proofs.PairsAfterDrop.{are-dropped}
