@@ -31,3 +31,6 @@ pub mod OneGone
 pub mod PairsAfterDrop
 pub mod PairsFit
 pub mod PairsKept
+pub mod CountedEdges
+pub mod StandAside
+pub mod SingleKept

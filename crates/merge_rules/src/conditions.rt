@@ -1,25 +1,27 @@
 //! The conditions of merge that can be told from the two vertices.
 
-ghost use Rattle.std.specs.Prelude.{◌≡◌, ◌≤◌, ◌&&◌, ◌||◌, not, true, false, ◌∷◌, map, take, drop, length};
+ghost use Rattle.std.specs.Prelude.{◌≡◌, ◌&&◌, ◌||◌, not, true, false, ◌∷◌, map, take, drop, length};
 ghost use lib.Pointwise.{pointwise};
-ghost use Rattle.std.specs.List.{list_any, list_all, flat_map, remove};
+ghost use Rattle.std.specs.List.{list_all};
 ghost use Rattle.std.specs.Option.{option_map_or};
-ghost use Rattle.model_core.specs.EventGraph.{Location, scalar_location};
+ghost use Rattle.model_core.specs.EventGraph.{scalar_location};
 ghost use Rattle.model_core.specs.Run.Step.{vertex_at};
 ghost use Rattle.model_core.specs.Rules.BoundsOfParts.{quiet_set, quiet_change, quiet_edge};
 ghost use Rattle.model_core.specs.Rules.Conditions.{first_failed};
-ghost use Rattle.model_core.specs.Rules.MarkedPlaces.{is_among};
-ghost use Rattle.model_core.specs.Rules.Uses.{change_writes, vertex_writes, edge_reads, has_drawn_delay};
+ghost use Rattle.model_core.specs.Rules.Uses.{vertex_writes, has_drawn_delay};
 ghost use Rattle.model_core.specs.Rules.UrgentEdges.{plain_urgent_edge, single_urgent};
 ghost use Rattle.model_core.specs.Rules.Merge.{set_parameters, leads_to, is_watched_vertex, reads_none_of, is_unwatched, happens_unseen, values_at_once, other_edges, merge_conditions};
-ghost use Rattle.model_core.specs.Code.Views.{graph_of, expression_of, location_of, change_of, edge_of, vertex_of, watched_of};
+ghost use Rattle.model_core.specs.Code.Views.{graph_of, expression_of, change_of, edge_of, vertex_of, watched_of};
+ghost use Rattle.merge_rules.specs.Inner.EdgesRead.{is_calm};
 
 use crate::at_once::edge_at_once;
+use crate::other_edges::other_edges;
+use crate::reads_written::ReadsWritten;
 use model_core::{
-    Change, Edge, Expr, Model, Target, Vertex, Watch, has_drawn_delay, is_watched, one_cancels,
+    Change, Edge, Expr, Model, Vertex, Watch, has_drawn_delay, is_watched, one_cancels,
 };
 use range_bounds::{bounds, plain_urgent, quiet_change, quiet_edge, quiet_store};
-use use_analysis::{reads_of_edge, writes_of_vertex};
+use use_analysis::writes_of_vertex;
 
 /// Whether the vertex has a plain urgent edge, and it leads to this vertex.
 fn leads_at_once(vertex: &Vertex, target: usize) -> bool
@@ -31,71 +33,18 @@ fn leads_at_once(vertex: &Vertex, target: usize) -> bool
     }
 }
 
-fn reads_one(edge: &Edge, vars: &[usize]) -> bool
-    ensures { result ≡ list_any (is_among (edge_reads (edge_of edge.now))) vars.now }
+/// Whether an edge never faults and draws no delay.
+fn is_calm(model: &Model, edge: &Edge) -> bool
+    ensures { result ≡ is_calm (graph_of model.now) (edge_of edge.now) }
 {
-    for var in vars {
-        if reads_of_edge(edge, *var) {
-            return true;
-        }
-    }
-    false
+    quiet_edge(model, edge) && !has_drawn_delay(edge)
 }
 
-fn reads_one_target(edge: &Edge, targets: &[Target]) -> bool
-    ensures { result ≡ list_any (is_among (edge_reads (edge_of edge.now))) (map (λ (l : Location). l.variable) (map location_of targets.now)) }
-{
-    for target in targets {
-        if reads_of_edge(edge, target.var) {
-            return true;
-        }
-    }
-    false
-}
-
-fn reads_changed(edge: &Edge, change: &Change) -> bool
-    ensures { result ≡ list_any (is_among (edge_reads (edge_of edge.now))) (change_writes (change_of change.now)) }
-{
-    match change {
-        Change::Set { targets, values: _ } => reads_one_target(edge, targets.as_slice()),
-        Change::Draw {
-            target,
-            stream: _,
-            choice: _,
-        } => reads_of_edge(edge, target.var),
-    }
-}
-
-#[tactic(auto, using(crate::proofs::AnyOfParts::any_of_parts))]
-fn reads_one_changed(edge: &Edge, changes: &[Change]) -> bool
-    ensures { result ≡ list_any (is_among (edge_reads (edge_of edge.now))) (flat_map change_writes (map change_of changes.now)) }
-{
-    for change in changes {
-        if reads_changed(edge, change) {
-            return true;
-        }
-    }
-    false
-}
-
-#[tactic(auto, using(crate::proofs::AnyOfParts::any_of_parts))]
-fn reads_written(edge: &Edge, vertex: &Vertex) -> bool
-    ensures { result ≡ list_any (is_among (edge_reads (edge_of edge.now))) (vertex_writes (vertex_of vertex.now)) }
-{
-    reads_one(edge, vertex.params.as_slice()) || reads_one_changed(edge, vertex.changes.as_slice())
-}
-
-fn stands_aside(model: &Model, second: &Vertex, edge: &Edge) -> bool
-    ensures { result ≡ (quiet_edge (graph_of model.now) (edge_of edge.now) && reads_none_of (vertex_writes (vertex_of second.now)) (edge_of edge.now) && not (has_drawn_delay (edge_of edge.now))) }
-{
-    quiet_edge(model, edge) && !reads_written(edge, second) && !has_drawn_delay(edge)
-}
-
-fn all_stand_aside(model: &Model, second: &Vertex, edges: &[Edge]) -> bool
-    ensures { result ≡ list_all (λ e. quiet_edge (graph_of model.now) e && reads_none_of (vertex_writes (vertex_of second.now)) e && not (has_drawn_delay e)) (map edge_of edges.now) }
+fn all_calm(model: &Model, edges: &[Edge]) -> bool
+    ensures { result ≡ list_all (is_calm (graph_of model.now)) (map edge_of edges.now) }
 {
     for edge in edges {
-        if !stands_aside(model, second, edge) {
+        if !is_calm(model, edge) {
             return false;
         }
     }
@@ -190,34 +139,26 @@ fn second_happens_unseen(model: &Model, first: &Vertex, second: &Vertex) -> bool
     }
 }
 
-fn all_stand_aside_from(model: &Model, second: &Vertex, edges: &[Edge], from: usize) -> bool
-    requires { from ≤ length edges.now }
-    ensures { result ≡ list_all (λ e. quiet_edge (graph_of model.now) e && reads_none_of (vertex_writes (vertex_of second.now)) e && not (has_drawn_delay e)) (map edge_of (drop from edges.now)) }
-{
-    all_stand_aside(model, second, &edges[from..])
-}
-
-/// Whether all edges but the one at this place stand aside.
-fn all_stand_aside_but(model: &Model, second: &Vertex, edges: &[Edge], place: usize) -> bool
-    ensures { result ≡ list_all (λ e. quiet_edge (graph_of model.now) e && reads_none_of (vertex_writes (vertex_of second.now)) e && not (has_drawn_delay e)) (remove (map edge_of edges.now) place) }
-{
-    if place < edges.len() {
-        all_stand_aside(model, second, &edges[..place])
-            && all_stand_aside_from(model, second, edges, place + 1)
-    } else {
-        all_stand_aside(model, second, edges)
-    }
-}
-
 /// Whether the edges of the first vertex but its plain urgent one never fault, read nothing that the second writes, and draw
 /// no delay.
-fn others_stand_aside(model: &Model, first: &Vertex, second: &Vertex) -> bool
-    ensures { result ≡ list_all (λ e. quiet_edge (graph_of model.now) e && reads_none_of (vertex_writes (vertex_of second.now)) e && not (has_drawn_delay e)) (other_edges (vertex_of first.now)) }
+fn others_stand_aside<R: ReadsWritten>(
+    model: &Model,
+    readers: &mut R,
+    first: &Vertex,
+    second: &Vertex,
+) -> bool
+    requires { R.ready readers.old (length model.now.vars) }
+    ensures told { result ≡ list_all (λ e. quiet_edge (graph_of model.now) e && reads_none_of (vertex_writes (vertex_of second.now)) e && not (has_drawn_delay e)) (other_edges (vertex_of first.now)) }
+    ensures same { readers.new ≡ readers.old }
 {
-    match plain_urgent(first) {
-        Some(place) => all_stand_aside_but(model, second, first.edges.as_slice(), place),
-        None => all_stand_aside(model, second, first.edges.as_slice()),
+    let others = other_edges(first);
+    if !all_calm(model, others.before) {
+        return false;
     }
+    if !all_calm(model, others.behind) {
+        return false;
+    }
+    !readers.reads_written(model, others.before, others.behind, second)
 }
 
 /// Whether the first vertex isn't watched, or the second event happens unseen.
@@ -229,10 +170,19 @@ fn notes_stay(model: &Model, first: usize, a: &Vertex, b: &Vertex) -> bool
 
 /// The first condition but that on the limits that fails, by its number from 1, where the first three hold. The two
 /// vertices are those at these places.
-fn failed_later(model: &Model, first: usize, second: usize, a: &Vertex, b: &Vertex) -> Option<u8>
+fn failed_later<R: ReadsWritten>(
+    model: &Model,
+    readers: &mut R,
+    first: usize,
+    second: usize,
+    a: &Vertex,
+    b: &Vertex,
+) -> Option<u8>
+    requires ready { R.ready readers.old (length model.now.vars) }
     requires first { vertex_of a.now ≡ vertex_at (graph_of model.now) first }
     requires second { vertex_of b.now ≡ vertex_at (graph_of model.now) second }
-    ensures { result ≡ first_failed (true ∷ true ∷ true ∷ drop 3 (take 7 (merge_conditions (graph_of model.now) first second))) }
+    ensures same { readers.new ≡ readers.old }
+    ensures failed { result ≡ first_failed (true ∷ true ∷ true ∷ drop 3 (take 7 (merge_conditions (graph_of model.now) first second))) }
 {
     if is_watched(model, second) {
         return Some(4);
@@ -240,7 +190,7 @@ fn failed_later(model: &Model, first: usize, second: usize, a: &Vertex, b: &Vert
     if one_cancels(second, a.edges.as_slice()) {
         return Some(5);
     }
-    if !others_stand_aside(model, a, b) {
+    if !others_stand_aside(model, readers, a, b) {
         return Some(6);
     }
     if !notes_stay(model, first, a, b) {
@@ -251,14 +201,17 @@ fn failed_later(model: &Model, first: usize, second: usize, a: &Vertex, b: &Vert
 
 /// The first condition but that on the limits that fails, by its number from 1, in a model of which it is known whether
 /// it is single urgent.
-pub(crate) fn failed_before_limits(
+pub(crate) fn failed_before_limits<R: ReadsWritten>(
     model: &Model,
     single: bool,
+    readers: &mut R,
     first: usize,
     second: usize,
 ) -> Option<u8>
-    requires { single ≡ single_urgent (graph_of model.now) }
-    ensures { result ≡ first_failed (take 7 (merge_conditions (graph_of model.now) first second)) }
+    requires single { single ≡ single_urgent (graph_of model.now) }
+    requires ready { R.ready readers.old (length model.now.vars) }
+    ensures same { readers.new ≡ readers.old }
+    ensures failed { result ≡ first_failed (take 7 (merge_conditions (graph_of model.now) first second)) }
 {
     let vertices = model.vertices.as_slice();
     let Some(a) = vertices.get(first) else {
@@ -276,5 +229,5 @@ pub(crate) fn failed_before_limits(
     if !single {
         return Some(3);
     }
-    failed_later(model, first, second, a, b)
+    failed_later(model, readers, first, second, a, b)
 }

@@ -1,18 +1,21 @@
 //! The first two vertices that may be merged.
 
-ghost use Rattle.std.specs.Prelude.{◌≡◌};
+ghost use Rattle.std.specs.Prelude.{◌≡◌, length};
 ghost use Rattle.std.specs.Option.{option_map};
 ghost use Rattle.model_core.specs.EventGraph.{EventEdge};
 ghost use Rattle.model_core.specs.Run.Step.{vertex_at};
-ghost use Rattle.model_core.specs.Rules.UrgentEdges.{plain_urgent_edge, single_urgent};
+ghost use Rattle.model_core.specs.Rules.UrgentEdges.{plain_urgent_edge};
 ghost use Rattle.model_core.specs.Rules.Merge.{merge_at, first_merge};
 ghost use Rattle.model_core.specs.Code.Views.{graph_of, vertex_of};
-ghost use Rattle.merge_rules.specs.Measured.{IsMeasured};
+ghost use Rattle.merge_rules.specs.Known.{IsKnown};
+ghost use Rattle.merge_rules.specs.NothingCounted.{NothingCounted};
 
 use crate::at_once::edge_at_once;
+use crate::known::Known;
 use crate::merging::failed_merge;
+use crate::reads_written::{ReadsWritten, Walk};
 use model_core::{Model, Vertex};
-use range_bounds::single_urgent;
+use use_analysis::UseCounts;
 
 /// The place of the vertex to which the plain urgent edge leads, if there is one.
 pub(crate) fn target_at_once(vertex: &Vertex) -> Option<usize>
@@ -25,36 +28,43 @@ pub(crate) fn target_at_once(vertex: &Vertex) -> Option<usize>
 }
 
 /// The vertex at this place with the one to which its plain urgent edge leads, where they may be merged.
-fn merge_at(
+fn merge_at<R: ReadsWritten>(
     model: &Model,
-    single: bool,
-    bytes: Option<u64>,
+    known: &mut Known,
+    readers: &mut R,
     first: usize,
     vertex: &Vertex,
 ) -> Option<(usize, usize)>
-    requires single { single ≡ single_urgent (graph_of model.now) }
-    requires measured { IsMeasured (graph_of model.now) bytes }
+    requires known { IsKnown (graph_of model.now) known.old }
+    requires ready { R.ready readers.old (length model.now.vars) }
     requires there { vertex_of vertex.now ≡ vertex_at (graph_of model.now) first }
-    ensures { result ≡ merge_at (graph_of model.now) first }
+    ensures found { result ≡ merge_at (graph_of model.now) first }
+    ensures known { IsKnown (graph_of model.now) known.new }
+    ensures same { readers.new ≡ readers.old }
 {
     match target_at_once(vertex) {
         None => None,
-        Some(second) => match failed_merge(model, single, bytes, first, second) {
+        Some(second) => match failed_merge(model, known, readers, first, second) {
             None => Some((first, second)),
             Some(_) => None,
         },
     }
 }
 
-/// Does what `first_merge` does. It may be told how many bytes the canonical text of the model has, so that the whole
-/// isn't measured.
-pub fn first_merge_measured(model: &Model, bytes: Option<u64>) -> Option<(usize, usize)>
-    requires measured { IsMeasured (graph_of model.now) bytes }
-    ensures { result ≡ first_merge (graph_of model.now) }
+/// The first two vertices that may be merged, where this tells what edges read.
+fn first_told_by<R: ReadsWritten>(
+    model: &Model,
+    known: &mut Known,
+    readers: &mut R,
+) -> Option<(usize, usize)>
+    requires known { IsKnown (graph_of model.now) known.old }
+    requires ready { R.ready readers.old (length model.now.vars) }
+    ensures found { result ≡ first_merge (graph_of model.now) }
+    ensures known { IsKnown (graph_of model.now) known.new }
+    ensures same { readers.new ≡ readers.old }
 {
-    let single = single_urgent(model);
     for (first, vertex) in model.vertices.as_slice().iter().enumerate() {
-        let found = merge_at(model, single, bytes, first, vertex);
+        let found = merge_at(model, known, readers, first, vertex);
         if found.is_some() {
             return found;
         }
@@ -62,10 +72,26 @@ pub fn first_merge_measured(model: &Model, bytes: Option<u64>) -> Option<(usize,
     None
 }
 
+/// Does what `first_merge` does. It may be told what is known of the model, and tells what is known then. The counts, in which
+/// nothing is counted, serve to tell what edges read; they are given back as they were.
+pub fn first_merge_measured(
+    model: &Model,
+    known: &mut Known,
+    counts: &mut UseCounts,
+) -> Option<(usize, usize)>
+    requires known { IsKnown (graph_of model.now) known.old }
+    requires counts { NothingCounted (length model.now.vars) counts.old }
+    ensures found { result ≡ first_merge (graph_of model.now) }
+    ensures known { IsKnown (graph_of model.now) known.new }
+    ensures counts { counts.new ≡ counts.old }
+{
+    first_told_by(model, known, counts)
+}
+
 /// The first vertex, in the order of the text, that may be merged with the one to which its plain urgent edge leads: the
 /// places of both, from 0.
 pub fn first_merge(model: &Model) -> Option<(usize, usize)>
     ensures { result ≡ first_merge (graph_of model.now) }
 {
-    first_merge_measured(model, None)
+    first_told_by(model, &mut Known::nothing(), &mut Walk)
 }

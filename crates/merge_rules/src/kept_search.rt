@@ -10,7 +10,8 @@ ghost use Rattle.model_core.specs.Rules.Drop.{dropped};
 ghost use Rattle.model_core.specs.Rules.UrgentEdges.{single_urgent};
 ghost use Rattle.model_core.specs.Rules.Merge.{is_watched_vertex, merge_conditions, merged, merge_at, first_merge};
 ghost use Rattle.model_core.specs.Code.Views.{graph_of, edge_of, vertex_of};
-ghost use Rattle.merge_rules.specs.Measured.{IsMeasured};
+ghost use Rattle.merge_rules.specs.Known.{IsKnown};
+ghost use Rattle.merge_rules.specs.NothingCounted.{NothingCounted};
 ghost use Rattle.merge_rules.specs.PairStanding.{target_at_once, pair_fits};
 ghost use Rattle.merge_rules.specs.KeptPairs.{is_led_to, TellsFit, ArePairs};
 
@@ -18,12 +19,13 @@ use crate::conditions::failed_before_limits;
 use crate::kept_pairs::{
     KeptPair, Standing, add_all_edges, all_unasked, move_up, take_edges, take_over_pairs,
 };
-use crate::within_limits::{has_short_text, keeps_few_parts, measured};
+use crate::known::Known;
+use crate::within_limits::{has_short_text, keeps_few_parts};
 use model_core::{Edge, Model, Vertex};
-use range_bounds::single_urgent;
 use round_trip::validity_is_by_parts;
 use sig_base::NoMemory;
 use std::alloc::Global;
+use use_analysis::UseCounts;
 
 /// What is known of the vertices of a model, each as the first of two that may be merged. Contracts see it as the list of
 /// what is known of each.
@@ -52,28 +54,38 @@ fn edges_at(vertices: &[Vertex], place: usize) -> &[Edge]
 }
 
 /// Whether the two fit: a vertex and the target of its plain urgent edge, in a single urgent model.
-fn pair_fits(model: &Model, first: usize, second: usize) -> bool
+fn pair_fits(model: &Model, counts: &mut UseCounts, first: usize, second: usize) -> bool
+    requires counts { NothingCounted (length model.now.vars) counts.old }
     requires single { single_urgent (graph_of model.now) ≡ true }
     requires target { target_at_once (vertex_at (graph_of model.now) first) ≡ Some second }
     requires there { first < length model.now.vertices }
-    ensures { result ≡ pair_fits (graph_of model.now) first }
+    ensures fits { result ≡ pair_fits (graph_of model.now) first }
+    ensures counts { counts.new ≡ counts.old }
 {
-    match failed_before_limits(model, true, first, second) {
+    match failed_before_limits(model, true, counts, first, second) {
         Some(_) => false,
         None => keeps_few_parts(model, first, second),
     }
 }
 
 /// The same, asked only where it isn't known.
-fn known_to_fit(model: &Model, standing: Standing, first: usize, second: usize) -> bool
+fn known_to_fit(
+    model: &Model,
+    counts: &mut UseCounts,
+    standing: Standing,
+    first: usize,
+    second: usize,
+) -> bool
+    requires counts { NothingCounted (length model.now.vars) counts.old }
     requires single { single_urgent (graph_of model.now) ≡ true }
     requires target { target_at_once (vertex_at (graph_of model.now) first) ≡ Some second }
     requires there { first < length model.now.vertices }
     requires standing { TellsFit standing (pair_fits (graph_of model.now) first) }
-    ensures { result ≡ pair_fits (graph_of model.now) first }
+    ensures fits { result ≡ pair_fits (graph_of model.now) first }
+    ensures counts { counts.new ≡ counts.old }
 {
     match standing {
-        Standing::Unknown => pair_fits(model, first, second),
+        Standing::Unknown => pair_fits(model, counts, first, second),
         Standing::Refused => false,
         Standing::Fits => true,
     }
@@ -90,10 +102,10 @@ fn standing(fits: bool) -> Standing
     }
 }
 
-/// The two, where they fit and the text of the result isn't too long. How long the text of the model is is measured once.
+/// The two, where they fit and the text of the result isn't too long. How long the text of the model is, is then known.
 fn short_merge(
     model: &Model,
-    bytes: &mut Option<u64>,
+    known: &mut Known,
     fits: bool,
     first: usize,
     second: usize,
@@ -102,15 +114,15 @@ fn short_merge(
     requires target { target_at_once (vertex_at (graph_of model.now) first) ≡ Some second }
     requires there { first < length model.now.vertices }
     requires fits { fits ≡ pair_fits (graph_of model.now) first }
-    requires measured { IsMeasured (graph_of model.now) bytes.old }
+    requires known { IsKnown (graph_of model.now) known.old }
     ensures found { result ≡ merge_at (graph_of model.now) first }
-    ensures measured { IsMeasured (graph_of model.now) bytes.new }
+    ensures known { IsKnown (graph_of model.now) known.new }
 {
     if !fits {
         return None;
     }
-    *bytes = measured(model, *bytes);
-    if has_short_text(model, *bytes, first, second) {
+    let bytes = known.find_bytes(model);
+    if has_short_text(model, bytes, first, second) {
         Some((first, second))
     } else {
         None
@@ -141,42 +153,52 @@ impl KeptPairs {
     fn merge_at(
         &mut self,
         model: &Model,
-        bytes: &mut Option<u64>,
+        known: &mut Known,
+        counts: &mut UseCounts,
         first: usize,
     ) -> Option<(usize, usize)>
         requires kept { ArePairs (graph_of model.now) self.old }
         requires single { single_urgent (graph_of model.now) ≡ true }
         requires there { first < length model.now.vertices }
-        requires measured { IsMeasured (graph_of model.now) bytes.old }
+        requires known { IsKnown (graph_of model.now) known.old }
+        requires counts { NothingCounted (length model.now.vars) counts.old }
         ensures found { result ≡ merge_at (graph_of model.now) first }
         ensures kept { ArePairs (graph_of model.now) self.new }
-        ensures measured { IsMeasured (graph_of model.now) bytes.new }
+        ensures known { IsKnown (graph_of model.now) known.new }
+        ensures counts { counts.new ≡ counts.old }
     {
         let pair = self.pairs[first];
         match pair.target {
             None => None,
             Some(second) => {
-                let fits = known_to_fit(model, pair.standing, first, second);
+                let fits = known_to_fit(model, counts, pair.standing, first, second);
                 self.pairs[first] = KeptPair {
                     standing: standing(fits),
                     ..pair
                 };
-                short_merge(model, bytes, fits, first, second)
+                short_merge(model, known, fits, first, second)
             }
         }
     }
 
     /// The first of them, in a single urgent model.
-    fn first_single(&mut self, model: &Model, bytes: &mut Option<u64>) -> Option<(usize, usize)>
+    fn first_single(
+        &mut self,
+        model: &Model,
+        known: &mut Known,
+        counts: &mut UseCounts,
+    ) -> Option<(usize, usize)>
         requires kept { ArePairs (graph_of model.now) self.old }
         requires single { single_urgent (graph_of model.now) ≡ true }
-        requires measured { IsMeasured (graph_of model.now) bytes.old }
+        requires known { IsKnown (graph_of model.now) known.old }
+        requires counts { NothingCounted (length model.now.vars) counts.old }
         ensures found { result ≡ first_merge (graph_of model.now) }
         ensures kept { ArePairs (graph_of model.now) self.new }
-        ensures measured { IsMeasured (graph_of model.now) bytes.new }
+        ensures known { IsKnown (graph_of model.now) known.new }
+        ensures counts { counts.new ≡ counts.old }
     {
         for first in 0..model.vertices.len() {
-            let found = self.merge_at(model, bytes, first);
+            let found = self.merge_at(model, known, counts, first);
             if found.is_some() {
                 return found;
             }
@@ -184,17 +206,23 @@ impl KeptPairs {
         None
     }
 
-    /// Does what `first_merge` does. It may be told how many bytes the canonical text of the model has, and tells that where it
-    /// was measured.
-    pub fn first_merge(&mut self, model: &Model, bytes: &mut Option<u64>) -> Option<(usize, usize)>
+    /// Does what `first_merge_measured` does.
+    pub fn first_merge(
+        &mut self,
+        model: &Model,
+        known: &mut Known,
+        counts: &mut UseCounts,
+    ) -> Option<(usize, usize)>
         requires kept { ArePairs (graph_of model.now) self.old }
-        requires measured { IsMeasured (graph_of model.now) bytes.old }
+        requires known { IsKnown (graph_of model.now) known.old }
+        requires counts { NothingCounted (length model.now.vars) counts.old }
         ensures found { result ≡ first_merge (graph_of model.now) }
         ensures kept { ArePairs (graph_of model.now) self.new }
-        ensures measured { IsMeasured (graph_of model.now) bytes.new }
+        ensures known { IsKnown (graph_of model.now) known.new }
+        ensures counts { counts.new ≡ counts.old }
     {
-        if single_urgent(model) {
-            self.first_single(model, bytes)
+        if known.find_single(model) {
+            self.first_single(model, known, counts)
         } else {
             None
         }

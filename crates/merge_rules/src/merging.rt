@@ -1,67 +1,79 @@
 //! Merge: an event that always schedules a second one at once does what the second does as well.
 
-ghost use Rattle.std.specs.Prelude.{◌≡◌, None, length, OnOk, OnErr, IfOk, IfErr};
+ghost use Rattle.std.specs.Prelude.{◌≡◌, true, Some, None, length, OnOk, OnErr, IfErr};
 ghost use Rattle.model_core.specs.Text.Canonical.{canonical};
 ghost use Rattle.model_core.specs.Rules.Conditions.{first_failed, TellsCondition};
-ghost use Rattle.model_core.specs.Rules.UrgentEdges.{single_urgent};
 ghost use Rattle.model_core.specs.Rules.Merge.{merge_conditions, merged};
 ghost use Rattle.model_core.specs.Code.Views.{graph_of};
-ghost use Rattle.merge_rules.specs.Measured.{IsMeasured};
+ghost use Rattle.merge_rules.specs.Known.{IsKnown};
+ghost use Rattle.merge_rules.specs.NothingCounted.{NothingCounted};
 
 use crate::conditions::failed_before_limits;
+use crate::known::Known;
+use crate::reads_written::ReadsWritten;
 use crate::taking_over::put_together;
-use crate::within_limits::{is_within_limits, measured, merged_length, urgent_place};
+use crate::within_limits::{is_within_limits, merged_length, urgent_place};
 use model_core::{Model, RuleError};
-use range_bounds::single_urgent;
 use std::alloc::Global;
+use use_analysis::UseCounts;
 
-/// The first condition of merge that fails, by its number from 1. It is told whether the model is single urgent, and may
-/// be told how many bytes its canonical text has.
-pub(crate) fn failed_merge(
+/// The first condition of merge that fails, by its number from 1. What is found of the model on the way is known then.
+pub(crate) fn failed_merge<R: ReadsWritten>(
     model: &Model,
-    single: bool,
-    bytes: Option<u64>,
+    known: &mut Known,
+    readers: &mut R,
     first: usize,
     second: usize,
 ) -> Option<u8>
-    requires single { single ≡ single_urgent (graph_of model.now) }
-    requires measured { IsMeasured (graph_of model.now) bytes }
-    ensures { result ≡ first_failed (merge_conditions (graph_of model.now) first second) }
+    requires known { IsKnown (graph_of model.now) known.old }
+    requires ready { R.ready readers.old (length model.now.vars) }
+    ensures failed { result ≡ first_failed (merge_conditions (graph_of model.now) first second) }
+    ensures known { IsKnown (graph_of model.now) known.new }
+    ensures same { readers.new ≡ readers.old }
 {
-    if let Some(condition) = failed_before_limits(model, single, first, second) {
+    let single = known.find_single(model);
+    if let Some(condition) = failed_before_limits(model, single, readers, first, second) {
         return Some(condition);
     }
-    if is_within_limits(model, bytes, first, second) {
+    if is_within_limits(model, known.find_bytes(model), first, second) {
         None
     } else {
         Some(8)
     }
 }
 
-/// Does what `merge` does, and tells how many bytes the canonical text of the result has. It may be told how many that
-/// of the model has, so that the whole isn't measured.
+/// Does what `merge` does. It may be told what is known of the model, and tells what is known then: of a result how many bytes
+/// its canonical text has, and that it is single urgent. The counts, in which
+/// nothing is counted, serve to tell what edges read; they are given back as they were.
 pub fn merge_measured(
     alloc: Global,
     model: &mut Model,
-    bytes: Option<u64>,
+    known: &mut Known,
+    counts: &mut UseCounts,
     vertex: usize,
     target: usize,
-) -> Result<u64, RuleError>
-    requires measured { IsMeasured (graph_of model.old) bytes }
+) -> Result<(), RuleError>
+    requires known { IsKnown (graph_of model.old) known.old }
+    requires counts { NothingCounted (length model.old.vars) counts.old }
     ensures done { OnOk result ((first_failed (merge_conditions (graph_of model.old) vertex target) ≡ None)
         × (graph_of model.new ≡ merged (graph_of model.old) vertex target)) }
-    ensures measured { IfOk result (λ now. now ≡ length (canonical (graph_of model.new))) }
     ensures refused { IfErr result (λ e. TellsCondition e (first_failed (merge_conditions (graph_of model.old) vertex target))) }
     ensures unchanged { OnErr result (graph_of model.new ≡ graph_of model.old) }
+    ensures known { IsKnown (graph_of model.new) known.new }
+    ensures told { OnOk result (known.new ≡ record { bytes = Some (length (canonical (graph_of model.new))); single = Some true }) }
+    ensures counts { counts.new ≡ counts.old }
 {
-    let bytes = measured(model, bytes);
-    if let Some(condition) = failed_merge(model, single_urgent(model), bytes, vertex, target) {
+    if let Some(condition) = failed_merge(model, known, counts, vertex, target) {
         return Err(RuleError::Refused { condition });
     }
-    let now = merged_length(model, bytes, vertex, target);
+    let bytes = merged_length(model, known.bytes, vertex, target);
     let place = urgent_place(&model.vertices.as_slice()[vertex]);
     put_together(alloc, model, vertex, place, target)?;
-    Ok(now)
+    *known = Known {
+        bytes: Some(bytes),
+        single: Some(true),
+    };
+    Ok(())
 }
 
 /// Makes a vertex do what a second one does, which its plain urgent edge schedules at once, in place of that edge: its
@@ -78,6 +90,13 @@ pub fn merge(
     ensures refused { IfErr result (λ e. TellsCondition e (first_failed (merge_conditions (graph_of model.old) vertex target))) }
     ensures unchanged { OnErr result (graph_of model.new ≡ graph_of model.old) }
 {
-    merge_measured(alloc, model, None, vertex, target)?;
-    Ok(())
+    let mut counts = UseCounts::begin(alloc, model)?;
+    merge_measured(
+        alloc,
+        model,
+        &mut Known::nothing(),
+        &mut counts,
+        vertex,
+        target,
+    )
 }

@@ -11,25 +11,12 @@ ghost use Rattle.model_core.specs.Rules.Prune.{pruned};
 ghost use Rattle.model_core.specs.Rules.UrgentEdges.{plain_urgent};
 ghost use Rattle.model_core.specs.Rules.Merge.{set_parameters, merged_with, merged, has_few_parts, is_within_limits, merge_conditions};
 ghost use Rattle.model_core.specs.Code.Views.{graph_of, edge_of, vertex_of};
-ghost use Rattle.merge_rules.specs.Measured.{IsMeasured};
+ghost use Rattle.merge_rules.specs.Known.{IsMeasured};
 
 use model_core::{Edge, Model, Vertex};
-use model_print::{edge_length, length_without_edge, printed_length, taken_over_length};
+use model_print::{edge_length, length_without_edge, taken_over_length};
 use range_bounds::plain_urgent;
 use sig_base::{CHANGES_MAX, EDGES_MAX, TEXT_MAX};
-
-/// How many bytes the canonical text of the model has, measured where nobody has told it, or None where they are 2^64 - 1
-/// or more.
-pub(crate) fn measured(model: &Model, bytes: Option<u64>) -> Option<u64>
-    requires { IsMeasured (graph_of model.now) bytes }
-    ensures { IsMeasured (graph_of model.now) result }
-{
-    if bytes.is_some() {
-        return bytes;
-    }
-    let bytes = printed_length(model);
-    if bytes < u64::MAX { Some(bytes) } else { None }
-}
 
 /// How many changes give parameters their values.
 fn set_count(params: &[usize]) -> usize

@@ -26,6 +26,9 @@ append_nothing : (xs : List RuleApplication) → xs ≡ xs ++ []
 append_nothing [] = refl
 append_nothing (x ∷ xs) = ap (λ xs. x ∷ xs) (append_nothing xs)
 
+pub led_begins : {g : EventGraph} {before : List RuleApplication} → IsValid g → NoEdgeRule g → Led g g before before
+led_begins {g} {before} valid none = record { later = []; noted = append_nothing before; first = refl; valid = valid; none = none }
+
 pub led_on : LeavesEdges → ((g h : EventGraph) (a : RuleApplication) → IsValid g → applied g a ≡ Some h → IsValid h) → (g h k : EventGraph) (before between after : List RuleApplication) (made : Bool) → made ≡ true → Led g h before between → Made (first_rule h) made h k between after → Led g k before after
 led_on leaves one_valid g h k before between after true e led (a, is, made, noted) = record {
   later = led.later ++ a ∷ [];

@@ -1,17 +1,16 @@
 -- What the code of a sweep does to the edges of a vertex, and notes of them, in the words of the sweep.
-use Rattle.std.proofs.Common.{◌≡◌, ℕ, suc, ◌+◌, ◌<◌, ◌≤◌, Bool, true, false, not, cond, List, [], ◌∷◌, ◌++◌, map, length, drop, get_or, refl, sym, ap, ◌∙◌, append_assoc, add-one, length-append, arith}
-use Rattle.std.proofs.lemmas.List.{length-map}
+use Rattle.std.proofs.Common.{◌≡◌, ℕ, zero, suc, ◌+◌, ◌<◌, Bool, true, false, not, cond, List, [], ◌∷◌, ◌++◌, map, length, drop, get_or, refl, sym, ap, ◌∙◌, append_assoc, add-one, arith}
 use Rattle.std.specs.Prelude.{filter}
 use Rattle.std.specs.List.{flat_map}
 use Rattle.std.proofs.Math.Seq.{drop-cons}
 use Rattle.model_core.specs.declared.vertex.Edge.{Edge}
 use Rattle.model_core.specs.Code.Views.{edge_of}
-use Rattle.model_core.specs.EventGraph.{EventEdge, EventVertex, EventGraph, Truth}
+use Rattle.model_core.specs.EventGraph.{EventEdge, EventGraph, Truth}
 use Rattle.model_core.specs.Rules.Reduction.{RuleApplication}
 use Rattle.edge_pruning.specs.declared.finding.EdgeRule.{EdgeRule}
 use Rattle.edge_pruning.specs.declared.finding.EdgeRule.TheVariants as rules
 use Rattle.edge_pruning.specs.EdgeRules.{test_of}
-use Rattle.reducer.specs.Inner.Sweep.{instead, left_by_sweep, swept_vertex, applied_or_not, applied_behind, applied_to, settled_if_proved, application_here, next_before}
+use Rattle.reducer.specs.Inner.Sweep.{left_by_sweep, applied_or_not, applied_behind, settled_if_proved, application_here, next_before}
 
 -- the edges whose condition isn't refuted stay
 pub kept_edges : (g : EventGraph) (es : List EventEdge) → filter (λ e. not (test_of rules.Prune g e)) es ≡ flat_map (left_by_sweep rules.Prune g) es
@@ -48,23 +47,29 @@ one_noted rule g name before next i edges e b so_far now all below is test over 
     ∙ ap (λ (es : List Edge). so_far ++ applied_behind rule g name before (map edge_of es)) (sym (drop-cons edges i e below ∙ ap (λ (x : Edge). x ∷ drop (suc i) edges) (sym is)))
     ∙ before_it
 
--- where the rule applies to no edge each stays
-left_alone : (rule : EdgeRule) (g : EventGraph) (name : List ℕ) (before : ℕ) (es : List EventEdge) → applied_behind rule g name before es ≡ [] → flat_map (left_by_sweep rule g) es ≡ es
-left_alone rule g name before [] none = refl
-left_alone rule g name before (e ∷ es) none = one (test_of rule g e) none (left_alone rule g name (before + 1) es) where
-  one : (b : Bool) → applied_or_not rule name before b (λ k. applied_behind rule g name k es) ≡ [] → (applied_behind rule g name (before + 1) es ≡ [] → flat_map (left_by_sweep rule g) es ≡ es)
-      → cond b (instead rule e) (e ∷ []) ++ flat_map (left_by_sweep rule g) es ≡ e ∷ es
-  one true none later = cc
-  one false none later = ap (λ es. e ∷ es) (later none)
+-- ---- the edge at a place
 
-no_items : {B : Type 0} (xs : List B) → length xs ≡ 0 → xs ≡ []
-no_items [] e = refl
-no_items (x ∷ xs) e = cc
+pub some_there : {A : Type 0} (xs : List A) (k : ℕ) → k < length xs → (x : A) × (x ≡ get_or xs k x)
+some_there [] k below = absurd (omega (arith, below))
+some_there (x ∷ xs) zero below = (x, refl)
+some_there (x ∷ xs) (suc k) below = some_there xs k (omega (arith, below))
 
-none_behind : {A B : Type 0} (f : A → B) (before after : List A) (added : List B) → map f after ≡ map f before ++ added → length after ≤ length before → added ≡ []
-none_behind f before after added more long = no_items added (omega (arith, ap (λ xs. length xs) more, length-map after f, length-map before f, length-append (map f before) added, long))
+pub one_there : {A : Type 0} (xs : List A) (k : ℕ) (x y : A) → k < length xs → x ≡ get_or xs k x → y ≡ get_or xs k y → x ≡ y
+one_there [] k x y below is_x is_y = absurd (omega (arith, below))
+one_there (z ∷ xs) zero x y below is_x is_y = is_x ∙ sym is_y
+one_there (z ∷ xs) (suc k) x y below is_x is_y = one_there xs k x y (omega (arith, below)) is_x is_y
 
--- where no application is added to those before, the vertex stays
-pub stays_unswept : {A : Type 0} (f : A → RuleApplication) (before after : List A) (rule : EdgeRule) (g : EventGraph) (v : EventVertex) → map f after ≡ map f before ++ applied_to rule g v → length after ≤ length before → v ≡ swept_vertex rule g v
-stays_unswept f before after rule g v more long =
-    ap (λ es. record v { edges = es }) (sym (left_alone rule g v.name 0 v.edges (none_behind f before after (applied_to rule g v) more long)))
+read_behind : {A : Type 0} (xs : List A) (k : ℕ) (d : A) → get_or (drop k xs) 0 d ≡ get_or xs k d
+read_behind [] zero d = refl
+read_behind [] (suc k) d = refl
+read_behind (x ∷ xs) zero d = refl
+read_behind (x ∷ xs) (suc k) d = read_behind xs k d
+
+-- lists that are the same from a place on have the same element there
+pub same_there : {A : Type 0} (xs ys : List A) (k : ℕ) (x : A) → drop k ys ≡ drop k xs → x ≡ get_or ys k x → x ≡ get_or xs k x
+same_there xs ys k x same is = is ∙ sym (read_behind ys k x) ∙ ap (λ zs. get_or zs 0 x) same ∙ read_behind xs k x
+
+-- one edge more is settled or not, which stands in its own place
+pub one_further : (before : ℕ) (b : Bool) → before + 1 ≡ next_before rules.Settle before b
+one_further before true = refl
+one_further before false = refl

@@ -114,7 +114,7 @@ fn drop_sought(
         return Ok(false);
     }
     drop_these(alloc, model, &vertices, applications)?;
-    progress.bytes = None;
+    progress.known = progress.known.behind_drop();
     progress.pairs = KeptPairs::begin(alloc, model)?;
     Ok(true)
 }
@@ -137,7 +137,7 @@ fn drop_alone(
 {
     let vertices = List::from_vec(Vec::from_elem(alloc, gone, 1)?);
     progress.pairs.tell_drop(model, gone);
-    progress.bytes = None;
+    progress.known = progress.known.behind_drop();
     progress.unreached = Unreached::Nobody;
     drop_these(alloc, model, &vertices, applications)
 }
@@ -179,16 +179,19 @@ fn merge_first(
         (map application_of applications.old.items) (map application_of applications.new.items)) }
     ensures known { OnOk result (IsProgress (graph_of model.new) progress.new) }
 {
-    let Some((first, second)) = progress.pairs.first_merge(model, &mut progress.bytes) else {
+    let Some((first, second)) = progress
+        .pairs
+        .first_merge(model, &mut progress.known, &mut progress.counts)
+    else {
         return Ok(false);
     };
     let vertex = name_at(alloc, model, Declared::Vertices, first)?;
     let target = name_at(alloc, model, Declared::Vertices, second)?;
     applications.push(Application::Merge { vertex, target })?;
     progress.pairs.tell_merge(model, first, second)?;
-    match merge_measured(alloc, model, progress.bytes, first, second) {
-        Ok(bytes) => {
-            progress.bytes = Some(bytes);
+    let known = &mut progress.known;
+    match merge_measured(alloc, model, known, &mut progress.counts, first, second) {
+        Ok(()) => {
             progress.unreached = unreached_by_merge(model, &progress.pairs, second);
             Ok(true)
         }

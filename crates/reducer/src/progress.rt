@@ -10,10 +10,11 @@ ghost use Rattle.merge_rules.specs.KeptPairs.{ArePairs};
 ghost use Rattle.reducer.specs.Inner.Progress.{TellsUnreached, IsProgress};
 
 use edge_pruning::merging_leaves_vertices_reached;
-use merge_rules::KeptPairs;
+use merge_rules::{KeptPairs, Known};
 use model_core::Model;
 use sig_base::NoMemory;
 use std::alloc::Global;
+use use_analysis::UseCounts;
 
 /// Which vertices can't be reached.
 #[derive(Clone, Copy)]
@@ -29,8 +30,9 @@ pub(crate) enum Unreached {
 /// What is known of a model.
 #[derive(Drop)]
 pub(crate) struct Progress {
-    /// How many bytes its canonical text has, where that is known.
-    pub(crate) bytes: Option<u64>,
+    pub(crate) known: Known,
+    /// Nothing is counted here between two calls that use it.
+    pub(crate) counts: UseCounts,
     pub(crate) unreached: Unreached,
     pub(crate) pairs: KeptPairs,
 }
@@ -41,7 +43,8 @@ impl Progress {
         ensures { IfOk result (λ progress. IsProgress (graph_of model.now) progress) }
     {
         Ok(Progress {
-            bytes: None,
+            known: Known::nothing(),
+            counts: UseCounts::begin(alloc, model)?,
             unreached: Unreached::Unknown,
             pairs: KeptPairs::begin(alloc, model)?,
         })

@@ -1,10 +1,13 @@
 //! One sweep of a rule of edges over all vertices and their edges.
 
-ghost use Rattle.std.specs.Prelude.{◌≡◌, ◌++◌, ◌+◌, ◌<◌, ◌^◌, map, cond, not, OnOk, IfOk};
+ghost use Rattle.std.specs.Prelude.{◌≡◌, ◌++◌, ◌+◌, ◌<◌, ◌≤◌, ◌^◌, Bool, List, map, length, cond, not, slice_index_or, OnOk, IfOk};
+ghost use Rattle.std.specs.List.{flat_map};
+ghost use Rattle.std.proofs.lemmas.List.Filters.{FiltersInPlace};
+ghost use Rattle.model_core.specs.declared.vertex.Edge.{Edge};
+ghost use Rattle.model_core.specs.Rules.Settle.{unconditional};
 ghost use Rattle.model_core.specs.Code.Views.{graph_of, vertex_of, edge_of, application_of};
 ghost use Rattle.edge_pruning.specs.declared.finding.EdgeRule.TheVariants as rules;
-ghost use Rattle.edge_pruning.specs.EdgeRules.{test_of};
-ghost use Rattle.reducer.specs.Inner.Sweep.{application_by, width, swept_vertex, applied_to, applied_to_all, settled_if_proved, application_here};
+ghost use Rattle.reducer.specs.Inner.Sweep.{application_by, left_by_sweep, swept_vertex, applied_behind, applied_to, applied_to_all, settled_if_proved, application_here};
 
 use edge_pruning::{EdgeRule, can_apply};
 use model_core::{Application, Edge, Expr, Model, Vertex, copy_name};
@@ -47,7 +50,7 @@ fn sweep_vertices(
     Ok(())
 }
 
-/// The same for one vertex, which stays as it is where the rule applies to none of its edges.
+/// The same for one vertex.
 fn sweep_vertex(
     alloc: Global,
     rule: EdgeRule,
@@ -59,42 +62,90 @@ fn sweep_vertex(
     ensures applied { OnOk result (map application_of applications.new.items
         ≡ map application_of applications.old.items ++ applied_to rule (graph_of model.now) (vertex_of vertex.old)) }
 {
-    let noted = applications.len();
-    note(alloc, rule, model, vertex, applications)?;
-    if noted < applications.len() {
-        change(rule, model, vertex);
+    let edges = vertex.edges.as_mut_vec();
+    match rule {
+        EdgeRule::Prune => prune_edges(alloc, model, &vertex.name, edges, applications),
+        EdgeRule::Settle => settle_edges(alloc, model, &vertex.name, edges, applications),
     }
-    Ok(())
 }
 
-/// Notes the applications to a vertex's edges.
-fn note(
+/// Takes away the edges of this vertex whose condition never holds, and notes each with the place that it has by then. Those
+/// that stay move up in the same walk.
+fn prune_edges(
     alloc: Global,
-    rule: EdgeRule,
     model: &Model,
-    vertex: &Vertex,
+    vertex: &Name,
+    edges: &mut Vec<Edge>,
     applications: &mut Vec<Application>,
 ) -> Result<(), NoMemory>
-    ensures { OnOk result (map application_of applications.new.items
-        ≡ map application_of applications.old.items ++ applied_to rule (graph_of model.now) (vertex_of vertex.now)) }
+    ensures swept { OnOk result (map edge_of edges.new.items ≡ flat_map (left_by_sweep rules.Prune (graph_of model.now)) (map edge_of edges.old.items)) }
+    ensures applied { OnOk result (map application_of applications.new.items
+        ≡ map application_of applications.old.items ++ applied_behind rules.Prune (graph_of model.now) vertex.now 0 (map edge_of edges.old.items)) }
+{
+    let mut kept = 0;
+    for place in 0..edges.len() {
+        let refuted = can_apply(model, EdgeRule::Prune, &edges[place]);
+        note_edge(alloc, EdgeRule::Prune, refuted, vertex, kept, applications)?;
+        kept = keep(edges, refuted, kept, place);
+    }
+    edges.truncate(kept);
+    Ok(())
+}
+
+/// Moves the edge at a place up behind those that were kept, unless its condition never holds, and says how many are kept then.
+fn keep(edges: &mut Vec<Edge>, refuted: bool, kept: usize, place: usize) -> usize
+    requires before { kept ≤ place }
+    requires there { place < length edges.old.items }
+    ensures count { result ≡ kept + cond refuted 0 1 }
+    ensures moved { (passes : Edge → Bool) (all : List Edge) → FiltersInPlace passes all edges.old.items kept place
+        → ((e : Edge) → e ≡ slice_index_or edges.old.items place e → passes e ≡ not refuted)
+        → FiltersInPlace passes all edges.new.items result (place + 1) }
+{
+    if refuted {
+        return kept;
+    }
+    if kept == place {
+        return kept + 1;
+    }
+    edges.swap(kept, place);
+    kept + 1
+}
+
+/// Makes the conditions of this vertex's edges that always hold the literal `true`, and notes each.
+fn settle_edges(
+    alloc: Global,
+    model: &Model,
+    vertex: &Name,
+    edges: &mut Vec<Edge>,
+    applications: &mut Vec<Application>,
+) -> Result<(), NoMemory>
+    ensures swept { OnOk result (map edge_of edges.new.items ≡ map (settled_if_proved (graph_of model.now)) (map edge_of edges.old.items)) }
+    ensures applied { OnOk result (map application_of applications.new.items
+        ≡ map application_of applications.old.items ++ applied_behind rules.Settle (graph_of model.now) vertex.now 0 (map edge_of edges.old.items)) }
 {
     let mut before = 0;
-    for edge in vertex.edges.as_slice() {
-        let applies = can_apply(model, rule, edge);
-        note_edge(alloc, rule, applies, &vertex.name, before, applications)?;
-        before += steps_over(rule, applies);
+    for edge in edges.iter_mut() {
+        let proved = can_apply(model, EdgeRule::Settle, edge);
+        note_edge(
+            alloc,
+            EdgeRule::Settle,
+            proved,
+            vertex,
+            before,
+            applications,
+        )?;
+        settle_edge(edge, proved);
+        before += 1;
     }
     Ok(())
 }
 
-/// How many edges stand in an edge's place, where the rule applies to it or not.
-fn steps_over(rule: EdgeRule, applies: bool) -> u64
-    ensures is { result ≡ cond applies (width rule) 1 }
-    ensures few { result < 2 }
+/// Makes an edge's condition the literal `true` where it always holds.
+fn settle_edge(edge: &mut Edge, proved: bool)
+    ensures { edge_of edge.new ≡ cond proved (unconditional (edge_of edge.old)) (edge_of edge.old) }
 {
-    match rule {
-        EdgeRule::Prune if applies => 0,
-        _ => 1,
+    if proved {
+        edge.condition = Expr::Truth(true);
     }
 }
 
@@ -104,7 +155,7 @@ fn note_edge(
     rule: EdgeRule,
     applies: bool,
     vertex: &Name,
-    before: u64,
+    before: usize,
     applications: &mut Vec<Application>,
 ) -> Result<(), NoMemory>
     requires { before < 2 ^ 63 }
@@ -112,7 +163,7 @@ fn note_edge(
         ≡ map application_of applications.old.items ++ application_here rule vertex.now before applies) }
 {
     if applies {
-        applications.push(application(alloc, rule, vertex, before + 1)?)?;
+        applications.push(application(alloc, rule, vertex, before as u64 + 1)?)?;
     }
     Ok(())
 }
@@ -131,47 +182,4 @@ fn application(
         EdgeRule::Prune => Application::Prune { vertex, edge },
         EdgeRule::Settle => Application::Settle { vertex, edge },
     })
-}
-
-/// Applies the rule to each edge of a vertex to which it applies.
-fn change(rule: EdgeRule, model: &Model, vertex: &mut Vertex)
-    ensures { vertex_of vertex.new ≡ swept_vertex rule (graph_of model.now) (vertex_of vertex.old) }
-{
-    match rule {
-        EdgeRule::Prune => take_refuted_away(model, vertex),
-        EdgeRule::Settle => make_proved_true(model, vertex.edges.as_mut_vec()),
-    }
-}
-
-/// Whether an edge isn't one to be pruned.
-fn stays(model: &Model, edge: &Edge) -> bool
-    ensures { result ≡ not (test_of rules.Prune (graph_of model.now) (edge_of edge.now)) }
-{
-    !can_apply(model, EdgeRule::Prune, edge)
-}
-
-/// Takes away the edges whose condition never holds.
-fn take_refuted_away(model: &Model, vertex: &mut Vertex)
-    ensures { vertex_of vertex.new ≡ swept_vertex rules.Prune (graph_of model.now) (vertex_of vertex.old) }
-{
-    let edges = vertex.edges.as_mut_vec();
-    edges.retain(|edge: &Edge| stays(model, edge));
-}
-
-/// Makes the conditions that always hold the literal `true`.
-fn make_proved_true(model: &Model, edges: &mut Vec<Edge>)
-    ensures { map edge_of edges.new.items ≡ map (settled_if_proved (graph_of model.now)) (map edge_of edges.old.items) }
-{
-    for edge in edges.iter_mut() {
-        settle_edge(model, edge);
-    }
-}
-
-/// Makes an edge's condition the literal `true` where it always holds.
-fn settle_edge(model: &Model, edge: &mut Edge)
-    ensures { edge_of edge.new ≡ settled_if_proved (graph_of model.now) (edge_of edge.old) }
-{
-    if can_apply(model, EdgeRule::Settle, edge) {
-        edge.condition = Expr::Truth(true);
-    }
 }

@@ -4,3 +4,5 @@ mod CertificateReads
 pub mod Tables
 pub mod NamesKept
 mod OneMore
+pub mod FewerVariables
+pub mod ToldByRules

@@ -1,6 +1,6 @@
 //! Laws of chains of applications. The functions do nothing: what they ensure holds of all models.
 
-ghost use Rattle.std.specs.Prelude.{◌≡◌, ◌≢◌, ◌↔◌, ℕ, List, Some, None};
+ghost use Rattle.std.specs.Prelude.{◌≡◌, ◌≢◌, ◌≤◌, ◌↔◌, ℕ, List, length, Some, None};
 ghost use Rattle.model_core.specs.EventGraph.{EventGraph};
 ghost use Rattle.model_core.specs.Run.Same.{Same};
 ghost use Rattle.model_core.specs.Static.Reading.{IsValid};
@@ -20,6 +20,11 @@ pub fn applications_have_results()
         → (applied g a ≡ Some h) ↔ ((failed_condition g a ≡ None) × (result_of g a ≡ h)) }
     ensures all { (g : EventGraph) (applications : List RuleApplication)
         → (first_bad g applications ≡ None) ↔ ((h : EventGraph) × Chain g applications h) }
+{}
+
+/// An application leaves no more variables than there were.
+pub fn applications_add_no_variables()
+    ensures { (g h : EventGraph) (a : RuleApplication) → applied g a ≡ Some h → length h.variables ≤ length g.variables }
 {}
 
 /// What an application makes of a valid model is valid and means the same, and so is what a chain of them

@@ -1,21 +1,24 @@
 //! The checker: whether a list of applications leads from one model to another.
 
-ghost use Rattle.std.specs.Prelude.{◌≡◌, map, cond, Ok, Some, None, is_some, OnOk, IfOk};
+ghost use Rattle.std.specs.Prelude.{◌≡◌, map, length, cond, Ok, Some, None, OnOk, IfOk};
 ghost use Rattle.model_core.specs.EventGraph.{EventGraph};
 ghost use Rattle.model_core.specs.Code.Views.{graph_of, application_of};
 ghost use Rattle.model_core.specs.Rules.Reduction.{Prune, Settle, Drop, Merge, Slice, applied, first_bad};
 ghost use Rattle.model_core.specs.Rules.Verdict.{graph_reached, verdict};
-ghost use Rattle.merge_rules.specs.Measured.{IsMeasured};
+ghost use Rattle.merge_rules.specs.Known.{IsKnown};
+ghost use Rattle.merge_rules.specs.NothingCounted.{NothingCounted};
 ghost use Rattle.reduction_cert.specs.VerdictView.{verdict_of};
 ghost use Rattle.reduction_cert.specs.Inner.PlacesListed.{HasPlaces, names_of_vertices, is_drop};
 
 use crate::by_name::{all_named, edge_named, two_vertices_named};
+use crate::chain_law::applications_add_no_variables;
 use crate::places::Places;
 use edge_pruning::{drop_vertices, prune, settle};
-use merge_rules::merge_measured;
-use model_core::{Application, Model, RuleError, copy_model, same_model, was_made};
+use merge_rules::{Known, merge_measured};
+use model_core::{Application, Model, copy_model, same_model, was_made};
 use sig_base::{List, Name, NoMemory};
 use std::alloc::Global;
+use use_analysis::UseCounts;
 use var_slicing::slice;
 
 /// What the checker says of a list of applications.
@@ -72,10 +75,19 @@ fn apply_all(
     ensures bad { IfOk result (λ bad. bad ≡ first_bad (graph_of model.old) (map application_of applications.now)) }
     ensures reached { result ≡ Ok None → graph_reached (graph_of model.old) (map application_of applications.now) ≡ Some (graph_of model.new) }
 {
+    applications_add_no_variables();
     let mut vertices = Places::of_vertices(alloc, model.vertices.as_slice())?;
-    let mut bytes = None;
+    let mut counts = UseCounts::begin(alloc, model)?;
+    let mut known = Known::nothing();
     for (place, application) in applications.iter().enumerate() {
-        if !apply(alloc, model, &mut bytes, &vertices, application)? {
+        if !apply(
+            alloc,
+            model,
+            &mut known,
+            &mut counts,
+            &vertices,
+            application,
+        )? {
             return Ok(Some(place + 1));
         }
         list_anew(alloc, application, model, &mut vertices)?;
@@ -117,31 +129,41 @@ fn list_anew(
 }
 
 /// Makes one application, and says whether it names what the model has and meets the conditions of its rule. Beside the
-/// model it keeps how many bytes its canonical text has, where a merge has told it.
+/// model it keeps what is known of it, and counts of uses, which merges use and leave as they were.
 fn apply(
     alloc: Global,
     model: &mut Model,
-    bytes: &mut Option<u64>,
+    known: &mut Known,
+    counts: &mut UseCounts,
     vertices: &Places,
     application: &Application,
 ) -> Result<bool, NoMemory>
     requires listed { HasPlaces (names_of_vertices (graph_of model.old).vertices) vertices.now }
-    requires measured { IsMeasured (graph_of model.old) bytes.old }
+    requires known { IsKnown (graph_of model.old) known.old }
+    requires counts { NothingCounted (length model.old.vars) counts.old }
     ensures made { IfOk result (λ made. applied (graph_of model.old) (application_of application.now) ≡ cond made (Some (graph_of model.new)) None) }
-    ensures measured { OnOk result (IsMeasured (graph_of model.new) bytes.new) }
+    ensures known { OnOk result (IsKnown (graph_of model.new) known.new) }
+    ensures counts { OnOk result (counts.new ≡ counts.old) }
 {
-    let told = bytes.take();
     match application {
-        Application::Prune { vertex, edge } => Ok(apply_prune(model, vertices, vertex, *edge)),
-        Application::Settle { vertex, edge } => Ok(apply_settle(model, vertices, vertex, *edge)),
+        Application::Prune { vertex, edge } => {
+            *known = Known::nothing();
+            Ok(apply_prune(model, vertices, vertex, *edge))
+        }
+        Application::Settle { vertex, edge } => {
+            *known = Known::nothing();
+            Ok(apply_settle(model, vertices, vertex, *edge))
+        }
         Application::Drop { vertices: names } => {
-            apply_drop(alloc, model, vertices, names.as_slice())
+            apply_drop(alloc, model, known, vertices, names.as_slice())
         }
         Application::Merge { vertex, target } => {
-            *bytes = apply_merge(alloc, model, told, vertices, vertex, target)?;
-            Ok(bytes.is_some())
+            apply_merge(alloc, model, known, counts, vertices, vertex, target)
         }
-        Application::Slice { vars } => apply_slice(alloc, model, vars.as_slice()),
+        Application::Slice { vars } => {
+            *known = Known::nothing();
+            apply_slice(alloc, model, vars.as_slice())
+        }
     }
 }
 
@@ -171,41 +193,46 @@ fn apply_settle(model: &mut Model, vertices: &Places, vertex: &Name, edge: u64) 
 fn apply_drop(
     alloc: Global,
     model: &mut Model,
+    known: &mut Known,
     vertices: &Places,
     names: &[Name],
 ) -> Result<bool, NoMemory>
-    requires { HasPlaces (names_of_vertices (graph_of model.old).vertices) vertices.now }
-    ensures { IfOk result (λ made. applied (graph_of model.old) (Drop names.now) ≡ cond made (Some (graph_of model.new)) None) }
+    requires listed { HasPlaces (names_of_vertices (graph_of model.old).vertices) vertices.now }
+    requires known { IsKnown (graph_of model.old) known.old }
+    ensures made { IfOk result (λ made. applied (graph_of model.old) (Drop names.now) ≡ cond made (Some (graph_of model.new)) None) }
+    ensures known { OnOk result (IsKnown (graph_of model.new) known.new) }
 {
     let Some(dropped) = all_named(alloc, vertices, names)? else {
         return Ok(false);
     };
-    was_made(drop_vertices(alloc, model, &dropped))
+    if !was_made(drop_vertices(alloc, model, &dropped))? {
+        return Ok(false);
+    }
+    *known = known.behind_drop();
+    Ok(true)
 }
 
-/// Merges two vertices, where they can be, and tells how many bytes the canonical text of the result has. It may be told
-/// how many that of the model has, so that the whole isn't measured.
+/// Merges two vertices, and says whether they could be.
 fn apply_merge(
     alloc: Global,
     model: &mut Model,
-    bytes: Option<u64>,
+    known: &mut Known,
+    counts: &mut UseCounts,
     vertices: &Places,
     vertex: &Name,
     target: &Name,
-) -> Result<Option<u64>, NoMemory>
+) -> Result<bool, NoMemory>
     requires listed { HasPlaces (names_of_vertices (graph_of model.old).vertices) vertices.now }
-    requires measured { IsMeasured (graph_of model.old) bytes }
-    ensures made { IfOk result (λ now. applied (graph_of model.old) (Merge vertex.now target.now) ≡ cond (is_some now) (Some (graph_of model.new)) None) }
-    ensures measured { IfOk result (λ now. IsMeasured (graph_of model.new) now) }
+    requires known { IsKnown (graph_of model.old) known.old }
+    requires counts { NothingCounted (length model.old.vars) counts.old }
+    ensures made { IfOk result (λ made. applied (graph_of model.old) (Merge vertex.now target.now) ≡ cond made (Some (graph_of model.new)) None) }
+    ensures known { OnOk result (IsKnown (graph_of model.new) known.new) }
+    ensures counts { OnOk result (counts.new ≡ counts.old) }
 {
     let Some((vertex, target)) = two_vertices_named(vertices, vertex, target) else {
-        return Ok(None);
+        return Ok(false);
     };
-    match merge_measured(alloc, model, bytes, vertex, target) {
-        Ok(now) => Ok(Some(now)),
-        Err(RuleError::Refused { condition: _ }) => Ok(None),
-        Err(RuleError::NoMemory) => Err(NoMemory),
-    }
+    was_made(merge_measured(alloc, model, known, counts, vertex, target))
 }
 
 /// Slices variables away, and says whether they could be.

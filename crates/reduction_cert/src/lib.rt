@@ -10,6 +10,9 @@ mod places;
 mod reading;
 
 pub use certificate::{print_certificate, put_certificate};
-pub use chain_law::{applications_have_results, chains_keep_the_meaning, verdicts_tell_chains};
+pub use chain_law::{
+    applications_add_no_variables, applications_have_results, chains_keep_the_meaning,
+    verdicts_tell_chains,
+};
 pub use checking::{Verdict, check_chain};
 pub use reading::read_certificate;

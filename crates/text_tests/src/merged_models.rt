@@ -1,12 +1,13 @@
 //! Why vertices of a model may not be merged, and the text of a merged model.
 
 use crate::static_rules::checked;
-use merge_rules::{merge, merge_measured};
+use merge_rules::{Known, merge, merge_measured};
 use model_core::{Model, RuleError};
 use model_print::{print, printed_length};
 use sig_base::NoMemory;
 use std::alloc::Global;
 use std::test::*;
+use use_analysis::UseCounts;
 
 /// The model that a text reads as.
 fn model_of_text(alloc: Global, text: &[u8]) -> Result<Model, NoMemory> {
@@ -127,11 +128,19 @@ vertex C {
 end
 ";
 
+/// Merges the first two vertices of a model, and gives what is known of the result.
+fn merged_and_measured(alloc: Global, model: &mut Model) -> Result<Known, RuleError> {
+    let mut known = Known::nothing();
+    let mut counts = UseCounts::begin(alloc, model)?;
+    merge_measured(alloc, model, &mut known, &mut counts, 0, 1)?;
+    Ok(known)
+}
+
 #[test]
 fn a_merged_model_is_written(rt: HostRuntime) -> Result<(), Fail> {
     let mut model = model_of_text(rt.alloc(), BEFORE)?;
-    let outcome = merge_measured(rt.alloc(), &mut model, None, 0, 1);
-    assert_eq!(rt; outcome, Ok(printed_length(&model)));
+    let outcome = merged_and_measured(rt.alloc(), &mut model).map(|known| known.bytes);
+    assert_eq!(rt; outcome, Ok(Some(printed_length(&model))));
     assert_eq!(rt; print(rt.alloc(), &model)?.as_slice(), AFTER);
     Ok(())
 }

@@ -1,1 +1,2 @@
+pub mod MovedNumbers
 pub mod NotedRows

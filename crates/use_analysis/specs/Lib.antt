@@ -1,3 +1,4 @@
+pub mod UseNumbers
 pub mod UseRows
 pub mod UsesText
 pub mod Inner

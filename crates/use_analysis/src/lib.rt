@@ -1,9 +1,11 @@
-//! Who uses which variable: what edges and changes read, what vertices write, a table of both, and its text. And who draws
-//! from which random stream.
+//! Who uses which variable: what edges and changes read, what vertices write, a table of both, and its text; and how many
+//! parts do, kept up to date as parts come and go. And who draws from which random stream.
 #![tactic(auto)]
 
 mod collecting;
+mod counts;
 mod drawing;
+mod moving;
 mod reading;
 mod table;
 mod use_lines;
@@ -11,6 +13,7 @@ mod use_lines;
 pub use collecting::{
     add_deciding_reads, add_index_reads, add_places, add_target_vars, add_variables,
 };
+pub use counts::UseCounts;
 pub use drawing::{draws_of_change, draws_of_edge, draws_of_vertex};
 pub use reading::{reads_of_change, reads_of_edge, reads_of_vertex, writes_of_vertex};
 pub use table::{UseRow, UseTable, use_table};

@@ -12,7 +12,9 @@ use model_core::Model;
 use sig_base::{List, NoMemory};
 use std::alloc::Global;
 
-/// For each variable whether it is needed.
+/// For each variable whether it is needed. The model is gone over once, for the variables that are needed at once and for
+/// pairs of one and another that is read for it. A variable that is found is marked and waits, once; when its turn comes the
+/// variables that are read for it are found, each pair once.
 pub(crate) fn needed(alloc: Global, model: &Model) -> Result<Vec<bool>, NoMemory>
     ensures { IfOk result (λ marks. marks.items ≡ needed_marks (graph_of model.now)) }
 {
@@ -23,7 +25,8 @@ pub(crate) fn needed(alloc: Global, model: &Model) -> Result<Vec<bool>, NoMemory
     entailed(alloc, needs.first.as_slice(), &next)
 }
 
-/// The variables that aren't needed: their places from 0, in the order of declaration.
+/// The variables that aren't needed: their places from 0, in the order of declaration. Those that are needed are found from a
+/// list of the newly found, and each use of a variable is visited once, when that variable's turn comes.
 pub fn unneeded(alloc: Global, model: &Model) -> Result<List<usize>, NoMemory>
     ensures { IfOk result (λ vars. vars ≡ unneeded (graph_of model.now)) }
 {

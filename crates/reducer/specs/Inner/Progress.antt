@@ -3,7 +3,8 @@ use Rattle.std.specs.Prelude.{◌≡◌, ℕ, ◌<◌, false, [], ◌∷◌, len
 use Rattle.model_core.specs.EventGraph.{EventGraph}
 use Rattle.model_core.specs.Rules.Reached.{unreached}
 use Rattle.model_core.specs.Rules.Merge.{is_watched_vertex}
-use Rattle.merge_rules.specs.Measured.{IsMeasured}
+use Rattle.merge_rules.specs.Known.{IsKnown}
+use Rattle.merge_rules.specs.NothingCounted.{NothingCounted}
 use Rattle.merge_rules.specs.KeptPairs.{is_led_to, ArePairs}
 use Rattle.reducer.specs.declared.progress.Progress.{Progress}
 use Rattle.reducer.specs.declared.progress.Unreached.{Unreached}
@@ -24,6 +25,7 @@ TellsUnreached g (known.One gone) = OneAlone g gone
 
 -- all that is known is right
 pub record IsProgress (g : EventGraph) (p : Progress) : Type 0 where
-  pub measured : IsMeasured g p.bytes
+  pub known : IsKnown g p.known
+  pub counts : NothingCounted (length g.variables) p.counts
   pub unreached : TellsUnreached g p.unreached
   pub pairs : ArePairs g p.pairs

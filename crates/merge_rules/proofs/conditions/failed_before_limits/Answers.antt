@@ -91,20 +91,20 @@ second_condition v w o b same is test = none_or_some (plain_urgent w) ∙ ap (λ
 
 -- ---- the exits
 
-pub returns-in_default : goal.returns-in_default
-returns-in_default c =
+pub returns-in_default-clause-failed : goal.returns-in_default-clause-failed
+returns-in_default-clause-failed t c =
     let g = graph_of c.args.model.now in
     first_fails (first_condition g c.args.first c.args.second) (drop 1 (take 7 (merge_conditions g c.args.first c.args.second)))
     (absent_first c.args.model.now c.args.first c.args.second c.as_slice-vertices.result.now c.as_slice-vertices.ensures c.in_default.ensures.lookup.0)
 
-pub returns-in_default-get : goal.returns-in_default-get
-returns-in_default-get c =
+pub returns-in_default-get-clause-failed : goal.returns-in_default-get-clause-failed
+returns-in_default-get-clause-failed t c =
     let g = graph_of c.args.model.now in
     first_fails (first_condition g c.args.first c.args.second) (drop 1 (take 7 (merge_conditions g c.args.first c.args.second)))
     (absent_second c.args.model.now c.args.first c.args.second c.as_slice-vertices.result.now c.as_slice-vertices.ensures c.in-Some.ensures.lookup.0 c.in_default-get.ensures.lookup.0)
 
-pub returns-then-first-second : goal.returns-then-first-second
-returns-then-first-second c =
+pub returns-then-first-second-clause-failed : goal.returns-then-first-second-clause-failed
+returns-then-first-second-clause-failed t c =
     let g = graph_of c.args.model.now in
     first_fails (first_condition g c.args.first c.args.second) (drop 1 (take 7 (merge_conditions g c.args.first c.args.second)))
     (elim c.then-first-second.branch [
@@ -112,32 +112,32 @@ returns-then-first-second c =
       | then-first-second-via-else-first-second+then-not-leads_at_once w ↦ not_led c.args.model.now c.args.first c.args.second c.as_slice-vertices.result.now c.as_slice-vertices.ensures c.in-Some.ensures.lookup.0 c.in-Some.a.now c.in-Some.ensures.lookup.1 c.in-Some-get.ensures.lookup.0 w.if-first-second.false w.if-not-leads_at_once.ensures
     ])
 
-pub returns-then-is_some : goal.returns-then-is_some
-returns-then-is_some c =
+pub returns-then-is_some-clause-failed : goal.returns-then-is_some-clause-failed
+returns-then-is_some-clause-failed t c =
     let g = graph_of c.args.model.now in
     second_fails (first_condition g c.args.first c.args.second) (is_none (plain_urgent (vertex_at g c.args.second))) (drop 2 (take 7 (merge_conditions g c.args.first c.args.second)))
     (led c.args.model.now c.args.first c.args.second c.as_slice-vertices.result.now c.as_slice-vertices.ensures c.in-Some.ensures.lookup.0 c.in-Some.a.now c.in-Some.ensures.lookup.1 c.in-Some-get.ensures.lookup.0 c.if-first-second.false c.if-not-leads_at_once.ensures)
     (second_condition (vertex_of c.in-Some-get.b.now) (vertex_at g c.args.second) c.plain_urgent.result true (there c.args.model.now c.as_slice-vertices.result.now c.args.second c.in-Some-get.b.now c.as_slice-vertices.ensures c.in-Some-get.ensures.lookup.0 c.in-Some-get.ensures.lookup.1) c.plain_urgent.ensures c.if-is_some.ensures)
 
-pub returns-then-not-single : goal.returns-then-not-single
-returns-then-not-single c =
+pub returns-then-not-single-clause-failed : goal.returns-then-not-single-clause-failed
+returns-then-not-single-clause-failed t c =
     let g = graph_of c.args.model.now in
     third_fails (first_condition g c.args.first c.args.second) (is_none (plain_urgent (vertex_at g c.args.second))) (single_urgent g) (drop 3 (take 7 (merge_conditions g c.args.first c.args.second)))
     (led c.args.model.now c.args.first c.args.second c.as_slice-vertices.result.now c.as_slice-vertices.ensures c.in-Some.ensures.lookup.0 c.in-Some.a.now c.in-Some.ensures.lookup.1 c.in-Some-get.ensures.lookup.0 c.if-first-second.false c.if-not-leads_at_once.ensures)
     (second_condition (vertex_of c.in-Some-get.b.now) (vertex_at g c.args.second) c.plain_urgent.result false (there c.args.model.now c.as_slice-vertices.result.now c.args.second c.in-Some-get.b.now c.as_slice-vertices.ensures c.in-Some-get.ensures.lookup.0 c.in-Some-get.ensures.lookup.1) c.plain_urgent.ensures c.if-is_some.ensures)
-    (sym c.requires ∙ c.if-not-single.true)
+    (sym c.requires.single ∙ c.if-not-single.true)
 
-pub returns : goal.returns
-returns c =
+pub returns-clause-failed : goal.returns-clause-failed
+returns-clause-failed t c =
     let g = graph_of c.args.model.now in
-    c.failed_later.ensures
+    c.failed_later.ensures.failed
     ∙ three_hold (first_condition g c.args.first c.args.second) (is_none (plain_urgent (vertex_at g c.args.second))) (single_urgent g) (drop 3 (take 7 (merge_conditions g c.args.first c.args.second)))
     (led c.args.model.now c.args.first c.args.second c.as_slice-vertices.result.now c.as_slice-vertices.ensures c.in-Some.ensures.lookup.0 c.in-Some.a.now c.in-Some.ensures.lookup.1 c.in-Some-get.ensures.lookup.0 c.if-first-second.false c.if-not-leads_at_once.ensures)
     (second_condition (vertex_of c.in-Some-get.b.now) (vertex_at g c.args.second) c.plain_urgent.result false (there c.args.model.now c.as_slice-vertices.result.now c.args.second c.in-Some-get.b.now c.as_slice-vertices.ensures c.in-Some-get.ensures.lookup.0 c.in-Some-get.ensures.lookup.1) c.plain_urgent.ensures c.if-is_some.ensures)
-    (sym c.requires ∙ c.if-not-single.false)
+    (sym c.requires.single ∙ c.if-not-single.false)
 
 pub failed_later-requires-clause-first : goal.failed_later-requires-clause-first
-failed_later-requires-clause-first c = there c.args.model.now c.as_slice-vertices.result.now c.args.first c.in-Some.a.now c.as_slice-vertices.ensures c.in-Some.ensures.lookup.0 c.in-Some.ensures.lookup.1
+failed_later-requires-clause-first t c = there c.args.model.now c.as_slice-vertices.result.now c.args.first c.in-Some.a.now c.as_slice-vertices.ensures c.in-Some.ensures.lookup.0 c.in-Some.ensures.lookup.1
 
 pub failed_later-requires-clause-second : goal.failed_later-requires-clause-second
-failed_later-requires-clause-second c = there c.args.model.now c.as_slice-vertices.result.now c.args.second c.in-Some-get.b.now c.as_slice-vertices.ensures c.in-Some-get.ensures.lookup.0 c.in-Some-get.ensures.lookup.1
+failed_later-requires-clause-second t c = there c.args.model.now c.as_slice-vertices.result.now c.args.second c.in-Some-get.b.now c.as_slice-vertices.ensures c.in-Some-get.ensures.lookup.0 c.in-Some-get.ensures.lookup.1

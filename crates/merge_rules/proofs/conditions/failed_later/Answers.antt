@@ -22,16 +22,16 @@ sixth g a b = list_all (λ e. quiet_edge g e && reads_none_of (vertex_writes b) 
 abbrev seventh : EventGraph → ℕ → EventVertex → EventVertex → Bool
 seventh g first a b = not (is_watched_vertex g first) || happens_unseen g b (values_at_once a)
 
-pub returns-then-is_watched : goal.returns-then-is_watched
-returns-then-is_watched c =
+pub returns-then-is_watched-clause-failed : goal.returns-then-is_watched-clause-failed
+returns-then-is_watched-clause-failed t c =
     let g = graph_of c.args.model.now in
     let a = vertex_at g c.args.first in
     let b = vertex_at g c.args.second in
     fourth_fails (fourth g c.args.second) (fifth c.args.second a) (sixth g a b) (seventh g c.args.first a b)
     (ap not (sym c.is_watched.ensures ∙ c.if-is_watched.true))
 
-pub returns-then-one_cancels : goal.returns-then-one_cancels
-returns-then-one_cancels c =
+pub returns-then-one_cancels-clause-failed : goal.returns-then-one_cancels-clause-failed
+returns-then-one_cancels-clause-failed t c =
     let g = graph_of c.args.model.now in
     let a = vertex_at g c.args.first in
     let b = vertex_at g c.args.second in
@@ -39,34 +39,34 @@ returns-then-one_cancels c =
     (ap not (sym c.is_watched.ensures ∙ c.if-is_watched.false))
     (ap (fifth c.args.second) (sym c.requires.first) ∙ ap (λ (es : List Edge). not (list_any (cancels c.args.second) (map edge_of es))) (sym c.as_slice.ensures) ∙ ap not (sym c.one_cancels.ensures ∙ c.if-one_cancels.true))
 
-pub returns-then-not-others_stand_aside : goal.returns-then-not-others_stand_aside
-returns-then-not-others_stand_aside c =
+pub returns-then-not-others_stand_aside-clause-failed : goal.returns-then-not-others_stand_aside-clause-failed
+returns-then-not-others_stand_aside-clause-failed t c =
     let g = graph_of c.args.model.now in
     let a = vertex_at g c.args.first in
     let b = vertex_at g c.args.second in
     sixth_fails (fourth g c.args.second) (fifth c.args.second a) (sixth g a b) (seventh g c.args.first a b)
     (ap not (sym c.is_watched.ensures ∙ c.if-is_watched.false))
     (ap (fifth c.args.second) (sym c.requires.first) ∙ ap (λ (es : List Edge). not (list_any (cancels c.args.second) (map edge_of es))) (sym c.as_slice.ensures) ∙ ap not (sym c.one_cancels.ensures ∙ c.if-one_cancels.false))
-    (ap₂ (sixth g) (sym c.requires.first) (sym c.requires.second) ∙ sym c.others_stand_aside.ensures ∙ c.if-not-others_stand_aside.true)
+    (ap₂ (sixth g) (sym c.requires.first) (sym c.requires.second) ∙ sym c.others_stand_aside.ensures.told ∙ c.if-not-others_stand_aside.true)
 
-pub returns-then-not-notes_stay : goal.returns-then-not-notes_stay
-returns-then-not-notes_stay c =
+pub returns-then-not-notes_stay-clause-failed : goal.returns-then-not-notes_stay-clause-failed
+returns-then-not-notes_stay-clause-failed t c =
     let g = graph_of c.args.model.now in
     let a = vertex_at g c.args.first in
     let b = vertex_at g c.args.second in
     seventh_fails (fourth g c.args.second) (fifth c.args.second a) (sixth g a b) (seventh g c.args.first a b)
     (ap not (sym c.is_watched.ensures ∙ c.if-is_watched.false))
     (ap (fifth c.args.second) (sym c.requires.first) ∙ ap (λ (es : List Edge). not (list_any (cancels c.args.second) (map edge_of es))) (sym c.as_slice.ensures) ∙ ap not (sym c.one_cancels.ensures ∙ c.if-one_cancels.false))
-    (ap₂ (sixth g) (sym c.requires.first) (sym c.requires.second) ∙ sym c.others_stand_aside.ensures ∙ c.if-not-others_stand_aside.false)
+    (ap₂ (sixth g) (sym c.requires.first) (sym c.requires.second) ∙ sym c.others_stand_aside.ensures.told ∙ c.if-not-others_stand_aside.false)
     (ap₂ (seventh g c.args.first) (sym c.requires.first) (sym c.requires.second) ∙ sym c.notes_stay.ensures ∙ c.if-not-notes_stay.true)
 
-pub returns : goal.returns
-returns c =
+pub returns-clause-failed : goal.returns-clause-failed
+returns-clause-failed t c =
     let g = graph_of c.args.model.now in
     let a = vertex_at g c.args.first in
     let b = vertex_at g c.args.second in
     none_fails (fourth g c.args.second) (fifth c.args.second a) (sixth g a b) (seventh g c.args.first a b)
     (ap not (sym c.is_watched.ensures ∙ c.if-is_watched.false))
     (ap (fifth c.args.second) (sym c.requires.first) ∙ ap (λ (es : List Edge). not (list_any (cancels c.args.second) (map edge_of es))) (sym c.as_slice.ensures) ∙ ap not (sym c.one_cancels.ensures ∙ c.if-one_cancels.false))
-    (ap₂ (sixth g) (sym c.requires.first) (sym c.requires.second) ∙ sym c.others_stand_aside.ensures ∙ c.if-not-others_stand_aside.false)
+    (ap₂ (sixth g) (sym c.requires.first) (sym c.requires.second) ∙ sym c.others_stand_aside.ensures.told ∙ c.if-not-others_stand_aside.false)
     (ap₂ (seventh g c.args.first) (sym c.requires.first) (sym c.requires.second) ∙ sym c.notes_stay.ensures ∙ c.if-not-notes_stay.false)

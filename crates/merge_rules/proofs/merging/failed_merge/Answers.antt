@@ -5,9 +5,9 @@ use Rattle.model_core.specs.Code.Views.{graph_of}
 use Rattle.merge_rules.proofs.PairsFound.{last_fails}
 use Rattle.merge_rules.proofs.merging.failed_merge.Goals as goal
 
-pub returns-else-is_within_limits : goal.returns-else-is_within_limits
-returns-else-is_within_limits c =
+pub returns-else-is_within_limits-clause-failed : goal.returns-else-is_within_limits-clause-failed
+returns-else-is_within_limits-clause-failed t c =
     let g = graph_of c.args.model.now in
     last_fails (take 7 (merge_conditions g c.args.first c.args.second)) (is_within_limits (merged g c.args.first c.args.second) c.args.first)
-    (sym c.failed_before_limits.ensures ∙ c.in_default.is)
+    (sym c.failed_before_limits.ensures.failed ∙ c.in_default.is)
     (sym c.is_within_limits.ensures ∙ c.if-is_within_limits.false)

@@ -9,7 +9,9 @@ use Rattle.model_core.specs.Rules.Merge.{merged_with, first_merge}
 use Rattle.model_core.specs.Rules.Reduction.{Merge}
 use Rattle.reducer.proofs.FirstLaterRule.{below, both_exist, merge_holds, merge_made}
 use Rattle.model_core.proofs.PlacesChanged.{length_placed}
+use Rattle.merge_rules.specs.NothingCounted.{NothingCounted}
 use Rattle.merge_rules.specs.KeptPairs.{ArePairs}
+use Rattle.reducer.proofs.CountsServe.{counts_for_code}
 use Rattle.reducer.proofs.RuleByRule.{noted_more, not_refused}
 use Rattle.reducer.proofs.later_rules.merge_first.Goals as goal
 
@@ -44,12 +46,17 @@ unreached_by_merge-progress-requires-clause-there c =
     let same = ap (λ (h : EventGraph). length h.vertices) c.in-Ok.ensures.done.1 in
     omega (arith, there, long, same, length-map c.merge_measured.new.model.vertices vertex_of)
 
+pub first_merge-requires-clause-counts : goal.first_merge-requires-clause-counts
+first_merge-requires-clause-counts c = counts_for_code c.args.model.now _ c.requires.known.counts
+
 pub returns-in-Ok-clause-known : goal.returns-in-Ok-clause-known
 returns-in-Ok-clause-known c =
     let g = graph_of c.args.model.now in
     let done = c.in-Ok.ensures.done in
     record {
-      measured = c.in-Ok.ensures.measured;
+      known = c.merge_measured.ensures.known;
+      counts = subst (λ (h : EventGraph). NothingCounted (length h.variables) c.merge_measured.new.counts) (sym done.1)
+          (subst (NothingCounted (length g.variables)) (sym (c.merge_measured.ensures.counts ∙ c.first_merge.ensures.counts)) c.requires.known.counts);
       unreached = c.unreached_by_merge-progress.ensures g c.in-Some.first c.requires.all done.0 done.1;
       pairs = subst (λ (h : EventGraph). ArePairs h c.tell_merge.new.self) (sym done.1) c.in_ok-tell_merge.ensures;
     }

@@ -1,8 +1,11 @@
 -- One application more is made, or is the first bad one.
 use Rattle.std.proofs.Common.{◌≡◌, ◌∙◌, ℕ, ◌+◌, cond, Option, Some, None, Result, Ok, map, drop, ap}
+use Rattle.std.proofs.Common.{rules, arith}
+use Rattle.std.proofs.lemmas.Grind.{common_steps}
 use Rattle.sig_base.specs.declared.no_memory.NoMemory.{NoMemory}
 use Rattle.model_core.specs.Code.Views.{graph_of, application_of}
 use Rattle.reduction_cert.proofs.OneMore.{left_more, left_none, bad_later, reached_later, bad_here, none_bad, all_reached}
+use Rattle.reduction_cert.proofs.FewerVariables.{counts_begin, counts_serve}
 use Rattle.reduction_cert.proofs.checking.apply_all.Goals as goal
 
 pub loop-place-preserved : goal.loop-place-preserved
@@ -16,7 +19,8 @@ loop-place-preserved c =
     let made = c.in_ok-apply.ensures.made ∙ ap (λ b. cond b (Some next) None) c.if-not-branch.false in
     record {
       listed = c.in_ok-list_anew.ensures g made c.loop-place.invariant.listed;
-      measured = c.in_ok-apply.ensures.measured;
+      known = c.in_ok-apply.ensures.known;
+      counts = counts_serve c.loop-place.model c.apply.new.model _ _ (c.applications_add_no_variables.ensures g next a made) c.in_ok-apply.ensures.counts c.loop-place.invariant.counts;
       bad = bad_later g a left later is next made _ c.loop-place.place c.loop-place.invariant.bad;
       reached = reached_later g a left later is next made _ c.loop-place.invariant.reached;
     }
@@ -47,3 +51,12 @@ pub returns-clause-reached : goal.returns-clause-reached
 returns-clause-reached c = λ _.
     all_reached (graph_of c.loop-place.model) (map application_of (drop c.loop-place.place c.args.applications.now)) (left_none application_of c.args.applications.now c.loop-place.place c.loop-place-test.false)
     _ c.loop-place.invariant.reached
+
+pub loop-place-init : goal.loop-place-init
+loop-place-init c = record {
+  listed = search rules;
+  known = c.nothing-known.ensures (graph_of c.args.model.now);
+  counts = counts_begin _ _ c.in_ok-counts.ensures;
+  bad = first_of (search rules, grind (arith, common_steps));
+  reached = search rules;
+}

@@ -1,7 +1,8 @@
 -- A pair is found at this vertex, or later, or nowhere.
-use Rattle.std.proofs.Common.{◌∙◌, ◌<◌, sym, length, arith}
+use Rattle.std.proofs.Common.{◌∙◌, ◌<◌, sym, subst, length, arith}
 use Rattle.model_core.specs.Rules.Merge.{merge_at, first_merge}
 use Rattle.model_core.specs.Code.Views.{graph_of}
+use Rattle.merge_rules.specs.NothingCounted.{NothingCounted}
 use Rattle.merge_rules.proofs.PairsFound.{some_here, none_here}
 use Rattle.merge_rules.proofs.kept_search.KeptPairs.first_single.Goals as goal
 
@@ -18,5 +19,7 @@ loop-first-preserved c =
     record {
       sought = none_here (merge_at g) c.merge_at-found.result (first_merge g) c.loop-first.first (length c.args.model.now.vertices) below c.merge_at-found.ensures.found (sym c.is_some.ensures ∙ c.if-is_some.false) c.loop-first.invariant.sought;
       kept = c.merge_at-found.ensures.kept;
-      measured = c.merge_at-found.ensures.measured;
+      known = c.merge_at-found.ensures.known;
+      counts = subst (NothingCounted (length c.args.model.now.vars)) (sym c.merge_at-found.ensures.counts) c.loop-first.invariant.counts;
+      same = c.merge_at-found.ensures.counts ∙ c.loop-first.invariant.same;
     }

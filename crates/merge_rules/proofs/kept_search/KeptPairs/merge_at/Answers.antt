@@ -11,4 +11,4 @@ returns-in-Some-clause-kept c =
     let g = graph_of c.args.model.now in
     let there : c.args.first < length g.vertices = omega (arith, c.requires.there, length-map c.args.model.now.vertices vertex_of) in
     are-asked g c.self.inside.pairs.items (subst (ArePairs g) (sym c.self.view_is) c.requires.kept) c.args.first c.index-pair.result.now there c.index-pair.ensures c.standing.result
-    (subst (TellsFit c.standing.result) c.known_to_fit-fits.ensures c.standing.ensures)
+    (subst (TellsFit c.standing.result) c.known_to_fit-fits.ensures.fits c.standing.ensures)

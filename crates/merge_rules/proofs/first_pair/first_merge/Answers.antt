@@ -1,0 +1,6 @@
+-- Nothing is known yet.
+use Rattle.model_core.specs.Code.Views.{graph_of}
+use Rattle.merge_rules.proofs.first_pair.first_merge.Goals as goal
+
+pub first_told_by-requires-clause-known : goal.first_told_by-requires-clause-known
+first_told_by-requires-clause-known c = c.nothing.ensures (graph_of c.args.model.now)

@@ -1,0 +1,167 @@
+//! Whether one of some edges reads what a vertex writes, told in two ways: by a walk over the edges for each variable that is
+//! written, which takes no memory, or by counts of uses, for which each edge is walked twice however many variables are written.
+
+ghost use Rattle.std.specs.Prelude.{◌≡◌, ◌+◌, ◌^◌, ◌<◌, ◌≤◌, ◌++◌, ℕ, map, length, slice_index, count_by};
+ghost use Rattle.std.specs.List.{list_any};
+ghost use Rattle.model_core.specs.Rules.Uses.{vertex_writes};
+ghost use Rattle.model_core.specs.Code.Views.{edge_of, vertex_of};
+ghost use Rattle.merge_rules.specs.NothingCounted.{NothingCounted};
+ghost use Rattle.merge_rules.specs.Inner.EdgesRead.{reads_it, reads_one_of, counted, uncounted, told_by_counts};
+
+use crate::written::{VariableTest, one_written_passes};
+use model_core::{Edge, Model, Vertex};
+use sig_base::EDGES_MAX;
+use use_analysis::{UseCounts, reads_of_edge};
+
+/// What tells whether one of some edges reads what a vertex writes.
+pub(crate) trait ReadsWritten {
+    ghost use Rattle.std.specs.Prelude.{ℕ};
+
+    // It can tell that of a model with so many variables.
+    ghost ready: { Self → ℕ → Type 0 };
+
+    /// Whether one of these edges of the model, all before a place and all behind it, reads a variable that the vertex writes.
+    fn reads_written(
+        &mut self,
+        model: &Model,
+        before: &[Edge],
+        behind: &[Edge],
+        vertex: &Vertex,
+    ) -> bool
+        requires { ready self.old (length model.now.vars) }
+        ensures told { result ≡ list_any (reads_one_of (vertex_writes (vertex_of vertex.now))) (map edge_of (before.now ++ behind.now)) }
+        ensures same { self.new ≡ self.old };
+}
+
+/// Tells it by walks.
+#[derive(Drop)]
+pub(crate) struct Walk;
+
+impl ReadsWritten for Walk {
+    ghost ready = { λ w variables. Unit {0} };
+
+    fn reads_written(
+        &mut self,
+        _model: &Model,
+        before: &[Edge],
+        behind: &[Edge],
+        vertex: &Vertex,
+    ) -> bool {
+        walked(before, behind, vertex)
+    }
+}
+
+impl ReadsWritten for UseCounts {
+    ghost ready = { λ counts variables. NothingCounted variables counts };
+
+    fn reads_written(
+        &mut self,
+        model: &Model,
+        before: &[Edge],
+        behind: &[Edge],
+        vertex: &Vertex,
+    ) -> bool {
+        if before.len() > EDGES_MAX || behind.len() > EDGES_MAX {
+            return walked(before, behind, vertex);
+        }
+        add_edges(self, before);
+        add_edges(self, behind);
+        let read = one_written_passes(
+            &Counted {
+                counts: self,
+                variables: model.vars.len(),
+                before,
+                behind,
+            },
+            vertex,
+        );
+        take_edges(self, before);
+        take_edges(self, behind);
+        read
+    }
+}
+
+// ---- by walks
+
+/// Whether an edge reads a variable.
+#[derive(Drop)]
+struct ReadBy<'e> {
+    edge: &'e Edge,
+}
+
+impl VariableTest for ReadBy<'_> {
+    ghost test = { λ r v. reads_it v (edge_of r.edge.now) };
+
+    fn passes(&self, var: usize) -> bool {
+        reads_of_edge(self.edge, var)
+    }
+}
+
+fn one_walked(edges: &[Edge], vertex: &Vertex) -> bool
+    ensures { result ≡ list_any (reads_one_of (vertex_writes (vertex_of vertex.now))) (map edge_of edges.now) }
+{
+    for edge in edges {
+        if one_written_passes(&ReadBy { edge }, vertex) {
+            return true;
+        }
+    }
+    false
+}
+
+fn walked(before: &[Edge], behind: &[Edge], vertex: &Vertex) -> bool
+    ensures { result ≡ list_any (reads_one_of (vertex_writes (vertex_of vertex.now))) (map edge_of (before.now ++ behind.now)) }
+{
+    one_walked(before, vertex) || one_walked(behind, vertex)
+}
+
+// ---- by counts
+
+/// Whether one of these edges reads a variable, where they alone are counted, of so many variables at least.
+#[derive(Drop)]
+struct Counted<'e> {
+    counts: &'e UseCounts,
+    variables: usize,
+    before: &'e [Edge],
+    behind: &'e [Edge],
+}
+
+impl VariableTest for Counted<'_> {
+    ghost test = { λ c v. told_by_counts c.variables c.counts.now.readers (map edge_of c.before.now) (map edge_of c.behind.now) v };
+
+    fn passes(&self, var: usize) -> bool {
+        if var < self.variables {
+            self.counts.readers(var) > 0
+        } else {
+            one_reads(self.before, var) || one_reads(self.behind, var)
+        }
+    }
+}
+
+fn one_reads(edges: &[Edge], var: usize) -> bool
+    ensures { result ≡ list_any (reads_it var) (map edge_of edges.now) }
+{
+    for edge in edges {
+        if reads_of_edge(edge, var) {
+            return true;
+        }
+    }
+    false
+}
+
+fn add_edges(counts: &mut UseCounts, edges: &[Edge])
+    requires { (v : ℕ) → slice_index counts.old.readers v + length edges.now < 2 ^ 32 }
+    ensures { counts.new ≡ record counts.old { readers = counted (map edge_of edges.now) counts.old.readers } }
+{
+    for edge in edges {
+        counts.add_edge(edge);
+    }
+}
+
+fn take_edges(counts: &mut UseCounts, edges: &[Edge])
+    requires { (v : ℕ) → v < length counts.old.readers → count_by (reads_it v) (map edge_of edges.now) ≤ slice_index counts.old.readers v }
+    ensures { counts.new ≡ record counts.old { readers = uncounted (map edge_of edges.now) counts.old.readers } }
+{
+    for edge in edges {
+        counts.take_edge(edge);
+    }
+}

@@ -1,0 +1,45 @@
+-- What a rule's answer tells of its application.
+use Rattle.std.proofs.Common.{◌≡◌, ℕ, Bool, true, false, cond, List, Option, Some, None, Result, Ok, Err, OnOk, IfOk, IfErr, refl, sym, ap, ◌∙◌, subst}
+use Rattle.std.specs.Option.{option_map_or}
+use Rattle.sig_base.specs.declared.no_memory.NoMemory.{NoMemory}
+use Rattle.model_core.specs.declared.rule_error.RuleError.{RuleError}
+use Rattle.model_core.specs.declared.rule_error.RuleError.TheVariants as errors
+use Rattle.model_core.specs.EventGraph.{EventGraph}
+use Rattle.model_core.specs.Rules.Conditions.{first_failed, TellsCondition}
+use Rattle.model_core.specs.Rules.Drop.{drop_conditions, dropped}
+use Rattle.model_core.specs.Rules.Merge.{merge_conditions, merged}
+use Rattle.model_core.specs.Rules.Reduction.{Drop, Merge, vertices_named, two_vertices_named, unless_failed, applied}
+
+module _ (result h : EventGraph) (failed : Option ℕ) (given : Result (Unit {0}) RuleError) (done : OnOk given ((failed ≡ None) × (h ≡ result))) (tells : IfErr given (λ e. TellsCondition e failed)) where
+  pub told_made : given ≡ Ok tt → unless_failed failed result ≡ Some h
+  told_made is =
+      let (holds, same) = subst (λ (r : Result (Unit {0}) RuleError). OnOk r ((failed ≡ None) × (h ≡ result))) is done in
+      ap (λ o. unless_failed o result) holds ∙ ap Some (sym same)
+
+  pub told_result : given ≡ Ok tt → h ≡ result
+  told_result is = (subst (λ (r : Result (Unit {0}) RuleError). OnOk r ((failed ≡ None) × (h ≡ result))) is done).1
+
+  pub told_refused : (condition : ℕ) → given ≡ Err (errors.Refused condition) → unless_failed failed result ≡ None
+  told_refused condition is =
+      let told : failed ≡ Some condition = subst (λ (r : Result (Unit {0}) RuleError). IfErr r (λ e. TellsCondition e failed)) is tells in
+      ap (λ o. unless_failed o result) told
+
+  pub told_answer : (answer : Result Bool NoMemory) → (answer ≡ Ok true → given ≡ Ok tt) → (answer ≡ Ok false → (condition : ℕ) × (given ≡ Err (errors.Refused condition))) → IfOk answer (λ made. unless_failed failed result ≡ cond made (Some h) None)
+  told_answer (Ok true) made refused = told_made (made refl)
+  told_answer (Ok false) made refused = let (condition, is) = refused refl in told_refused condition is
+  told_answer (Err e) made refused = tt
+
+-- where the names of an application name vertices, it gives what the rule gives of these
+pub drop_named : (g : EventGraph) (names : List (List ℕ)) (vertices : List ℕ) → vertices_named g names ≡ Some vertices → applied g (Drop names) ≡ unless_failed (first_failed (drop_conditions g vertices)) (dropped g vertices)
+drop_named g names vertices is = ap (λ o. unless_failed (option_map_or (λ vs. first_failed (drop_conditions g vs)) o (Some 2)) (option_map_or (λ vs. dropped g vs) o g)) is
+
+pub merge_named : (g : EventGraph) (name target : List ℕ) (first second : ℕ) → two_vertices_named g name target ≡ Some (first, second) → applied g (Merge name target) ≡ unless_failed (first_failed (merge_conditions g first second)) (merged g first second)
+merge_named g name target first second is = ap (λ o. unless_failed (option_map_or (λ (a, b). first_failed (merge_conditions g a b)) o (Some 1)) (option_map_or (λ (a, b). merged g a b) o g)) is
+
+pub answer_told : (a : Option EventGraph) (b h : Option EventGraph) (answer : Result Bool NoMemory) → a ≡ b → IfOk answer (λ made. b ≡ cond made h None) → IfOk answer (λ made. a ≡ cond made h None)
+answer_told a b h answer same told = subst (λ o. IfOk answer (λ made. o ≡ cond made h None)) (sym same) told
+
+-- what holds anyway holds of an answer
+pub holds_anyway : {P : Type 0} (answer : Result Bool NoMemory) → P → OnOk answer P
+holds_anyway (Ok made) p = p
+holds_anyway (Err e) p = tt

@@ -1,0 +1,10 @@
+use Rattle.std.proofs.Common.{◌≡◌, map, drop}
+use Rattle.model_core.specs.EventGraph.{Location}
+use Rattle.model_core.specs.Code.Views.{location_of}
+use Rattle.use_analysis.specs.Inner.Moving.{moved_at}
+use Rattle.use_analysis.proofs.moving.move_targets.Given as goal
+
+abbrev pub invariant-loop-target : goal.invariant-loop-target
+invariant-loop-target l =
+    moved_at l.part (map (λ (t : Location). t.variable) (map location_of (drop l.target-index l.targets))) l.numbers
+    ≡ moved_at l.part (map (λ (t : Location). t.variable) (map location_of l.targets)) l.initial.numbers
