@@ -24,7 +24,7 @@ old_place (true ∷ bs) (x ∷ xs) zero below = (zero, refl, refl, omega arith)
 old_place (true ∷ bs) (x ∷ xs) (suc i) below = let (k, marked, e, within) = old_place bs xs i (omega arith) in (suc k, marked, ap suc e, omega arith)
 old_place (false ∷ bs) (x ∷ xs) i below = let (k, marked, e, within) = old_place bs xs i below in (suc k, marked, e, omega arith)
 
-none_unmarked : (marks : List Bool) → ((k : ℕ) → k < length marks → Marked marks k) → unmarked_places marks ≡ []
+pub none_unmarked : (marks : List Bool) → ((k : ℕ) → k < length marks → Marked marks k) → unmarked_places marks ≡ []
 none_unmarked marks all = from 0 (length marks) (omega arith) where
   from : (a n : ℕ) → a + n ≡ length marks → filter (λ k. not (is_marked marks k)) (range_with_len a n) ≡ []
   from a zero e = refl

@@ -12,3 +12,5 @@ pub mod DropSame
 pub mod ValidDropped
 pub mod AllReached
 pub mod RulesOfEdges
+pub mod ReachedAfterMerge
+pub mod PlacesLeftOut

@@ -1,11 +1,12 @@
 //! Drop: the vertices that can't be reached, and the model without them.
 
-ghost use Rattle.std.specs.Prelude.{◌≡◌, ◌≤◌, ◌<◌, ◌+◌, ◌++◌, map, length, cond, true, None, OnOk, OnErr, IfOk, IfErr, [], ◌∷◌};
+ghost use Rattle.std.specs.Prelude.{◌≡◌, ◌≤◌, ◌<◌, ◌+◌, ◌++◌, map, length, cond, true, false, None, OnOk, OnErr, IfOk, IfErr, [], ◌∷◌};
 ghost use Rattle.std.specs.Vec.{vec_len, vec_capacity};
 ghost use Rattle.model_core.specs.Rules.Conditions.{first_failed, TellsCondition};
 ghost use Rattle.model_core.specs.Rules.MarkedPlaces.{rank, marked_of};
 ghost use Rattle.model_core.specs.Rules.Reached.{unreached};
-ghost use Rattle.model_core.specs.Rules.Drop.{drop_conditions, only_marked, dropped};
+ghost use Rattle.model_core.specs.Rules.PlacedEdges.{with_place};
+ghost use Rattle.model_core.specs.Rules.Drop.{drop_conditions, staying_marks, only_marked, dropped};
 ghost use Rattle.model_core.specs.Code.Views.{graph_of, vertex_of};
 
 use crate::walk::reached;
@@ -68,13 +69,56 @@ pub fn drop_vertices(
     if vertices.as_slice() != others.as_slice() {
         return Err(RuleError::Refused { condition: 2 });
     }
+    leave_marked(alloc, model, marks)?;
+    Ok(())
+}
+
+/// Marks of so many places, all but these.
+fn marks_without(alloc: Global, count: usize, gone: &[usize]) -> Result<Vec<bool>, NoMemory>
+    ensures { IfOk result (λ marks. marks.items ≡ staying_marks gone.now count) }
+{
+    let mut marks = Vec::from_elem(alloc, true, count)?;
+    for place in gone {
+        unmark(&mut marks, *place);
+    }
+    Ok(marks)
+}
+
+/// Takes the mark at a place away, if there is such a place.
+fn unmark(marks: &mut Vec<bool>, place: usize)
+    ensures { marks.new.items ≡ with_place (λ mark. false) place marks.old.items }
+{
+    if place < marks.len() {
+        marks[place] = false;
+    }
+}
+
+/// Does what `drop_vertices` does where it is known already which vertices can't be reached, so that they aren't sought again.
+pub fn drop_unreached(
+    alloc: Global,
+    model: &mut Model,
+    vertices: &List<usize>,
+) -> Result<(), NoMemory>
+    requires { vertices.now ≡ unreached (graph_of model.old) }
+    ensures done { OnOk result (graph_of model.new ≡ dropped (graph_of model.old) vertices.now) }
+    ensures unchanged { OnErr result (graph_of model.new ≡ graph_of model.old) }
+{
+    let marks = marks_without(alloc, model.vertices.len(), vertices.as_slice())?;
+    leave_marked(alloc, model, marks)
+}
+
+/// Leaves the marked vertices alone, each at its new place.
+fn leave_marked(alloc: Global, model: &mut Model, marks: Vec<bool>) -> Result<(), NoMemory>
+    ensures done { OnOk result (graph_of model.new ≡ only_marked (graph_of model.old) marks.items) }
+    ensures unchanged { OnErr result (graph_of model.new ≡ graph_of model.old) }
+{
     let staying = Staying::of(alloc, marks)?;
     let kept = Vec::with_capacity(alloc, staying.count())?;
     leave_staying(alloc, model, &staying, kept);
     Ok(())
 }
 
-/// Leaves the vertices that stay alone, each at its new place.
+/// Leaves the vertices that stay alone, each at its new place, put into a list that has room for them.
 fn leave_staying(alloc: Global, model: &mut Model, staying: &Staying, kept: Vec<Vertex>)
     requires empty { kept.items ≡ [] }
     requires room { rank staying.now (length staying.now) ≤ vec_capacity kept }

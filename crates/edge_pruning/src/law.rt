@@ -1,8 +1,8 @@
 //! The laws of prune, settle and drop. The functions do nothing: what they ensure holds of all models.
 
-ghost use Rattle.std.specs.Prelude.{◌≡◌, ◌↔◌, ℕ, ◌+◌, ◌<◌, true, false, None, List, [], length};
-ghost use Rattle.std.specs.List.{flat_map};
-ghost use Rattle.model_core.specs.EventGraph.{EventGraph};
+ghost use Rattle.std.specs.Prelude.{◌≡◌, ◌↔◌, ℕ, ◌+◌, ◌<◌, true, false, None, List, [], ◌∷◌, length};
+ghost use Rattle.std.specs.List.{flat_map, list_any};
+ghost use Rattle.model_core.specs.EventGraph.{EventGraph, EventVertex};
 ghost use Rattle.model_core.specs.Run.Step.{vertex_at};
 ghost use Rattle.model_core.specs.Run.Same.{Same};
 ghost use Rattle.model_core.specs.Static.Reading.{IsValid};
@@ -14,6 +14,7 @@ ghost use Rattle.model_core.specs.Rules.Settle.{settle_conditions, settled, firs
 ghost use Rattle.model_core.specs.Rules.MarkedPlaces.{is_marked};
 ghost use Rattle.model_core.specs.Rules.Reached.{Reachable, reached_marks, unreached};
 ghost use Rattle.model_core.specs.Rules.Drop.{drop_conditions, dropped};
+ghost use Rattle.model_core.specs.Rules.Merge.{leads_to, merged, merge_conditions};
 
 use range_bounds::values_lie_in_bounds;
 use round_trip::validity_is_by_parts;
@@ -92,4 +93,17 @@ pub fn settling_brings_no_rule_of_edges()
 pub fn dropping_brings_no_rule_of_edges()
     ensures prune { (g : EventGraph) (vertices : List ℕ) → first_prune g ≡ None → first_prune (dropped g vertices) ≡ None }
     ensures settle { (g : EventGraph) (vertices : List ℕ) → first_settle g ≡ None → first_settle (dropped g vertices) ≡ None }
+{}
+
+/// Where all vertices can be reached, all can be after a merge if the second one is the first vertex or an edge leads to it;
+/// else the second one is the only one that can't.
+pub fn merging_leaves_vertices_reached()
+    ensures first { (g : EventGraph) (first second : ℕ) → unreached g ≡ [] → first_failed (merge_conditions g first second) ≡ None
+        → second ≡ 0 → unreached (merged g first second) ≡ [] }
+    ensures led { (g : EventGraph) (first second : ℕ) → unreached g ≡ [] → first_failed (merge_conditions g first second) ≡ None
+        → list_any (λ (v : EventVertex). list_any (leads_to second) v.edges) (merged g first second).vertices ≡ true
+        → unreached (merged g first second) ≡ [] }
+    ensures unled { (g : EventGraph) (first second : ℕ) → unreached g ≡ [] → first_failed (merge_conditions g first second) ≡ None
+        → (second ≡ 0 → ⊥) → list_any (λ (v : EventVertex). list_any (leads_to second) v.edges) (merged g first second).vertices ≡ false
+        → unreached (merged g first second) ≡ second ∷ [] }
 {}

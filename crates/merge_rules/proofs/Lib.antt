@@ -24,6 +24,13 @@ pub mod LimitsTold
 pub mod PairsFound
 pub mod RulesOfMergedEdges
 pub mod OneUrgentLess
+pub mod PairsMoved
+pub mod LedPlaces
+pub mod PairsAfterMerge
+pub mod OneGone
+pub mod PairsAfterDrop
+pub mod PairsFit
+pub mod PairsKept
 pub mod CountedEdges
 pub mod StandAside
 pub mod SingleKept

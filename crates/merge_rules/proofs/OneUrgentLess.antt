@@ -71,14 +71,19 @@ count-placed f (v ∷ vs) (suc k) below had has =
     let there = sum_by-cons counts v (with_place f k vs) in
     (ap suc long, omega (arith, here, there, fewer))
 
+-- the first of a merge has none afterwards
+pub plain_gone : (g : EventGraph) (first second : ℕ) → first_failed (merge_conditions g first second) ≡ None → has_plain (merged_with (vertex_at g second) (vertex_at g first)) ≡ false
+plain_gone g first second holds =
+    let a = vertex_at g first in
+    let b = vertex_at g second in
+    let p = (conditions_hold g first second holds).edge in
+    let none : has_plain b ≡ false = none-some (plain_urgent b) (every-holds (merge_conditions g first second) holds).1.0 in
+    ap has_plain (joined_is a b second p) ∙ plain-behind b.edges (p.before ++ p.after) p.calm ∙ none
+
 pub one_urgent_less : (g : EventGraph) (first second : ℕ) → first_failed (merge_conditions g first second) ≡ None
     → (length (merged g first second).vertices ≡ length g.vertices) × (suc (plain_count (merged g first second).vertices) ≡ plain_count g.vertices)
 one_urgent_less g first second holds =
     let a = vertex_at g first in
-    let b = vertex_at g second in
     let h = conditions_hold g first second holds in
-    let p = h.edge in
-    let had : has_plain a ≡ true = ap is_some p.is in
-    let none : has_plain b ≡ false = none-some (plain_urgent b) (every-holds (merge_conditions g first second) holds).1.0 in
-    let has : has_plain (merged_with b a) ≡ false = ap has_plain (joined_is a b second p) ∙ plain-behind b.edges (p.before ++ p.after) p.calm ∙ none in
-    count-placed (merged_with b) g.vertices first (is_below first (length g.vertices) h.exists) had has
+    let had : has_plain a ≡ true = ap is_some h.edge.is in
+    count-placed (merged_with (vertex_at g second)) g.vertices first (is_below first (length g.vertices) h.exists) had (plain_gone g first second holds)

@@ -1,5 +1,7 @@
 pub mod BetweenSteps
+pub mod KeptPairs
+pub mod Inner
+pub mod PairStanding
 pub mod Known
 pub mod NothingCounted
 pub mod UrgentVertices
-pub mod Inner

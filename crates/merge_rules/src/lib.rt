@@ -4,6 +4,8 @@
 mod at_once;
 mod conditions;
 mod first_pair;
+mod kept_pairs;
+mod kept_search;
 mod known;
 mod law;
 mod merging;
@@ -14,6 +16,7 @@ mod within_limits;
 mod written;
 
 pub use first_pair::{first_merge, first_merge_measured};
+pub use kept_search::KeptPairs;
 pub use known::Known;
 pub use law::{
     at_most_one_event_is_urgent, merging_brings_no_rule_of_edges, merging_keeps_the_meaning,

@@ -1,8 +1,10 @@
 //! The last condition of merge: the result is within the limits on changes, on edges and on the canonical text. All is
 //! measured before anything is changed, and without memory.
 
-ghost use Rattle.std.specs.Prelude.{◌≡◌, ℕ, ◌+◌, ◌-◌, ◌^◌, ◌<◌, Some, None, IsSome, take, length, min, List};
+ghost use Rattle.std.specs.Prelude.{◌≡◌, ℕ, ◌+◌, ◌-◌, ◌^◌, ◌<◌, Some, None, IsSome, take, length, min, nat_le, List};
+ghost use Rattle.sig_base.specs.declared.limits.TheConstants.{TEXT_MAX};
 ghost use Rattle.model_core.specs.EventGraph.{Expression};
+ghost use Rattle.model_core.specs.Run.Step.{vertex_at};
 ghost use Rattle.model_core.specs.Text.Canonical.{canonical, edge_line};
 ghost use Rattle.model_core.specs.Rules.Conditions.{first_failed};
 ghost use Rattle.model_core.specs.Rules.Prune.{pruned};
@@ -93,6 +95,24 @@ pub(crate) fn merged_length(model: &Model, bytes: Option<u64>, first: usize, sec
     ))
 }
 
+/// Whether the result's vertex keeps the limits on changes and edges.
+pub(crate) fn keeps_few_parts(model: &Model, first: usize, second: usize) -> bool
+    requires { first_failed (take 7 (merge_conditions (graph_of model.now) first second)) ≡ None }
+    ensures { result ≡ has_few_parts (vertex_at (merged (graph_of model.now) first second) first) }
+{
+    let vertices = model.vertices.as_slice();
+    has_few_parts(&vertices[first], &vertices[second])
+}
+
+/// Whether the result's canonical text keeps its limit.
+pub(crate) fn has_short_text(model: &Model, bytes: Option<u64>, first: usize, second: usize) -> bool
+    requires measured { IsMeasured (graph_of model.now) bytes }
+    requires holds { first_failed (take 7 (merge_conditions (graph_of model.now) first second)) ≡ None }
+    ensures { result ≡ nat_le (length (canonical (merged (graph_of model.now) first second))) TEXT_MAX }
+{
+    merged_length(model, bytes, first, second) <= TEXT_MAX as u64
+}
+
 /// Whether the result is within the limits.
 pub(crate) fn is_within_limits(
     model: &Model,
@@ -104,7 +124,5 @@ pub(crate) fn is_within_limits(
     requires holds { first_failed (take 7 (merge_conditions (graph_of model.now) first second)) ≡ None }
     ensures { result ≡ is_within_limits (merged (graph_of model.now) first second) first }
 {
-    let vertices = model.vertices.as_slice();
-    has_few_parts(&vertices[first], &vertices[second])
-        && merged_length(model, bytes, first, second) <= TEXT_MAX as u64
+    keeps_few_parts(model, first, second) && has_short_text(model, bytes, first, second)
 }

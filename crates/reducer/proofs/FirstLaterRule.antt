@@ -176,7 +176,7 @@ merge_holds g first second is =
     merge_at-holds g place first second at_place
 
 -- the two vertices of a merge are there
-both_exist : (g : EventGraph) (first second : ℕ) → first_failed (merge_conditions g first second) ≡ None → (nat_lt first (length g.vertices) ≡ true) × (nat_lt second (length g.vertices) ≡ true)
+pub both_exist : (g : EventGraph) (first second : ℕ) → first_failed (merge_conditions g first second) ≡ None → (nat_lt first (length g.vertices) ≡ true) × (nat_lt second (length g.vertices) ≡ true)
 both_exist g first second holds =
     let all = (every-holds (merge_conditions g first second) holds).0 in
     let apart = and_first (nat_lt first (length g.vertices) && nat_lt second (length g.vertices) && not (first == second)) _ all in

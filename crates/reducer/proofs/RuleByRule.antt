@@ -57,6 +57,10 @@ pub answer_of : {P Q : Bool → Type 0} (answer : Result Bool NoMemory) → ((ma
 answer_of (Ok made) to holds = to made holds
 answer_of (Err e) to holds = tt
 
+-- what is known of any answer is so of this one
+pub of_answer : (P : Bool → Type 0) (answer : Result Bool NoMemory) (made : Bool) → answer ≡ Ok made → IfOk answer P → P made
+of_answer P answer made is holds = subst (λ (r : Result Bool NoMemory). IfOk r P) is holds
+
 pub noted_more : (old new : List Application) (x : Application) → new ≡ old ++ x ∷ [] → map application_of new ≡ map application_of old ++ application_of x ∷ []
 noted_more old new x is = ap (map application_of) is ∙ more old where
   more : (old : List Application) → map application_of (old ++ x ∷ []) ≡ map application_of old ++ application_of x ∷ []

@@ -3,6 +3,7 @@
 
 mod later_rules;
 mod naming;
+mod progress;
 mod strategy;
 mod strategy_law;
 mod sweeping;

@@ -4,14 +4,15 @@ use Rattle.model_core.specs.Code.Views.{graph_of, application_of}
 use Rattle.model_core.specs.Rules.Reduction.{Slice}
 use Rattle.model_core.specs.Text.Canonical.{variable_name}
 use Rattle.reducer.proofs.FirstLaterRule.{slice_holds, slice_made}
-use Rattle.reducer.proofs.RuleByRule.{noted_more, answer_made}
+use Rattle.reducer.proofs.RuleByRule.{noted_more, answer_made, of_answer}
 use Rattle.reducer.proofs.later_rules.slice_unneeded.Goals as goal
 
-pub returns : goal.returns
-returns c =
+pub returns-clause-made : goal.returns-clause-made
+returns-clause-made c =
     let g = graph_of c.args.model.now in
     let listed = c.in_ok-vars.ensures in
     let some : length c.in_ok-vars.vars ≡ 0 → ⊥ = λ none. c.if-len-eq0.false (c.len.ensures ∙ none) in
-    answer_made _ _ _ _ _ c.was_made.result c.slice.result c.was_made.ensures.made c.was_made.ensures.refused c.slice.ensures.done c.slice.ensures.refused
+    of_answer _ c.was_made.result _ c.in_ok-made.was
+    (answer_made _ _ _ _ _ c.was_made.result c.slice.result c.was_made.ensures.made c.was_made.ensures.refused c.slice.ensures.done c.slice.ensures.refused
     (slice_holds g _ some listed)
-    (λ done. slice_made g _ _ _ _ c.requires some listed done.1 (noted_more _ _ _ c.in_ok-push.ensures.items ∙ ap (λ (names : List (List ℕ)). map application_of c.args.applications.now.items ++ Slice names ∷ []) (c.from_vec.ensures ∙ c.in_ok-names.ensures ∙ ap (map (variable_name g)) c.as_slice.ensures)))
+    (λ done. slice_made g _ _ _ _ c.requires.valid some listed done.1 (noted_more _ _ _ c.in_ok-push.ensures.items ∙ ap (λ (names : List (List ℕ)). map application_of c.args.applications.now.items ++ Slice names ∷ []) (c.from_vec.ensures ∙ c.in_ok-names.ensures ∙ ap (map (variable_name g)) c.as_slice.ensures))))

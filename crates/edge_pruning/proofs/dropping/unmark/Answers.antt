@@ -1,0 +1,9 @@
+use Rattle.std.proofs.Common.{false, refl, arith}
+use Rattle.model_core.proofs.PlacesChanged.{set-with_place, place-beyond}
+use Rattle.edge_pruning.proofs.dropping.unmark.Goals as goal
+
+pub returns-then-place-len : goal.returns-then-place-len
+returns-then-place-len c = set-with_place (λ mark. false) c.args.marks.now.items c.args.place c.index_mut.result.now _ (omega (arith, c.len.ensures, c.if-place-len.true)) c.index_mut.ensures.value refl
+
+pub returns-else-place-len : goal.returns-else-place-len
+returns-else-place-len c = place-beyond (λ mark. false) c.args.marks.now.items c.args.place (λ below. absurd (omega (arith, c.len.ensures, c.if-place-len.false, below)))

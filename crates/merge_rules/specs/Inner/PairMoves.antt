@@ -1,0 +1,56 @@
+-- What becomes of what is kept of the vertices, as edges come and go, when two are merged and when one is dropped.
+use Rattle.std.specs.Prelude.{ℕ, ◌+◌, ◌-◌, ◌==◌, Bool, false, cond, List, [], ◌∷◌, map, None}
+use Rattle.std.specs.Option.{option_map, option_map_or}
+use Rattle.model_core.specs.EventGraph.{EventVertex, EventEdge}
+use Rattle.model_core.specs.Rules.MarkedPlaces.{place_without}
+use Rattle.model_core.specs.Rules.PlacedEdges.{with_place}
+use Rattle.merge_rules.specs.PairStanding.{target_at_once}
+use Rattle.merge_rules.specs.declared.kept_pairs.KeptPair.{KeptPair}
+use Rattle.merge_rules.specs.declared.kept_pairs.Standing.TheVariants as standings
+
+-- of a vertex nothing is known but where its plain urgent edge leads
+abbrev pub unasked : EventVertex → KeptPair
+unasked v = record { target = target_at_once v; standing = standings.Unknown; incoming = 0 }
+
+-- so many more edges lead to it
+abbrev pub with_more : ℕ → KeptPair → KeptPair
+with_more n p = record p { incoming = p.incoming + n }
+
+-- so many fewer do
+abbrev pub with_fewer : ℕ → KeptPair → KeptPair
+with_fewer n p = record p { incoming = p.incoming - n }
+
+-- these edges are added
+abbrev pub edges_added : List EventEdge → List KeptPair → List KeptPair
+edges_added [] pairs = pairs
+edges_added (e ∷ es) pairs = edges_added es (with_place (with_more 1) e.target pairs)
+
+-- those of these vertices are
+abbrev pub all_edges_added : List EventVertex → List KeptPair → List KeptPair
+all_edges_added [] pairs = pairs
+all_edges_added (v ∷ vs) pairs = all_edges_added vs (edges_added v.edges pairs)
+
+-- these edges are taken away
+abbrev pub edges_taken : List EventEdge → List KeptPair → List KeptPair
+edges_taken [] pairs = pairs
+edges_taken (e ∷ es) pairs = edges_taken es (with_place (with_fewer 1) e.target pairs)
+
+-- its plain urgent edge leads to this vertex
+abbrev pub leads_at_once : ℕ → KeptPair → Bool
+leads_at_once first p = option_map_or (λ target. target == first) p.target false
+
+-- what leads at once to a vertex that has changed is looked at again
+abbrev pub asked_again : ℕ → KeptPair → KeptPair
+asked_again first p = record p { standing = cond (leads_at_once first p) standings.Unknown p.standing }
+
+-- the plain urgent edge is gone
+abbrev pub led_nowhere : KeptPair → KeptPair
+led_nowhere p = record { target = None; standing = standings.Refused; incoming = p.incoming }
+
+-- the vertex at one place takes over what that at another, which has these edges, does
+abbrev pub pairs_merged : ℕ → ℕ → List EventEdge → List KeptPair → List KeptPair
+pairs_merged first second edges pairs = with_place led_nowhere first (map (asked_again first) (with_place (with_fewer 1) second (edges_added edges pairs)))
+
+-- the target at its new place
+abbrev pub moved_up : ℕ → KeptPair → KeptPair
+moved_up gone p = record p { target = option_map (place_without gone) p.target }

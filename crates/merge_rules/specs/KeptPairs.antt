@@ -1,0 +1,49 @@
+-- What is kept of each vertex, as the first of two that may be merged, and what that has to say of a graph.
+use Rattle.std.specs.Prelude.{◌≡◌, ℕ, ◌+◌, ◌<◌, ◌==◌, Bool, true, false, cond, List, [], ◌∷◌, length, None, slice_index_or}
+use Rattle.std.specs.List.{list_any}
+use Rattle.model_core.specs.EventGraph.{EventGraph, EventVertex, EventEdge}
+use Rattle.model_core.specs.Run.Step.{vertex_at}
+use Rattle.model_core.specs.Rules.Merge.{leads_to}
+use Rattle.merge_rules.specs.PairStanding.{target_at_once, pair_fits}
+use Rattle.merge_rules.specs.declared.kept_pairs.KeptPair.{KeptPair}
+use Rattle.merge_rules.specs.declared.kept_pairs.Standing.{Standing}
+use Rattle.merge_rules.specs.declared.kept_pairs.Standing.TheVariants as standings
+
+-- ---- edges that lead to a place
+
+-- how many of these edges do
+abbrev pub edges_leading : List EventEdge → ℕ → ℕ
+edges_leading [] k = 0
+edges_leading (e ∷ es) k = cond (e.target == k) 1 0 + edges_leading es k
+
+-- how many edges of these vertices do
+abbrev pub edges_to : List EventVertex → ℕ → ℕ
+edges_to [] k = 0
+edges_to (v ∷ vs) k = edges_leading v.edges k + edges_to vs k
+
+-- whether some edge of the graph does
+abbrev pub is_led_to : EventGraph → ℕ → Bool
+is_led_to g k = list_any (λ (v : EventVertex). list_any (leads_to k) v.edges) g.vertices
+
+-- ---- what is right of a graph
+
+-- a standing that is known tells whether the two fit
+abbrev pub TellsFit : Standing → Bool → Type 0
+TellsFit standings.Unknown fits = Unit {0}
+TellsFit standings.Refused fits = fits ≡ false
+TellsFit standings.Fits fits = fits ≡ true
+
+-- what is kept of the vertex at this place is right
+pub record IsPair (g : EventGraph) (k : ℕ) (p : KeptPair) : Type 0 where
+  pub target : p.target ≡ target_at_once (vertex_at g k)
+  pub standing : TellsFit p.standing (pair_fits g k)
+  pub incoming : p.incoming ≡ edges_to g.vertices k
+
+-- what a place that isn't there has
+abbrev pub no_pair : KeptPair
+no_pair = record { target = None; standing = standings.Unknown; incoming = 0 }
+
+-- what is kept of each vertex is right
+pub record ArePairs (g : EventGraph) (pairs : List KeptPair) : Type 0 where
+  pub long : length pairs ≡ length g.vertices
+  pub each : (k : ℕ) → k < length g.vertices → IsPair g k (slice_index_or pairs k no_pair)

@@ -1,0 +1,255 @@
+//! The first two vertices that may be merged, found again and again: after a merge, or the drop behind it, only what can have
+//! changed is looked at again.
+
+ghost use Rattle.std.specs.Prelude.{◌≡◌, ◌<◌, [], ◌∷◌, Bool, true, false, None, Some, map, length, slice_index_or, take, IfOk, OnOk};
+ghost use Rattle.std.specs.Option.{option_map_or};
+ghost use Rattle.model_core.specs.Run.Step.{no_vertex, vertex_at};
+ghost use Rattle.model_core.specs.Static.Reading.{IsValid};
+ghost use Rattle.model_core.specs.Rules.Conditions.{first_failed};
+ghost use Rattle.model_core.specs.Rules.Drop.{dropped};
+ghost use Rattle.model_core.specs.Rules.UrgentEdges.{single_urgent};
+ghost use Rattle.model_core.specs.Rules.Merge.{is_watched_vertex, merge_conditions, merged, merge_at, first_merge};
+ghost use Rattle.model_core.specs.Code.Views.{graph_of, edge_of, vertex_of};
+ghost use Rattle.merge_rules.specs.Known.{IsKnown};
+ghost use Rattle.merge_rules.specs.NothingCounted.{NothingCounted};
+ghost use Rattle.merge_rules.specs.PairStanding.{target_at_once, pair_fits};
+ghost use Rattle.merge_rules.specs.KeptPairs.{is_led_to, TellsFit, ArePairs};
+
+use crate::conditions::failed_before_limits;
+use crate::kept_pairs::{
+    KeptPair, Standing, add_all_edges, all_unasked, move_up, take_edges, take_over_pairs,
+};
+use crate::known::Known;
+use crate::within_limits::{has_short_text, keeps_few_parts};
+use model_core::{Edge, Model, Vertex};
+use round_trip::validity_is_by_parts;
+use sig_base::NoMemory;
+use std::alloc::Global;
+use use_analysis::UseCounts;
+
+/// What is known of the vertices of a model, each as the first of two that may be merged. Contracts see it as the list of
+/// what is known of each.
+#[derive(Drop)]
+pub struct KeptPairs {
+    pairs: Vec<KeptPair>,
+}
+
+impl std::marker::Model for KeptPairs {
+    ghost use Rattle.std.specs.Prelude.{List};
+    ghost use Rattle.merge_rules.specs.declared.kept_pairs.KeptPair.{KeptPair};
+
+    ghost Value = { List KeptPair };
+
+    ghost view = { λ k. k.pairs.items };
+}
+
+/// The edges of the vertex at this place.
+fn edges_at(vertices: &[Vertex], place: usize) -> &[Edge]
+    ensures { map edge_of result.now ≡ (slice_index_or (map vertex_of vertices.now) place no_vertex).edges }
+{
+    match vertices.get(place) {
+        Some(vertex) => vertex.edges.as_slice(),
+        None => &[],
+    }
+}
+
+/// Whether the two fit: a vertex and the target of its plain urgent edge, in a single urgent model.
+fn pair_fits(model: &Model, counts: &mut UseCounts, first: usize, second: usize) -> bool
+    requires counts { NothingCounted (length model.now.vars) counts.old }
+    requires single { single_urgent (graph_of model.now) ≡ true }
+    requires target { target_at_once (vertex_at (graph_of model.now) first) ≡ Some second }
+    requires there { first < length model.now.vertices }
+    ensures fits { result ≡ pair_fits (graph_of model.now) first }
+    ensures counts { counts.new ≡ counts.old }
+{
+    match failed_before_limits(model, true, counts, first, second) {
+        Some(_) => false,
+        None => keeps_few_parts(model, first, second),
+    }
+}
+
+/// The same, asked only where it isn't known.
+fn known_to_fit(
+    model: &Model,
+    counts: &mut UseCounts,
+    standing: Standing,
+    first: usize,
+    second: usize,
+) -> bool
+    requires counts { NothingCounted (length model.now.vars) counts.old }
+    requires single { single_urgent (graph_of model.now) ≡ true }
+    requires target { target_at_once (vertex_at (graph_of model.now) first) ≡ Some second }
+    requires there { first < length model.now.vertices }
+    requires standing { TellsFit standing (pair_fits (graph_of model.now) first) }
+    ensures fits { result ≡ pair_fits (graph_of model.now) first }
+    ensures counts { counts.new ≡ counts.old }
+{
+    match standing {
+        Standing::Unknown => pair_fits(model, counts, first, second),
+        Standing::Refused => false,
+        Standing::Fits => true,
+    }
+}
+
+/// What is known of two once it was asked whether they fit.
+fn standing(fits: bool) -> Standing
+    ensures { TellsFit result fits }
+{
+    if fits {
+        Standing::Fits
+    } else {
+        Standing::Refused
+    }
+}
+
+/// The two, where they fit and the text of the result isn't too long. How long the text of the model is, is then known.
+fn short_merge(
+    model: &Model,
+    known: &mut Known,
+    fits: bool,
+    first: usize,
+    second: usize,
+) -> Option<(usize, usize)>
+    requires single { single_urgent (graph_of model.now) ≡ true }
+    requires target { target_at_once (vertex_at (graph_of model.now) first) ≡ Some second }
+    requires there { first < length model.now.vertices }
+    requires fits { fits ≡ pair_fits (graph_of model.now) first }
+    requires known { IsKnown (graph_of model.now) known.old }
+    ensures found { result ≡ merge_at (graph_of model.now) first }
+    ensures known { IsKnown (graph_of model.now) known.new }
+{
+    if !fits {
+        return None;
+    }
+    let bytes = known.find_bytes(model);
+    if has_short_text(model, bytes, first, second) {
+        Some((first, second))
+    } else {
+        None
+    }
+}
+
+impl KeptPairs {
+    /// Of a model that nobody has looked at.
+    pub fn begin(alloc: Global, model: &Model) -> Result<KeptPairs, NoMemory>
+        ensures { IfOk result (λ pairs. ArePairs (graph_of model.now) pairs) }
+    {
+        let vertices = model.vertices.as_slice();
+        let mut pairs = all_unasked(alloc, vertices)?;
+        add_all_edges(&mut pairs, vertices)?;
+        Ok(KeptPairs { pairs })
+    }
+
+    /// Whether an edge leads to the vertex at this place.
+    pub fn is_led_to(&self, model: &Model, vertex: usize) -> bool
+        requires kept { ArePairs (graph_of model.now) self.now }
+        requires there { vertex < length model.now.vertices }
+        ensures { result ≡ is_led_to (graph_of model.now) vertex }
+    {
+        self.pairs[vertex].incoming > 0
+    }
+
+    /// The vertex at this place with the one to which its plain urgent edge leads, where they may be merged.
+    fn merge_at(
+        &mut self,
+        model: &Model,
+        known: &mut Known,
+        counts: &mut UseCounts,
+        first: usize,
+    ) -> Option<(usize, usize)>
+        requires kept { ArePairs (graph_of model.now) self.old }
+        requires single { single_urgent (graph_of model.now) ≡ true }
+        requires there { first < length model.now.vertices }
+        requires known { IsKnown (graph_of model.now) known.old }
+        requires counts { NothingCounted (length model.now.vars) counts.old }
+        ensures found { result ≡ merge_at (graph_of model.now) first }
+        ensures kept { ArePairs (graph_of model.now) self.new }
+        ensures known { IsKnown (graph_of model.now) known.new }
+        ensures counts { counts.new ≡ counts.old }
+    {
+        let pair = self.pairs[first];
+        match pair.target {
+            None => None,
+            Some(second) => {
+                let fits = known_to_fit(model, counts, pair.standing, first, second);
+                self.pairs[first] = KeptPair {
+                    standing: standing(fits),
+                    ..pair
+                };
+                short_merge(model, known, fits, first, second)
+            }
+        }
+    }
+
+    /// The first of them, in a single urgent model.
+    fn first_single(
+        &mut self,
+        model: &Model,
+        known: &mut Known,
+        counts: &mut UseCounts,
+    ) -> Option<(usize, usize)>
+        requires kept { ArePairs (graph_of model.now) self.old }
+        requires single { single_urgent (graph_of model.now) ≡ true }
+        requires known { IsKnown (graph_of model.now) known.old }
+        requires counts { NothingCounted (length model.now.vars) counts.old }
+        ensures found { result ≡ first_merge (graph_of model.now) }
+        ensures kept { ArePairs (graph_of model.now) self.new }
+        ensures known { IsKnown (graph_of model.now) known.new }
+        ensures counts { counts.new ≡ counts.old }
+    {
+        for first in 0..model.vertices.len() {
+            let found = self.merge_at(model, known, counts, first);
+            if found.is_some() {
+                return found;
+            }
+        }
+        None
+    }
+
+    /// Does what `first_merge_measured` does.
+    pub fn first_merge(
+        &mut self,
+        model: &Model,
+        known: &mut Known,
+        counts: &mut UseCounts,
+    ) -> Option<(usize, usize)>
+        requires kept { ArePairs (graph_of model.now) self.old }
+        requires known { IsKnown (graph_of model.now) known.old }
+        requires counts { NothingCounted (length model.now.vars) counts.old }
+        ensures found { result ≡ first_merge (graph_of model.now) }
+        ensures kept { ArePairs (graph_of model.now) self.new }
+        ensures known { IsKnown (graph_of model.now) known.new }
+        ensures counts { counts.new ≡ counts.old }
+    {
+        if known.find_single(model) {
+            self.first_single(model, known, counts)
+        } else {
+            None
+        }
+    }
+
+    /// Tells that two vertices of the model are to be merged, so that it is known what is known behind that.
+    pub fn tell_merge(&mut self, model: &Model, first: usize, second: usize) -> Result<(), NoMemory>
+        requires kept { ArePairs (graph_of model.now) self.old }
+        requires holds { first_failed (merge_conditions (graph_of model.now) first second) ≡ None }
+        ensures { OnOk result (ArePairs (merged (graph_of model.now) first second) self.new) }
+    {
+        let edges = edges_at(model.vertices.as_slice(), second);
+        take_over_pairs(&mut self.pairs, first, second, edges)
+    }
+
+    /// Tells that a vertex of the model is to be dropped to which no edge leads and which isn't watched.
+    pub fn tell_drop(&mut self, model: &Model, gone: usize)
+        requires kept { ArePairs (graph_of model.now) self.old }
+        requires valid { IsValid (graph_of model.now) }
+        requires there { gone < length model.now.vertices }
+        requires unled { is_led_to (graph_of model.now) gone ≡ false }
+        requires unwatched { is_watched_vertex (graph_of model.now) gone ≡ false }
+        ensures { ArePairs (dropped (graph_of model.now) (gone ∷ [])) self.new }
+    {
+        validity_is_by_parts();
+        take_edges(&mut self.pairs, edges_at(model.vertices.as_slice(), gone));
+        self.pairs.remove(gone);
+        move_up(&mut self.pairs, gone);
+    }
+}

@@ -1,0 +1,11 @@
+use Rattle.model_core.specs.Code.Views.{graph_of}
+use Rattle.reducer.proofs.CountsServe.{begun_counts}
+use Rattle.reducer.proofs.progress.Progress.begin.Goals as goal
+
+pub returns : goal.returns
+returns c = record {
+  known = c.nothing.ensures (graph_of c.args.model.now);
+  counts = begun_counts c.args.model.now _ c.in_ok-begin.ensures;
+  unreached = tt;
+  pairs = c.in_ok-begin-2.ensures;
+}
