@@ -21,7 +21,7 @@ use merge_rules::{
     KeptPairs, merge_measured, merging_brings_no_rule_of_edges, merging_takes_an_urgent_edge,
 };
 use model_core::{Application, Model, RuleError, was_made};
-use reduction_cert::chains_keep_the_meaning;
+use reduction_cert::{chains_keep_the_meaning, known_without};
 use sig_base::{List, NoMemory};
 use std::alloc::Global;
 use var_slicing::{slice, slicing_leaves_the_rules_of_edges, unneeded};
@@ -137,7 +137,7 @@ fn drop_alone(
 {
     let vertices = List::from_vec(Vec::from_elem(alloc, gone, 1)?);
     progress.pairs.tell_drop(model, gone);
-    progress.known = progress.known.behind_drop();
+    progress.known = known_without(model, progress.known, vertices.as_slice());
     progress.unreached = Unreached::Nobody;
     drop_these(alloc, model, &vertices, applications)
 }

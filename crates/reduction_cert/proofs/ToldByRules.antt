@@ -16,6 +16,9 @@ module _ (result h : EventGraph) (failed : Option ℕ) (given : Result (Unit {0}
       let (holds, same) = subst (λ (r : Result (Unit {0}) RuleError). OnOk r ((failed ≡ None) × (h ≡ result))) is done in
       ap (λ o. unless_failed o result) holds ∙ ap Some (sym same)
 
+  pub told_holds : given ≡ Ok tt → failed ≡ None
+  told_holds is = (subst (λ (r : Result (Unit {0}) RuleError). OnOk r ((failed ≡ None) × (h ≡ result))) is done).0
+
   pub told_result : given ≡ Ok tt → h ≡ result
   told_result is = (subst (λ (r : Result (Unit {0}) RuleError). OnOk r ((failed ≡ None) × (h ≡ result))) is done).1
 

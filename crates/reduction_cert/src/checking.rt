@@ -12,6 +12,7 @@ ghost use Rattle.reduction_cert.specs.Inner.PlacesListed.{HasPlaces, names_of_ve
 
 use crate::by_name::{all_named, edge_named, two_vertices_named};
 use crate::chain_law::applications_add_no_variables;
+use crate::known_without::known_without;
 use crate::places::Places;
 use edge_pruning::{drop_vertices, prune, settle};
 use merge_rules::{Known, merge_measured};
@@ -205,10 +206,11 @@ fn apply_drop(
     let Some(dropped) = all_named(alloc, vertices, names)? else {
         return Ok(false);
     };
+    let behind = known_without(model, *known, dropped.as_slice());
     if !was_made(drop_vertices(alloc, model, &dropped))? {
         return Ok(false);
     }
-    *known = known.behind_drop();
+    *known = behind;
     Ok(true)
 }
 

@@ -6,6 +6,7 @@ mod by_name;
 mod certificate;
 mod chain_law;
 mod checking;
+mod known_without;
 mod places;
 mod reading;
 
@@ -15,4 +16,5 @@ pub use chain_law::{
     verdicts_tell_chains,
 };
 pub use checking::{Verdict, check_chain};
+pub use known_without::known_without;
 pub use reading::read_certificate;

@@ -7,7 +7,7 @@ use Rattle.model_core.specs.Rules.Drop.{drop_conditions, dropped}
 use Rattle.model_core.specs.Rules.Reduction.{vertices_named}
 use Rattle.merge_rules.specs.Known.{IsKnown}
 use Rattle.reduction_cert.proofs.Tables.{all_by_table}
-use Rattle.reduction_cert.proofs.ToldByRules.{told_made, told_result, drop_named}
+use Rattle.reduction_cert.proofs.ToldByRules.{told_made, told_holds, told_result, drop_named}
 use Rattle.reduction_cert.proofs.checking.apply_drop.Goals as goal
 
 pub returns-clause-made : goal.returns-clause-made
@@ -23,7 +23,7 @@ pub returns-clause-known : goal.returns-clause-known
 returns-clause-known c =
     let g = graph_of c.args.model.now in
     let vs = c.in-Some.dropped in
-    let is : graph_of c.drop_vertices.new.model ≡ dropped g vs =
-    told_result (dropped g vs) (graph_of c.drop_vertices.new.model) (first_failed (drop_conditions g vs)) c.drop_vertices.result c.drop_vertices.ensures.done c.drop_vertices.ensures.refused
-    (c.was_made.ensures.made (c.in_ok-was_made.was ∙ ap Ok c.if-not-branch.false)) in
-    subst (λ (h : EventGraph). IsKnown h c.behind_drop.result) (sym is) (c.behind_drop.ensures g vs c.requires.known)
+    let made = c.was_made.ensures.made (c.in_ok-was_made.was ∙ ap Ok c.if-not-branch.false) in
+    let holds = told_holds (dropped g vs) (graph_of c.drop_vertices.new.model) (first_failed (drop_conditions g vs)) c.drop_vertices.result c.drop_vertices.ensures.done c.drop_vertices.ensures.refused made in
+    let is = told_result (dropped g vs) (graph_of c.drop_vertices.new.model) (first_failed (drop_conditions g vs)) c.drop_vertices.result c.drop_vertices.ensures.done c.drop_vertices.ensures.refused made in
+    subst (λ (h : EventGraph). IsKnown h c.known_without-behind.result) (sym is) (c.known_without-behind.ensures holds)

@@ -1,0 +1,58 @@
+//! What is known of a model without vertices that are dropped: that it is single urgent, and how long its text is, where both were
+//! known of it with them.
+
+ghost use Rattle.std.specs.Prelude.{◌≡◌, None, length, map};
+ghost use Rattle.std.specs.List.{flat_map};
+ghost use Rattle.std.specs.Option.{IfSome};
+ghost use Rattle.model_core.specs.Run.Step.{vertex_at};
+ghost use Rattle.model_core.specs.Text.Canonical.{vertex_lines};
+ghost use Rattle.model_core.specs.Rules.Conditions.{first_failed};
+ghost use Rattle.model_core.specs.Rules.Drop.{drop_conditions, dropped};
+ghost use Rattle.model_core.specs.Code.Views.{graph_of};
+ghost use Rattle.merge_rules.specs.Known.{IsMeasured, IsKnown};
+
+use edge_pruning::dropping_takes_lines;
+use merge_rules::Known;
+use model_core::{Model, needs_version_two};
+use model_print::vertex_length;
+
+/// How many bytes the lines of the vertices at these places have, or None where a place has no vertex or they are too many to
+/// count.
+fn lines_length(model: &Model, vertices: &[usize]) -> Option<u64>
+    ensures { IfSome result (λ bytes. bytes ≡ length (flat_map (λ k. vertex_lines (graph_of model.now) (vertex_at (graph_of model.now) k)) vertices.now)) }
+{
+    let mut bytes: u64 = 0;
+    for place in vertices {
+        let lines = vertex_length(model.vertices.as_slice().get(*place)?, model);
+        if lines == u64::MAX {
+            return None;
+        }
+        bytes = bytes.checked_add(lines)?;
+    }
+    Some(bytes)
+}
+
+/// How many bytes the text has behind a drop of these vertices, told before it, or None where that isn't known: where the text
+/// may lose the line of its version.
+fn bytes_without(model: &Model, bytes: Option<u64>, vertices: &[usize]) -> Option<u64>
+    requires measured { IsMeasured (graph_of model.now) bytes }
+    ensures { first_failed (drop_conditions (graph_of model.now) vertices.now) ≡ None → IsMeasured (dropped (graph_of model.now) vertices.now) result }
+{
+    dropping_takes_lines();
+    let bytes = bytes?;
+    if needs_version_two(model) {
+        return None;
+    }
+    bytes.checked_sub(lines_length(model, vertices)?)
+}
+
+/// What is known of a model behind a drop of these vertices, told before it.
+pub fn known_without(model: &Model, known: Known, vertices: &[usize]) -> Known
+    requires known { IsKnown (graph_of model.now) known }
+    ensures { first_failed (drop_conditions (graph_of model.now) vertices.now) ≡ None → IsKnown (dropped (graph_of model.now) vertices.now) result }
+{
+    Known {
+        bytes: bytes_without(model, known.bytes, vertices),
+        single: known.behind_drop().single,
+    }
+}
