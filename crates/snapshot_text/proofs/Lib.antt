@@ -6,5 +6,8 @@ pub mod SnapshotWrites
 pub mod SnapshotStands
 pub mod SnapshotTold
 mod WorkedSnapshots
+mod FittingValues
+mod JudgedParts
+mod PartsBegin
 mod PassingOver
 mod PrintedLines

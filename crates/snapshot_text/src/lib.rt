@@ -2,10 +2,18 @@
 #![tactic(auto)]
 
 mod laws;
+mod numbers;
+mod parts;
 mod printing;
+mod reading;
 mod skimming;
 mod snapshot;
+mod snapshot_error;
+mod streams;
+mod values;
 
 pub use laws::{saved_documents_read_back, saved_runs_read_back, snapshots_have_one_reading};
 pub use printing::print_snapshot;
+pub use skimming::snapshot_fault;
 pub use snapshot::Snapshot;
+pub use snapshot_error::SnapshotError;
