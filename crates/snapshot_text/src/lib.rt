@@ -2,6 +2,7 @@
 #![tactic(auto)]
 
 mod laws;
+mod noted;
 mod numbers;
 mod parts;
 mod printing;

@@ -1,8 +1,9 @@
 -- What is made of a part of a snapshot that is good.
-use Rattle.std.specs.Prelude.{◌≡◌, ℕ, suc, ◌+◌, ◌*◌, ◌^◌, ◌-◌, not, ◌&&◌, nat_lt, Bool, if◌then◌else◌, ℤ, pos, List, Option, Some, None, Result, Ok, Err, unwrap_or, replicate, ◌==◌}
+use Rattle.std.specs.Prelude.{◌≡◌, ℕ, suc, ◌+◌, ◌*◌, ◌^◌, ◌-◌, not, ◌&&◌, nat_lt, Bool, true, if◌then◌else◌, ℤ, pos, List, Option, Some, None, Result, Ok, Err, unwrap_or, replicate, length, take}
+use Rattle.std.specs.List.{list_all}
 use Rattle.std.specs.Option.{is_some}
-use Rattle.model_core.specs.EventGraph.{Variable}
-use Rattle.model_core.specs.Run.State.{cell_count, within}
+use Rattle.model_core.specs.EventGraph.{EventGraph, Variable, Watched, WatchedVariable, WatchedVertex}
+use Rattle.model_core.specs.Run.State.{variable_at, cell_count, within}
 use Rattle.model_core.specs.Text.Lexing.{same_bytes}
 use Rattle.model_core.specs.Text.Written.{WrittenNumber, WrittenSigned}
 use Rattle.model_core.specs.Text.Numbering as numbering
@@ -47,3 +48,16 @@ fitting lo hi s = kept (fits lo hi s) (unwrap_or (numbering.signed s) (pos 0))
 -- what a snapshot says of a variable is good
 abbrev pub value_good : Variable → WrittenValue → Bool
 value_good v w = same_bytes w.variable.name v.name && fit_variables (replicate (cell_count v) v) w.values
+
+-- there are values for the cells of a variable, and the first of them fit
+abbrev pub cells_good : Variable → List WrittenSigned → Bool
+cells_good v ws = not (nat_lt (length ws) (cell_count v)) && list_all (fits v.lo v.hi) (take (cell_count v) ws)
+
+-- so it is of what is watched; a vertex has no cells
+abbrev pub watched_good : EventGraph → Watched → List WrittenSigned → Bool
+watched_good g (WatchedVariable v) ws = cells_good (variable_at g v) ws
+watched_good g (WatchedVertex v) ws = true
+
+abbrev pub watched_cells : EventGraph → Watched → ℕ
+watched_cells g (WatchedVariable v) = cell_count (variable_at g v)
+watched_cells g (WatchedVertex v) = 0
