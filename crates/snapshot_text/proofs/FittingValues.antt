@@ -9,7 +9,6 @@ use Rattle.model_core.specs.declared.raw.RawSigned.{RawSigned}
 use Rattle.model_core.specs.Code.WrittenViews.{written_signed}
 use Rattle.model_core.specs.EventGraph.{EventGraph, Variable, Watched, WatchedVariable, WatchedVertex}
 use Rattle.model_core.specs.Run.State.{variable_at, cell_count, within, in_ranges}
-use Rattle.model_core.specs.Text.Lexing.{same_bytes}
 use Rattle.model_core.specs.Text.Written.{WrittenSigned}
 use Rattle.model_core.specs.Text.Numbering as numbering
 use Rattle.model_core.specs.Text.SnapshotGrammar.{WrittenValue}

@@ -1,5 +1,5 @@
 -- What is made of a part of a snapshot that is good.
-use Rattle.std.specs.Prelude.{◌≡◌, ℕ, suc, ◌+◌, ◌*◌, ◌^◌, ◌-◌, not, ◌&&◌, nat_lt, Bool, true, if◌then◌else◌, ℤ, pos, List, Option, Some, None, Result, Ok, Err, unwrap_or, replicate, length, take}
+use Rattle.std.specs.Prelude.{◌≡◌, ℕ, ◌+◌, ◌*◌, ◌^◌, ◌-◌, not, ◌&&◌, nat_lt, Bool, true, if◌then◌else◌, ℤ, pos, List, Option, Some, None, Result, Ok, Err, unwrap_or, replicate, length, take}
 use Rattle.std.specs.List.{list_all}
 use Rattle.std.specs.Option.{is_some}
 use Rattle.model_core.specs.EventGraph.{EventGraph, Variable, Watched, WatchedVariable, WatchedVertex}

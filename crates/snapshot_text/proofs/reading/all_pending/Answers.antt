@@ -2,7 +2,7 @@
 use Rattle.std.proofs.Common.{sym, arith}
 use Rattle.std.proofs.lemmas.Result.{err_from_is_err_and}
 use Rattle.model_core.specs.Text.SnapshotGrammar.{pending_format}
-use Rattle.text_laws.proofs.ReadLoop.{shorter, goes_on, ends, is_done, front-none}
+use Rattle.text_laws.proofs.ReadLoop.{shorter, goes_on, ends, is_done}
 use Rattle.snapshot_text.specs.Inner.RawParts.{written_pending}
 use Rattle.snapshot_text.specs.Inner.SomeParts.{pending-some}
 use Rattle.snapshot_text.proofs.PartsBegin.{pending-begins}

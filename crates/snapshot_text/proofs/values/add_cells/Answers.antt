@@ -1,7 +1,7 @@
 -- The values are good where there are enough and each of them fits.
-use Rattle.std.proofs.Common.{rules, ◌≡◌, ◌+◌, ◌≤◌, ◌-◌, true, refl, drop, length, sym, ap, ◌∙◌, arith}
+use Rattle.std.proofs.Common.{◌≡◌, ◌+◌, ◌≤◌, ◌-◌, true, refl, drop, length, sym, ap, ◌∙◌, arith}
 use Rattle.std.proofs.lemmas.List.{length-drop}
-use Rattle.model_core.specs.Run.State.{variable_at, cell_count}
+use Rattle.model_core.specs.Run.State.{variable_at}
 use Rattle.model_core.specs.Code.Views.{graph_of}
 use Rattle.snapshot_text.specs.Inner.Judging.{kept}
 use Rattle.snapshot_text.proofs.FittingValues.{cells-good}

@@ -1,5 +1,5 @@
 -- One value more, and all of them.
-use Rattle.std.proofs.Common.{rules, List, ℤ, Bool, true, w64, map, drop, get_or, None, false, sym, ap, subst, refl, ◌≡◌, ◌+◌, ◌++◌, ◌∙◌, arith}
+use Rattle.std.proofs.Common.{rules, List, w64, map, drop, get_or, None, false, sym, ap, ◌+◌, ◌++◌, ◌∙◌, arith}
 use Rattle.std.specs.List.{list_all}
 use Rattle.std.proofs.lemmas.Int.{to_z-of_z}
 use Rattle.std.proofs.lemmas.List.{drop_more}
