@@ -6,6 +6,7 @@ pub mod SnapshotWrites
 pub mod SnapshotStands
 pub mod SnapshotTold
 mod WorkedSnapshots
+mod DigitsRead
 mod FittingValues
 mod JudgedParts
 mod PartsBegin

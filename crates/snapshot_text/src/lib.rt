@@ -1,6 +1,7 @@
 //! The text of saved runs: what is kept of a run that is stopped, printed and read.
 #![tactic(auto)]
 
+mod carried;
 mod laws;
 mod noted;
 mod numbers;
