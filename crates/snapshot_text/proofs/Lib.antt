@@ -7,6 +7,7 @@ pub mod SnapshotStands
 pub mod SnapshotTold
 mod WorkedSnapshots
 mod DigitsRead
+mod FewParameters
 mod FittingValues
 mod JudgedParts
 mod PartsBegin

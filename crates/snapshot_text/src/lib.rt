@@ -2,6 +2,7 @@
 #![tactic(auto)]
 
 mod carried;
+mod events;
 mod laws;
 mod noted;
 mod numbers;
