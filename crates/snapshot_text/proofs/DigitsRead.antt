@@ -1,5 +1,5 @@
 -- The number that digits write, read one digit after the other.
-use Rattle.std.proofs.Common.{◌≡◌, ℕ, ◌+◌, ◌-◌, ◌*◌, ◌^◌, ◌<◌, ◌≤◌, suc, Bool, true, false, nat_lt, List, length, drop, map, None, ap, sym, refl, arith, get_or, ◌∙◌}
+use Rattle.std.proofs.Common.{◌≡◌, ℕ, ◌+◌, ◌-◌, ◌*◌, ◌<◌, ◌≤◌, suc, false, nat_lt, List, length, drop, map, None, ap, sym, arith, get_or}
 use Rattle.std.specs.Int.Digits.{number_from_digits_after}
 use Rattle.std.proofs.lemmas.Bool.Decides.{nat_tests}
 use Rattle.sig_base.proofs.DigitsTaken.{digit-le-number}

@@ -1,5 +1,5 @@
 -- The vertex at a place has few parameters where each vertex has.
-use Rattle.std.proofs.Common.{◌≡◌, ℕ, zero, suc, ◌≤◌, List, [], ◌∷◌, length, slice_index_or, arith}
+use Rattle.std.proofs.Common.{ℕ, zero, suc, ◌≤◌, List, [], ◌∷◌, length, slice_index_or, arith}
 use Rattle.std.specs.List.{AllByRecursion}
 use Rattle.model_core.specs.EventGraph.{EventVertex}
 use Rattle.model_core.specs.Run.Step.{no_vertex}

@@ -56,3 +56,23 @@ one_fits lo hi s later x out total all is so_far added =
 
 pub none_fits : (lo hi : ℤ) (s : WrittenSigned) (later : List WrittenSigned) (total : Bool) → None ≡ fitting lo hi s → list_all (fits lo hi) (s ∷ later) ≡ total → false ≡ total
 none_fits lo hi s later total is so_far = ap (λ b. b && list_all (fits lo hi) later) (sym (kept-none (fits lo hi s) (unwrap_or (numbering.signed s) (pos 0)) is)) ∙ so_far
+
+-- ---- parts, and others behind them
+
+one_before : (good : Bool) (first : Option ℕ) (at : ℕ) → cond good first (Some at) ≡ None → (good ≡ true) × (first ≡ None)
+one_before true first at h = (refl, h)
+one_before false first at h = absurd cc
+
+pub good_before : (a b : List CheckedPart) → first_bad_part a ≡ None → first_bad_part (a ++ b) ≡ first_bad_part b
+good_before [] b h = refl
+good_before (p ∷ a) b h =
+    let k = one_before p.good (first_bad_part a) p.at h in
+    ap (λ c. cond c (first_bad_part (a ++ b)) (Some p.at)) k.0 ∙ good_before a b k.1
+
+told_before : (good : Bool) (first all : Option ℕ) (at place : ℕ) → cond good first (Some at) ≡ Some place → (first ≡ Some place → all ≡ Some place) → cond good all (Some at) ≡ Some place
+told_before true first all at place h k = k h
+told_before false first all at place h k = h
+
+pub bad_before : (a b : List CheckedPart) (at : ℕ) → first_bad_part a ≡ Some at → first_bad_part (a ++ b) ≡ Some at
+bad_before [] b at h = absurd cc
+bad_before (p ∷ a) b at h = told_before p.good (first_bad_part a) (first_bad_part (a ++ b)) p.at at h (λ e. bad_before a b at e)

@@ -5,6 +5,7 @@ pub mod SnapshotLines
 pub mod SnapshotWrites
 pub mod SnapshotStands
 pub mod SnapshotTold
+mod WholeSnapshots
 mod WorkedSnapshots
 mod DigitsRead
 mod FewParameters

@@ -1,21 +1,24 @@
 //! Reads the parts of a snapshot from tokens.
 
-ghost use Rattle.std.specs.Prelude.{◌≡◌, map};
+ghost use Rattle.std.specs.Prelude.{◌≡◌, drop, map, IfOk};
 ghost use Rattle.std.specs.Option.{option_map};
 ghost use Rattle.model_core.specs.declared.token.Symbol.TheVariants.{Comma};
 ghost use Rattle.model_core.specs.Code.WrittenViews.{written_signed};
 ghost use Rattle.model_core.specs.Text.Format.{Many, mark, ◌*>◌, maybe, separated};
 ghost use Rattle.model_core.specs.Text.Language.{signed_format};
-ghost use Rattle.model_core.specs.Text.SnapshotGrammar.{stream_format, value_format, noted_format, carried_format, carries_format, pending_format, snapshot_format};
-ghost use Rattle.text_laws.specs.FormatReader.{with_front};
+ghost use Rattle.model_core.specs.Text.SnapshotGrammar.{stream_format, value_format, noted_format, carried_format, carries_format, pending_format, snapshot_format, IsSnapshot};
+ghost use Rattle.text_laws.specs.FormatReader.{and_next, with_front, whole_read};
 ghost use Rattle.text_laws.specs.LanguageReader.{language_reader};
+ghost use Rattle.model_lex.specs.Lexemes.{lexemes};
 ghost use Rattle.model_read.specs.ReadCalls.{Returned};
 ghost use Rattle.snapshot_text.specs.Inner.RawParts.{written_stream, written_value, written_noted, written_carried, written_pending, written_snapshot};
 
 use crate::parts::{RawCarried, RawNoted, RawPending, RawSnapshot, RawStream, RawValue};
+use crate::skimming::tokens_from;
 use model_core::{RawSigned, Symbol, Word};
+use model_lex::{Tokens, tokens_stand_in_order};
 use model_read::{Cursor, Stop, separated};
-use sig_base::List;
+use sig_base::{List, NoMemory};
 use std::alloc::Global;
 
 /// Reads a stream and its words.
@@ -224,4 +227,30 @@ fn snapshot<'t>(alloc: Global, cursor: &mut Cursor<'t>) -> Result<RawSnapshot<'t
         pending,
         end_at,
     })
+}
+
+/// Reads a snapshot after which no token is left.
+fn whole<'t>(alloc: Global, cursor: &mut Cursor<'t>) -> Result<RawSnapshot<'t>, Stop>
+    ensures { Returned written_snapshot result cursor.new (and_next whole_read (language_reader snapshot_format cursor.old)) }
+{
+    let raw = snapshot(alloc, cursor)?;
+    cursor.end()?;
+    Ok(raw)
+}
+
+/// Reads the tokens from a place on, which all together are one snapshot.
+pub(crate) fn raw_snapshot<'t>(
+    alloc: Global,
+    tokens: &'t Tokens<'_>,
+    from: usize,
+) -> Result<RawSnapshot<'t>, NoMemory>
+    ensures { IfOk result (λ raw. IsSnapshot (drop from (lexemes tokens.now)) (written_snapshot raw)) }
+{
+    tokens_stand_in_order();
+    let mut cursor = Cursor::new(tokens.text, tokens_from(tokens.list.as_slice(), from));
+    match whole(alloc, &mut cursor) {
+        Ok(raw) => Ok(raw),
+        // Not since the tokens aren't a snapshot, which is known of them.
+        Err(_) => Err(NoMemory),
+    }
 }

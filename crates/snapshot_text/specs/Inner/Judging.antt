@@ -1,5 +1,5 @@
 -- What is made of a part of a snapshot that is good.
-use Rattle.std.specs.Prelude.{◌≡◌, ℕ, ◌+◌, ◌*◌, ◌^◌, ◌-◌, not, ◌&&◌, nat_lt, Bool, true, if◌then◌else◌, ℤ, pos, List, Option, Some, None, Result, Ok, Err, unwrap_or, replicate, length, take}
+use Rattle.std.specs.Prelude.{◌≡◌, ℕ, ◌+◌, ◌*◌, ◌^◌, ◌-◌, not, ◌&&◌, nat_lt, Bool, true, if◌then◌else◌, ℤ, pos, List, Option, Some, None, Result, Ok, Err, unwrap_or, replicate, length, take, map, [], ◌∷◌, ◌++◌}
 use Rattle.std.specs.List.{list_all}
 use Rattle.std.specs.Option.{is_some}
 use Rattle.model_core.specs.EventGraph.{EventGraph, Variable, Watched, WatchedVariable, WatchedVertex}
@@ -7,8 +7,9 @@ use Rattle.model_core.specs.Run.State.{variable_at, cell_count, within}
 use Rattle.model_core.specs.Text.Lexing.{same_bytes}
 use Rattle.model_core.specs.Text.Written.{WrittenNumber, WrittenSigned}
 use Rattle.model_core.specs.Text.Numbering as numbering
-use Rattle.model_core.specs.Text.SnapshotGrammar.{WrittenStream, WrittenValue}
-use Rattle.model_core.specs.Saved.GoodSnapshots.{CheckedPart, first_bad_part, number_or_zero, is_at_most, from_one_to, fit_variables}
+use Rattle.model_core.specs.Text.SnapshotGrammar.{WrittenStream, WrittenValue, WrittenSnapshot}
+use Rattle.model_core.specs.Saved.SavedRun.{SavedRun}
+use Rattle.model_core.specs.Saved.GoodSnapshots.{CheckedPart, stream_parts, value_parts, noted_parts, pending_part, saved_entry, saved_run, first_bad_part, number_or_zero, is_at_most, from_one_to, fit_variables}
 use Rattle.snapshot_text.specs.declared.snapshot_error.SnapshotError.{SnapshotError}
 use Rattle.snapshot_text.specs.declared.snapshot_error.SnapshotError.TheVariants as errors
 
@@ -61,3 +62,15 @@ watched_good g (WatchedVertex v) ws = true
 abbrev pub watched_cells : EventGraph → Watched → ℕ
 watched_cells g (WatchedVariable v) = cell_count (variable_at g v)
 watched_cells g (WatchedVertex v) = 0
+
+-- ---- the whole
+
+-- the parts behind the seed, the clock and the number of events
+abbrev pub later_parts : EventGraph → WrittenSnapshot → List CheckedPart
+later_parts g w =
+    stream_parts 0 w.streams ++ value_parts g.variables w.values ++ noted_parts g w.noted ++ map (pending_part g) w.pending
+    ++ record { good = not (nat_lt (length w.values) (length g.variables)); at = w.end_at } ∷ []
+
+-- the saved run with this seed, clock and number of events
+abbrev pub later_saved : EventGraph → WrittenSnapshot → ℕ → ℕ → ℕ → SavedRun
+later_saved g w seed clock events = record (saved_run g w) { seed = seed; clock = clock; events = events; pending = map (saved_entry g clock) w.pending }
