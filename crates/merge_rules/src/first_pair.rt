@@ -8,14 +8,12 @@ ghost use Rattle.model_core.specs.Rules.UrgentEdges.{plain_urgent_edge};
 ghost use Rattle.model_core.specs.Rules.Merge.{merge_at, first_merge};
 ghost use Rattle.model_core.specs.Code.Views.{graph_of, vertex_of};
 ghost use Rattle.merge_rules.specs.Known.{IsKnown};
-ghost use Rattle.merge_rules.specs.NothingCounted.{NothingCounted};
 
 use crate::at_once::edge_at_once;
 use crate::known::Known;
 use crate::merging::failed_merge;
 use crate::reads_written::{ReadsWritten, Walk};
 use model_core::{Model, Vertex};
-use use_analysis::UseCounts;
 
 /// The place of the vertex to which the plain urgent edge leads, if there is one.
 pub(crate) fn target_at_once(vertex: &Vertex) -> Option<usize>
@@ -70,22 +68,6 @@ fn first_told_by<R: ReadsWritten>(
         }
     }
     None
-}
-
-/// Does what `first_merge` does. It may be told what is known of the model, and tells what is known then. The counts, in which
-/// nothing is counted, serve to tell what edges read; they are given back as they were.
-pub fn first_merge_measured(
-    model: &Model,
-    known: &mut Known,
-    counts: &mut UseCounts,
-) -> Option<(usize, usize)>
-    requires known { IsKnown (graph_of model.now) known.old }
-    requires counts { NothingCounted (length model.now.vars) counts.old }
-    ensures found { result ≡ first_merge (graph_of model.now) }
-    ensures known { IsKnown (graph_of model.now) known.new }
-    ensures counts { counts.new ≡ counts.old }
-{
-    first_told_by(model, known, counts)
 }
 
 /// The first vertex, in the order of the text, that may be merged with the one to which its plain urgent edge leads: the

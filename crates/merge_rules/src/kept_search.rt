@@ -206,7 +206,8 @@ impl KeptPairs {
         None
     }
 
-    /// Does what `first_merge_measured` does.
+    /// The first two vertices that may be merged. It may be told what is known of the model, and tells what is known then. The
+    /// counts, in which nothing is counted, serve to tell what edges read; they are given back as they were.
     pub fn first_merge(
         &mut self,
         model: &Model,

@@ -15,7 +15,7 @@ mod taking_over;
 mod within_limits;
 mod written;
 
-pub use first_pair::{first_merge, first_merge_measured};
+pub use first_pair::first_merge;
 pub use kept_search::KeptPairs;
 pub use known::Known;
 pub use law::{

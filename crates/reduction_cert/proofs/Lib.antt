@@ -1,8 +1,9 @@
 pub mod Chains
 pub mod Verdicts
 mod CertificateReads
-pub mod Tables
+pub mod PlacesByTable
 pub mod NamesKept
 mod OneMore
 pub mod FewerVariables
 pub mod ToldByRules
+pub mod LengthLeft

@@ -1,2 +1,2 @@
 -- What restates the code of this crate for its proofs.
-pub mod PlacesListed
+pub mod DroppingOnes

@@ -4,9 +4,9 @@ ghost use Rattle.std.specs.Prelude.{◌≡◌, IfOk};
 ghost use Rattle.model_core.specs.EventGraph.{EventGraph};
 ghost use Rattle.model_core.specs.Text.Numbering.{each_numbered};
 ghost use Rattle.model_core.specs.Rules.Reduction.{from_zero, edge_named, two_vertices_named};
-ghost use Rattle.reduction_cert.specs.Inner.PlacesListed.{listed_place, HasPlaces, names_of_vertices};
+ghost use Rattle.name_places.specs.NamesPlaced.{listed_place, HasPlaces, names_of_vertices};
 
-use crate::places::Places;
+use name_places::Places;
 use sig_base::{List, Name, NoMemory};
 use std::alloc::Global;
 
@@ -25,7 +25,7 @@ fn from_zero(number: u64) -> Option<usize>
 pub(crate) fn edge_named(vertices: &Places, name: &Name, number: u64) -> Option<(usize, usize)>
     ensures { (g : EventGraph) → HasPlaces (names_of_vertices g.vertices) vertices.now → result ≡ edge_named g name.now number }
 {
-    let vertex = vertices.find(name)?;
+    let vertex = vertices.find(name.as_slice())?;
     let edge = from_zero(number)?;
     Some((vertex, edge))
 }
@@ -38,8 +38,8 @@ pub(crate) fn two_vertices_named(
 ) -> Option<(usize, usize)>
     ensures { (g : EventGraph) → HasPlaces (names_of_vertices g.vertices) vertices.now → result ≡ two_vertices_named g name.now other.now }
 {
-    let first = vertices.find(name)?;
-    let second = vertices.find(other)?;
+    let first = vertices.find(name.as_slice())?;
+    let second = vertices.find(other.as_slice())?;
     Some((first, second))
 }
 
@@ -53,7 +53,7 @@ pub(crate) fn all_named(
 {
     let mut found = Vec::with_capacity(alloc, names.len())?;
     for name in names {
-        let Some(place) = places.find(name) else {
+        let Some(place) = places.find(name.as_slice()) else {
             return Ok(None);
         };
         found.push(place)?;

@@ -6,9 +6,8 @@ mod by_name;
 mod certificate;
 mod chain_law;
 mod checking;
-mod known_without;
-mod places;
 mod reading;
+mod without_vertices;
 
 pub use certificate::{print_certificate, put_certificate};
 pub use chain_law::{
@@ -16,5 +15,5 @@ pub use chain_law::{
     verdicts_tell_chains,
 };
 pub use checking::{Verdict, check_chain};
-pub use known_without::known_without;
 pub use reading::read_certificate;
+pub use without_vertices::known_without;

@@ -1,12 +1,12 @@
 -- Dropped are the vertices of these names.
-use Rattle.std.proofs.Common.{◌≡◌, ◌∙◌, Some, Ok, sym, ap, subst}
+use Rattle.std.proofs.Common.{◌≡◌, ◌∙◌, ℕ, List, Some, None, Ok, sym, ap, subst}
 use Rattle.model_core.specs.EventGraph.{EventGraph}
 use Rattle.model_core.specs.Code.Views.{graph_of}
 use Rattle.model_core.specs.Rules.Conditions.{first_failed}
 use Rattle.model_core.specs.Rules.Drop.{drop_conditions, dropped}
 use Rattle.model_core.specs.Rules.Reduction.{vertices_named}
 use Rattle.merge_rules.specs.Known.{IsKnown}
-use Rattle.reduction_cert.proofs.Tables.{all_by_table}
+use Rattle.reduction_cert.proofs.PlacesByTable.{all_by_table}
 use Rattle.reduction_cert.proofs.ToldByRules.{told_made, told_holds, told_result, drop_named}
 use Rattle.reduction_cert.proofs.checking.apply_drop.Goals as goal
 
@@ -26,4 +26,5 @@ returns-clause-known c =
     let made = c.was_made.ensures.made (c.in_ok-was_made.was ∙ ap Ok c.if-not-branch.false) in
     let holds = told_holds (dropped g vs) (graph_of c.drop_vertices.new.model) (first_failed (drop_conditions g vs)) c.drop_vertices.result c.drop_vertices.ensures.done c.drop_vertices.ensures.refused made in
     let is = told_result (dropped g vs) (graph_of c.drop_vertices.new.model) (first_failed (drop_conditions g vs)) c.drop_vertices.result c.drop_vertices.ensures.done c.drop_vertices.ensures.refused made in
-    subst (λ (h : EventGraph). IsKnown h c.known_without-behind.result) (sym is) (c.known_without-behind.ensures holds)
+    let known : IsKnown (dropped g vs) c.known_without-behind.result = subst (λ (vs : List ℕ). first_failed (drop_conditions g vs) ≡ None → IsKnown (dropped g vs) c.known_without-behind.result) c.as_slice.ensures c.known_without-behind.ensures holds in
+    subst (λ (h : EventGraph). IsKnown h c.known_without-behind.result) (sym is) known

@@ -4,7 +4,7 @@ use Rattle.model_core.specs.EventGraph.{Variable}
 use Rattle.model_core.specs.Code.Views.{graph_of, variable_of}
 use Rattle.model_core.specs.Text.Numbering.{each_numbered, declared_place}
 use Rattle.model_core.specs.Rules.Reduction.{variables_named}
-use Rattle.reduction_cert.proofs.Tables.{all_by_table}
+use Rattle.reduction_cert.proofs.PlacesByTable.{all_by_table}
 use Rattle.reduction_cert.proofs.checking.apply_slice.Goals as goal
 
 pub returns : goal.returns
