@@ -1,0 +1,5 @@
+use Rattle.snapshot_text.proofs.SnapshotTold.{snapshot-at}
+use Rattle.snapshot_text.proofs.laws.saved_runs_read_back.Goals as goal
+
+pub returns : goal.returns
+returns c = λ g s at kept this_name good. snapshot-at g kept this_name at s good
