@@ -1,6 +1,6 @@
 //! What is left to read of a text's tokens.
 
-ghost use Rattle.std.specs.Prelude.{◌≡◌, ◌≢◌, ℕ, ◌+◌, ◌≤◌, true, false, None, List, [], drop, length, map, IfOk};
+ghost use Rattle.std.specs.Prelude.{◌≡◌, ◌≢◌, ℕ, ◌+◌, ◌≤◌, true, false, None, List, [], drop, length, map, IfOk, IfErr};
 ghost use Rattle.std.specs.Option.{option_map, IfSome};
 ghost use Rattle.model_core.specs.declared.token.Word.TheVariants.{Not};
 ghost use Rattle.model_core.specs.Code.WrittenViews.{written_name, written_number};
@@ -149,6 +149,7 @@ impl<'t> Cursor<'t> {
     pub fn word(&mut self, word: Word) -> Result<usize, Stop>
         ensures reads { Returned (λ at. at) result self.new (language_reader (reserved word) self.old) }
         ensures shorter { IfOk result (λ at. length self.new + 1 ≤ length self.old) }
+        ensures unexpected { IfErr result (λ e. e ≡ Stop.Unexpected) }
     {
         match self.tokens {
             [first, rest @ ..] if first.kind == TokenKind::Word(word) => {
@@ -163,6 +164,7 @@ impl<'t> Cursor<'t> {
     pub fn symbol(&mut self, symbol: Symbol) -> Result<usize, Stop>
         ensures reads { Returned (λ at. at) result self.new (language_reader (mark symbol) self.old) }
         ensures shorter { IfOk result (λ at. length self.new + 1 ≤ length self.old) }
+        ensures unexpected { IfErr result (λ e. e ≡ Stop.Unexpected) }
     {
         match self.tokens {
             [first, rest @ ..] if first.kind == TokenKind::Symbol(symbol) => {
@@ -177,6 +179,7 @@ impl<'t> Cursor<'t> {
     pub fn this_name(&mut self, spelling: &[u8]) -> Result<usize, Stop>
         ensures reads { Returned (λ at. at) result self.new (language_reader (this_name spelling.now) self.old) }
         ensures shorter { IfOk result (λ at. length self.new + 1 ≤ length self.old) }
+        ensures unexpected { IfErr result (λ e. e ≡ Stop.Unexpected) }
     {
         match self.tokens {
             [first, rest @ ..] if self.begins_spelled(spelling) => {
@@ -244,6 +247,7 @@ impl<'t> Cursor<'t> {
     pub fn number(&mut self) -> Result<RawNumber, Stop>
         ensures reads { Returned written_number result self.new (language_reader any_number self.old) }
         ensures shorter { IfOk result (λ n. length self.new + 1 ≤ length self.old) }
+        ensures unexpected { IfErr result (λ e. e ≡ Stop.Unexpected) }
     {
         if let [first, rest @ ..] = self.tokens
             && let TokenKind::Number(value) = first.kind
@@ -262,6 +266,7 @@ impl<'t> Cursor<'t> {
     pub fn digits(&mut self) -> Result<Spelling<'t>, Stop>
         ensures reads { Returned digits_written result self.new (language_reader exact_format self.old) }
         ensures shorter { IfOk result (λ n. length self.new + 1 ≤ length self.old) }
+        ensures unexpected { IfErr result (λ e. e ≡ Stop.Unexpected) }
     {
         if let [first, rest @ ..] = self.tokens
             && let TokenKind::Number(_) = first.kind
@@ -280,6 +285,7 @@ impl<'t> Cursor<'t> {
     pub fn spelling(&mut self) -> Result<Spelling<'t>, Stop>
         ensures reads { Returned spelled_name result self.new (language_reader any_name self.old) }
         ensures shorter { IfOk result (λ n. length self.new + 1 ≤ length self.old) }
+        ensures unexpected { IfErr result (λ e. e ≡ Stop.Unexpected) }
     {
         if let [first, rest @ ..] = self.tokens
             && let TokenKind::Name = first.kind

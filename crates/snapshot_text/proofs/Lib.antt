@@ -6,3 +6,5 @@ pub mod SnapshotWrites
 pub mod SnapshotStands
 pub mod SnapshotTold
 mod WorkedSnapshots
+mod PassingOver
+mod PrintedLines
