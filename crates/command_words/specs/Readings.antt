@@ -1,5 +1,5 @@
 -- What each job reads, and what it asks of that.
-use Rattle.std.specs.Prelude.{◌≤◌, ℕ, Option, Some, None}
+use Rattle.std.specs.Prelude.{◌<◌, ◌≤◌, ◌^◌, ℕ, Option, Some, None}
 use Rattle.sig_base.specs.declared.limits.TheConstants.{TEXT_MAX, DOCUMENT_MAX, STOP_MAX, EVENTS_MAX}
 use Rattle.command_words.specs.declared.job.Job.{Job}
 use Rattle.command_words.specs.declared.job.Job.TheVariants as jobs
@@ -38,11 +38,11 @@ limit_of (readings.Saved job) = Some DOCUMENT_MAX
 limit_of (readings.Nothing job) = None
 
 -- what is asked for keeps its limits: the stop time and the event budget of a run, how many runs there are, how many vertices a
--- made model has, and the room of a run that goes on
+-- made model has, the seed of a run that is saved, and the room of one that goes on
 abbrev pub KeepsLimits : Reading → Type 0
 KeepsLimits (readings.Model (models.Run options)) = (options.until ≤ STOP_MAX) × (options.events ≤ EVENTS_MAX)
 KeepsLimits (readings.Model (models.Replicate options)) = (options.until ≤ STOP_MAX) × (options.events ≤ EVENTS_MAX) × (1 ≤ options.runs) × (options.runs ≤ most_runs)
-KeepsLimits (readings.Model (models.Save options)) = (options.until ≤ STOP_MAX) × (options.events ≤ EVENTS_MAX)
+KeepsLimits (readings.Model (models.Save options)) = (options.until ≤ STOP_MAX) × (options.seed < 2 ^ 64) × (options.events ≤ EVENTS_MAX)
 KeepsLimits (readings.Saved (saved_jobs.Resume options)) = (options.until ≤ STOP_MAX) × (options.events ≤ EVENTS_MAX) × (options.room ≤ greatest_room)
 KeepsLimits (readings.Nothing (bare.Trial options)) = (1 ≤ options.vertices) × (options.vertices ≤ most_made) × (options.until ≤ STOP_MAX) × (options.events ≤ EVENTS_MAX)
 KeepsLimits reading = Unit {0}

@@ -6,6 +6,7 @@ mod clap_matches;
 mod command;
 mod command_line;
 mod job;
+mod limits_law;
 mod reading;
 mod replicate_options;
 mod resume_options;
@@ -16,6 +17,7 @@ mod words_error;
 
 pub use command_line::words;
 pub use job::Job;
+pub use limits_law::jobs_keep_their_limits;
 pub use reading::{BareJob, DocumentJob, ModelJob, Reading, SavedJob};
 pub use replicate_options::ReplicateOptions;
 pub use resume_options::ResumeOptions;
