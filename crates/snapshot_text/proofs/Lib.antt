@@ -5,6 +5,12 @@ pub mod SnapshotLines
 pub mod SnapshotWrites
 pub mod SnapshotStands
 pub mod SnapshotTold
+mod WholeSnapshots
 mod WorkedSnapshots
+mod DigitsRead
+mod FewParameters
+mod FittingValues
+mod JudgedParts
+mod PartsBegin
 mod PassingOver
 mod PrintedLines

@@ -2,3 +2,5 @@
 pub mod Skimming
 pub mod SomeParts
 pub mod Lines
+pub mod RawParts
+pub mod Judging

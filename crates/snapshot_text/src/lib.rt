@@ -1,11 +1,25 @@
 //! The text of saved runs: what is kept of a run that is stopped, printed and read.
 #![tactic(auto)]
 
+mod carried;
+mod events;
+mod judging;
 mod laws;
+mod noted;
+mod numbers;
+mod parts;
 mod printing;
+mod reading;
 mod skimming;
 mod snapshot;
+mod snapshot_error;
+mod streams;
+mod values;
+mod whole;
 
 pub use laws::{saved_documents_read_back, saved_runs_read_back, snapshots_have_one_reading};
 pub use printing::print_snapshot;
+pub use skimming::snapshot_fault;
 pub use snapshot::Snapshot;
+pub use snapshot_error::SnapshotError;
+pub use whole::read_snapshot;

@@ -10,15 +10,13 @@ ghost use Rattle.model_core.specs.Saved.SavedRun.{IsGood};
 ghost use Rattle.model_core.specs.Text.SnapshotText.{comma_values, stream_lines, value_lines, noted_values, noted_line, carried_text, pending_line, snapshot_text};
 ghost use Rattle.snapshot_text.specs.Inner.Lines.{stream_line, value_line, event_line, seed_lines, clock_lines, last_lines};
 
+use crate::numbers::SEED_PART;
 use crate::snapshot::Snapshot;
 use event_list::Entry;
 use itoa::Buffer;
 use model_core::{Model, Var};
 use sig_base::{List, NoMemory, Text, put_bytes, put_number};
 use std::alloc::Global;
-
-/// The seed is written as its quotient by this number and its rest.
-const SEED_PART: u64 = 4_294_967_296;
 
 /// Adds a number in decimal, with a `-` where it is below 0.
 fn put_signed(out: &mut Vec<u8>, number: i64) -> Result<(), NoMemory>

@@ -1,6 +1,5 @@
 -- Each part of a snapshot has a token at least.
 use Rattle.std.specs.Prelude.{◌≡◌, false, refl}
-use Rattle.model_core.specs.Text.Language.{signed_format}
 use Rattle.model_core.specs.Text.SnapshotGrammar.{stream_format, value_format, exact_format, carried_format, pending_format}
 use Rattle.text_laws.specs.FirstTokens.{nullable}
 

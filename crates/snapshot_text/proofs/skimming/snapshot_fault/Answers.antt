@@ -1,8 +1,7 @@
 -- What was passed over is a snapshot, and where it stopped none goes on.
-use Rattle.std.proofs.Common.{◌≡◌, ℕ, List, drop, map, Some, refl, ap, ◌∙◌, subst, sym}
+use Rattle.std.proofs.Common.{◌≡◌, ℕ, drop, map, refl, ap, ◌∙◌, subst, sym}
 use Rattle.std.proofs.lemmas.List.{drop-map}
 use Rattle.model_core.specs.Text.FirstWrong.{told_place}
-use Rattle.model_core.specs.Text.Lexing.{Lexeme}
 use Rattle.model_core.specs.Text.SnapshotGrammar.{snapshot_format, IsNoSnapshotAt}
 use Rattle.model_core.specs.Code.TokenViews.{lexeme_of}
 use Rattle.model_lex.specs.Lexemes.{lexemes}

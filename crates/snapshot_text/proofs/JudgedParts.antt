@@ -1,0 +1,78 @@
+-- Parts one after the other: each good one is passed, and the first that isn't is told.
+use Rattle.std.proofs.Common.{◌≡◌, ℕ, suc, ◌+◌, ◌<◌, ◌≤◌, ◌∷◌, List, length, slice_set, Bool, true, false, cond, ◌&&◌, [], ◌++◌, ℤ, pos, Option, Some, None, unwrap_or, refl, ap, ap₂, sym, ◌∙◌, arith, append_assoc}
+use Rattle.std.specs.List.{list_all}
+use Rattle.std.proofs.lemmas.List.{length-set}
+use Rattle.model_core.specs.Text.Written.{WrittenSigned}
+use Rattle.model_core.specs.Text.Numbering as numbering
+use Rattle.model_core.specs.Text.SnapshotGrammar.{WrittenStream}
+use Rattle.model_core.specs.Saved.GoodSnapshots.{CheckedPart, first_bad_part, number_or_zero, stream_parts, with_taken, signed_values}
+use Rattle.snapshot_text.specs.Inner.Judging.{kept, stream_good, stream_taken, fits, fitting}
+
+pub kept-some : {X : Type 0} (b : Bool) (x y : X) → Some y ≡ kept b x → (b ≡ true) × (y ≡ x)
+kept-some true x y e = (refl, cc)
+kept-some false x y e = absurd cc
+
+pub kept-none : {X : Type 0} (b : Bool) (x : X) → None ≡ kept b x → b ≡ false
+kept-none true x e = absurd cc
+kept-none false x e = refl
+
+pub passed : (p : CheckedPart) (parts : List CheckedPart) → p.good ≡ true → first_bad_part (p ∷ parts) ≡ first_bad_part parts
+passed p parts e = ap (λ b. cond b (first_bad_part parts) (Some p.at)) e
+
+pub told : (p : CheckedPart) (parts : List CheckedPart) → p.good ≡ false → first_bad_part (p ∷ parts) ≡ Some p.at
+told p parts e = ap (λ b. cond b (first_bad_part parts) (Some p.at)) e
+
+pub stream_passed : (least next : ℕ) (s : WrittenStream) (later : List WrittenStream) (total : Option ℕ) → stream_good least s ≡ true → next ≡ suc (number_or_zero s.stream)
+    → first_bad_part (stream_parts least (s ∷ later)) ≡ total → first_bad_part (stream_parts next later) ≡ total
+stream_passed least next s later total good is so_far =
+    ap (λ n. first_bad_part (stream_parts n later)) is ∙ sym (passed (record { good = stream_good least s; at = s.at }) (stream_parts (suc (number_or_zero s.stream)) later) good) ∙ so_far
+
+pub stream_told : (least : ℕ) (s : WrittenStream) (later : List WrittenStream) (total : Option ℕ) → stream_good least s ≡ false → first_bad_part (stream_parts least (s ∷ later)) ≡ total → total ≡ Some s.at
+stream_told least s later total bad so_far = sym so_far ∙ told (record { good = stream_good least s; at = s.at }) (stream_parts (suc (number_or_zero s.stream)) later) bad
+
+pub one_stream_more : (least number words : ℕ) (s : WrittenStream) (later : List WrittenStream) (taken : List ℕ) (first : Option ℕ) (all : List ℕ) → Some (number, words) ≡ kept (stream_good least s) (stream_taken s) → number < 64
+    → first_bad_part (stream_parts least (s ∷ later)) ≡ first → with_taken (s ∷ later) taken ≡ all → length taken ≡ 64
+    → (first_bad_part (stream_parts (number + 1) later) ≡ first) × (with_taken later (slice_set taken number words) ≡ all) × (length (slice_set taken number words) ≡ 64) × (number + 1 ≤ 64)
+one_stream_more least number words s later taken first all is near so_far filled long =
+    let k = kept-some (stream_good least s) (stream_taken s) (number, words) is in
+    let n : number ≡ number_or_zero s.stream = ap (λ (p : ℕ × ℕ). p.0) k.1 in
+    let m : words ≡ number_or_zero s.words = ap (λ (p : ℕ × ℕ). p.1) k.1 in
+    let next : number + 1 ≡ suc (number_or_zero s.stream) = omega (arith, n) in (
+      stream_passed least (number + 1) s later first k.0 next so_far,
+      ap₂ (λ a b. with_taken later (slice_set taken a b)) n m ∙ filled,
+      length-set taken number words ∙ long,
+      omega (arith, near),
+    )
+
+-- ---- values
+
+pub one_fits : (lo hi : ℤ) (s : WrittenSigned) (later : List WrittenSigned) (x : ℤ) (out : List ℤ) (total : Bool) (all : List ℤ) → Some x ≡ fitting lo hi s → list_all (fits lo hi) (s ∷ later) ≡ total → out ++ signed_values (s ∷ later) ≡ all
+    → (list_all (fits lo hi) later ≡ total) × ((out ++ x ∷ []) ++ signed_values later ≡ all)
+one_fits lo hi s later x out total all is so_far added =
+    let k = kept-some (fits lo hi s) (unwrap_or (numbering.signed s) (pos 0)) x is in (
+      ap (λ b. b && list_all (fits lo hi) later) (sym k.0) ∙ so_far,
+      append_assoc out (x ∷ []) (signed_values later) ∙ ap (λ y. out ++ y ∷ signed_values later) k.1 ∙ added,
+    )
+
+pub none_fits : (lo hi : ℤ) (s : WrittenSigned) (later : List WrittenSigned) (total : Bool) → None ≡ fitting lo hi s → list_all (fits lo hi) (s ∷ later) ≡ total → false ≡ total
+none_fits lo hi s later total is so_far = ap (λ b. b && list_all (fits lo hi) later) (sym (kept-none (fits lo hi s) (unwrap_or (numbering.signed s) (pos 0)) is)) ∙ so_far
+
+-- ---- parts, and others behind them
+
+one_before : (good : Bool) (first : Option ℕ) (at : ℕ) → cond good first (Some at) ≡ None → (good ≡ true) × (first ≡ None)
+one_before true first at h = (refl, h)
+one_before false first at h = absurd cc
+
+pub good_before : (a b : List CheckedPart) → first_bad_part a ≡ None → first_bad_part (a ++ b) ≡ first_bad_part b
+good_before [] b h = refl
+good_before (p ∷ a) b h =
+    let k = one_before p.good (first_bad_part a) p.at h in
+    ap (λ c. cond c (first_bad_part (a ++ b)) (Some p.at)) k.0 ∙ good_before a b k.1
+
+told_before : (good : Bool) (first all : Option ℕ) (at place : ℕ) → cond good first (Some at) ≡ Some place → (first ≡ Some place → all ≡ Some place) → cond good all (Some at) ≡ Some place
+told_before true first all at place h k = k h
+told_before false first all at place h k = h
+
+pub bad_before : (a b : List CheckedPart) (at : ℕ) → first_bad_part a ≡ Some at → first_bad_part (a ++ b) ≡ Some at
+bad_before [] b at h = absurd cc
+bad_before (p ∷ a) b at h = told_before p.good (first_bad_part a) (first_bad_part (a ++ b)) p.at at h (λ e. bad_before a b at e)

@@ -1,0 +1,75 @@
+//! What a snapshot that was read stands for, if it is good.
+
+ghost use Rattle.std.specs.Prelude.{◌≡◌, ◌≤◌, ◌^◌, length};
+ghost use Rattle.std.specs.List.{AllByRecursion};
+ghost use Rattle.sig_base.specs.declared.limits.TheConstants.{PARAMETERS_MAX};
+ghost use Rattle.model_core.specs.EventGraph.{EventVertex};
+ghost use Rattle.model_core.specs.Code.Views.{graph_of};
+ghost use Rattle.model_core.specs.Saved.GoodSnapshots.{snapshot_parts, saved_run};
+ghost use Rattle.snapshot_text.specs.Inner.Judging.{Judged, later_parts, later_saved};
+ghost use Rattle.snapshot_text.specs.Inner.RawParts.{written_snapshot};
+
+use crate::events::pending_of;
+use crate::noted::noted_of;
+use crate::numbers::{at_most, seed_of};
+use crate::parts::RawSnapshot;
+use crate::snapshot::Snapshot;
+use crate::snapshot_error::SnapshotError;
+use crate::streams::taken_of;
+use crate::values::values_of;
+use model_core::Model;
+use sig_base::{EVENTS_MAX, STOP_MAX};
+use std::alloc::Global;
+
+/// The saved run with this seed, clock and number of events, if the other parts are good.
+#[tactic(auto, using(crate::proofs::JudgedParts::good_before, crate::proofs::JudgedParts::bad_before))]
+fn later_judged(
+    alloc: Global,
+    model: &Model,
+    raw: &RawSnapshot<'_>,
+    seed: u64,
+    clock: u64,
+    events: u64,
+) -> Result<Snapshot, SnapshotError>
+    requires few { AllByRecursion (λ (v : EventVertex). length v.parameters ≤ PARAMETERS_MAX) (graph_of model.now).vertices }
+    requires early { clock ≤ 2 ^ 48 }
+    ensures { Judged result (later_parts (graph_of model.now) (written_snapshot raw.now)) (λ s. s ≡ later_saved (graph_of model.now) (written_snapshot raw.now) seed clock events) }
+{
+    let taken = taken_of(alloc, raw.streams.as_slice())?;
+    let values = values_of(alloc, model, raw.values.as_slice())?;
+    let noted = noted_of(alloc, model, &raw.noted)?;
+    let pending = pending_of(alloc, model, clock, raw.pending.as_slice())?;
+    if raw.values.len() < model.vars.len() {
+        return Err(SnapshotError::Bad { at: raw.end_at });
+    }
+    Ok(Snapshot {
+        seed,
+        clock,
+        events,
+        taken,
+        values,
+        noted,
+        pending,
+    })
+}
+
+/// The saved run that a snapshot stands for, if it is good for the model.
+pub(crate) fn judged(
+    alloc: Global,
+    model: &Model,
+    raw: &RawSnapshot<'_>,
+) -> Result<Snapshot, SnapshotError>
+    requires few { AllByRecursion (λ (v : EventVertex). length v.parameters ≤ PARAMETERS_MAX) (graph_of model.now).vertices }
+    ensures { Judged result (snapshot_parts (graph_of model.now) (written_snapshot raw.now)) (λ s. s ≡ saved_run (graph_of model.now) (written_snapshot raw.now)) }
+{
+    let Some(seed) = seed_of(raw.seed, raw.seed_rest) else {
+        return Err(SnapshotError::Bad { at: raw.seed_at });
+    };
+    let Some(clock) = at_most(raw.clock, STOP_MAX) else {
+        return Err(SnapshotError::Bad { at: raw.clock_at });
+    };
+    let Some(events) = at_most(raw.events, EVENTS_MAX) else {
+        return Err(SnapshotError::Bad { at: raw.events_at });
+    };
+    later_judged(alloc, model, raw, seed, clock, events)
+}

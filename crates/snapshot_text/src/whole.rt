@@ -1,0 +1,40 @@
+//! Reads a snapshot for a model.
+
+ghost use Rattle.std.specs.Prelude.{◌≡◌, ◌≤◌, ℕ, drop, length, Some, None, Err, IfOk};
+ghost use Rattle.std.specs.List.{AllByRecursion};
+ghost use Rattle.sig_base.specs.declared.limits.TheConstants.{PARAMETERS_MAX};
+ghost use Rattle.model_core.specs.EventGraph.{EventVertex};
+ghost use Rattle.model_core.specs.Code.Views.{graph_of};
+ghost use Rattle.model_core.specs.Text.SnapshotGrammar.{WrittenSnapshot, IsSnapshot};
+ghost use Rattle.model_core.specs.Saved.GoodSnapshots.{bad_at, saved_run};
+ghost use Rattle.model_lex.specs.Lexemes.{lexemes};
+
+use crate::judging::judged;
+use crate::laws::snapshots_have_one_reading;
+use crate::reading::raw_snapshot;
+use crate::snapshot::Snapshot;
+use crate::snapshot_error::SnapshotError;
+use model_core::Model;
+use model_lex::Tokens;
+use std::alloc::Global;
+
+/// Reads the tokens from a place on, which all together are one snapshot, as `snapshot_fault` tells: the saved run that it
+/// stands for, if it is good for the model. A place is here the number of tokens before it; no vertex of the model has more
+/// parameters than the limit.
+pub fn read_snapshot(
+    alloc: Global,
+    model: &Model,
+    tokens: &Tokens<'_>,
+    from: usize,
+) -> Result<Snapshot, SnapshotError>
+    requires few { AllByRecursion (λ (v : EventVertex). length v.parameters ≤ PARAMETERS_MAX) (graph_of model.now).vertices }
+    requires spelled { (w : WrittenSnapshot) × IsSnapshot (drop from (lexemes tokens.now)) w }
+    // What is read is good, and the saved run that it stands for.
+    ensures good { IfOk result (λ snapshot. (w : WrittenSnapshot) → IsSnapshot (drop from (lexemes tokens.now)) w → (bad_at (graph_of model.now) w ≡ None) × (snapshot ≡ saved_run (graph_of model.now) w)) }
+    // What is refused isn't good, and this is where its first part that breaks a rule begins.
+    ensures bad { (at : ℕ) → result ≡ Err (SnapshotError.Bad at) → (w : WrittenSnapshot) → IsSnapshot (drop from (lexemes tokens.now)) w → bad_at (graph_of model.now) w ≡ Some at }
+{
+    snapshots_have_one_reading();
+    let raw = raw_snapshot(alloc, tokens, from)?;
+    judged(alloc, model, &raw)
+}
