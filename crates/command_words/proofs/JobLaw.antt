@@ -10,7 +10,7 @@ use Rattle.command_words.specs.declared.command.Command.{Command}
 use Rattle.command_words.specs.declared.command.Command.TheVariants as commands
 use Rattle.command_words.specs.declared.job.Job.{Job}
 use Rattle.command_words.specs.Arguments.{CommandWord, Setting, arguments_of, command_words, has_only_options, is_value, values_of}
-use Rattle.command_words.specs.Jobs.{command_of, job_asked, job_of, job_with, only_command, options_of, run_of, replicate_of, trial_of}
+use Rattle.command_words.specs.Jobs.{command_of, job_asked, job_of, job_with, only_command, options_of, run_of, replicate_of, save_of, resume_of, trial_of}
 use Rattle.command_words.specs.Inner.ClapCommand.{clap_rows, has_one_dash, option_names}
 use Rattle.command_words.specs.Inner.MatchedJobs.{asked_by, has_only, matched_job, matched_values}
 use Rattle.command_words.proofs.KnownRules.{itself, known, same_name}
@@ -116,6 +116,12 @@ run_is given rows same = rw (same (codes "until") refl, same (codes "seed") refl
 replicate_is : (given : Arguments) (rows : List Row) → ((name : Text) → known option_names name ≡ true → values_of name given ≡ matched_values rows name) → replicate_of (λ name. values_of name given) ≡ replicate_of (matched_values rows)
 replicate_is given rows same = rw (same (codes "until") refl, same (codes "seed") refl, same (codes "events") refl, same (codes "runs") refl, same (codes "start") refl) refl
 
+save_is : (given : Arguments) (rows : List Row) → ((name : Text) → known option_names name ≡ true → values_of name given ≡ matched_values rows name) → save_of (λ name. values_of name given) ≡ save_of (matched_values rows)
+save_is given rows same = rw (same (codes "until") refl, same (codes "seed") refl, same (codes "events") refl, same (codes "start") refl) refl
+
+resume_is : (given : Arguments) (rows : List Row) → ((name : Text) → known option_names name ≡ true → values_of name given ≡ matched_values rows name) → resume_of (λ name. values_of name given) ≡ resume_of (matched_values rows)
+resume_is given rows same = rw (same (codes "until") refl, same (codes "events") refl, same (codes "room") refl) refl
+
 trial_is : (given : Arguments) (rows : List Row) → ((name : Text) → known option_names name ≡ true → values_of name given ≡ matched_values rows name) → trial_of (λ name. values_of name given) ≡ trial_of (matched_values rows)
 trial_is given rows same = rw (same (codes "seed") refl, same (codes "vertices") refl, same (codes "until") refl, same (codes "events") refl) refl
 
@@ -123,6 +129,8 @@ job_is : (command : Command) (given : Arguments) (rows : List Row) → ((name : 
     → job_with command (λ name. values_of name given) ≡ job_with command (matched_values rows)
 job_is commands.Run given rows same = run_is given rows same
 job_is commands.Replicate given rows same = replicate_is given rows same
+job_is commands.Save given rows same = save_is given rows same
+job_is commands.Resume given rows same = resume_is given rows same
 job_is commands.Trial given rows same = trial_is given rows same
 job_is _ given rows same = refl
 

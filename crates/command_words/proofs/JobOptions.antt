@@ -9,7 +9,7 @@ use Rattle.command_words.specs.declared.command.Command.TheVariants as commands
 use Rattle.command_words.specs.declared.job.Job.{Job}
 use Rattle.command_words.specs.Arguments.{CommandWord, Setting, command_words, has_only_options, values_of}
 use Rattle.command_words.specs.ArgumentValues.{besides, needed}
-use Rattle.command_words.specs.Jobs.{command_of, job_asked, job_with, only_command, options_of, run_with, replicate_with, trial_with}
+use Rattle.command_words.specs.Jobs.{command_of, job_asked, job_with, only_command, options_of, run_with, replicate_with, save_with, resume_with, trial_with}
 use Rattle.command_words.specs.Inner.ClapCommand.{option_names}
 use Rattle.command_words.proofs.KnownRules.{known, same_name}
 use Rattle.command_words.proofs.JoinedArguments.{Arguments, fits}
@@ -45,6 +45,8 @@ not_given options name (Setting other value ∷ given) only none =
 command_options_known : (command : Command) → list_all (known option_names) (options_of command) ≡ true
 command_options_known commands.Run = refl
 command_options_known commands.Replicate = refl
+command_options_known commands.Save = refl
+command_options_known commands.Resume = refl
 command_options_known commands.Trial = refl
 command_options_known _ = refl
 
@@ -86,6 +88,21 @@ replicate_parts (Some until) (Some seed) None runs starts job e = absurd (let wr
 replicate_parts (Some until) (Some seed) (Some events) None starts job e = absurd (let wrong : None ≡ Some job = e in cc)
 replicate_parts (Some until) (Some seed) (Some events) (Some runs) None job e = absurd (let wrong : None ≡ Some job = e in cc)
 
+-- and so has a run that is saved
+save_parts : (until seed events : Option ℕ) (starts : Option (List ℤ)) (job : Job) → save_with until seed events starts ≡ Some job → IsThere until × IsThere seed × IsThere events × IsThere starts
+save_parts (Some until) (Some seed) (Some events) (Some starts) job e = ((until, refl), (seed, refl), (events, refl), (starts, refl))
+save_parts None seed events starts job e = absurd (let wrong : None ≡ Some job = e in cc)
+save_parts (Some until) None events starts job e = absurd (let wrong : None ≡ Some job = e in cc)
+save_parts (Some until) (Some seed) None starts job e = absurd (let wrong : None ≡ Some job = e in cc)
+save_parts (Some until) (Some seed) (Some events) None job e = absurd (let wrong : None ≡ Some job = e in cc)
+
+-- and so has a run that goes on
+resume_parts : (until events room : Option ℕ) (job : Job) → resume_with until events room ≡ Some job → IsThere until × IsThere events × IsThere room
+resume_parts (Some until) (Some events) (Some room) job e = ((until, refl), (events, refl), (room, refl))
+resume_parts None events room job e = absurd (let wrong : None ≡ Some job = e in cc)
+resume_parts (Some until) None room job e = absurd (let wrong : None ≡ Some job = e in cc)
+resume_parts (Some until) (Some events) None job e = absurd (let wrong : None ≡ Some job = e in cc)
+
 -- and so has a trial
 trial_parts : (seed vertices until events : Option ℕ) (job : Job) → trial_with seed vertices until events ≡ Some job → IsThere seed × IsThere vertices × IsThere until × IsThere events
 trial_parts (Some seed) (Some vertices) (Some until) (Some events) job e = ((seed, refl), (vertices, refl), (until, refl), (events, refl))
@@ -101,6 +118,12 @@ job_options_once commands.Run given job e =
 job_options_once commands.Replicate given job e =
     let (until, seed, events, runs, starts) = replicate_parts _ _ _ _ _ job e in
     (once_needed _ _ until.0 until.1, (once_needed _ _ seed.0 seed.1, (once_needed _ _ events.0 events.1, (once_needed _ _ runs.0 runs.1, (once_besides _ _ _ starts.0 starts.1, tt)))))
+job_options_once commands.Save given job e =
+    let (until, seed, events, starts) = save_parts _ _ _ _ job e in
+    (once_needed _ _ until.0 until.1, (once_needed _ _ seed.0 seed.1, (once_needed _ _ events.0 events.1, (once_besides _ _ _ starts.0 starts.1, tt))))
+job_options_once commands.Resume given job e =
+    let (until, events, room) = resume_parts _ _ _ job e in
+    (once_needed _ _ until.0 until.1, (once_needed _ _ events.0 events.1, (once_besides _ _ _ room.0 room.1, tt)))
 job_options_once commands.Trial given job e =
     let (seed, vertices, until, events) = trial_parts _ _ _ _ job e in
     (once_needed _ _ seed.0 seed.1, (once_needed _ _ vertices.0 vertices.1, (once_needed _ _ until.0 until.1, (once_needed _ _ events.0 events.1, tt))))

@@ -10,5 +10,6 @@ pub mod ClapLaw
 pub mod FittingArguments
 pub mod HyphenWords
 pub mod JobOptions
+pub mod JobLimits
 pub mod JobLaw
 pub mod ClapCalls

@@ -25,7 +25,9 @@ command_of word =
     else (if pointwise nat_eq word (codes "describe") then Some commands.Describe
     else (if pointwise nat_eq word (codes "run") then Some commands.Run
     else (if pointwise nat_eq word (codes "replicate") then Some commands.Replicate
-    else (if pointwise nat_eq word (codes "trial") then Some commands.Trial else None)))))))))))
+    else (if pointwise nat_eq word (codes "save") then Some commands.Save
+    else (if pointwise nat_eq word (codes "resume") then Some commands.Resume
+    else (if pointwise nat_eq word (codes "trial") then Some commands.Trial else None)))))))))))))
 
 -- the options that a command takes
 abbrev pub options_of : Command → List (List ℕ)
@@ -40,6 +42,8 @@ options_of commands.Narrow = []
 options_of commands.Describe = []
 options_of commands.Run = codes "until" ∷ codes "seed" ∷ codes "events" ∷ codes "start" ∷ codes "room" ∷ []
 options_of commands.Replicate = codes "until" ∷ codes "seed" ∷ codes "events" ∷ codes "runs" ∷ codes "start" ∷ []
+options_of commands.Save = codes "until" ∷ codes "seed" ∷ codes "events" ∷ codes "start" ∷ []
+options_of commands.Resume = codes "until" ∷ codes "events" ∷ codes "room" ∷ []
 options_of commands.Trial = codes "seed" ∷ codes "vertices" ∷ codes "until" ∷ codes "events" ∷ []
 
 -- ---- the job of a command and its options
@@ -88,6 +92,31 @@ replicate_of values = replicate_with
     (needed (number_within 1 most_runs) (values (codes "runs")))
     (besides [] starting_values (values (codes "start")))
 
+-- the job of a run that is saved, where each of these is there
+abbrev pub save_with : Option ℕ → Option ℕ → Option ℕ → Option (List ℤ) → Option Job
+save_with (Some until) (Some seed) (Some events) (Some starts) = Some (jobs.Save until seed events starts)
+save_with until seed events starts = None
+
+-- `save` needs its stop time, seed and how many events it is to make, and may have starting values
+abbrev pub save_of : Values → Option Job
+save_of values = save_with
+    (needed (number_within 0 STOP_MAX) (values (codes "until")))
+    (needed (number_within 0 (2 ^ 64 - 1)) (values (codes "seed")))
+    (needed (number_within 1 EVENTS_MAX) (values (codes "events")))
+    (besides [] starting_values (values (codes "start")))
+
+-- the job of a run that goes on, where each of these is there
+abbrev pub resume_with : Option ℕ → Option ℕ → Option ℕ → Option Job
+resume_with (Some until) (Some events) (Some room) = Some (jobs.Resume until events room)
+resume_with until events room = None
+
+-- `resume` needs its stop time and event budget, and may have room
+abbrev pub resume_of : Values → Option Job
+resume_of values = resume_with
+    (needed (number_within 0 STOP_MAX) (values (codes "until")))
+    (needed (number_within 1 EVENTS_MAX) (values (codes "events")))
+    (besides usual_room (number_within 0 greatest_room) (values (codes "room")))
+
 -- the job of a trial, where each of these is there
 abbrev pub trial_with : Option ℕ → Option ℕ → Option ℕ → Option ℕ → Option Job
 trial_with (Some seed) (Some vertices) (Some until) (Some events) = Some (jobs.Trial seed vertices until events)
@@ -118,6 +147,8 @@ job_with commands.Narrow values = Some jobs.Narrow
 job_with commands.Describe values = Some jobs.Describe
 job_with commands.Run values = run_of values
 job_with commands.Replicate values = replicate_of values
+job_with commands.Save values = save_of values
+job_with commands.Resume values = resume_of values
 job_with commands.Trial values = trial_of values
 
 -- there is one command, and no option but those that it takes

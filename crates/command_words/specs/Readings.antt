@@ -1,14 +1,15 @@
 -- What each job reads, and what it asks of that.
-use Rattle.std.specs.Prelude.{◌≤◌, ℕ, Option, Some, None}
+use Rattle.std.specs.Prelude.{◌<◌, ◌≤◌, ◌^◌, ℕ, Option, Some, None}
 use Rattle.sig_base.specs.declared.limits.TheConstants.{TEXT_MAX, DOCUMENT_MAX, STOP_MAX, EVENTS_MAX}
 use Rattle.command_words.specs.declared.job.Job.{Job}
 use Rattle.command_words.specs.declared.job.Job.TheVariants as jobs
 use Rattle.command_words.specs.declared.reading.BareJob.TheVariants as bare
 use Rattle.command_words.specs.declared.reading.DocumentJob.TheVariants as documents
 use Rattle.command_words.specs.declared.reading.ModelJob.TheVariants as models
+use Rattle.command_words.specs.declared.reading.SavedJob.TheVariants as saved_jobs
 use Rattle.command_words.specs.declared.reading.Reading.{Reading}
 use Rattle.command_words.specs.declared.reading.Reading.TheVariants as readings
-use Rattle.command_words.specs.Jobs.{most_runs, most_made}
+use Rattle.command_words.specs.Jobs.{greatest_room, most_runs, most_made}
 
 -- what a job reads, and what it asks of that
 abbrev pub reading_of : Job → Reading
@@ -25,18 +26,23 @@ reading_of (jobs.Run until seed events starts room) =
     readings.Model (models.Run (record { until = until; seed = seed; events = events; starts = starts; room = room }))
 reading_of (jobs.Replicate until seed events runs starts) =
     readings.Model (models.Replicate (record { until = until; seed = seed; events = events; runs = runs; starts = starts }))
+reading_of (jobs.Save until seed events starts) = readings.Model (models.Save (record { until = until; seed = seed; events = events; starts = starts }))
+reading_of (jobs.Resume until events room) = readings.Saved (saved_jobs.Resume (record { until = until; events = events; room = room }))
 reading_of (jobs.Trial seed vertices until events) = readings.Nothing (bare.Trial (record { seed = seed; vertices = vertices; until = until; events = events }))
 
 -- the most bytes that the text may have: `None` of a job that reads no text
 abbrev pub limit_of : Reading → Option ℕ
 limit_of (readings.Model job) = Some TEXT_MAX
 limit_of (readings.Document job) = Some DOCUMENT_MAX
+limit_of (readings.Saved job) = Some DOCUMENT_MAX
 limit_of (readings.Nothing job) = None
 
--- what is asked for keeps its limits: the stop time and the event budget of a run, how many runs there are, and how many vertices a
--- made model has
+-- what is asked for keeps its limits: the stop time and the event budget of a run, how many runs there are, how many vertices a
+-- made model has, the seed of a run that is saved, and the room of one that goes on
 abbrev pub KeepsLimits : Reading → Type 0
 KeepsLimits (readings.Model (models.Run options)) = (options.until ≤ STOP_MAX) × (options.events ≤ EVENTS_MAX)
 KeepsLimits (readings.Model (models.Replicate options)) = (options.until ≤ STOP_MAX) × (options.events ≤ EVENTS_MAX) × (1 ≤ options.runs) × (options.runs ≤ most_runs)
+KeepsLimits (readings.Model (models.Save options)) = (options.until ≤ STOP_MAX) × (options.seed < 2 ^ 64) × (options.events ≤ EVENTS_MAX)
+KeepsLimits (readings.Saved (saved_jobs.Resume options)) = (options.until ≤ STOP_MAX) × (options.events ≤ EVENTS_MAX) × (options.room ≤ greatest_room)
 KeepsLimits (readings.Nothing (bare.Trial options)) = (1 ≤ options.vertices) × (options.vertices ≤ most_made) × (options.until ≤ STOP_MAX) × (options.events ≤ EVENTS_MAX)
 KeepsLimits reading = Unit {0}

@@ -17,6 +17,8 @@ pub(crate) enum Command {
     Describe,
     Run,
     Replicate,
+    Save,
+    Resume,
     Trial,
 }
 
@@ -47,6 +49,10 @@ impl Command {
             Some(Command::Run)
         } else if word == b"replicate".as_slice() {
             Some(Command::Replicate)
+        } else if word == b"save".as_slice() {
+            Some(Command::Save)
+        } else if word == b"resume".as_slice() {
+            Some(Command::Resume)
         } else if word == b"trial".as_slice() {
             Some(Command::Trial)
         } else {
@@ -64,6 +70,8 @@ impl Command {
             Command::Conflicts | Command::Fuse | Command::Narrow | Command::Describe => &[],
             Command::Run => &[b"until", b"seed", b"events", b"start", b"room"],
             Command::Replicate => &[b"until", b"seed", b"events", b"runs", b"start"],
+            Command::Save => &[b"until", b"seed", b"events", b"start"],
+            Command::Resume => &[b"until", b"events", b"room"],
             Command::Trial => &[b"seed", b"vertices", b"until", b"events"],
         }
     }

@@ -10,7 +10,7 @@ ghost use Rattle.command_words.specs.Inner.Asking.{Asked};
 ghost use Rattle.command_words.specs.Inner.ClapCommand.{has_one_dash, rows_in};
 ghost use Rattle.command_words.specs.Inner.MatchedJobs.{has_only, may_be_given, matched_job, matched_values};
 ghost use Rattle.command_words.specs.Readings.{reading_of, KeepsLimits};
-ghost use Rattle.command_words.specs.Jobs.{usual_room, greatest_room, run_of, replicate_of, trial_of, job_with, job_of};
+ghost use Rattle.command_words.specs.Jobs.{usual_room, greatest_room, run_of, replicate_of, save_of, resume_of, trial_of, job_with, job_of};
 
 use crate::argument_values::{number_within, starting_values};
 use crate::clap_matches::{matched, option_names, text_of, with_program};
@@ -151,6 +151,38 @@ fn replicate_of(alloc: Global, matches: &ArgMatches<'_>) -> Result<Job, WordsErr
     })
 }
 
+/// The job `save`, by its options.
+fn save_of(alloc: Global, matches: &ArgMatches<'_>) -> Result<Job, WordsError>
+    ensures asked { Asked (save_of (matched_values (rows_in matches.now))) result }
+    ensures within { IfOk result (λ job. KeepsLimits (reading_of job)) }
+{
+    let until = needed_number(matches, "until", 0, STOP_MAX)?;
+    let seed = needed_number(matches, "seed", 0, u64::MAX)?;
+    let events = needed_number(matches, "events", 1, EVENTS_MAX)?;
+    let starts = starts_of(alloc, matches)?;
+    Ok(Job::Save {
+        until,
+        seed,
+        events,
+        starts,
+    })
+}
+
+/// The job `resume`, by its options.
+fn resume_of(matches: &ArgMatches<'_>) -> Result<Job, WordsError>
+    ensures asked { Asked (resume_of (matched_values (rows_in matches.now))) result }
+    ensures within { IfOk result (λ job. KeepsLimits (reading_of job)) }
+{
+    let until = needed_number(matches, "until", 0, STOP_MAX)?;
+    let events = needed_number(matches, "events", 1, EVENTS_MAX)?;
+    let room = room_of(matches)?;
+    Ok(Job::Resume {
+        until,
+        events,
+        room,
+    })
+}
+
 /// The job `trial`, by its options.
 fn trial_of(matches: &ArgMatches<'_>) -> Result<Job, WordsError>
     ensures asked { Asked (trial_of (matched_values (rows_in matches.now))) result }
@@ -185,6 +217,8 @@ fn job_with(alloc: Global, command: Command, matches: &ArgMatches<'_>) -> Result
         Command::Certify => Ok(Job::Certify),
         Command::Run => run_of(alloc, matches),
         Command::Replicate => replicate_of(alloc, matches),
+        Command::Save => save_of(alloc, matches),
+        Command::Resume => resume_of(matches),
         Command::Trial => trial_of(matches),
     }
 }

@@ -3,9 +3,11 @@
 ghost use Rattle.std.specs.Prelude.{◌≡◌};
 ghost use Rattle.command_words.specs.Readings.{reading_of};
 
-use crate::reading::{BareJob, DocumentJob, ModelJob, Reading};
+use crate::reading::{BareJob, DocumentJob, ModelJob, Reading, SavedJob};
 use crate::replicate_options::ReplicateOptions;
+use crate::resume_options::ResumeOptions;
 use crate::run_options::RunOptions;
+use crate::save_options::SaveOptions;
 use crate::trial_options::TrialOptions;
 use sig_base::List;
 
@@ -55,6 +57,26 @@ pub enum Job {
         runs: u64,
         /// A value for each parameter of the vertex that begins the run, in order.
         starts: List<i64>,
+    },
+    /// A run of the model, stopped while it goes on, as text from which it can go on.
+    Save {
+        /// The stop time, in ticks.
+        until: u64,
+        /// The seed of the random streams.
+        seed: u64,
+        /// How many events are made.
+        events: u64,
+        /// A value for each parameter of the vertex that begins the run, in order.
+        starts: List<i64>,
+    },
+    /// The watched history of a run that was saved, from there on, as it happens.
+    Resume {
+        /// The stop time, in ticks.
+        until: u64,
+        /// The event budget: the most further steps that are made.
+        events: u64,
+        /// The pending events for which there is room from the beginning, or for all that were saved where those are more.
+        room: usize,
     },
     /// How large a model is that a number makes, what is left of it when it is reduced, and how a run of each goes.
     Trial {
@@ -109,6 +131,26 @@ impl Job {
                 events,
                 runs,
                 starts,
+            })),
+            Job::Save {
+                until,
+                seed,
+                events,
+                starts,
+            } => Reading::Model(ModelJob::Save(SaveOptions {
+                until,
+                seed,
+                events,
+                starts,
+            })),
+            Job::Resume {
+                until,
+                events,
+                room,
+            } => Reading::Saved(SavedJob::Resume(ResumeOptions {
+                until,
+                events,
+                room,
             })),
             Job::Trial {
                 seed,

@@ -4,7 +4,9 @@ ghost use Rattle.std.specs.Prelude.{◌≡◌};
 ghost use Rattle.command_words.specs.Readings.{limit_of};
 
 use crate::replicate_options::ReplicateOptions;
+use crate::resume_options::ResumeOptions;
 use crate::run_options::RunOptions;
+use crate::save_options::SaveOptions;
 use crate::trial_options::TrialOptions;
 use sig_base::{DOCUMENT_MAX, TEXT_MAX};
 
@@ -15,6 +17,8 @@ pub enum Reading {
     Model(ModelJob),
     /// A document: two models and a certificate, one behind the other.
     Document(DocumentJob),
+    /// A saved document: a model and what was saved of a run of it, one behind the other.
+    Saved(SavedJob),
     /// Nothing: the words say all.
     Nothing(BareJob),
 }
@@ -42,6 +46,8 @@ pub enum ModelJob {
     Run(RunOptions),
     /// The tallies of many runs of it, and their totals.
     Replicate(ReplicateOptions),
+    /// A run of it, stopped while it goes on, as text from which it can go on.
+    Save(SaveOptions),
 }
 
 /// What is asked of a document.
@@ -49,6 +55,13 @@ pub enum ModelJob {
 pub enum DocumentJob {
     /// Whether its certificate holds between its two models.
     Certify,
+}
+
+/// What is asked of a saved document.
+#[derive(Drop)]
+pub enum SavedJob {
+    /// The watched history of its run, from where it was saved.
+    Resume(ResumeOptions),
 }
 
 /// What is asked without anything to read.
@@ -65,7 +78,7 @@ impl Reading {
     {
         match self {
             Reading::Model(_) => Some(TEXT_MAX),
-            Reading::Document(_) => Some(DOCUMENT_MAX),
+            Reading::Document(_) | Reading::Saved(_) => Some(DOCUMENT_MAX),
             Reading::Nothing(_) => None,
         }
     }
