@@ -1,4 +1,2 @@
-mod DocumentOutcome
-mod FaultLaws
 mod OneAnswer
 mod WhatIsRefused

@@ -5,25 +5,40 @@ use Rattle.std.proofs.lemmas.Bool.{cases_lt}
 use Rattle.command_words.specs.declared.reading.Reading.{Reading}
 use Rattle.command_words.specs.declared.reading.Reading.TheVariants as readings
 use Rattle.command_words.specs.Readings.{limit_of}
-use Rattle.sig_base.specs.declared.limits.TheConstants.{TEXT_MAX}
+use Rattle.sig_base.specs.declared.limits.TheConstants.{TEXT_MAX, DOCUMENT_MAX}
 use Rattle.model_core.specs.EventGraph.{EventGraph}
-use Rattle.model_core.specs.Static.Reading.{Reads}
+use Rattle.model_core.specs.Rules.Reduction.{RuleApplication}
+use Rattle.model_core.specs.Saved.SavedRun.{SavedRun}
+use Rattle.model_core.specs.Static.Reading.{Reads, ReadsDocument}
 use Rattle.job_answers.specs.declared.answer.Answer.{Answer}
 use Rattle.job_answers.specs.declared.complaint.Complaint.{Complaint}
 use Rattle.job_answers.specs.AnswerForms.{refused, too_long}
-use Rattle.job_answers.specs.AnswerLaws.{DocumentParts, MayBeAsked, KeepsAnswerLaws}
-use Rattle.job_answers.specs.Answers.{AnswersModel, AnswersDocument, IsRefused, Responds, IsWithin, IsOver, Answers}
+use Rattle.job_answers.specs.AnswerLaws.{DocumentParts, SavedParts, MayBeAsked, KeepsAnswerLaws}
+use Rattle.job_answers.specs.Answers.{AnswersModel, AnswersDocument, AnswersSaved, IsRefused, Responds, IsWithin, IsOver, Answers}
 use Rattle.job_answers.specs.Complaints.{IsComplaint, HasComplaint, message_of, byte_line}
-use Rattle.job_answers.specs.DocumentComplaints.{IsDocumentComplaint}
-use Rattle.answer_laws.specs.Unreadable.{HasDocumentComplaint}
-use Rattle.answer_laws.proofs.DocumentOutcome.{ReadDocument, one_document_complaint, no_document_complaint, one_document, document_or_complaint}
-use Rattle.answer_laws.proofs.FaultLaws.{FaultLaws}
+use Rattle.job_answers.specs.DocumentComplaints.{IsDocumentComplaint, HasDocumentComplaint}
+use Rattle.job_answers.specs.SavedComplaints.{IsSavedComplaint, HasSavedComplaint}
+use Rattle.job_answers.specs.SavedReading.{ReadsSaved}
 
 -- of each text within its limit there is one thing to complain of, or it reads as a model, and never both
 pub record ComplaintLaws : Type 0 where
   pub one : (text : List ℕ) (c d : Complaint) (i j : ℕ) → IsComplaint text c i → IsComplaint text d j → (c ≡ d) × (i ≡ j)
   pub none : (text : List ℕ) (c : Complaint) (i : ℕ) (g : EventGraph) → IsComplaint text c i → Reads text g → ⊥
   pub some : (text : List ℕ) → length text ≤ TEXT_MAX → HasComplaint text ⊎ ((g : EventGraph) × Reads text g)
+
+-- and so of each document
+pub record DocumentLaws : Type 0 where
+  pub one : (text : List ℕ) (c d : Complaint) (i j : ℕ) → IsDocumentComplaint text c i → IsDocumentComplaint text d j → (c ≡ d) × (i ≡ j)
+  pub none : (text : List ℕ) (c : Complaint) (i : ℕ) (g : EventGraph) (applications : List RuleApplication) (h : EventGraph) → IsDocumentComplaint text c i → ReadsDocument text g applications h → ⊥
+  pub one_reading : (text : List ℕ) (g h k l : EventGraph) (a b : List RuleApplication) → ReadsDocument text g a h → ReadsDocument text k b l → (g ≡ k) × (a ≡ b) × (h ≡ l)
+  pub some : (text : List ℕ) → length text ≤ DOCUMENT_MAX → HasDocumentComplaint text ⊎ ((g : EventGraph) × (applications : List RuleApplication) × (h : EventGraph) × ReadsDocument text g applications h)
+
+-- and of each saved document
+pub record SavedLaws : Type 0 where
+  pub one : (text : List ℕ) (c d : Complaint) (i j : ℕ) → IsSavedComplaint text c i → IsSavedComplaint text d j → (c ≡ d) × (i ≡ j)
+  pub none : (text : List ℕ) (c : Complaint) (i : ℕ) (g : EventGraph) (s : SavedRun) → IsSavedComplaint text c i → ReadsSaved text g s → ⊥
+  pub one_reading : (text : List ℕ) (g h : EventGraph) (s t : SavedRun) → ReadsSaved text g s → ReadsSaved text h t → (g ≡ h) × (s ≡ t)
+  pub some : (text : List ℕ) → length text ≤ DOCUMENT_MAX → HasSavedComplaint text ⊎ ((g : EventGraph) × (s : SavedRun) × ReadsSaved text g s)
 
 over_within : (limit : Option ℕ) (text : List ℕ) → IsOver limit text → IsWithin limit text → ⊥
 over_within None text over within = over
@@ -40,7 +55,7 @@ one_refusal IsSo one a b p q =
     let (what, at) = one p.what q.what p.at q.at p.complaint q.complaint in
     p.told ∙ ap₂ (λ i c. refused (byte_line i (message_of c))) at what ∙ sym q.told
 
-module _ (complaints : ComplaintLaws) (faults : FaultLaws) (text : List ℕ) where
+module _ (complaints : ComplaintLaws) (documents : DocumentLaws) (saved : SavedLaws) (text : List ℕ) where
   -- ---- there is one
 
   refusal : (IsSo : Complaint → ℕ → Type 0) (what : Complaint) (at : ℕ) → IsSo what at → IsRefused IsSo (refused (byte_line at (message_of what)))
@@ -52,13 +67,18 @@ module _ (complaints : ComplaintLaws) (faults : FaultLaws) (text : List ℕ) whe
       by : HasComplaint text ⊎ ((g : EventGraph) × Reads text g) → (a : Answer) × Responds (readings.Model job) text a
       by (inl c) = (_, inl (refusal (IsComplaint text) c.0 c.1 c.2))
       by (inr r) = let w = laws.exists r.0 (text, r.1) in (w.0, inr (r.0, r.1, w.1))
-  text_answered (readings.Document job) laws asked within = by (document_or_complaint faults text within)
+  text_answered (readings.Document job) laws asked within = by (documents.some text within)
     where
-      by : ReadDocument faults text ⊎ HasDocumentComplaint text → (a : Answer) × Responds (readings.Document job) text a
-      by (inl r) =
-          let w = laws.exists (r.original, r.applications, r.reduced) tt in
-          (w.0, inr (record { original = r.original; applications = r.applications; reduced = r.reduced; reads = r.reads; told = w.1 }))
-      by (inr c) = (_, inl (refusal (IsDocumentComplaint text) c.0 c.1 c.2))
+      by : HasDocumentComplaint text ⊎ ((g : EventGraph) × (applications : List RuleApplication) × (h : EventGraph) × ReadsDocument text g applications h) → (a : Answer) × Responds (readings.Document job) text a
+      by (inl c) = (_, inl (refusal (IsDocumentComplaint text) c.0 c.1 c.2))
+      by (inr (g, applications, h, reads)) =
+          let w = laws.exists (g, applications, h) tt in
+          (w.0, inr (record { original = g; applications = applications; reduced = h; reads = reads; told = w.1 }))
+  text_answered (readings.Saved job) laws asked within = by (saved.some text within)
+    where
+      by : HasSavedComplaint text ⊎ ((g : EventGraph) × (s : SavedRun) × ReadsSaved text g s) → (a : Answer) × Responds (readings.Saved job) text a
+      by (inl c) = (_, inl (refusal (IsSavedComplaint text) c.0 c.1 c.2))
+      by (inr (g, s, reads)) = let w = laws.exists (g, s) tt in (w.0, inr (record { model = g; run = s; reads = reads; told = w.1 }))
   text_answered (readings.Nothing job) laws asked within = laws.exists tt asked
 
   answered : (reading : Reading) → KeepsAnswerLaws reading → MayBeAsked reading → IsWithin (limit_of reading) text ⊎ IsOver (limit_of reading) text → (a : Answer) × Answers reading text a
@@ -76,13 +96,20 @@ module _ (complaints : ComplaintLaws) (faults : FaultLaws) (text : List ℕ) whe
     one_response (readings.Model job) laws a b (inl x) (inr y) = absurd (complaints.none text x.what x.at y.0 x.complaint y.1)
     one_response (readings.Model job) laws a b (inr x) (inl y) = absurd (complaints.none text y.what y.at x.0 y.complaint x.1)
     one_response (readings.Model job) laws a b (inr x) (inr y) = laws.one x.0 a b x.2 (subst (λ (g : EventGraph). AnswersModel job g b) (one text y.0 x.0 y.1 x.1) y.2)
-    one_response (readings.Document job) laws a b (inl x) (inl y) = one_refusal (IsDocumentComplaint text) (one_document_complaint faults text) a b x y
-    one_response (readings.Document job) laws a b (inl x) (inr y) = absurd (no_document_complaint faults text x.what x.at y.original y.applications y.reduced x.complaint y.reads)
-    one_response (readings.Document job) laws a b (inr x) (inl y) = absurd (no_document_complaint faults text y.what y.at x.original x.applications x.reduced y.complaint x.reads)
+    one_response (readings.Document job) laws a b (inl x) (inl y) = one_refusal (IsDocumentComplaint text) (documents.one text) a b x y
+    one_response (readings.Document job) laws a b (inl x) (inr y) = absurd (documents.none text x.what x.at y.original y.applications y.reduced x.complaint y.reads)
+    one_response (readings.Document job) laws a b (inr x) (inl y) = absurd (documents.none text y.what y.at x.original x.applications x.reduced y.complaint x.reads)
     one_response (readings.Document job) laws a b (inr x) (inr y) =
-        let same = one_document faults text y.original y.reduced x.original x.reduced y.applications x.applications y.reads x.reads in
-        let parts : ◌≡◌ {A = DocumentParts} (y.original, y.applications, y.reduced) (x.original, x.applications, x.reduced) = λ i. (same.originals i, same.applications i, same.reduced i) in
+        let same = documents.one_reading text y.original y.reduced x.original x.reduced y.applications x.applications y.reads x.reads in
+        let parts : ◌≡◌ {A = DocumentParts} (y.original, y.applications, y.reduced) (x.original, x.applications, x.reduced) = λ i. (same.0 i, same.1 i, same.2 i) in
         laws.one (x.original, x.applications, x.reduced) a b x.told (subst (λ (d : DocumentParts). AnswersDocument job d.0 d.1 d.2 b) parts y.told)
+    one_response (readings.Saved job) laws a b (inl x) (inl y) = one_refusal (IsSavedComplaint text) (saved.one text) a b x y
+    one_response (readings.Saved job) laws a b (inl x) (inr y) = absurd (saved.none text x.what x.at y.model y.run x.complaint y.reads)
+    one_response (readings.Saved job) laws a b (inr x) (inl y) = absurd (saved.none text y.what y.at x.model x.run y.complaint x.reads)
+    one_response (readings.Saved job) laws a b (inr x) (inr y) =
+        let same = saved.one_reading text y.model x.model y.run x.run y.reads x.reads in
+        let parts : ◌≡◌ {A = SavedParts} (y.model, y.run) (x.model, x.run) = λ i. (same.0 i, same.1 i) in
+        laws.one (x.model, x.run) a b x.told (subst (λ (d : SavedParts). AnswersSaved job d.0 d.1 b) parts y.told)
     one_response (readings.Nothing job) laws a b x y = laws.one tt a b x y
 
     pub one_answer : (reading : Reading) → KeepsAnswerLaws reading → (a b : Answer) → Answers reading text a → Answers reading text b → a ≡ b

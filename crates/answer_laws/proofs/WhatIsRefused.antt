@@ -6,18 +6,21 @@ use Rattle.command_words.specs.declared.reading.Reading.{Reading}
 use Rattle.command_words.specs.declared.reading.Reading.TheVariants as readings
 use Rattle.command_words.specs.Readings.{limit_of}
 use Rattle.model_core.specs.EventGraph.{EventGraph}
-use Rattle.model_core.specs.Static.Reading.{Reads}
+use Rattle.model_core.specs.Rules.Reduction.{RuleApplication}
+use Rattle.model_core.specs.Saved.SavedRun.{SavedRun}
+use Rattle.model_core.specs.Static.Reading.{Reads, ReadsDocument}
 use Rattle.job_answers.specs.declared.answer.Answer.{Answer}
 use Rattle.job_answers.specs.declared.status.Status.TheVariants as statuses
 use Rattle.job_answers.specs.AnswerForms.{refused, too_long}
 use Rattle.job_answers.specs.AnswerLaws.{KeepsAnswerLaws}
 use Rattle.job_answers.specs.Answers.{Responds, IsOver, Answers}
 use Rattle.job_answers.specs.Complaints.{HasComplaint}
+use Rattle.job_answers.specs.DocumentComplaints.{HasDocumentComplaint}
+use Rattle.job_answers.specs.SavedComplaints.{HasSavedComplaint}
+use Rattle.job_answers.specs.SavedReading.{ReadsSaved}
 use Rattle.job_answers.specs.Statuses.{status_of_answer}
-use Rattle.answer_laws.specs.Unreadable.{IsNoModel, IsNoDocument, IsUnreadable, HasDocumentComplaint}
-use Rattle.answer_laws.proofs.DocumentOutcome.{ReadDocument, no_document_complaint, document_or_complaint}
-use Rattle.answer_laws.proofs.FaultLaws.{FaultLaws}
-use Rattle.answer_laws.proofs.OneAnswer.{ComplaintLaws}
+use Rattle.answer_laws.specs.Unreadable.{IsNoModel, IsNoDocument, IsNoSavedDocument, IsUnreadable}
+use Rattle.answer_laws.proofs.OneAnswer.{ComplaintLaws, DocumentLaws, SavedLaws}
 
 abbrev IsRefusedStatus : Answer → Type 0
 IsRefusedStatus a = status_of_answer a ≡ statuses.Refused
@@ -27,12 +30,13 @@ IsRefusedStatus a = status_of_answer a ≡ statuses.Refused
 unreadable_over : (reading : Reading) (text : List ℕ) → IsOver (limit_of reading) text → IsUnreadable reading text
 unreadable_over (readings.Model job) text over = λ g reads. let fits = reads.fits in omega (arith, over, fits)
 unreadable_over (readings.Document job) text over = λ original applications reduced reads. let fits = reads.fits in omega (arith, over, fits)
+unreadable_over (readings.Saved job) text over = λ g s reads. let fits = reads.fits in omega (arith, over, fits)
 unreadable_over (readings.Nothing job) text over = over
 
 pub refused_over : (reading : Reading) (text : List ℕ) → IsOver (limit_of reading) text → Answers reading text (refused too_long) × IsUnreadable reading text
 refused_over reading text over = (inl (over, refl), unreadable_over reading text over)
 
-module _ (complaints : ComplaintLaws) (faults : FaultLaws) (text : List ℕ) where
+module _ (complaints : ComplaintLaws) (documents : DocumentLaws) (saved : SavedLaws) (text : List ℕ) where
   -- ---- within the limit there is something to complain of, or it reads
 
   complained : HasComplaint text ⊎ ((g : EventGraph) × Reads text g) → IsNoModel text → HasComplaint text
@@ -42,12 +46,19 @@ module _ (complaints : ComplaintLaws) (faults : FaultLaws) (text : List ℕ) whe
   pub complaint_is_unread : length text ≤ TEXT_MAX → HasComplaint text ↔ IsNoModel text
   complaint_is_unread short = (λ h g reads. complaints.none text h.0 h.1 g h.2 reads, complained (complaints.some text short))
 
-  document_complained : ReadDocument faults text ⊎ HasDocumentComplaint text → IsNoDocument text → HasDocumentComplaint text
-  document_complained (inl r) none = absurd (none r.original r.applications r.reduced r.reads)
-  document_complained (inr c) none = c
+  document_complained : HasDocumentComplaint text ⊎ ((g : EventGraph) × (applications : List RuleApplication) × (h : EventGraph) × ReadsDocument text g applications h) → IsNoDocument text → HasDocumentComplaint text
+  document_complained (inl c) none = c
+  document_complained (inr (g, applications, h, reads)) none = absurd (none g applications h reads)
 
   pub document_complaint_is_unread : length text ≤ DOCUMENT_MAX → HasDocumentComplaint text ↔ IsNoDocument text
-  document_complaint_is_unread short = (λ h original applications reduced reads. no_document_complaint faults text h.0 h.1 original applications reduced h.2 reads, document_complained (document_or_complaint faults text short))
+  document_complaint_is_unread short = (λ c g applications h reads. documents.none text c.0 c.1 g applications h c.2 reads, document_complained (documents.some text short))
+
+  saved_complained : HasSavedComplaint text ⊎ ((g : EventGraph) × (s : SavedRun) × ReadsSaved text g s) → IsNoSavedDocument text → HasSavedComplaint text
+  saved_complained (inl c) none = c
+  saved_complained (inr (g, s, reads)) none = absurd (none g s reads)
+
+  pub saved_complaint_is_unread : length text ≤ DOCUMENT_MAX → HasSavedComplaint text ↔ IsNoSavedDocument text
+  saved_complaint_is_unread short = (λ c g s reads. saved.none text c.0 c.1 g s c.2 reads, saved_complained (saved.some text short))
 
   -- ---- the answer
 
@@ -55,9 +66,11 @@ module _ (complaints : ComplaintLaws) (faults : FaultLaws) (text : List ℕ) whe
   response_refused (readings.Model job) laws a (inl h) = (λ e g reads. complaints.none text h.what h.at g h.complaint reads, λ none. ap status_of_answer h.told)
   response_refused (readings.Model job) laws a (inr h) = (λ e. absurd (laws.unrefused h.0 a h.2 e), λ none. absurd (none h.0 h.1))
   response_refused (readings.Document job) laws a (inl h) =
-      (λ e original applications reduced reads. no_document_complaint faults text h.what h.at original applications reduced h.complaint reads, λ none. ap status_of_answer h.told)
+      (λ e original applications reduced reads. documents.none text h.what h.at original applications reduced h.complaint reads, λ none. ap status_of_answer h.told)
   response_refused (readings.Document job) laws a (inr h) =
       (λ e. absurd (laws.unrefused (h.original, h.applications, h.reduced) a h.told e), λ none. absurd (none h.original h.applications h.reduced h.reads))
+  response_refused (readings.Saved job) laws a (inl h) = (λ e g s reads. saved.none text h.what h.at g s h.complaint reads, λ none. ap status_of_answer h.told)
+  response_refused (readings.Saved job) laws a (inr h) = (λ e. absurd (laws.unrefused (h.model, h.run) a h.told e), λ none. absurd (none h.model h.run h.reads))
   response_refused (readings.Nothing job) laws a h = (λ e. absurd (laws.unrefused tt a h e), λ none. absurd none)
 
   pub refused_is_unreadable : (reading : Reading) → KeepsAnswerLaws reading → (a : Answer) → Answers reading text a → IsRefusedStatus a ↔ IsUnreadable reading text

@@ -1,12 +1,12 @@
--- What can't be read: texts that read as no model, and as no document. They are what is refused.
+-- What can't be read: texts that read as no model, as no document, and as no saved document. They are what is refused.
 use Rattle.std.specs.Prelude.{ℕ, List}
 use Rattle.command_words.specs.declared.reading.Reading.{Reading}
 use Rattle.command_words.specs.declared.reading.Reading.TheVariants as readings
 use Rattle.model_core.specs.EventGraph.{EventGraph}
 use Rattle.model_core.specs.Rules.Reduction.{RuleApplication}
 use Rattle.model_core.specs.Static.Reading.{Reads, ReadsDocument}
-use Rattle.job_answers.specs.declared.complaint.Complaint.{Complaint}
-use Rattle.job_answers.specs.DocumentComplaints.{IsDocumentComplaint}
+use Rattle.model_core.specs.Saved.SavedRun.{SavedRun}
+use Rattle.job_answers.specs.SavedReading.{ReadsSaved}
 
 -- the text reads as no model
 abbrev pub IsNoModel : List ℕ → Type 0
@@ -16,12 +16,13 @@ IsNoModel text = (g : EventGraph) → Reads text g → ⊥
 abbrev pub IsNoDocument : List ℕ → Type 0
 IsNoDocument text = (original : EventGraph) (applications : List RuleApplication) (reduced : EventGraph) → ReadsDocument text original applications reduced → ⊥
 
+-- the text reads as no saved document
+abbrev pub IsNoSavedDocument : List ℕ → Type 0
+IsNoSavedDocument text = (g : EventGraph) (s : SavedRun) → ReadsSaved text g s → ⊥
+
 -- the text reads as nothing that is read; of a job that reads nothing, no text is that
 abbrev pub IsUnreadable : Reading → List ℕ → Type 0
 IsUnreadable (readings.Model job) text = IsNoModel text
 IsUnreadable (readings.Document job) text = IsNoDocument text
+IsUnreadable (readings.Saved job) text = IsNoSavedDocument text
 IsUnreadable (readings.Nothing job) text = ⊥
-
--- something is to be complained of at some byte of a document
-abbrev pub HasDocumentComplaint : List ℕ → Type 0
-HasDocumentComplaint text = (what : Complaint) × (at : ℕ) × IsDocumentComplaint text what at

@@ -14,12 +14,16 @@ ghost use Rattle.job_answers.specs.AnswerForms.{refused, too_long};
 ghost use Rattle.job_answers.specs.AnswerLaws.{MayBeAsked};
 ghost use Rattle.job_answers.specs.Answers.{IsOver, Answers};
 ghost use Rattle.job_answers.specs.Complaints.{HasComplaint};
+ghost use Rattle.job_answers.specs.DocumentComplaints.{HasDocumentComplaint};
+ghost use Rattle.job_answers.specs.SavedComplaints.{HasSavedComplaint};
 ghost use Rattle.job_answers.specs.Statuses.{status_of_answer};
-ghost use Rattle.answer_laws.specs.Unreadable.{IsNoModel, IsNoDocument, IsUnreadable, HasDocumentComplaint};
+ghost use Rattle.answer_laws.specs.Unreadable.{IsNoModel, IsNoDocument, IsNoSavedDocument, IsUnreadable};
 
-use job_answers::{answers_keep_their_laws, texts_have_one_complaint};
+use job_answers::{
+    answers_keep_their_laws, documents_have_one_complaint, saved_documents_have_one_complaint,
+    texts_have_one_complaint,
+};
 use reducer::strategies_are_determined;
-use static_laws::one_fault_is_told;
 use text_laws::texts_read_as_one_model;
 
 /// A job has one answer to a text, and so every byte that is written is determined by them. It comes from the
@@ -33,20 +37,23 @@ pub fn answers_are_determined()
 {
     answers_keep_their_laws();
     texts_have_one_complaint();
-    one_fault_is_told();
+    documents_have_one_complaint();
+    saved_documents_have_one_complaint();
     texts_read_as_one_model();
     strategies_are_determined();
 }
 
-/// Refused is exactly what can't be read: a text that reads as no model, and for `certify` as no document. Within the limit
+/// Refused is exactly what can't be read: a text that reads as no model, and for `certify` and `resume` as no document. Within the limit
 /// there is something to complain of exactly there, and over the limit is nothing that can be read.
 pub fn unreadable_texts_are_refused()
     ensures refused { (job : Job) (text : List ℕ) (a : Answer) → Answers (reading_of job) text a → (status_of_answer a ≡ Status.Refused) ↔ IsUnreadable (reading_of job) text }
     ensures complaint { (text : List ℕ) → length text ≤ TEXT_MAX → HasComplaint text ↔ IsNoModel text }
     ensures document_complaint { (text : List ℕ) → length text ≤ DOCUMENT_MAX → HasDocumentComplaint text ↔ IsNoDocument text }
+    ensures saved_complaint { (text : List ℕ) → length text ≤ DOCUMENT_MAX → HasSavedComplaint text ↔ IsNoSavedDocument text }
     ensures too_long { (job : Job) (text : List ℕ) → IsOver (limit_of (reading_of job)) text → Answers (reading_of job) text (refused too_long) × IsUnreadable (reading_of job) text }
 {
     answers_keep_their_laws();
     texts_have_one_complaint();
-    one_fault_is_told();
+    documents_have_one_complaint();
+    saved_documents_have_one_complaint();
 }

@@ -71,6 +71,11 @@ module _ (laws : TextFacts) (text : List ℕ) where
   one_complaint (complaints.Static k) complaints.TooDeep i j p q = absurd (spelled_deep p.0 q.0 j p.1 q.1 q.2)
   one_complaint (complaints.Static k) complaints.Unexpected i j p q = absurd (spelled_wrong p.0 q.0 j p.1 q.1 q.3)
   one_complaint (complaints.Static k) (complaints.Static l) i j p q = one_static p.0 q.0 k l i j p.1 q.1 p.2 q.2
+  one_complaint complaints.BadSnapshot d i j p q = absurd p
+  one_complaint complaints.BadByte complaints.BadSnapshot i j p q = absurd q
+  one_complaint complaints.TooDeep complaints.BadSnapshot i j p q = absurd q
+  one_complaint complaints.Unexpected complaints.BadSnapshot i j p q = absurd q
+  one_complaint (complaints.Static k) complaints.BadSnapshot i j p q = absurd q
 
   -- what reads as a model has nothing to complain of
   pub no_complaint : (c : Complaint) (i : ℕ) (g : EventGraph) → IsComplaint text c i → Reads text g → ⊥
@@ -82,6 +87,7 @@ module _ (laws : TextFacts) (text : List ℕ) where
       let told = laws.told_back r.model (record { at = i; kind = k }) (subst (λ w. IsTold w k i) same p.2) in
       let none = laws.unaccepted r.model (g, r.accepted) in
       cc
+  no_complaint complaints.BadSnapshot i g p r = absurd p
 
   -- ---- one of them there is
 

@@ -2,6 +2,7 @@
 use Rattle.command_words.specs.declared.reading.BareJob.TheVariants as bare
 use Rattle.command_words.specs.declared.reading.DocumentJob.TheVariants as documents
 use Rattle.command_words.specs.declared.reading.ModelJob.TheVariants as models
+use Rattle.command_words.specs.declared.reading.SavedJob.TheVariants as saved_jobs
 use Rattle.command_words.specs.declared.reading.Reading.{Reading}
 use Rattle.command_words.specs.declared.reading.Reading.TheVariants as readings
 use Rattle.model_core.specs.Rules.Fuse.{Fused}
@@ -16,19 +17,23 @@ use Rattle.job_answers.proofs.DescribeLaws.{describe_laws}
 use Rattle.job_answers.proofs.RewritingLaws.{BecomesOne, fuse_laws, narrow_laws}
 use Rattle.job_answers.proofs.RunLaws.{run_laws}
 use Rattle.job_answers.proofs.ReplicateLaws.{replicate_laws}
+use Rattle.job_answers.proofs.SaveLaws.{GoingIsLed, save_laws}
+use Rattle.job_answers.proofs.ResumeLaws.{resume_laws}
 use Rattle.job_answers.proofs.TrialLaws.{OneSummary, trial_laws}
 use Rattle.job_answers.proofs.CertifyLaws.{certify_laws}
 
-pub keeps_laws : OneStrategy → StrategyEnds → BecomesOne Fused → BecomesOne IsNarrowed → OneSummary → (reading : Reading) → KeepsAnswerLaws reading
-keeps_laws only ends fuses narrows trials (readings.Model models.Check) = check_laws
-keeps_laws only ends fuses narrows trials (readings.Model models.Print) = print_laws
-keeps_laws only ends fuses narrows trials (readings.Model models.Reduce) = reduce_laws only ends
-keeps_laws only ends fuses narrows trials (readings.Model models.Uses) = uses_laws
-keeps_laws only ends fuses narrows trials (readings.Model models.Conflicts) = conflicts_laws
-keeps_laws only ends fuses narrows trials (readings.Model models.Fuse) = fuse_laws fuses
-keeps_laws only ends fuses narrows trials (readings.Model models.Narrow) = narrow_laws narrows
-keeps_laws only ends fuses narrows trials (readings.Model models.Describe) = describe_laws
-keeps_laws only ends fuses narrows trials (readings.Model (models.Run options)) = run_laws options
-keeps_laws only ends fuses narrows trials (readings.Model (models.Replicate options)) = replicate_laws options
-keeps_laws only ends fuses narrows trials (readings.Document documents.Certify) = certify_laws
-keeps_laws only ends fuses narrows trials (readings.Nothing (bare.Trial options)) = trial_laws trials options
+pub keeps_laws : OneStrategy → StrategyEnds → BecomesOne Fused → BecomesOne IsNarrowed → OneSummary → GoingIsLed → (reading : Reading) → KeepsAnswerLaws reading
+keeps_laws only ends fuses narrows trials led (readings.Model models.Check) = check_laws
+keeps_laws only ends fuses narrows trials led (readings.Model models.Print) = print_laws
+keeps_laws only ends fuses narrows trials led (readings.Model models.Reduce) = reduce_laws only ends
+keeps_laws only ends fuses narrows trials led (readings.Model models.Uses) = uses_laws
+keeps_laws only ends fuses narrows trials led (readings.Model models.Conflicts) = conflicts_laws
+keeps_laws only ends fuses narrows trials led (readings.Model models.Fuse) = fuse_laws fuses
+keeps_laws only ends fuses narrows trials led (readings.Model models.Narrow) = narrow_laws narrows
+keeps_laws only ends fuses narrows trials led (readings.Model models.Describe) = describe_laws
+keeps_laws only ends fuses narrows trials led (readings.Model (models.Run options)) = run_laws options
+keeps_laws only ends fuses narrows trials led (readings.Model (models.Replicate options)) = replicate_laws options
+keeps_laws only ends fuses narrows trials led (readings.Model (models.Save options)) = save_laws led options
+keeps_laws only ends fuses narrows trials led (readings.Document documents.Certify) = certify_laws
+keeps_laws only ends fuses narrows trials led (readings.Saved (saved_jobs.Resume options)) = resume_laws options
+keeps_laws only ends fuses narrows trials led (readings.Nothing (bare.Trial options)) = trial_laws trials options

@@ -1,8 +1,8 @@
 -- Which starting values are taken: a run begins with exactly those that aren't refused, and of others the line tells why.
-use Rattle.std.proofs.Common.{◌≡◌, ◌≢◌, ◌==◌, inl, inr, ℕ, zero, suc, add-zero, ◌+◌, ◌<◌, ℤ, pos, true, false, List, [], ◌∷◌, length, get_or, Some, None, Result, Ok, Err, refl, sym, ap, ap₂, ◌∙◌, subst, arith}
+use Rattle.std.proofs.Common.{◌≡◌, ◌≢◌, ◌==◌, Bool, inl, inr, ℕ, zero, suc, add-zero, ◌+◌, ◌<◌, ℤ, pos, true, false, List, [], ◌∷◌, length, get_or, Some, None, Result, Ok, Err, refl, sym, ap, ap₂, ◌∙◌, subst, arith}
 use Rattle.std.specs.Prelude.{IsTrue, cond}
 use Rattle.std.proofs.lemmas.Bool.{eq-eqb}
-use Rattle.std.proofs.lemmas.Bool.Decides.{eqb_tells}
+use Rattle.std.proofs.lemmas.Bool.Decides.{eqb_tells, nat_tests}
 use lib.Pointwise.{pointwise}
 use Rattle.model_core.specs.EventGraph.{EventGraph, Variable}
 use Rattle.model_core.proofs.BothTrue.{and_first, and_second}
@@ -54,6 +54,26 @@ taken_start g starts all =
     let (long, none) = none_told 1 (parameters g) starts all in
     ap (λ b. cond b (first_outside 1 (parameters g) starts) (Some (count_line (length (parameters g)) (length starts)))) (eq-eqb _ _ long) ∙ none
 
+-- of values of which none is told each lies in its range
+none_outside : (place : ℕ) (vs : List Variable) (xs : List ℤ) → length vs ≡ length xs → first_outside place vs xs ≡ None → pointwise (λ v x. within v.lo v.hi x) vs xs ≡ true
+none_outside place [] [] long none = refl
+none_outside place [] (x ∷ xs) long none = absurd (omega (arith, long))
+none_outside place (v ∷ vs) [] long none = absurd (omega (arith, long))
+none_outside place (v ∷ vs) (x ∷ xs) long none = by (within v.lo v.hi x) refl (none_outside (suc place) vs xs (omega (arith, long))) none
+  where
+    by : (b : Bool) → within v.lo v.hi x ≡ b → (first_outside (suc place) vs xs ≡ None → pointwise (λ v x. within v.lo v.hi x) vs xs ≡ true)
+        → cond b (first_outside (suc place) vs xs) (Some (outside_line place x)) ≡ None → pointwise (λ v x. within v.lo v.hi x) (v ∷ vs) (x ∷ xs) ≡ true
+    by true inside rest none = rw inside (rest none)
+    by false outside rest none = absurd cc
+
+-- a run begins with starting values that aren't refused
+pub unrefused_start : (g : EventGraph) (starts : List ℤ) → start_refusal g starts ≡ None → IsTrue (allowed g starts)
+unrefused_start g starts none = by (length (parameters g) == length starts) refl none
+  where
+    by : (b : Bool) → (length (parameters g) == length starts) ≡ b → cond b (first_outside 1 (parameters g) starts) (Some (count_line (length (parameters g)) (length starts))) ≡ None → IsTrue (allowed g starts)
+    by true same none = none_outside 1 (parameters g) starts (grind (arith, nat_tests, same)) none
+    by false other none = absurd cc
+
 -- a run that can't begin is refused with the line that is told
 pub refused_start : (g : EventGraph) (starts : List ℤ) (error : BeginError) (line : List ℕ) → RefusesStart g starts error → RefusalLine error line → start_refusal g starts ≡ Some line
 refused_start g starts (errors.StartCount needed given) line refuses told =
@@ -78,6 +98,8 @@ start_refused sight g starts told Short error (Ok (said.Refused refusals.BadStar
   short = λ e. absurd cc;
 })
 start_refused sight g starts told Short error (Ok (said.Refused refusals.Refused line)) o refuses h = absurd h
+start_refused sight g starts told Short error (Ok (said.Refused refusals.Finished line)) o refuses h = absurd h
+start_refused sight g starts told Short error (Ok (said.Refused refusals.TooLarge line)) o refuses h = absurd h
 start_refused sight g starts told Short error (Ok (said.Gave end)) o refuses h = absurd h
 start_refused sight g starts told Short error (Err failures.NoMemory) o refuses h = inr (refl, refl)
 start_refused sight g starts told Short error (Err failures.Usage) o refuses h = absurd h

@@ -11,7 +11,7 @@ use Rattle.job_answers.specs.declared.reading_error.ReadingError.TheVariants.{At
 use Rattle.job_answers.specs.Inner.Refusals.{uncut, unread, unaccepted}
 
 module _ (IsSo : Complaint → ℕ → Type 0) where
-  same_complaint : (c d : Complaint) (i j : ℕ) → At c i ≡ At d j → IsSo c i → IsSo d j
+  pub same_complaint : (c d : Complaint) (i j : ℕ) → At c i ≡ At d j → IsSo c i → IsSo d j
   same_complaint c d i j e h =
       let what : c ≡ d = cc in
       let at : i ≡ j = cc in

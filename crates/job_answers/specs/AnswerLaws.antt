@@ -6,11 +6,12 @@ use Rattle.command_words.specs.Readings.{KeepsLimits}
 use Rattle.model_core.specs.EventGraph.{EventGraph}
 use Rattle.model_core.specs.Static.Reading.{IsValid}
 use Rattle.model_core.specs.Rules.Reduction.{RuleApplication}
+use Rattle.model_core.specs.Saved.SavedRun.{SavedRun}
 use Rattle.job_answers.specs.declared.answer.Answer.{Answer}
 use Rattle.job_answers.specs.declared.answer.Answer.TheVariants.{Given}
 use Rattle.job_answers.specs.declared.status.End.{End}
 use Rattle.job_answers.specs.declared.status.Status.TheVariants as statuses
-use Rattle.job_answers.specs.Answers.{AnswersModel, AnswersDocument, AnswersAlone, HasNothingToWrite}
+use Rattle.job_answers.specs.Answers.{AnswersModel, AnswersDocument, AnswersSaved, AnswersAlone, HasNothingToWrite}
 use Rattle.job_answers.specs.Statuses.{status_of_answer}
 
 -- Of what may be read there is an answer, and it is the only one. What is given has bytes, unless it may have none, and an
@@ -25,6 +26,10 @@ pub record HasOneAnswer {M : Type 0} (MayBeRead : M → Type 0) (Gives : M → A
 abbrev pub DocumentParts : Type 0
 DocumentParts = EventGraph × List RuleApplication × EventGraph
 
+-- the model of a saved document, and the run that was saved
+abbrev pub SavedParts : Type 0
+SavedParts = EventGraph × SavedRun
+
 -- what is asked for has an answer: where a job reads nothing, if what it asks for keeps its limits
 abbrev pub MayBeAsked : Reading → Type 0
 MayBeAsked (readings.Nothing job) = KeepsLimits (readings.Nothing job)
@@ -35,4 +40,5 @@ abbrev pub KeepsAnswerLaws : Reading → Type 0
 KeepsAnswerLaws (readings.Model job) = HasOneAnswer IsValid (AnswersModel job) (HasNothingToWrite (readings.Model job))
 KeepsAnswerLaws (readings.Document job) =
     HasOneAnswer {M = DocumentParts} (λ d. Unit {0}) (λ d. AnswersDocument job d.0 d.1 d.2) (HasNothingToWrite (readings.Document job))
+KeepsAnswerLaws (readings.Saved job) = HasOneAnswer {M = SavedParts} (λ d. Unit {0}) (λ d. AnswersSaved job d.0 d.1) (HasNothingToWrite (readings.Saved job))
 KeepsAnswerLaws (readings.Nothing job) = HasOneAnswer {M = Unit {0}} (λ u. MayBeAsked (readings.Nothing job)) (λ u. AnswersAlone job) (HasNothingToWrite (readings.Nothing job))

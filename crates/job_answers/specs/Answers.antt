@@ -7,17 +7,22 @@ use Rattle.command_words.specs.declared.reading.DocumentJob.{DocumentJob}
 use Rattle.command_words.specs.declared.reading.DocumentJob.TheVariants as documents
 use Rattle.command_words.specs.declared.reading.ModelJob.{ModelJob}
 use Rattle.command_words.specs.declared.reading.ModelJob.TheVariants as models
+use Rattle.command_words.specs.declared.reading.SavedJob.{SavedJob}
+use Rattle.command_words.specs.declared.reading.SavedJob.TheVariants as saved_jobs
 use Rattle.command_words.specs.declared.reading.Reading.{Reading}
 use Rattle.command_words.specs.declared.reading.Reading.TheVariants as readings
 use Rattle.command_words.specs.Readings.{limit_of}
 use Rattle.model_core.specs.EventGraph.{EventGraph}
 use Rattle.model_core.specs.Static.Reading.{Reads, ReadsDocument}
 use Rattle.model_core.specs.Rules.Reduction.{RuleApplication}
+use Rattle.model_core.specs.Saved.SavedRun.{SavedRun}
 use Rattle.job_answers.specs.declared.answer.Answer.{Answer}
 use Rattle.job_answers.specs.declared.complaint.Complaint.{Complaint}
 use Rattle.job_answers.specs.AnswerForms.{refused, too_long}
 use Rattle.job_answers.specs.Complaints.{IsComplaint, message_of, byte_line}
 use Rattle.job_answers.specs.DocumentComplaints.{IsDocumentComplaint}
+use Rattle.job_answers.specs.SavedComplaints.{IsSavedComplaint}
+use Rattle.job_answers.specs.SavedReading.{ReadsSaved}
 use Rattle.job_answers.specs.CheckAnswer.{check_answer}
 use Rattle.job_answers.specs.PrintAnswer.{print_answer}
 use Rattle.job_answers.specs.ReduceAnswer.{IsReduction}
@@ -28,6 +33,8 @@ use Rattle.job_answers.specs.NarrowAnswer.{IsNarrowing}
 use Rattle.job_answers.specs.DescribeAnswer.{describe_answer}
 use Rattle.job_answers.specs.RunAnswer.{run_answer, ExceedsRoom}
 use Rattle.job_answers.specs.ReplicateAnswer.{replicate_answer}
+use Rattle.job_answers.specs.SaveAnswer.{save_answer}
+use Rattle.job_answers.specs.ResumeAnswer.{resume_answer, ResumedExceedsRoom}
 use Rattle.job_answers.specs.CertifyAnswer.{certify_answer}
 use Rattle.job_answers.specs.TrialAnswer.{IsTrial}
 
@@ -35,8 +42,8 @@ use Rattle.job_answers.specs.TrialAnswer.{IsTrial}
 
 -- `check` says that the model is accepted, `print` writes its canonical text, `reduce` another one that means the same with
 -- its certificate, `uses` who uses each variable, `conflicts` which pairs of vertices are in conflict, `fuse` and `narrow`
--- another text that means the same, `describe` the model in English, `run` the history of a run, and `replicate` the
--- report of many runs
+-- another text that means the same, `describe` the model in English, `run` the history of a run, `replicate` the report of
+-- many runs, and `save` a document from which a run can go on
 abbrev pub AnswersModel : ModelJob → EventGraph → Answer → Type 0
 AnswersModel models.Check g a = a ≡ check_answer g
 AnswersModel models.Print g a = a ≡ print_answer g
@@ -48,10 +55,15 @@ AnswersModel models.Narrow g a = IsNarrowing g a
 AnswersModel models.Describe g a = a ≡ describe_answer g
 AnswersModel (models.Run options) g a = a ≡ run_answer g options.until options.seed options.events options.starts
 AnswersModel (models.Replicate options) g a = a ≡ replicate_answer g options
+AnswersModel (models.Save options) g a = a ≡ save_answer g options
 
 -- `certify` says whether the certificate holds
 abbrev pub AnswersDocument : DocumentJob → EventGraph → List RuleApplication → EventGraph → Answer → Type 0
 AnswersDocument documents.Certify original applications reduced a = a ≡ certify_answer original applications reduced
+
+-- `resume` writes the history of the saved run from there on
+abbrev pub AnswersSaved : SavedJob → EventGraph → SavedRun → Answer → Type 0
+AnswersSaved (saved_jobs.Resume options) g s a = a ≡ resume_answer g s options.until options.events
 
 -- `trial` tells what comes of a model that a number makes
 abbrev pub AnswersAlone : BareJob → Answer → Type 0
@@ -63,6 +75,10 @@ abbrev pub MayFallShort : ModelJob → EventGraph → Type 0
 MayFallShort (models.Run options) g = ExceedsRoom g options.until options.seed options.events options.starts options.room
 MayFallShort (models.Replicate options) g = Unit {0}
 MayFallShort job g = ⊥
+
+-- so may one on a saved document: `resume` where the run needs more room than it has
+abbrev pub SavedMayFallShort : SavedJob → EventGraph → SavedRun → Type 0
+SavedMayFallShort (saved_jobs.Resume options) g s = ResumedExceedsRoom g s options
 
 -- these bytes are none, of a job that may have none: `uses` where the model has no variables, and `conflicts` where no two
 -- vertices are in conflict
@@ -88,16 +104,25 @@ pub record IsJudged (job : DocumentJob) (text : List ℕ) (a : Answer) : Type 0 
   pub reads : ReadsDocument text original applications reduced
   pub told : AnswersDocument job original applications reduced a
 
+-- the text reads as a saved run that has this answer
+pub record IsTakenUp (job : SavedJob) (text : List ℕ) (a : Answer) : Type 0 where
+  pub model : EventGraph
+  pub run : SavedRun
+  pub reads : ReadsSaved text model run
+  pub told : AnswersSaved job model run a
+
 -- the text is refused, or it reads as something that has this answer; of a job that reads nothing there is an answer alone
 abbrev pub Responds : Reading → List ℕ → Answer → Type 0
 Responds (readings.Model job) text a = IsRefused (IsComplaint text) a ⊎ ((g : EventGraph) × Reads text g × AnswersModel job g a)
 Responds (readings.Document job) text a = IsRefused (IsDocumentComplaint text) a ⊎ IsJudged job text a
+Responds (readings.Saved job) text a = IsRefused (IsSavedComplaint text) a ⊎ IsTakenUp job text a
 Responds (readings.Nothing job) text a = AnswersAlone job a
 
 -- where memory may be refused behind a front of the answer's bytes
 abbrev pub MayStopShort : Reading → List ℕ → Type 0
 MayStopShort (readings.Model job) text = (g : EventGraph) × Reads text g × MayFallShort job g
 MayStopShort (readings.Document job) text = ⊥
+MayStopShort (readings.Saved job) text = (g : EventGraph) × (s : SavedRun) × ReadsSaved text g s × SavedMayFallShort job g s
 MayStopShort (readings.Nothing job) text = ⊥
 
 -- ---- what is answered to any text

@@ -39,6 +39,7 @@ message_of complaints.BadByte = codes "bad byte"
 message_of complaints.Unexpected = codes "unexpected"
 message_of complaints.TooDeep = codes "too deep"
 message_of (complaints.Static kind) = static_message kind
+message_of complaints.BadSnapshot = codes "bad snapshot"
 
 -- the line that tells a message of a byte
 abbrev pub byte_line : ℕ → List ℕ → List ℕ
@@ -51,6 +52,7 @@ IsComplaint text complaints.BadByte at = tokens_of text ≡ Err at
 IsComplaint text complaints.TooDeep at = (tokens : List Lexeme) × (tokens_of text ≡ Ok tokens) × (too_deep_at OPENINGS_MAX tokens ≡ Some at)
 IsComplaint text complaints.Unexpected at = (tokens : List Lexeme) × (tokens_of text ≡ Ok tokens) × (too_deep_at OPENINGS_MAX tokens ≡ None) × IsUnexpectedAt text tokens at
 IsComplaint text (complaints.Static kind) at = (m : WrittenModel) × SpellsText text m × IsTold m kind at
+IsComplaint text complaints.BadSnapshot at = ⊥
 
 -- something is to be complained of at some byte of the text
 abbrev pub HasComplaint : List ℕ → Type 0

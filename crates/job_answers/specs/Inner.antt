@@ -1,6 +1,7 @@
 -- The code of this crate, restated for its proofs. No public clause cites these, and nobody has to believe them.
 pub mod Refusals
 pub mod RunSteps
+pub mod SaveSteps
 pub mod ReportSteps
 pub mod StartSteps
 pub mod TextFacts

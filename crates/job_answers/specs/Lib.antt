@@ -1,5 +1,7 @@
 pub mod Complaints
 pub mod DocumentComplaints
+pub mod SavedReading
+pub mod SavedComplaints
 pub mod AnswerForms
 pub mod CheckAnswer
 pub mod PrintAnswer
@@ -13,11 +15,14 @@ pub mod DescribeAnswer
 pub mod StartingValues
 pub mod RunAnswer
 pub mod ReplicateAnswer
+pub mod SaveAnswer
+pub mod ResumeAnswer
 pub mod CertifyAnswer
 pub mod TrialAnswer
 pub mod Answers
 pub mod Statuses
 pub mod AnswerLaws
+pub mod SavedAndResumed
 pub mod FrontWritten
 pub mod Delivery
 pub mod Inner

@@ -38,19 +38,27 @@ run_answer g until seed events starts = refused_or (start_refusal g starts) (tol
 
 -- ---- the room
 
--- Where fewer steps than the budget lead an event is due, and what is pending and what its vertex schedules are together
+-- Where fewer steps than the budget lead from this moment an event is due, and what is pending and what its vertex schedules are together
 -- more than there is room for.
-pub record ExceedsRoom (g : EventGraph) (until seed events : ℕ) (starts : List ℤ) (room : ℕ) : Type 0 where
+pub record ExceedsRoomFrom (g : EventGraph) (until seed events : ℕ) (m : Moment) (room : ℕ) : Type 0 where
   pub steps : ℕ
   pub within : steps < events
   pub here : Reached Moment
-  pub lead : reached_from g seed until steps (start g starts) ≡ Some here
+  pub lead : reached_from g seed until steps m ≡ Some here
   pub next : TakenOff
   pub comes : next_entry here.moment.now.pending ≡ Some next
   pub due : next.entry.time ≤ until
   pub exceeds : room < scheduled_by (vertex_at g next.entry.vertex).edges + length here.moment.now.pending
 
--- at each step within the budget what is pending and what the vertex of the event that is due schedules have room together
-abbrev pub RunFitsRoom : EventGraph → ℕ → ℕ → ℕ → List ℤ → ℕ → Type 0
-RunFitsRoom g until seed events starts room = (n : ℕ) (here : Reached Moment) (next : TakenOff) → n < events → reached_from g seed until n (start g starts) ≡ Some here
+-- at each step from this moment within the budget what is pending and what the vertex of the event that is due schedules
+-- have room together
+abbrev pub FitsRoomFrom : EventGraph → ℕ → ℕ → ℕ → Moment → ℕ → Type 0
+FitsRoomFrom g until seed events m room = (n : ℕ) (here : Reached Moment) (next : TakenOff) → n < events → reached_from g seed until n m ≡ Some here
     → next_entry here.moment.now.pending ≡ Some next → next.entry.time ≤ until → scheduled_by (vertex_at g next.entry.vertex).edges + length here.moment.now.pending ≤ room
+
+-- a run from its beginning exceeds its room, or fits it
+abbrev pub ExceedsRoom : EventGraph → ℕ → ℕ → ℕ → List ℤ → ℕ → Type 0
+ExceedsRoom g until seed events starts room = ExceedsRoomFrom g until seed events (start g starts) room
+
+abbrev pub RunFitsRoom : EventGraph → ℕ → ℕ → ℕ → List ℤ → ℕ → Type 0
+RunFitsRoom g until seed events starts room = FitsRoomFrom g until seed events (start g starts) room

@@ -23,6 +23,8 @@ exit_status_of statuses.ModelFault = 6
 exit_status_of statuses.Budget = 7
 exit_status_of statuses.Rejected = 8
 exit_status_of statuses.BadStart = 9
+exit_status_of statuses.Finished = 10
+exit_status_of statuses.TooLarge = 11
 
 -- the status of a job that writes
 abbrev pub status_of_end : End → Status
@@ -35,6 +37,8 @@ status_of_end ends.Rejected = statuses.Rejected
 abbrev pub status_of_refusal : Refusal → Status
 status_of_refusal refusals.Refused = statuses.Refused
 status_of_refusal refusals.BadStart = statuses.BadStart
+status_of_refusal refusals.Finished = statuses.Finished
+status_of_refusal refusals.TooLarge = statuses.TooLarge
 
 -- the status where there is no answer
 abbrev pub status_of_failure : Failure → Status

@@ -2,11 +2,12 @@
 
 ghost use Rattle.std.specs.Prelude.{◌≤◌, length, map, IfOk};
 ghost use Rattle.sig_base.specs.declared.limits.TheConstants.{DOCUMENT_MAX as most_bytes};
-ghost use Rattle.command_words.specs.declared.reading.Reading.TheVariants.{Model as OfModel, Document as OfDocument, Nothing as OfNothing};
+ghost use Rattle.command_words.specs.declared.reading.Reading.TheVariants.{Model as OfModel, Document as OfDocument, Saved as OfSaved, Nothing as OfNothing};
 ghost use Rattle.command_words.specs.Readings.{KeepsLimits};
+ghost use Rattle.model_core.specs.Saved.SavedRun.{IsGood};
 ghost use Rattle.model_core.specs.Static.Reading.{IsValid};
 ghost use Rattle.model_core.specs.Code.Views.{graph_of, application_of};
-ghost use Rattle.job_answers.specs.Answers.{AnswersModel, AnswersDocument, AnswersAlone, MayFallShort, Responds, MayStopShort};
+ghost use Rattle.job_answers.specs.Answers.{AnswersModel, AnswersDocument, AnswersAlone, AnswersSaved, MayFallShort, SavedMayFallShort, Responds, MayStopShort};
 ghost use Rattle.job_answers.specs.Delivery.{DeliversSome};
 
 use crate::acceptance::acceptance;
@@ -19,13 +20,16 @@ use crate::document_reading::{Document, document_of};
 use crate::reading_error::ReadingError;
 use crate::reduction::reduction;
 use crate::replicating::replicate;
+use crate::resuming::resume_run;
 use crate::rewriting::{fusion, narrowing};
 use crate::running::run_model;
+use crate::saved_reading::{SavedDocument, saved_document_of};
+use crate::saving::save_run;
 use crate::sentences::sentences;
 use crate::status::Failure;
 use crate::trial::trial;
 use crate::uses_table::uses_table;
-use command_words::{BareJob, DocumentJob, ModelJob};
+use command_words::{BareJob, DocumentJob, ModelJob, SavedJob};
 use model_core::Model;
 use sig_base::{NoMemory, Sink};
 use std::alloc::Global;
@@ -81,6 +85,11 @@ pub fn answer_model<K: Sink>(
             forget(model);
             said
         }
+        ModelJob::Save(options) => {
+            let said = save_run(alloc, &model, options, output);
+            forget(model);
+            said
+        }
     }
 }
 
@@ -114,6 +123,30 @@ fn document_text_answer(alloc: Global, job: &DocumentJob, text: &[u8]) -> Result
     }
 }
 
+/// Answers what is asked of a saved run, and writes the answer.
+fn answer_saved_run<K: Sink>(
+    alloc: Global,
+    job: &SavedJob,
+    document: &SavedDocument,
+    output: &mut K,
+) -> Result<Said, Failure>
+    requires valid { IsValid (graph_of document.now.model) }
+    requires good { IsGood (graph_of document.now.model) document.now.snapshot }
+    requires limits { KeepsLimits (OfSaved job.now) }
+    ensures { DeliversSome K.seen (AnswersSaved job.now (graph_of document.now.model) document.now.snapshot)
+        (SavedMayFallShort job.now (graph_of document.now.model) document.now.snapshot) result output.old output.new }
+{
+    match job {
+        SavedJob::Resume(options) => resume_run(
+            alloc,
+            &document.model,
+            &document.snapshot,
+            options,
+            output,
+        ),
+    }
+}
+
 /// Answers what is asked without anything to read, and writes the answer.
 pub fn answer_alone<K: Sink>(alloc: Global, job: &BareJob, output: &mut K) -> Result<Said, Failure>
     requires { KeepsLimits (OfNothing job.now) }
@@ -135,4 +168,27 @@ pub fn answer_document<K: Sink>(
     ensures { DeliversSome K.seen (Responds (OfDocument job.now) text.now) (MayStopShort (OfDocument job.now) text.now) result output.old output.new }
 {
     deliver(output, document_text_answer(alloc, job, text))
+}
+
+/// Answers what is asked of the saved document of this text, and writes the answer. The program ends behind it, so the
+/// document isn't taken apart.
+pub fn answer_saved<K: Sink>(
+    alloc: Global,
+    job: &SavedJob,
+    text: &[u8],
+    output: &mut K,
+) -> Result<Said, Failure>
+    requires within { length text.now ≤ most_bytes }
+    requires limits { KeepsLimits (OfSaved job.now) }
+    ensures { DeliversSome K.seen (Responds (OfSaved job.now) text.now) (MayStopShort (OfSaved job.now) text.now) result output.old output.new }
+{
+    match saved_document_of(alloc, text) {
+        Ok(document) => {
+            let said = answer_saved_run(alloc, job, &document, output);
+            forget(document);
+            said
+        }
+        Err(ReadingError::At { what, at }) => deliver(output, complaint_answer(alloc, what, at)),
+        Err(ReadingError::NoMemory) => Err(Failure::NoMemory),
+    }
 }

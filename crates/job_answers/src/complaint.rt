@@ -18,6 +18,8 @@ pub enum Complaint {
     TooDeep,
     /// A static rule is broken.
     Static(StaticKind),
+    /// A part of a snapshot isn't good for its model.
+    BadSnapshot,
 }
 
 /// What is told of a broken static rule.
@@ -56,6 +58,7 @@ impl Complaint {
             Complaint::Unexpected => b"unexpected",
             Complaint::TooDeep => b"too deep",
             Complaint::Static(kind) => static_message(kind),
+            Complaint::BadSnapshot => b"bad snapshot",
         }
     }
 

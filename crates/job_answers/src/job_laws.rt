@@ -5,6 +5,7 @@ ghost use Rattle.job_answers.specs.AnswerLaws.{KeepsAnswerLaws};
 
 use range_infer::narrowed_models_mean_the_same;
 use reducer::{strategies_are_determined, strategies_end};
+use run_laws::runs_go_on;
 use trial_report::trials_are_determined;
 use twin_rules::fusing_ends;
 
@@ -18,4 +19,5 @@ pub fn answers_keep_their_laws()
     fusing_ends();
     narrowed_models_mean_the_same();
     trials_are_determined();
+    runs_go_on();
 }

@@ -6,38 +6,25 @@ ghost use Rattle.model_core.specs.Code.Views.{graph_of};
 ghost use Rattle.run_control.specs.Beginning.{BegunRun};
 ghost use Rattle.job_answers.specs.RunAnswer.{run_answer, ExceedsRoom};
 ghost use Rattle.job_answers.specs.Delivery.{DeliversSome};
-ghost use Rattle.job_answers.specs.Inner.RunSteps.{ending, IsFresh, StreamsRun};
+ghost use Rattle.job_answers.specs.Inner.RunSteps.{IsFresh, StreamsRun};
 
 use crate::beginning::{begin, refuse_start};
 use crate::delivering::{Said, close};
+use crate::history_telling::tell_from;
 use crate::status::{End, Failure};
 use command_words::RunOptions;
 use event_heap::HeapPending;
 use event_list::Pending;
 use model_core::Model;
 use run_control::Run;
-use sig_base::{Sink, Steps};
+use sig_base::Sink;
 use std::alloc::Global;
 use std::marker::Brand;
 use std::mem::forget;
 use std::sync::ledger::{Blank, Ledger};
-use watch_trace::{Outcome, Tracer, follow};
+use watch_trace::Tracer;
 
-/// How a job ends whose run came to the outcome.
-fn ending(outcome: Outcome) -> Result<End, Failure>
-    ensures { result ≡ ending outcome }
-{
-    match outcome {
-        Outcome::Ended { .. } | Outcome::Stopped => Ok(End::Done),
-        Outcome::Faulted { .. } => Ok(End::ModelFault),
-        Outcome::Budget => Ok(End::Budget),
-        Outcome::WriteFault => Err(Failure::WriteFault),
-        Outcome::NoMemory => Err(Failure::NoMemory),
-    }
-}
-
-/// Writes the history of a run that has begun, and answers how the job ends. Its steps are counted by nobody. The program
-/// ends behind it, so the run isn't taken apart.
+/// Writes the history of a run that has begun, and answers how the job ends.
 fn tell_history<'m, P: Pending + Drop, K: Sink, L: Ledger>(
     alloc: Global,
     run: Run<'m, P>,
@@ -56,19 +43,14 @@ fn tell_history<'m, P: Pending + Drop, K: Sink, L: Ledger>(
     ensures { (starts : List ℤ) (room : ℕ) → BegunRun model.now run.entry.seed starts room run.entry
         → StreamsRun K.seen (graph_of model.now) until run.entry.seed events starts room result output.old output.new }
 {
-    let mut run = run;
-    let mut tracer = match Tracer::begin(alloc, model) {
+    let tracer = match Tracer::begin(alloc, model) {
         Ok(tracer) => tracer,
         Err(_) => {
             forget(run);
             return Err(Failure::NoMemory);
         }
     };
-    let mut steps: Steps<L> = Steps::begin(blank);
-    let outcome = follow(&mut tracer, &mut run, until, events, output, &mut steps);
-    forget(tracer);
-    forget(run);
-    ending(outcome)
+    tell_from::<P, K, L>(run, tracer, until, events, output, blank)
 }
 
 /// Runs the model over an empty pending list.

@@ -11,7 +11,7 @@ use sig_base::NoMemory;
 pub enum Status {
     /// The job is done: the input was read to its end, and everything was written and finished.
     Done,
-    /// The text is too long, or reads as no model, or for `certify` as no document.
+    /// The text is too long, or reads as no model, or for `certify` and `resume` as no document.
     Refused,
     /// The words are no job.
     Usage,
@@ -27,8 +27,12 @@ pub enum Status {
     Budget,
     /// The certificate doesn't hold, and why is written.
     Rejected,
-    /// The starting values of the run aren't those of the model's first vertex.
+    /// The starting values of the run aren't those of the model's first vertex, or a saved run can't go on as it is asked to.
     BadStart,
+    /// The run doesn't go on after so many events, so that there is nothing to save.
+    Finished,
+    /// What is saved of the run, with its model, is longer than a document may be.
+    TooLarge,
 }
 
 impl Status {
@@ -47,6 +51,8 @@ impl Status {
             Status::Budget => 7,
             Status::Rejected => 8,
             Status::BadStart => 9,
+            Status::Finished => 10,
+            Status::TooLarge => 11,
         }
     }
 }
@@ -81,10 +87,14 @@ impl End {
 /// Why a job writes nothing.
 #[derive(Clone, Copy, Debug, PartialEq, Eq)]
 pub enum Refusal {
-    /// The text is too long, or reads as no model, or for `certify` as no document.
+    /// The text is too long, or reads as no model, or for `certify` and `resume` as no document.
     Refused,
-    /// The starting values of the run aren't allowed.
+    /// The starting values of the run aren't allowed, or a saved run can't go on as it is asked to.
     BadStart,
+    /// The run doesn't go on.
+    Finished,
+    /// What is saved of the run is too long.
+    TooLarge,
 }
 
 impl Refusal {
@@ -95,6 +105,8 @@ impl Refusal {
         match self {
             Refusal::Refused => Status::Refused,
             Refusal::BadStart => Status::BadStart,
+            Refusal::Finished => Status::Finished,
+            Refusal::TooLarge => Status::TooLarge,
         }
     }
 }

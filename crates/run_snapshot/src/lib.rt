@@ -5,9 +5,8 @@ mod laws;
 mod resumed;
 mod resuming;
 mod saving;
-mod snapshot;
 
 pub use laws::{due_order_decides, saved_runs_resume, stopped_runs_go_on};
 pub use resumed::{Resumed, resume};
 pub use saving::save;
-pub use snapshot::Snapshot;
+pub use snapshot_text::{Snapshot, SnapshotError, print_snapshot, read_snapshot, snapshot_fault};

@@ -10,11 +10,11 @@ ghost use Rattle.run_snapshot.specs.ResumedRun.{ResumedRun};
 ghost use Rattle.run_snapshot.specs.Inner.NotedValues.{FitWatched, noted_so};
 
 use crate::resuming::{schedule_all, state_of, streams_after};
-use crate::snapshot::Snapshot;
 use event_list::Pending;
 use model_core::Model;
 use run_control::Run;
 use sig_base::{List, NoMemory};
+use snapshot_text::Snapshot;
 use std::alloc::Global;
 use std::marker::Brand;
 use std::sync::ledger::Blank;

@@ -7,13 +7,13 @@ ghost use Rattle.model_core.specs.Saved.Cells.{in_one_list};
 ghost use Rattle.model_core.specs.Saved.DueOrder.{in_due_order};
 ghost use Rattle.model_core.specs.Saved.SavedRun.{saved};
 
-use crate::snapshot::Snapshot;
 use event_list::{Entry, Pending};
 use model_core::Model;
 use random_streams::Streams;
 use run_control::{Parts, Run};
 use sig_base::{List, NoMemory, Steps};
 use sig_expr::State;
+use snapshot_text::Snapshot;
 use std::alloc::Global;
 use std::marker::Brand;
 use std::sync::ledger::{Blank, Ledger};

@@ -7,12 +7,15 @@ ghost use Rattle.std.specs.Process.{exit_status};
 ghost use Rattle.std.specs.String.{string_bytes};
 ghost use Rattle.sig_base.specs.Sink.{GrowsBy};
 ghost use Rattle.command_words.specs.declared.job.Job.TheVariants as jobs;
+ghost use Rattle.command_words.specs.declared.resume_options.ResumeOptions.{ResumeOptions};
+ghost use Rattle.command_words.specs.declared.save_options.SaveOptions.{SaveOptions};
 ghost use Rattle.command_words.specs.Jobs.{job_of};
 ghost use Rattle.job_answers.specs.declared.status.Failure.TheVariants as failures;
 ghost use Rattle.job_answers.specs.CertifyAnswer.{Certifies};
 ghost use Rattle.job_answers.specs.FuseAnswer.{FusesTheSame};
 ghost use Rattle.job_answers.specs.NarrowAnswer.{NarrowsTheSame};
 ghost use Rattle.job_answers.specs.ReduceAnswer.{KeepsMeaning};
+ghost use Rattle.job_answers.specs.SavedAndResumed.{SavesTheRun, WritesTheRest};
 ghost use Rattle.job_answers.specs.Statuses.{exit_status_of, failure_line};
 ghost use Rattle.sigma_top.specs.StatusTable.{Told, Ends};
 
@@ -55,6 +58,11 @@ fn work<S: Source, K: Sink, E: Sink>(
         → IfSome (S.seen input.old).left (λ text. (out : List ℕ) × FusesTheSame text out × GrowsBy (K.seen output.old).written (K.seen output.new).written out)) }
     ensures narrowed { IfOk words (λ words. job_of (map string_bytes (vec_items words)) ≡ Some jobs.Narrow → result ≡ Status.Done
         → IfSome (S.seen input.old).left (λ text. (out : List ℕ) × NarrowsTheSame text out × GrowsBy (K.seen output.old).written (K.seen output.new).written out)) }
+    ensures saved { IfOk words (λ words. (o : SaveOptions) → job_of (map string_bytes (vec_items words)) ≡ Some (jobs.Save o.until o.seed o.events o.starts) → result ≡ Status.Done
+        → IfSome (S.seen input.old).left (λ text. (out : List ℕ) × SavesTheRun text out o × GrowsBy (K.seen output.old).written (K.seen output.new).written out)) }
+    ensures resumed { IfOk words (λ words. (o : ResumeOptions) → job_of (map string_bytes (vec_items words)) ≡ Some (jobs.Resume o.until o.events o.room)
+        → result ≢ Status.ReadFault → result ≢ Status.WriteFault → result ≢ Status.NoMemory
+        → IfSome (S.seen input.old).left (WritesTheRest o.until o.events (λ out. GrowsBy (K.seen output.old).written (K.seen output.new).written out))) }
     ensures certified { IfOk words (λ words. job_of (map string_bytes (vec_items words)) ≡ Some jobs.Certify → result ≡ Status.Done
         → IfSome (S.seen input.old).left Certifies) }
 
@@ -98,6 +106,14 @@ pub fn program<S: Source, K: Sink, E: Sink>(
         → IfSome (S.seen input.old).left (λ text. (out : List ℕ) × FusesTheSame text out × GrowsBy (K.seen output.old).written (K.seen output.new).written out)) }
     ensures narrowed { IfOk words (λ words. job_of (map string_bytes (vec_items words)) ≡ Some jobs.Narrow → exit_status result ≡ 0
         → IfSome (S.seen input.old).left (λ text. (out : List ℕ) × NarrowsTheSame text out × GrowsBy (K.seen output.old).written (K.seen output.new).written out)) }
+
+    // At the exit status 0 what `save` writes goes on as the whole run does, and what `resume` writes of that is the rest of
+    // the run, unless the exit status tells that memory, the input or the output failed.
+    ensures saved { IfOk words (λ words. (o : SaveOptions) → job_of (map string_bytes (vec_items words)) ≡ Some (jobs.Save o.until o.seed o.events o.starts) → exit_status result ≡ 0
+        → IfSome (S.seen input.old).left (λ text. (out : List ℕ) × SavesTheRun text out o × GrowsBy (K.seen output.old).written (K.seen output.new).written out)) }
+    ensures resumed { IfOk words (λ words. (o : ResumeOptions) → job_of (map string_bytes (vec_items words)) ≡ Some (jobs.Resume o.until o.events o.room)
+        → exit_status result ≢ exit_status_of Status.ReadFault → exit_status result ≢ exit_status_of Status.WriteFault → exit_status result ≢ exit_status_of Status.NoMemory
+        → IfSome (S.seen input.old).left (WritesTheRest o.until o.events (λ out. GrowsBy (K.seen output.old).written (K.seen output.new).written out))) }
 
     // At the exit status 0 the two models of the document that `certify` read mean the same.
     ensures certified { IfOk words (λ words. job_of (map string_bytes (vec_items words)) ≡ Some jobs.Certify → exit_status result ≡ 0

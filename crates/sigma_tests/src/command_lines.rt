@@ -8,8 +8,8 @@ use std::test::*;
 
 const TRIAL: &str = "trial --seed 42 --vertices 2 --until 20 --events 100";
 
-/// Words that ask for no trial and no replications, each for one reason.
-const NO_JOBS: [&str; 21] = [
+/// Words that ask for no trial, no replications, and no run that is saved or resumed, each for one reason.
+const NO_JOBS: [&str; 29] = [
     "trial --seed 42 --vertices 0 --until 20 --events 100",
     "trial --seed 42 --vertices 501 --until 20 --events 100",
     "trial --seed 42 --vertices 2 --until 20 --events 0",
@@ -31,6 +31,14 @@ const NO_JOBS: [&str; 21] = [
     "replicate --until 12 --events 100 --runs 2",
     "replicate --until 12 --seed 1 --events 100 --runs 2 --room 5",
     "replicate --until 12 --seed 1 --events 100 --runs 2 --runs 2",
+    "save --until 12 --seed 1 --events 0",
+    "save --until 12 --seed 1",
+    "save --until 12 --events 2",
+    "save --until 12 --seed 1 --events 2 --room 5",
+    "resume --until 12",
+    "resume --events 2",
+    "resume --until 12 --seed 1 --events 2",
+    "resume --until 12 --events 2 --room 4194305",
 ];
 
 /// What a run is asked for with.
@@ -463,5 +471,50 @@ fn values_are_spelled_and_within_range(rt: HostRuntime) -> Result<(), Fail> {
         }
         assert!(rt; asks_for_no_job(&words(rt.alloc(), &given)));
     }
+    Ok(())
+}
+
+/// Whether the words ask to save a run with this seed and these starting values.
+fn asks_to_save(asked: &Result<Job, WordsError>, seed: u64, starts: &[i64]) -> bool {
+    match asked {
+        Ok(
+            Job::Save {
+                until: 12,
+                seed: given,
+                events: 2,
+                starts: values,
+            },
+        ) => *given == seed && values.as_slice() == starts,
+        _ => false,
+    }
+}
+
+/// Whether the words ask to resume a run with this room.
+fn asks_to_resume(asked: &Result<Job, WordsError>, room: usize) -> bool {
+    match asked {
+        Ok(
+            Job::Resume {
+                until: 12,
+                events: 2,
+                room: given,
+            },
+        ) => *given == room,
+        _ => false,
+    }
+}
+
+#[test]
+fn options_of_saved_runs_are_read(rt: HostRuntime) -> Result<(), Fail> {
+    let save = split(rt.alloc(), "save --until 12 --seed 1 --events 2")?;
+    assert!(rt; asks_to_save(&words(rt.alloc(), &save), 1, &[]));
+    let from_others = split(
+        rt.alloc(),
+        "--start=-3,0 --seed=0 --until=12 --events=2 save",
+    )?;
+    assert!(rt; asks_to_save(&words(rt.alloc(), &from_others), 0, &[-3, 0]));
+    let resume = split(rt.alloc(), "resume --until 12 --events 2")?;
+    assert!(rt; asks_to_resume(&words(rt.alloc(), &resume), 4_096));
+    let with_room = split(rt.alloc(), "resume --room=0 --until=12 --events=2")?;
+    assert!(rt; asks_to_resume(&words(rt.alloc(), &with_room), 0));
     Ok(())
 }

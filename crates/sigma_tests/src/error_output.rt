@@ -27,8 +27,8 @@ type Case = (
     u64,
 );
 
-/// Each status but that of want of memory.
-const CASES: [Case; 9] = [
+/// Each status but that of want of memory, and of a snapshot that is too long.
+const CASES: [Case; 10] = [
     ("reduce", b"", SOUND, Status::Refused, b"", 1),
     ("grow", ONE, SOUND, Status::Usage, b"", 1),
     ("check", ONE, FAILING_READ, Status::ReadFault, b"", 1),
@@ -38,6 +38,14 @@ const CASES: [Case; 9] = [
         BANK,
         SOUND,
         Status::BadStart,
+        b"",
+        1,
+    ),
+    (
+        "save --seed 42 --events 9 --until 9",
+        ONE,
+        SOUND,
+        Status::Finished,
         b"",
         1,
     ),

@@ -27,6 +27,8 @@ mod replications;
 #[cfg(test)]
 mod rewritten_models;
 #[cfg(test)]
+mod saved_runs;
+#[cfg(test)]
 mod trials;
 #[cfg(test)]
 mod versions;

@@ -32,6 +32,8 @@ given_has_bytes (readings.Model job) laws text end bytes (inl h) = let e = h.tol
 given_has_bytes (readings.Model job) laws text end bytes (inr h) = laws.has_bytes h.0 end bytes h.2
 given_has_bytes (readings.Document job) laws text end bytes (inl h) = let e = h.told in absurd cc
 given_has_bytes (readings.Document job) laws text end bytes (inr h) = laws.has_bytes (h.original, h.applications, h.reduced) end bytes h.told
+given_has_bytes (readings.Saved job) laws text end bytes (inl h) = let e = h.told in absurd cc
+given_has_bytes (readings.Saved job) laws text end bytes (inr h) = laws.has_bytes (h.model, h.run) end bytes h.told
 given_has_bytes (readings.Nothing job) laws text end bytes h = laws.has_bytes tt end bytes h
 
 -- ---- the answer to the text is that to the input

@@ -1,11 +1,13 @@
 -- From the job to the call, and from its table of statuses to its other clauses.
 use Rattle.std.proofs.Common.{◌≡◌, ◌⊎◌, inl, inr, ℕ, ℤ, List, [], Option, Some, None, Result, Ok, Err, refl, ap, sym, subst, ◌∙◌, arith}
 use Rattle.std.proofs.lemmas.Option.{same_Some}
-use Rattle.std.specs.Prelude.{IfSome}
+use Rattle.std.specs.Prelude.{max, length, IfSome}
 use Rattle.std.proofs.lemmas.List.{append-nil}
 use Rattle.sig_base.specs.Faults.{HasRisen}
 use Rattle.sig_base.specs.Sink.{Outlet, GrowsBy}
 use Rattle.model_core.specs.EventGraph.{EventGraph}
+use Rattle.model_core.specs.Run.History.{Moment, start}
+use Rattle.model_core.specs.Saved.SavedRun.{SavedRun, saved_moment}
 use Rattle.model_core.specs.Static.Reading.{Reads}
 use Rattle.sig_base.specs.Source.{Inlet}
 use Rattle.command_words.specs.declared.job.Job.{Job}
@@ -16,7 +18,9 @@ use Rattle.command_words.specs.declared.reading.ModelJob.TheVariants as models
 use Rattle.command_words.specs.declared.reading.Reading.{Reading}
 use Rattle.command_words.specs.declared.reading.Reading.TheVariants as readings
 use Rattle.command_words.specs.Jobs.{job_of}
-use Rattle.command_words.specs.Readings.{reading_of, limit_of}
+use Rattle.command_words.specs.declared.resume_options.ResumeOptions.{ResumeOptions}
+use Rattle.command_words.specs.declared.save_options.SaveOptions.{SaveOptions}
+use Rattle.command_words.specs.Readings.{reading_of, limit_of, KeepsLimits}
 use Rattle.job_answers.specs.declared.answer.Answer.{Answer}
 use Rattle.job_answers.specs.declared.answer.Answer.TheVariants.{Given, Refused}
 use Rattle.job_answers.specs.declared.delivering.Said.{Said}
@@ -31,7 +35,10 @@ use Rattle.job_answers.specs.declared.status.Status.{Status}
 use Rattle.job_answers.specs.declared.status.Status.TheVariants as statuses
 use Rattle.job_answers.specs.Answers.{Answers, MayStopShort}
 use Rattle.job_answers.specs.CertifyAnswer.{Certifies}
-use Rattle.job_answers.specs.RunAnswer.{ExceedsRoom, RunFitsRoom}
+use Rattle.job_answers.specs.RunAnswer.{ExceedsRoomFrom, FitsRoomFrom, RunFitsRoom}
+use Rattle.job_answers.specs.ResumeAnswer.{ResumedFitsRoom}
+use Rattle.job_answers.specs.SavedAndResumed.{SavesTheRun, WritesTheRest}
+use Rattle.job_answers.specs.SavedReading.{ReadsSaved}
 use Rattle.job_answers.specs.Statuses.{status_of_answer, bytes_of_answer, status_of_end, status_of_refusal, status_of_failure, failure_line}
 use Rattle.sigma_top.specs.StatusTable.{text_of, Told, WritesAnswer, Refuses, RepliesToInput, HasBegun, LacksMemory, ForJob, Ends}
 use Rattle.sigma_top.specs.Inner.Frame.{Performs, Serves}
@@ -49,35 +56,51 @@ if_told : (left : Option (List ℕ)) (text : List ℕ) (P : List ℕ → Type 0)
 if_told None text P same h = tt
 if_told (Some bytes) text P same h = subst P same h
 
--- ---- where `run` lacks memory
+-- ---- where `run` and `resume` lack memory
 
 -- a run that fits its room doesn't exceed it
-fits_its_room : (g : EventGraph) (until seed events : ℕ) (starts : List ℤ) (room : ℕ) → RunFitsRoom g until seed events starts room → ExceedsRoom g until seed events starts room → ⊥
-fits_its_room g until seed events starts room fits more = omega (arith, fits more.steps more.here more.next more.within more.lead more.comes more.due, more.exceeds)
+fits_its_room : (g : EventGraph) (until seed events : ℕ) (m : Moment) (room : ℕ) → FitsRoomFrom g until seed events m room → ExceedsRoomFrom g until seed events m room → ⊥
+fits_its_room g until seed events m room fits more = omega (arith, fits more.steps more.here more.next more.within more.lead more.comes more.due, more.exceeds)
 
 -- the runs of the models of a text fit their room
 abbrev pub RunsFit : ℕ → ℕ → ℕ → List ℤ → ℕ → List ℕ → Type 0
 RunsFit until seed events starts room text = (g : EventGraph) → Reads text g → RunFitsRoom g until seed events starts room
 
-unless_it_fits : (until seed events : ℕ) (starts : List ℤ) (room : ℕ) (left : Option (List ℕ)) (text : List ℕ) (P : Type 0) → IfSome left (λ told. text ≡ told) → MayStopShort (reading_of (jobs.Run until seed events starts room)) text → IfSome left (λ told. RunsFit until seed events starts room told → P)
-unless_it_fits until seed events starts room None text P told short = tt
-unless_it_fits until seed events starts room (Some bytes) text P told short =
-    λ fits. absurd (fits_its_room short.0 until seed events starts room (fits short.0 (subst (λ (t : List ℕ). Reads t short.0) told short.1)) short.2)
+runs_fit : (until seed events : ℕ) (starts : List ℤ) (room : ℕ) (text : List ℕ) → RunsFit until seed events starts room text → MayStopShort (reading_of (jobs.Run until seed events starts room)) text → ⊥
+runs_fit until seed events starts room text fits (g, reads, more) = fits_its_room g until seed events (start g starts) room (fits g reads) more
+
+-- and so do the saved runs of a document
+abbrev pub ResumedFit : ℕ → ℕ → ℕ → List ℕ → Type 0
+ResumedFit until events room text = (g : EventGraph) (s : SavedRun) → ReadsSaved text g s → ResumedFitsRoom g s until events room
+
+resumed_fit : (until events room : ℕ) (text : List ℕ) → ResumedFit until events room text → MayStopShort (reading_of (jobs.Resume until events room)) text → ⊥
+resumed_fit until events room text fits (g, s, reads, more) = fits_its_room g until s.seed events (saved_moment g s) (max room (length s.pending)) (fits g s reads) more
 
 in_any_case : (left : Option (List ℕ)) (Fits : List ℕ → Type 0) (P : Type 0) → P → IfSome left (λ told. Fits told → P)
 in_any_case None Fits P holds = tt
 in_any_case (Some bytes) Fits P holds = λ fits. holds
 
-module _ {S K : Type 0} (source : S → Inlet) (sink : K → Outlet) (until seed events : ℕ) (starts : List ℤ) (room : ℕ) (i j : S) (o p : K) where
-  begun_unless : (p ≡ o) ⊎ HasBegun source sink (reading_of (jobs.Run until seed events starts room)) i o p → IfSome (source i).left (λ told. RunsFit until seed events starts room told → p ≡ o)
-  begun_unless (inl same) = in_any_case (source i).left (RunsFit until seed events starts room) (p ≡ o) same
-  begun_unless (inr begun) = unless_it_fits until seed events starts room (source i).left begun.answer.text (p ≡ o) begun.answer.told begun.short
+module _ (job : Job) (Fits : List ℕ → Type 0) (never : (text : List ℕ) → Fits text → MayStopShort (reading_of job) text → ⊥) where
+  unless_it_fits : (left : Option (List ℕ)) (text : List ℕ) (P : Type 0) → IfSome left (λ told. text ≡ told) → MayStopShort (reading_of job) text → IfSome left (λ told. Fits told → P)
+  unless_it_fits None text P told short = tt
+  unless_it_fits (Some bytes) text P told short = λ fits. absurd (never text (subst Fits (sym told) fits) short)
 
-  pub kept_unless : (words : List (List ℕ)) → job_of words ≡ Some (jobs.Run until seed events starts room) → ((j ≡ i) × (p ≡ o)) ⊎ ForJob words (λ reading. LacksMemory source sink reading i j o p)
-      → IfSome (source i).left (λ told. RunsFit until seed events starts room told → p ≡ o)
-  kept_unless words asked (inl same) = in_any_case (source i).left (RunsFit until seed events starts room) (p ≡ o) same.1
-  kept_unless words asked (inr lacks) =
-      begun_unless (subst (λ (job : Job). LacksMemory source sink (reading_of job) i j o p) (same_Some _ _ (sym lacks.1 ∙ asked)) lacks.2).output_grown
+  module _ {S K : Type 0} (source : S → Inlet) (sink : K → Outlet) (i j : S) (o p : K) (reads : (x : Inlet) → text_of (limit_of (reading_of job)) x.left ≡ x.left) where
+    begun_unless : (p ≡ o) ⊎ HasBegun source sink (reading_of job) i o p → IfSome (source i).left (λ told. Fits told → p ≡ o)
+    begun_unless (inl same) = in_any_case (source i).left Fits (p ≡ o) same
+    begun_unless (inr begun) =
+        unless_it_fits (source i).left begun.answer.text (p ≡ o) (subst (λ (left : Option (List ℕ)). IfSome left (λ told. begun.answer.text ≡ told)) (reads (source i)) begun.answer.told) begun.short
+
+    pub kept_unless : (words : List (List ℕ)) → job_of words ≡ Some job → ((j ≡ i) × (p ≡ o)) ⊎ ForJob words (λ reading. LacksMemory source sink reading i j o p) → IfSome (source i).left (λ told. Fits told → p ≡ o)
+    kept_unless words asked (inl same) = in_any_case (source i).left Fits (p ≡ o) same.1
+    kept_unless words asked (inr lacks) =
+        begun_unless (subst (λ (other : Job). LacksMemory source sink (reading_of other) i j o p) (same_Some _ _ (sym lacks.1 ∙ asked)) lacks.2).output_grown
+
+-- ---- what `resume` writes of what `save` wrote
+
+-- what `save` writes for a text is what `resume` goes on from
+abbrev pub SavesSuch : Type 0
+SavesSuch = (o : SaveOptions) (text document : List ℕ) (end : End) → KeepsLimits (readings.Model (models.Save o)) → Answers (readings.Model (models.Save o)) text (Given end document) → SavesTheRun text document o
 
 -- ---- the answer of the job
 
@@ -139,6 +162,8 @@ module _ {S K E : Type 0} (source : S → Inlet) (sink : K → Outlet) (errors :
     refused : (why : Refusal) (line : List ℕ) → Serves source sink words (Ok (said.Refused why line)) i j o p → Told (errors e) (errors f) line → Ends source sink errors (status_of_refusal why) words i j o p e f
     refused refusals.Refused line h told = (line, h, told)
     refused refusals.BadStart line h told = (line, h, told)
+    refused refusals.Finished line h told = (line, h, told)
+    refused refusals.TooLarge line h told = (line, h, told)
 
     pub refused_ends : (why : Refusal) (line shown : List ℕ) (r : Result Said Failure) (status : Status) → r ≡ Ok (said.Refused why line) → status ≡ status_of_refusal why → shown ≡ line → Serves source sink words r i j o p → Told (errors e) (errors f) shown
         → Ends source sink errors status words i j o p e f
@@ -182,13 +207,29 @@ module _ {S K E : Type 0} (source : S → Inlet) (sink : K → Outlet) (errors :
         let answer = replied jobs.Certify asked (Given ends.Done done.2.bytes) done.0 done.1 done.2.answer in
         if_told (source i).left answer.text Certifies answer.told (law answer.text done.2.bytes answer.answers)
 
+    -- what `save` writes is what `resume` goes on from
+    pub saved_is_such : SavesSuch → ((job : Job) → job_of words ≡ Some job → KeepsLimits (reading_of job)) → (options : SaveOptions)
+        → (status : Status) → Ends source sink errors status words i j o p e f → job_of words ≡ Some (jobs.Save options.until options.seed options.events options.starts) → status ≡ statuses.Done
+        → IfSome (source i).left (λ text. (out : List ℕ) × SavesTheRun text out options × Grows out)
+    saved_is_such law limits options status h asked is_done =
+        given_is_such (jobs.Save options.until options.seed options.events options.starts) (models.Save options) refl (λ text out. SavesTheRun text out options)
+        (λ text out end answers. law options text out end (limits (jobs.Save options.until options.seed options.events options.starts) asked) answers) status h asked is_done
+
     -- where `run` lacks memory it has written nothing, if it fits its room
     pub within_room : (until seed events : ℕ) (starts : List ℤ) (room : ℕ) → job_of words ≡ Some (jobs.Run until seed events starts room) → (status : Status) → Ends source sink errors status words i j o p e f → status ≡ statuses.NoMemory
         → IfSome (source i).left (λ told. RunsFit until seed events starts room told → p ≡ o)
     within_room until seed events starts room asked status h is_short =
-        kept_unless source sink until seed events starts room i j o p words asked (subst (λ (s : Status). Ends source sink errors s words i j o p e f) is_short h).0
+        kept_unless (jobs.Run until seed events starts room) (RunsFit until seed events starts room) (runs_fit until seed events starts room) source sink i j o p (λ x. refl) words asked
+        (subst (λ (s : Status). Ends source sink errors s words i j o p e f) is_short h).0
 
-    module _ (job : Job) (asked : job_of words ≡ Some job) (read : HasRisen (source i).faults (source j).faults → ⊥) (wrote : HasRisen (sink o).faults (sink p).faults → ⊥) where
+    -- and so it is with `resume`
+    pub resumed_within_room : (until events room : ℕ) → job_of words ≡ Some (jobs.Resume until events room) → (status : Status) → Ends source sink errors status words i j o p e f → status ≡ statuses.NoMemory
+        → IfSome (source i).left (λ told. ResumedFit until events room told → p ≡ o)
+    resumed_within_room until events room asked status h is_short =
+        kept_unless (jobs.Resume until events room) (ResumedFit until events room) (resumed_fit until events room) source sink i j o p (λ x. refl) words asked
+        (subst (λ (s : Status). Ends source sink errors s words i j o p e f) is_short h).0
+
+    module _ (job : Job) (asked : job_of words ≡ Some job) where
       given : (end : End) → ForJob words (λ reading. WritesAnswer source sink reading end i j o p) → IsComplete (reading_of job) (status_of_end end) (source i).left Grows
       given end h =
           let answer = replied job asked (Given end h.2.bytes) h.0 h.1 h.2.answer in
@@ -200,19 +241,48 @@ module _ {S K E : Type 0} (source : S → Inlet) (sink : K → Outlet) (errors :
           if_answers (reading_of job) (text_of (limit_of (reading_of job)) (source i).left) (λ a. status_of_refusal why ≡ status_of_answer a) (λ a. Grows (bytes_of_answer a)) answer.text (Refused why line) answer.told answer.answers refl (unwritten sink h.2.output_untouched)
 
       -- no status is left but that of the answer, and want of memory
-      pub complete : (status : Status) → Ends source sink errors status words i j o p e f → (status ≡ statuses.NoMemory) ⊎ IsComplete (reading_of job) status (source i).left Grows
-      complete statuses.Done h = inr (given ends.Done h.0)
-      complete statuses.Refused h = inr (refusal refusals.Refused h.0 h.1)
-      complete statuses.Usage h = absurd (some_is_not_none asked h.0)
-      complete statuses.ReadFault h = absurd (read h.0.2.input_failed)
-      complete statuses.WriteFault h = absurd (wrote h.0.2.output_failed)
-      complete statuses.NoMemory h = inl refl
-      complete statuses.ModelFault h = inr (given ends.ModelFault h.0)
-      complete statuses.Budget h = inr (given ends.Budget h.0)
-      complete statuses.Rejected h = inr (given ends.Rejected h.0)
-      complete statuses.BadStart h = inr (refusal refusals.BadStart h.0 h.1)
+      pub complete : (HasRisen (source i).faults (source j).faults → ⊥) → (HasRisen (sink o).faults (sink p).faults → ⊥) → (status : Status) → Ends source sink errors status words i j o p e f → (status ≡ statuses.NoMemory) ⊎ IsComplete (reading_of job) status (source i).left Grows
+      complete read wrote statuses.Done h = inr (given ends.Done h.0)
+      complete read wrote statuses.Refused h = inr (refusal refusals.Refused h.0 h.1)
+      complete read wrote statuses.Usage h = absurd (some_is_not_none asked h.0)
+      complete read wrote statuses.ReadFault h = absurd (read h.0.2.input_failed)
+      complete read wrote statuses.WriteFault h = absurd (wrote h.0.2.output_failed)
+      complete read wrote statuses.NoMemory h = inl refl
+      complete read wrote statuses.ModelFault h = inr (given ends.ModelFault h.0)
+      complete read wrote statuses.Budget h = inr (given ends.Budget h.0)
+      complete read wrote statuses.Rejected h = inr (given ends.Rejected h.0)
+      complete read wrote statuses.BadStart h = inr (refusal refusals.BadStart h.0 h.1)
+      complete read wrote statuses.Finished h = inr (refusal refusals.Finished h.0 h.1)
+      complete read wrote statuses.TooLarge h = inr (refusal refusals.TooLarge h.0 h.1)
+
+      -- where neither memory, the input nor the output failed, it is that of the answer
+      pub answered : (status : Status) → Ends source sink errors status words i j o p e f → (status ≡ statuses.ReadFault → ⊥) → (status ≡ statuses.WriteFault → ⊥) → (status ≡ statuses.NoMemory → ⊥) → IsComplete (reading_of job) status (source i).left Grows
+      answered statuses.Done h read wrote held = given ends.Done h.0
+      answered statuses.Refused h read wrote held = refusal refusals.Refused h.0 h.1
+      answered statuses.Usage h read wrote held = absurd (some_is_not_none asked h.0)
+      answered statuses.ReadFault h read wrote held = absurd (read refl)
+      answered statuses.WriteFault h read wrote held = absurd (wrote refl)
+      answered statuses.NoMemory h read wrote held = absurd (held refl)
+      answered statuses.ModelFault h read wrote held = given ends.ModelFault h.0
+      answered statuses.Budget h read wrote held = given ends.Budget h.0
+      answered statuses.Rejected h read wrote held = given ends.Rejected h.0
+      answered statuses.BadStart h read wrote held = refusal refusals.BadStart h.0 h.1
+      answered statuses.Finished h read wrote held = refusal refusals.Finished h.0 h.1
+      answered statuses.TooLarge h read wrote held = refusal refusals.TooLarge h.0 h.1
 
     -- a text that reads as a model is reduced, or memory is short
     pub reduces_what_reads : ReducesWhatReads → job_of words ≡ Some jobs.Reduce → (HasRisen (source i).faults (source j).faults → ⊥) → (HasRisen (sink o).faults (sink p).faults → ⊥) → (status : Status) → Ends source sink errors status words i j o p e f
         → IfSome (source i).left (λ text. (g : EventGraph) → Reads text g → (status ≡ statuses.Done) ⊎ (status ≡ statuses.NoMemory))
     reduces_what_reads law asked read wrote status h = always_reduced law status (source i).left Grows (complete jobs.Reduce asked read wrote status h)
+
+    -- of what `save` wrote the rest is written
+    rest_written : (options : ResumeOptions) (status : Status) (left : Option (List ℕ)) → IsComplete (reading_of (jobs.Resume options.until options.events options.room)) status left Grows
+        → IfSome left (WritesTheRest options.until options.events Grows)
+    rest_written options status None h = tt
+    rest_written options status (Some document) (a, answers, is, grows) =
+        λ text saved_by saves early few. subst Grows (ap bytes_of_answer (saves.resumed options.until options.events options.room early few a answers)) grows
+
+    pub goes_on : (options : ResumeOptions) → job_of words ≡ Some (jobs.Resume options.until options.events options.room) → (status : Status) → Ends source sink errors status words i j o p e f
+        → (status ≡ statuses.ReadFault → ⊥) → (status ≡ statuses.WriteFault → ⊥) → (status ≡ statuses.NoMemory → ⊥) → IfSome (source i).left (WritesTheRest options.until options.events Grows)
+    goes_on options asked status h read wrote held =
+        rest_written options status (source i).left (answered (jobs.Resume options.until options.events options.room) asked status h read wrote held)

@@ -132,3 +132,5 @@ module _ {S K E : Type 0} (source : S → Inlet) (sink : K → Outlet) (errors :
   Ends statuses.Budget words i j o p e f = ForJob words (λ reading. WritesAnswer source sink reading ends.Budget i j o p) × (f ≡ e)
   Ends statuses.Rejected words i j o p e f = ForJob words (λ reading. WritesAnswer source sink reading ends.Rejected i j o p) × (f ≡ e)
   Ends statuses.BadStart words i j o p e f = (line : List ℕ) × ForJob words (λ reading. Refuses source sink reading refusals.BadStart line i j o p) × Told (errors e) (errors f) line
+  Ends statuses.Finished words i j o p e f = (line : List ℕ) × ForJob words (λ reading. Refuses source sink reading refusals.Finished line i j o p) × Told (errors e) (errors f) line
+  Ends statuses.TooLarge words i j o p e f = (line : List ℕ) × ForJob words (λ reading. Refuses source sink reading refusals.TooLarge line i j o p) × Told (errors e) (errors f) line

@@ -1,15 +1,18 @@
 //! The top call: from the words, the input and the outputs to a status. It knows a job by what that reads, and everything
 //! else is proved once for all jobs.
 
-ghost use Rattle.std.specs.Prelude.{◌≡◌, ◌⊎◌, ℕ, ℤ, List, Some, map, IfSome};
+ghost use Rattle.std.specs.Prelude.{◌≡◌, ◌≢◌, ◌⊎◌, ℕ, ℤ, List, Some, map, IfSome};
 ghost use Rattle.std.specs.String.{string_bytes};
 ghost use Rattle.sig_base.specs.Sink.{GrowsBy};
 ghost use Rattle.sig_base.specs.Faults.{HasRisen};
 ghost use Rattle.command_words.specs.declared.job.Job.{Job};
 ghost use Rattle.command_words.specs.declared.reading.Reading.TheVariants.{Model as OfModel};
+ghost use Rattle.command_words.specs.declared.resume_options.ResumeOptions.{ResumeOptions};
+ghost use Rattle.command_words.specs.declared.save_options.SaveOptions.{SaveOptions};
 ghost use Rattle.command_words.specs.Jobs.{job_of};
 ghost use Rattle.command_words.specs.Readings.{reading_of, limit_of, KeepsLimits};
 ghost use Rattle.model_core.specs.EventGraph.{EventGraph};
+ghost use Rattle.model_core.specs.Saved.SavedRun.{SavedRun};
 ghost use Rattle.model_core.specs.Static.Reading.{Reads};
 ghost use Rattle.job_answers.specs.declared.answer.Answer.{Answer};
 ghost use Rattle.job_answers.specs.Answers.{IsWithin, Answers, Responds, MayStopShort};
@@ -18,19 +21,22 @@ ghost use Rattle.job_answers.specs.Delivery.{DeliversSome};
 ghost use Rattle.job_answers.specs.FuseAnswer.{FusesTheSame};
 ghost use Rattle.job_answers.specs.NarrowAnswer.{NarrowsTheSame};
 ghost use Rattle.job_answers.specs.ReduceAnswer.{KeepsMeaning};
+ghost use Rattle.job_answers.specs.ResumeAnswer.{ResumedFitsRoom};
 ghost use Rattle.job_answers.specs.RunAnswer.{RunFitsRoom};
+ghost use Rattle.job_answers.specs.SavedAndResumed.{SavesTheRun, WritesTheRest};
+ghost use Rattle.job_answers.specs.SavedReading.{ReadsSaved};
 ghost use Rattle.job_answers.specs.Statuses.{status_of_answer, bytes_of_answer};
 ghost use Rattle.sigma_top.specs.StatusTable.{text_of, Told, Ends};
 ghost use Rattle.sigma_top.specs.Inner.Frame.{Performs, Serves};
 
 use crate::model_reading::model_of;
 use crate::text_taking::{Taken, take_text};
-use command_words::{ModelJob, Reading, WordsError};
+use command_words::{ModelJob, Reading, WordsError, jobs_keep_their_limits};
 use job_answers::{
-    Failure, ReadingError, Said, Status, answer_alone, answer_document, answer_model,
+    Failure, ReadingError, Said, Status, answer_alone, answer_document, answer_model, answer_saved,
     answers_keep_their_laws, complaint_answer, deliver, fused_models_mean_the_same,
-    narrower_models_mean_the_same, readable_models_are_reduced, sound_documents_mean_the_same,
-    too_long_answer, written_models_mean_the_same,
+    narrower_models_mean_the_same, readable_models_are_reduced, saved_runs_are_resumed,
+    sound_documents_mean_the_same, too_long_answer, written_models_mean_the_same,
 };
 use sig_base::{Sink, Source, put};
 use std::alloc::Global;
@@ -67,6 +73,7 @@ fn respond<K: Sink>(
     match reading {
         Reading::Model(job) => respond_to_model(alloc, job, text, output),
         Reading::Document(job) => answer_document(alloc, job, text, output),
+        Reading::Saved(job) => answer_saved(alloc, job, text, output),
         Reading::Nothing(job) => answer_alone(alloc, job, output),
     }
 }
@@ -166,6 +173,11 @@ pub fn sigma<S: Source, K: Sink, E: Sink>(
         → result ≡ Status.NoMemory → IfSome (S.seen input.old).left (λ text. ((g : EventGraph) → Reads text g → RunFitsRoom g until seed events starts room)
         → output.new ≡ output.old) }
 
+    // Where `resume` lacks memory nothing is written, if the saved run fits the room that it has.
+    ensures resumed_within_room { (until events room : ℕ) → job_of (map string_bytes words.now) ≡ Some (Job.Resume until events room)
+        → result ≡ Status.NoMemory → IfSome (S.seen input.old).left (λ text. ((g : EventGraph) (s : SavedRun) → ReadsSaved text g s → ResumedFitsRoom g s until events room)
+        → output.new ≡ output.old) }
+
     // What `reduce` writes means the same as what it read.
     ensures reduced { job_of (map string_bytes words.now) ≡ Some Job.Reduce → result ≡ Status.Done → IfSome (S.seen input.old).left (λ text.
         (out : List ℕ) × KeepsMeaning text out × GrowsBy (K.seen output.old).written (K.seen output.new).written out) }
@@ -178,6 +190,17 @@ pub fn sigma<S: Source, K: Sink, E: Sink>(
     ensures narrowed { job_of (map string_bytes words.now) ≡ Some Job.Narrow → result ≡ Status.Done → IfSome (S.seen input.old).left (λ text.
         (out : List ℕ) × NarrowsTheSame text out × GrowsBy (K.seen output.old).written (K.seen output.new).written out) }
 
+    // What `save` writes is a document of the model and of its run after so many events. It reads back, and the saved run goes
+    // on from there as the whole run does.
+    ensures saved { (o : SaveOptions) → job_of (map string_bytes words.now) ≡ Some (Job.Save o.until o.seed o.events o.starts) → result ≡ Status.Done
+        → IfSome (S.seen input.old).left (λ text. (out : List ℕ) × SavesTheRun text out o × GrowsBy (K.seen output.old).written (K.seen output.new).written out) }
+
+    // What `resume` writes of what `save` wrote is the history of that run from there on, unless memory, the input or the
+    // output fails.
+    ensures resumed { (o : ResumeOptions) → job_of (map string_bytes words.now) ≡ Some (Job.Resume o.until o.events o.room)
+        → result ≢ Status.ReadFault → result ≢ Status.WriteFault → result ≢ Status.NoMemory
+        → IfSome (S.seen input.old).left (WritesTheRest o.until o.events (λ out. GrowsBy (K.seen output.old).written (K.seen output.new).written out)) }
+
     // The two models of a document that `certify` finds sound mean the same.
     ensures certified { job_of (map string_bytes words.now) ≡ Some Job.Certify → result ≡ Status.Done → IfSome (S.seen input.old).left Certifies }
 {
@@ -186,5 +209,7 @@ pub fn sigma<S: Source, K: Sink, E: Sink>(
     narrower_models_mean_the_same();
     sound_documents_mean_the_same();
     readable_models_are_reduced();
+    saved_runs_are_resumed();
+    jobs_keep_their_limits();
     work(alloc, words, input, output, errors)
 }

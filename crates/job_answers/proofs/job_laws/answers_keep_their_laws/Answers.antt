@@ -3,6 +3,7 @@ use Rattle.model_core.specs.Ranges.Narrowed.{IsNarrowed}
 use Rattle.job_answers.proofs.JobLaws.{keeps_laws}
 use Rattle.job_answers.proofs.ReduceLaws.{OneStrategy}
 use Rattle.job_answers.proofs.RewritingLaws.{BecomesOne}
+use Rattle.job_answers.proofs.SaveLaws.{GoingIsLed}
 use Rattle.job_answers.proofs.TrialLaws.{OneSummary}
 use Rattle.job_answers.proofs.job_laws.answers_keep_their_laws.Goals as goal
 
@@ -12,4 +13,5 @@ returns c = λ reading.
     let fuses : BecomesOne Fused = record { ends = λ g valid. c.fusing_ends.ensures.ends g; determined = c.fusing_ends.ensures.determined } in
     let narrows : BecomesOne IsNarrowed = record { ends = c.narrowed_models_mean_the_same.ensures.exists; determined = c.narrowed_models_mean_the_same.ensures.determined } in
     let trials : OneSummary = record { exists = c.trials_are_determined.ensures.exists; one = c.trials_are_determined.ensures.one; has_bytes = c.trials_are_determined.ensures.has_bytes } in
-    keeps_laws only c.strategies_end.ensures fuses narrows trials reading
+    let led : GoingIsLed = λ g seed until n m going. let (r, leads, history) = c.runs_go_on.ensures.going g seed until n m going in (r, leads) in
+    keeps_laws only c.strategies_end.ensures fuses narrows trials led reading

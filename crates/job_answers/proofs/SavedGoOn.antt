@@ -1,0 +1,136 @@
+-- From an answer of `save` that is given to the run that was saved, and to what `resume` answers to it.
+use Rattle.std.proofs.Common.{◌≡◌, inl, inr, ℕ, ◌+◌, ◌<◌, ◌≤◌, ◌^◌, ◌++◌, ℤ, Bool, true, false, cond, List, length, Option, Some, None, refl, sym, ap, ap₂, ◌∙◌, subst, arith, nat_le, nat_lt}
+use Rattle.std.specs.Prelude.{IsTrue, ◌↔◌}
+use Rattle.std.proofs.lemmas.Bool.Decides.{nat_tests}
+use Rattle.sig_base.specs.declared.limits.TheConstants.{DOCUMENT_MAX, EVENTS_MAX}
+use Rattle.command_words.specs.declared.reading.ModelJob.TheVariants.{Save}
+use Rattle.command_words.specs.declared.reading.Reading.TheVariants.{Model as OfModel, Saved as OfSaved}
+use Rattle.command_words.specs.declared.reading.SavedJob.TheVariants.{Resume}
+use Rattle.command_words.specs.declared.save_options.SaveOptions.{SaveOptions}
+use Rattle.command_words.specs.Readings.{KeepsLimits}
+use Rattle.model_core.specs.EventGraph.{EventGraph}
+use Rattle.model_core.specs.Run.Machine.{Standing, Ended, Stopped, Faulted, Going}
+use Rattle.model_core.specs.Run.History.{Moment, start, allowed, look, reached_from}
+use Rattle.model_core.specs.Text.Written.{WrittenModel}
+use Rattle.model_core.specs.Text.Canonical.{canonical}
+use Rattle.model_core.specs.Text.Spellable.{IsSpellable}
+use Rattle.model_core.specs.Text.SnapshotGrammar.{WrittenSnapshot}
+use Rattle.model_core.specs.Text.SnapshotText.{snapshot_text}
+use Rattle.model_core.specs.Text.SavedDocument.{SpellsSaved}
+use Rattle.model_core.specs.Static.OwnRules.{KeepsStaticRules}
+use Rattle.model_core.specs.Static.ModelFaults.{Accepted}
+use Rattle.model_core.specs.Static.Reading.{IsValid, Reads}
+use Rattle.model_core.specs.Saved.SavedRun.{SavedRun, IsGood, saved, history_from}
+use Rattle.model_core.specs.Saved.GoodSnapshots.{bad_at, saved_run}
+use Rattle.model_core.specs.Saved.Resuming.{GoesOn, Resumes}
+use Rattle.job_answers.specs.declared.answer.Answer.{Answer}
+use Rattle.job_answers.specs.declared.answer.Answer.TheVariants.{Given, Refused}
+use Rattle.job_answers.specs.declared.complaint.Complaint.{Complaint}
+use Rattle.job_answers.specs.declared.status.End.{End}
+use Rattle.job_answers.specs.declared.status.Refusal.TheVariants as refusals
+use Rattle.job_answers.specs.AnswerForms.{done}
+use Rattle.job_answers.specs.Answers.{Responds, Answers}
+use Rattle.job_answers.specs.RunAnswer.{told_of, refused_or}
+use Rattle.job_answers.specs.ResumeAnswer.{below_clock_line, too_many_events, resume_refusal, resume_answer}
+use Rattle.job_answers.specs.SaveAnswer.{snapshot_too_long, saved_document, document_reached, unless_too_long, unless_finished, saving_answer}
+use Rattle.job_answers.specs.SavedAndResumed.{IsResumed, SavesTheRun}
+use Rattle.job_answers.specs.SavedComplaints.{IsSavedComplaint}
+use Rattle.job_answers.specs.SavedReading.{ReadsSaved}
+use Rattle.job_answers.specs.StartingValues.{start_refusal}
+use Rattle.job_answers.proofs.GivenAnswers.{given_is_no_refusal, given_bytes}
+use Rattle.job_answers.proofs.StartLaws.{unrefused_start}
+
+-- what the layers below say of saved runs
+pub record SavedFacts : Type 0 where
+  pub by_parts : (g : EventGraph) → IsValid g ↔ KeepsStaticRules g × IsSpellable g
+  pub resumes : (g : EventGraph) (seed : ℕ) (starts : List ℤ) (until n : ℕ) → KeepsStaticRules g → IsSpellable g → seed < 2 ^ 64 → IsTrue (allowed g starts) → until ≤ 2 ^ 48 → n ≤ 2 ^ 40 → (look g seed starts until n).standing ≡ Going
+      → (m : Moment) × GoesOn g seed starts until n m × Resumes g seed starts until n m
+  pub reads_back : (g : EventGraph) (s : SavedRun) → KeepsStaticRules g → IsSpellable g → IsGood g s
+      → (m : WrittenModel) × (w : WrittenSnapshot) × SpellsSaved (canonical g ++ snapshot_text g s) m w × Accepted m g × (bad_at g w ≡ None) × (saved_run g w ≡ s)
+  pub uncomplained : (text : List ℕ) (c : Complaint) (i : ℕ) (g : EventGraph) (s : SavedRun) → IsSavedComplaint text c i → ReadsSaved text g s → ⊥
+  pub one_reading : (text : List ℕ) (g h : EventGraph) (s t : SavedRun) → ReadsSaved text g s → ReadsSaved text h t → (g ≡ h) × (s ≡ t)
+
+-- ---- what `resume` answers to it
+
+not_refused : (s : SavedRun) (until more : ℕ) → s.clock ≤ until → s.events + more ≤ EVENTS_MAX → resume_refusal s until more ≡ None
+not_refused s until more soon few =
+    let early : nat_lt until s.clock ≡ false = grind (arith, nat_tests, soon) in
+    let enough : nat_lt EVENTS_MAX (s.events + more) ≡ false = grind (arith, nat_tests, few) in
+    ap (λ b. cond b (Some (below_clock_line s.clock)) (cond (nat_lt EVENTS_MAX (s.events + more)) (Some too_many_events) None)) early ∙ ap (λ b. cond b (Some too_many_events) None) enough
+
+module _ (facts : SavedFacts) (document : List ℕ) (g : EventGraph) (s : SavedRun) (reads : ReadsSaved document g s) where
+  resumed_so : (until more : ℕ) → s.clock ≤ until → s.events + more ≤ EVENTS_MAX → resume_answer g s until more ≡ told_of g until more (history_from g s until more)
+  resumed_so until more soon few = ap (λ x. refused_or x (told_of g until more (history_from g s until more))) (not_refused s until more soon few)
+
+  within_resumed : (until more room : ℕ) → s.clock ≤ until → s.events + more ≤ EVENTS_MAX → (a : Answer) → Responds (OfSaved (Resume (record { until = until; events = more; room = room }))) document a
+      → a ≡ told_of g until more (history_from g s until more)
+  within_resumed until more room soon few a (inl h) = absurd (facts.uncomplained document h.what h.at g s h.complaint reads)
+  within_resumed until more room soon few a (inr h) =
+      let same = facts.one_reading document h.model g h.run s h.reads reads in
+      let answer : EventGraph → SavedRun → Answer = λ k t. resume_answer k t until more in
+      h.told ∙ ap₂ answer same.0 same.1 ∙ resumed_so until more soon few
+
+  is_resumed : IsResumed document g s
+  is_resumed until more room soon few a (inl h) = let over = h.0 in let fits = reads.fits in absurd (omega (arith, over, fits))
+  is_resumed until more room soon few a (inr h) = within_resumed until more room soon few a h.1
+
+-- ---- from the answer to the run
+
+module _ (facts : SavedFacts) (o : SaveOptions) (limits : KeepsLimits (OfModel (Save o))) (text : List ℕ) (g : EventGraph) (reads : Reads text g) where
+  record KeptRun (document : List ℕ) : Type 0 where
+    going : (look g o.seed o.starts o.until o.events).standing ≡ Going
+    fits : length document ≤ DOCUMENT_MAX
+    is : document ≡ document_reached g o.seed o.events (reached_from g o.seed o.until o.events (start g o.starts))
+
+  by_length : (end : End) (document whole : List ℕ) (b : Bool) → nat_le (length whole) DOCUMENT_MAX ≡ b → Given end document ≡ cond b (done whole) (Refused refusals.TooLarge snapshot_too_long) → (length document ≤ DOCUMENT_MAX) × (document ≡ whole)
+  by_length end document whole false e h = absurd (given_is_no_refusal h)
+  by_length end document whole true e h =
+      let same : document ≡ whole = given_bytes h in
+      let short : length whole ≤ DOCUMENT_MAX = grind (arith, nat_tests, e) in
+      (subst (λ (d : List ℕ). length d ≤ DOCUMENT_MAX) (sym same) short, same)
+
+  by_standing : (end : End) (document : List ℕ) (s : Standing) → (look g o.seed o.starts o.until o.events).standing ≡ s
+      → Given end document ≡ unless_finished s (unless_too_long (document_reached g o.seed o.events (reached_from g o.seed o.until o.events (start g o.starts)))) → KeptRun document
+  by_standing end document Going going h =
+      let (fits, is) = by_length end document (document_reached g o.seed o.events (reached_from g o.seed o.until o.events (start g o.starts))) _ refl h in
+      record { going = going; fits = fits; is = is }
+  by_standing end document (Ended t) so h = absurd (given_is_no_refusal h)
+  by_standing end document Stopped so h = absurd (given_is_no_refusal h)
+  by_standing end document (Faulted t kind) so h = absurd (given_is_no_refusal h)
+
+  kept : KeepsStaticRules g × IsSpellable g
+  kept = (facts.by_parts g).0 (text, reads)
+
+  module _ (document : List ℕ) where
+    saves : IsTrue (allowed g o.starts) → KeptRun document → SavesTheRun text document o
+    saves taken run =
+        let (m, goes, resumes) = facts.resumes g o.seed o.starts o.until o.events kept.0 kept.1 limits.1 taken limits.0 limits.2 run.going in
+        let s : SavedRun = saved o.seed o.events m in
+        let written : document ≡ saved_document g s = run.is ∙ ap (document_reached g o.seed o.events) goes.reaches in
+        let (w, v, spells, accepted, good, stands) = facts.reads_back g s kept.0 kept.1 resumes.good in
+        let back : ReadsSaved document g s = subst (λ (d : List ℕ). ReadsSaved d g s) (sym written)
+        (record { fits = subst (λ (d : List ℕ). length d ≤ DOCUMENT_MAX) written run.fits; model = w; snapshot = v; spells = spells; accepted = accepted; good = good; stands = stands }) in
+        record {
+          model = g;
+          reads = reads;
+          here = m;
+          reaches = goes.reaches;
+          early = goes.early;
+          written = written;
+          reads_back = back;
+          goes_on = resumes;
+          resumed = is_resumed facts document g s back;
+        }
+
+    by_start : (end : End) (refusal : Option (List ℕ)) → start_refusal g o.starts ≡ refusal → Given end document ≡ refused_or refusal (saving_answer g o) → SavesTheRun text document o
+    by_start end (Some line) e h = absurd (given_is_no_refusal h)
+    by_start end None e h = saves (unrefused_start g o.starts e) (by_standing end document (look g o.seed o.starts o.until o.events).standing refl h)
+
+module _ (facts : SavedFacts) (o : SaveOptions) (text document : List ℕ) (end : End) (limits : KeepsLimits (OfModel (Save o))) where
+  of_response : Responds (OfModel (Save o)) text (Given end document) → SavesTheRun text document o
+  of_response (inl h) = absurd (given_is_no_refusal h.told)
+  of_response (inr (g, reads, told)) = by_start facts o limits text g reads document end (start_refusal g o.starts) refl told
+
+  pub saved_goes_on : Answers (OfModel (Save o)) text (Given end document) → SavesTheRun text document o
+  saved_goes_on (inl h) = absurd (given_is_no_refusal h.1)
+  saved_goes_on (inr h) = of_response h.1

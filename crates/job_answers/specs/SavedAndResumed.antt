@@ -1,0 +1,43 @@
+-- What `save` is for: what it writes reads back, and what `resume` writes of that goes on as the whole run does.
+use Rattle.std.specs.Prelude.{◌≡◌, ℕ, ◌+◌, ◌≤◌, List, Some}
+use Rattle.sig_base.specs.declared.limits.TheConstants.{EVENTS_MAX}
+use Rattle.command_words.specs.declared.reading.Reading.TheVariants.{Saved as OfSaved}
+use Rattle.command_words.specs.declared.reading.SavedJob.TheVariants.{Resume}
+use Rattle.command_words.specs.declared.save_options.SaveOptions.{SaveOptions}
+use Rattle.model_core.specs.EventGraph.{EventGraph}
+use Rattle.model_core.specs.Run.History.{Moment, start, look, reached_from}
+use Rattle.model_core.specs.Static.Reading.{Reads}
+use Rattle.model_core.specs.Text.HistoryText.{history_text}
+use Rattle.model_core.specs.Saved.SavedRun.{SavedRun, saved, history_from}
+use Rattle.model_core.specs.Saved.Resuming.{Resumes}
+use Rattle.job_answers.specs.declared.answer.Answer.{Answer}
+use Rattle.job_answers.specs.Answers.{Answers}
+use Rattle.job_answers.specs.RunAnswer.{told_of}
+use Rattle.job_answers.specs.SaveAnswer.{saved_document}
+use Rattle.job_answers.specs.SavedReading.{ReadsSaved}
+
+-- Every answer of `resume` to this document, up to a stop time that isn't before the clock and for no more events than a run
+-- can have, tells the history of the saved run from there on.
+abbrev pub IsResumed : List ℕ → EventGraph → SavedRun → Type 0
+IsResumed document g s = (until more room : ℕ) → s.clock ≤ until → s.events + more ≤ EVENTS_MAX → (a : Answer)
+    → Answers (OfSaved (Resume (record { until = until; events = more; room = room }))) document a → a ≡ told_of g until more (history_from g s until more)
+
+-- What is written for the text is the document of its model and of the moment that its run reaches after so many events. It
+-- reads back as these. What the saved run shows from there on, behind the notes so far, is what the whole run shows; and it
+-- is what `resume` tells of the document.
+pub record SavesTheRun (text document : List ℕ) (o : SaveOptions) : Type 0 where
+  pub model : EventGraph
+  pub reads : Reads text model
+  pub here : Moment
+  pub reaches : reached_from model o.seed o.until o.events (start model o.starts) ≡ Some (record { notes = (look model o.seed o.starts o.until o.events).history; moment = here })
+  pub early : here.now.clock ≤ o.until
+  pub written : document ≡ saved_document model (saved o.seed o.events here)
+  pub reads_back : ReadsSaved document model (saved o.seed o.events here)
+  pub goes_on : Resumes model o.seed o.starts o.until o.events here
+  pub resumed : IsResumed document model (saved o.seed o.events here)
+
+-- Of a document that `save` wrote, the history of its run from there on is written, up to a stop time that isn't before the
+-- clock and for so many further events, of which there are in all no more than a run can have.
+abbrev pub WritesTheRest : ℕ → ℕ → (List ℕ → Type 0) → List ℕ → Type 0
+WritesTheRest until more IsWritten document = (text : List ℕ) (o : SaveOptions) (saves : SavesTheRun text document o) → saves.here.now.clock ≤ until → o.events + more ≤ EVENTS_MAX
+    → IsWritten (history_text saves.model until more (history_from saves.model (saved o.seed o.events saves.here) until more))

@@ -1,0 +1,41 @@
+//! Laws of what there is to complain of in documents. The functions do nothing: what they ensure holds of all documents.
+
+ghost use Rattle.std.specs.Prelude.{◌≡◌, ◌≤◌, ◌⊎◌, ℕ, List, length};
+ghost use Rattle.sig_base.specs.declared.limits.TheConstants.{DOCUMENT_MAX};
+ghost use Rattle.model_core.specs.EventGraph.{EventGraph};
+ghost use Rattle.model_core.specs.Rules.Reduction.{RuleApplication};
+ghost use Rattle.model_core.specs.Static.Reading.{ReadsDocument};
+ghost use Rattle.model_core.specs.Saved.SavedRun.{SavedRun};
+ghost use Rattle.job_answers.specs.declared.complaint.Complaint.{Complaint};
+ghost use Rattle.job_answers.specs.DocumentComplaints.{IsDocumentComplaint, HasDocumentComplaint};
+ghost use Rattle.job_answers.specs.SavedComplaints.{IsSavedComplaint, HasSavedComplaint};
+ghost use Rattle.job_answers.specs.SavedReading.{ReadsSaved};
+
+use snapshot_text::snapshots_have_one_reading;
+use static_laws::one_fault_is_told;
+
+/// Of each document within its limit there is one thing to complain of, or it reads as two models and a certificate, and
+/// never both.
+pub fn documents_have_one_complaint()
+    ensures one { (text : List ℕ) (c d : Complaint) (i j : ℕ) → IsDocumentComplaint text c i → IsDocumentComplaint text d j → (c ≡ d) × (i ≡ j) }
+    ensures none { (text : List ℕ) (c : Complaint) (i : ℕ) (g : EventGraph) (applications : List RuleApplication) (h : EventGraph)
+        → IsDocumentComplaint text c i → ReadsDocument text g applications h → ⊥ }
+    ensures one_reading { (text : List ℕ) (g h k l : EventGraph) (a b : List RuleApplication)
+        → ReadsDocument text g a h → ReadsDocument text k b l → (g ≡ k) × (a ≡ b) × (h ≡ l) }
+    ensures some { (text : List ℕ) → length text ≤ DOCUMENT_MAX
+        → HasDocumentComplaint text ⊎ ((g : EventGraph) × (applications : List RuleApplication) × (h : EventGraph) × ReadsDocument text g applications h) }
+{
+    one_fault_is_told();
+}
+
+/// Of each saved document within its limit there is one thing to complain of, or it reads as a model and a saved run, and
+/// never both.
+pub fn saved_documents_have_one_complaint()
+    ensures one { (text : List ℕ) (c d : Complaint) (i j : ℕ) → IsSavedComplaint text c i → IsSavedComplaint text d j → (c ≡ d) × (i ≡ j) }
+    ensures none { (text : List ℕ) (c : Complaint) (i : ℕ) (g : EventGraph) (s : SavedRun) → IsSavedComplaint text c i → ReadsSaved text g s → ⊥ }
+    ensures one_reading { (text : List ℕ) (g h : EventGraph) (s t : SavedRun) → ReadsSaved text g s → ReadsSaved text h t → (g ≡ h) × (s ≡ t) }
+    ensures some { (text : List ℕ) → length text ≤ DOCUMENT_MAX → HasSavedComplaint text ⊎ ((g : EventGraph) × (s : SavedRun) × ReadsSaved text g s) }
+{
+    one_fault_is_told();
+    snapshots_have_one_reading();
+}

@@ -1,0 +1,56 @@
+//! The history of a run from where it stands, written as it happens.
+
+ghost use Rattle.std.specs.Prelude.{◌≡◌, ◌+◌, ◌≤◌, ◌<◌, ◌^◌, ℕ, length, None};
+ghost use Rattle.model_core.specs.Code.Views.{graph_of};
+ghost use Rattle.watch_trace.specs.Tracing.{moment_of};
+ghost use Rattle.job_answers.specs.Inner.RunSteps.{ending, StreamsFrom};
+
+use crate::status::{End, Failure};
+use event_list::Pending;
+use run_control::Run;
+use sig_base::{Sink, Steps};
+use std::mem::forget;
+use std::sync::ledger::{Blank, Ledger};
+use watch_trace::{Outcome, Tracer, follow};
+
+/// How a job ends whose run came to the outcome.
+fn ending(outcome: Outcome) -> Result<End, Failure>
+    ensures { result ≡ ending outcome }
+{
+    match outcome {
+        Outcome::Ended { .. } | Outcome::Stopped => Ok(End::Done),
+        Outcome::Faulted { .. } => Ok(End::ModelFault),
+        Outcome::Budget => Ok(End::Budget),
+        Outcome::WriteFault => Err(Failure::WriteFault),
+        Outcome::NoMemory => Err(Failure::NoMemory),
+    }
+}
+
+/// Writes the history of a run from where it and its tracer stand, and answers how the job ends. Its steps are counted by
+/// nobody. The program ends behind it, so the run isn't taken apart.
+pub(crate) fn tell_from<'m, P: Pending + Drop, K: Sink, L: Ledger>(
+    run: Run<'m, P>,
+    tracer: Tracer<'m>,
+    until: u64,
+    events: u64,
+    output: &mut K,
+    blank: Blank,
+) -> Result<End, Failure>
+    requires name { blank.name ≡ L.name }
+    requires parts { blank.parts ≡ L.parts }
+    requires some { 0 < blank.parts }
+    requires soon { until ≤ 2 ^ 48 }
+    requires budget { run.turns + events ≤ 2 ^ 40 }
+    requires one_model { tracer.model ≡ run.model }
+    requires goes_on { run.faulted ≡ None }
+    ensures { (room : ℕ) → room ≤ run.entry.spare + length run.entry.now.pending
+        → StreamsFrom K.seen (graph_of run.entry.model) until run.entry.seed events (moment_of run.entry tracer.entry) room result output.old output.new }
+{
+    let mut run = run;
+    let mut tracer = tracer;
+    let mut steps: Steps<L> = Steps::begin(blank);
+    let outcome = follow(&mut tracer, &mut run, until, events, output, &mut steps);
+    forget(tracer);
+    forget(run);
+    ending(outcome)
+}

@@ -1,0 +1,135 @@
+//! `resume`: the history of a saved run from where it was saved, written as it happens, or why it can't go on.
+
+ghost use Rattle.std.specs.Prelude.{◌≡◌, ◌+◌, ◌<◌, ◌≤◌, ◌^◌, [], length, IfOk, None};
+ghost use Rattle.model_core.specs.Saved.SavedRun.{IsGood, history_from};
+ghost use Rattle.model_core.specs.Static.Reading.{IsValid};
+ghost use Rattle.model_core.specs.Code.Views.{graph_of};
+ghost use Rattle.job_answers.specs.RunAnswer.{told_of};
+ghost use Rattle.job_answers.specs.ResumeAnswer.{below_clock_line, too_many_events, resume_refusal, resume_answer, ResumedExceedsRoom};
+ghost use Rattle.job_answers.specs.Delivery.{DeliversSome};
+
+use crate::delivering::{Said, close};
+use crate::history_telling::tell_from;
+use crate::status::{Failure, Refusal};
+use command_words::ResumeOptions;
+use event_heap::HeapPending;
+use event_list::Pending;
+use model_core::Model;
+use round_trip::validity_is_by_parts;
+use run_control::kept_models_can_be_run;
+use run_snapshot::{Snapshot, resume};
+use sig_base::{EVENTS_MAX, NoMemory, Sink, Text, put_bytes, put_number};
+use std::alloc::Global;
+use std::marker::Brand;
+use std::sync::ledger::Blank;
+
+/// As many pending events as a run can't count.
+const PENDING_COUNTED: usize = 1 << 61;
+
+/// The line for a stop time before the clock of the saved run.
+fn below_clock_line(alloc: Global, clock: u64) -> Result<Text, NoMemory>
+    ensures { IfOk result (λ line. line ≡ below_clock_line clock) }
+{
+    let mut line = Vec::new(alloc);
+    put_bytes(&mut line, b"sigma: stop time below clock ")?;
+    put_number(&mut line, clock)?;
+    put_bytes(&mut line, b"\n")?;
+    Ok(Text::from_vec(line))
+}
+
+/// The line for more events than a run can have.
+fn too_many_events_line(alloc: Global) -> Result<Text, NoMemory>
+    ensures { IfOk result (λ line. line ≡ too_many_events) }
+{
+    let line = Vec::from_slice(alloc, b"sigma: too many events\n")?;
+    Ok(Text::from_vec(line))
+}
+
+/// Why a saved run can't go on as it is asked to, if it can't.
+fn resume_refusal(
+    alloc: Global,
+    snapshot: &Snapshot,
+    options: &ResumeOptions,
+) -> Result<Option<Text>, NoMemory>
+    requires saved { snapshot.now.events ≤ 2 ^ 40 }
+    requires budget { options.now.events ≤ 2 ^ 40 }
+    ensures { IfOk result (λ refusal. refusal ≡ resume_refusal snapshot.now options.now.until options.now.events) }
+{
+    if options.until < snapshot.clock {
+        return Ok(Some(below_clock_line(alloc, snapshot.clock)?));
+    }
+    if EVENTS_MAX < snapshot.events + options.events {
+        return Ok(Some(too_many_events_line(alloc)?));
+    }
+    Ok(None)
+}
+
+/// Goes on with the run over an empty pending list.
+fn resume_over<P: Pending + Drop, K: Sink>(
+    alloc: Global,
+    model: &Model,
+    pending: P,
+    snapshot: &Snapshot,
+    options: &ResumeOptions,
+    output: &mut K,
+) -> Result<Said, Failure>
+    requires valid { IsValid (graph_of model.now) }
+    requires good { IsGood (graph_of model.now) snapshot.now }
+    requires few { length snapshot.now.pending < 2 ^ 61 }
+    requires empty { P.entries pending ≡ [] }
+    requires fresh { P.numbered pending ≡ 0 }
+    requires made_for { P.vertices pending ≡ length model.now.vertices }
+    requires soon { options.now.until ≤ 2 ^ 48 }
+    requires allowed { resume_refusal snapshot.now options.now.until options.now.events ≡ None }
+    ensures { DeliversSome K.seen (λ a. a ≡ resume_answer (graph_of model.now) snapshot.now options.now.until options.now.events)
+        (ResumedExceedsRoom (graph_of model.now) snapshot.now options.now) result output.old output.new }
+{
+    validity_is_by_parts();
+    kept_models_can_be_run();
+    let resumed = match resume(alloc, model, pending, snapshot, options.room) {
+        Ok(resumed) => resumed,
+        Err(_) => return Err(Failure::NoMemory),
+    };
+    let blank = Blank::new(1);
+    match tell_from::<P, K, Brand>(
+        resumed.run,
+        resumed.tracer,
+        options.until,
+        options.events,
+        output,
+        blank,
+    ) {
+        Ok(end) => close(output, end),
+        Err(failure) => Err(failure),
+    }
+}
+
+/// Goes on with a saved run, and writes the history from there on as it happens.
+pub fn resume_run<K: Sink>(
+    alloc: Global,
+    model: &Model,
+    snapshot: &Snapshot,
+    options: &ResumeOptions,
+    output: &mut K,
+) -> Result<Said, Failure>
+    requires valid { IsValid (graph_of model.now) }
+    requires good { IsGood (graph_of model.now) snapshot.now }
+    requires soon { options.now.until ≤ 2 ^ 48 }
+    requires budget { options.now.events ≤ 2 ^ 40 }
+    ensures { DeliversSome K.seen (λ a. a ≡ resume_answer (graph_of model.now) snapshot.now options.now.until options.now.events)
+        (ResumedExceedsRoom (graph_of model.now) snapshot.now options.now) result output.old output.new }
+{
+    match resume_refusal(alloc, snapshot, options) {
+        Ok(Some(line)) => return Ok(Said::Refused(Refusal::BadStart, line)),
+        Ok(None) => {}
+        Err(_) => return Err(Failure::NoMemory),
+    }
+    // No memory holds so many.
+    if snapshot.pending.len() >= PENDING_COUNTED {
+        return Err(Failure::NoMemory);
+    }
+    match HeapPending::begin(alloc, model.vertices.len()) {
+        Ok(pending) => resume_over(alloc, model, pending, snapshot, options, output),
+        Err(_) => Err(Failure::NoMemory),
+    }
+}

@@ -1,0 +1,171 @@
+//! `save`: a run of a model, stopped while it goes on, as a document of the model and of what is kept of the run.
+
+ghost use Rattle.std.specs.Prelude.{◌≡◌, ◌<◌, ◌≤◌, ◌^◌, ℕ, ℤ, List, length, IfOk};
+ghost use Rattle.model_core.specs.Saved.SavedRun.{IsGood};
+ghost use Rattle.model_core.specs.Static.Reading.{IsValid};
+ghost use Rattle.model_core.specs.Code.Views.{graph_of};
+ghost use Rattle.run_control.specs.Beginning.{BegunRun};
+ghost use Rattle.job_answers.specs.AnswerForms.{done};
+ghost use Rattle.job_answers.specs.Delivery.{DeliversSome};
+ghost use Rattle.job_answers.specs.SaveAnswer.{run_finished, snapshot_too_long, saved_document, unless_too_long, saving_answer, save_answer};
+ghost use Rattle.job_answers.specs.declared.answer.Answer.TheVariants.{Refused as IsRefused};
+ghost use Rattle.job_answers.specs.declared.status.Refusal.TheVariants.{Finished, TooLarge};
+ghost use Rattle.job_answers.specs.Inner.RunSteps.{IsFresh};
+ghost use Rattle.job_answers.specs.Inner.SaveSteps.{SavedOrFinished};
+
+use crate::answer::Answer;
+use crate::beginning::{begin, refuse_start};
+use crate::delivering::{Said, deliver};
+use crate::notes_dropped::NotesDropped;
+use crate::status::{End, Failure, Refusal};
+use command_words::SaveOptions;
+use event_heap::HeapPending;
+use event_list::Pending;
+use model_core::Model;
+use model_print::print;
+use round_trip::validity_is_by_parts;
+use run_control::Run;
+use run_snapshot::{Snapshot, print_snapshot, save, saved_runs_resume};
+use sig_base::{DOCUMENT_MAX, NoMemory, Sink, Steps, Text, put_bytes};
+use std::alloc::Global;
+use std::marker::Brand;
+use std::sync::ledger::{Blank, Ledger};
+use watch_trace::{Outcome, Tracer, observe};
+
+/// The pending events for which a run has room from its beginning.
+const ROOM: usize = 4_096;
+
+/// What is kept of a run that has begun, after so many events: `None` where it doesn't go on then. Its steps are counted by
+/// nobody, and its notes are dropped.
+fn saved_part<'m, P: Pending + Drop, L: Ledger>(
+    alloc: Global,
+    run: Run<'m, P>,
+    model: &'m Model,
+    seed: u64,
+    until: u64,
+    events: u64,
+    blank: Blank,
+) -> Result<Option<Snapshot>, NoMemory>
+    requires name { blank.name ≡ L.name }
+    requires parts { blank.parts ≡ L.parts }
+    requires some { 0 < blank.parts }
+    requires soon { until ≤ 2 ^ 48 }
+    requires budget { events ≤ 2 ^ 40 }
+    requires fresh { IsFresh model.now run }
+    requires seeded { run.seed ≡ seed }
+    ensures { (starts : List ℤ) (room : ℕ) → BegunRun model.now seed starts room run.entry
+        → IfOk result (SavedOrFinished (graph_of model.now) until seed events starts) }
+{
+    let mut run = run;
+    let mut tracer = Tracer::begin(alloc, model)?;
+    let mut steps: Steps<L> = Steps::begin(blank);
+    let outcome = observe(
+        &mut tracer,
+        &mut run,
+        until,
+        events,
+        &mut NotesDropped,
+        &mut (),
+        &mut steps,
+    );
+    match outcome {
+        Outcome::Budget => Ok(Some(save(alloc, model, run, &tracer, seed)?)),
+        Outcome::Ended { .. } | Outcome::Stopped | Outcome::Faulted { .. } => Ok(None),
+        Outcome::NoMemory | Outcome::WriteFault => Err(NoMemory),
+    }
+}
+
+/// The text of the model, and behind it that of the snapshot.
+fn document_text(alloc: Global, model: &Model, snapshot: &Snapshot) -> Result<Text, NoMemory>
+    requires { IsGood (graph_of model.now) snapshot.now }
+    ensures { IfOk result (λ out. out ≡ saved_document (graph_of model.now) snapshot.now) }
+{
+    let mut out = print(alloc, model)?;
+    let behind = print_snapshot(alloc, model, snapshot)?;
+    put_bytes(out.as_mut_vec(), behind.as_slice())?;
+    Ok(out)
+}
+
+/// The refusal to save a run that doesn't go on.
+fn finished(alloc: Global) -> Result<Answer, NoMemory>
+    ensures { IfOk result (λ a. a ≡ IsRefused Finished run_finished) }
+{
+    let line = Vec::from_slice(alloc, b"sigma: run finished\n")?;
+    Ok(Answer::Refused(Refusal::Finished, Text::from_vec(line)))
+}
+
+/// The refusal of a document that is longer than one may be.
+fn too_large(alloc: Global) -> Result<Answer, NoMemory>
+    ensures { IfOk result (λ a. a ≡ IsRefused TooLarge snapshot_too_long) }
+{
+    let line = Vec::from_slice(alloc, b"sigma: snapshot too long\n")?;
+    Ok(Answer::Refused(Refusal::TooLarge, Text::from_vec(line)))
+}
+
+/// The document of the model and the snapshot, unless it is too long.
+fn document(alloc: Global, model: &Model, snapshot: &Snapshot) -> Result<Answer, NoMemory>
+    requires { IsGood (graph_of model.now) snapshot.now }
+    ensures { IfOk result (λ a. a ≡ unless_too_long (saved_document (graph_of model.now) snapshot.now)) }
+{
+    let out = document_text(alloc, model, snapshot)?;
+    if out.as_slice().len() <= DOCUMENT_MAX {
+        Ok(Answer::Given(End::Done, out))
+    } else {
+        too_large(alloc)
+    }
+}
+
+/// The answer for a run that has begun.
+fn saving<'m, P: Pending + Drop>(
+    alloc: Global,
+    run: Run<'m, P>,
+    model: &'m Model,
+    options: &SaveOptions,
+) -> Result<Answer, NoMemory>
+    requires valid { IsValid (graph_of model.now) }
+    requires soon { options.now.until ≤ 2 ^ 48 }
+    requires wide { options.now.seed < 2 ^ 64 }
+    requires budget { options.now.events ≤ 2 ^ 40 }
+    requires begun { (room : ℕ) × BegunRun model.now options.now.seed options.now.starts room run }
+    ensures { IfOk result (λ a. a ≡ saving_answer (graph_of model.now) options.now) }
+{
+    validity_is_by_parts();
+    saved_runs_resume();
+    let blank = Blank::new(1);
+    match saved_part::<P, Brand>(
+        alloc,
+        run,
+        model,
+        options.seed,
+        options.until,
+        options.events,
+        blank,
+    )? {
+        Some(snapshot) => document(alloc, model, &snapshot),
+        None => finished(alloc),
+    }
+}
+
+/// Runs the model for so many events, and writes what there is to go on from.
+pub fn save_run<K: Sink>(
+    alloc: Global,
+    model: &Model,
+    options: &SaveOptions,
+    output: &mut K,
+) -> Result<Said, Failure>
+    requires valid { IsValid (graph_of model.now) }
+    requires soon { options.now.until ≤ 2 ^ 48 }
+    requires wide { options.now.seed < 2 ^ 64 }
+    requires budget { options.now.events ≤ 2 ^ 40 }
+    ensures { DeliversSome K.seen (λ a. a ≡ save_answer (graph_of model.now) options.now) ⊥ result output.old output.new }
+{
+    let pending = match HeapPending::begin(alloc, model.vertices.len()) {
+        Ok(pending) => pending,
+        Err(_) => return Err(Failure::NoMemory),
+    };
+    let run = match begin(alloc, model, pending, options.seed, &options.starts, ROOM) {
+        Ok(run) => run,
+        Err(error) => return refuse_start(alloc, error),
+    };
+    deliver(output, saving(alloc, run, model, options))
+}
