@@ -10,10 +10,10 @@ const CLOCK_SAVED: &[u8] =
     b"model CLOCK;\nvar N : 0..3 clip = 0;\nwatch N;\nvertex RUN {\n  set N := N + 1;\n  schedule RUN after 5;\n}\nend\nsnapshot\nseed 0 42\nclk 5\nevents 2\nvalue N 2\nnoted 1\npending 5 5 RUN\nend\n";
 
 /// A clock whose delays are drawn by its edge.
-const DRAWN: &[u8] =
+const DELAY: &[u8] =
     b"version 2;\nmodel DELAY;\nvar N : 0..9 clip = 0;\nwatch N;\nvertex RUN {\n  set N := N + 1;\n  schedule RUN after draw from 54 in 1..6;\n}\nend\n";
 
-const DRAWN_SAVED: &[u8] =
+const DELAY_SAVED: &[u8] =
     b"version 2;\nmodel DELAY;\nvar N : 0..9 clip = 0;\nwatch N;\nvertex RUN {\n  set N := N + 1;\n  schedule RUN after draw from 54 in 1..6;\n}\nend\nsnapshot\nseed 0 42\nclk 4\nevents 2\nstream 54 2\nvalue N 2\nnoted 1\npending 3 5 RUN\nend\n";
 
 /// A clock with a second edge, whose delay is the longest.
@@ -70,7 +70,7 @@ const CASES: [Case; 15] = [
         b"",
     ),
     (
-        "resume --until 12 --events 1",
+        "resume --until 20 --events 1",
         CLOCK_SAVED,
         Status::Budget,
         b"at 5 N=2\nbudget 1\n",
@@ -113,14 +113,14 @@ const CASES: [Case; 15] = [
     ),
     (
         "save --until 12 --seed 42 --events 2",
-        DRAWN,
+        DELAY,
         Status::Done,
-        DRAWN_SAVED,
+        DELAY_SAVED,
         b"",
     ),
     (
         "resume --until 12 --events 9",
-        DRAWN_SAVED,
+        DELAY_SAVED,
         Status::Done,
         b"at 4 N=2\nat 7 N=3\nat 12 N=4\nstopped 12\n",
         b"",
