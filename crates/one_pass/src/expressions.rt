@@ -211,6 +211,8 @@ fn least_behind(is_negated: bool) -> usize
 }
 
 /// Two operands with an operator between them.
+// Inlined: so both operands go from where they were read into their boxes.
+#[inline(always)]
 fn joined(alloc: Global, left: Operand, op: Op, right: Operand) -> Result<Operand, NotRead>
     ensures expr { IfOk result (λ e. expression_of e.expr ≡ Binary (operator_of op) (expression_of left.expr) (expression_of right.expr)) }
     ensures kind { IfOk result (λ e. e.kind ≡ Some (kinds.result_kind (operator_of op))) }
