@@ -2,9 +2,7 @@
 use Rattle.std.proofs.Common.{◌≡◌, ℕ, ◌≤◌, Bool, true, false, if◌then◌else◌, List, Option, refl, ap, ◌∙◌}
 use Rattle.std.specs.Prelude.{Result, Ok, Err, IfOk}
 use Rattle.model_core.specs.declared.model.Kind.{Kind}
-use Rattle.model_core.specs.Code.Views.{expression_of}
 use Rattle.one_pass.specs.declared.not_read.NotRead.{NotRead}
-use Rattle.one_pass.specs.declared.expressions.Operand.{Operand}
 use Rattle.model_core.specs.EventGraph as graph
 use Rattle.model_core.specs.Text.Lexing.{Lexeme}
 use Rattle.model_core.specs.Text.Written.{WrittenExpression}
@@ -34,17 +32,17 @@ first_comes under tokens false least few comes absent is = rw is (from-unary und
 
 module _ (means : List ℕ → Option Meaning) where
   -- a level reads as its format does
-  pub by_level : (l : Level) (tokens after : List Lexeme) (r : Result Operand NotRead) → IfOk r (λ e. ReadOperand means (language_reader (level_format l) tokens) after (expression_of e.expr) e.kind e.at)
-      → IfOk r (λ e. ReadOperand means (language_reader (ByRule l) tokens) after (expression_of e.expr) e.kind e.at)
-  by_level l tokens after (Ok e) r = record { written = r.written; is_read = rule-is level_lookahead level_format levels-fine l tokens ∙ r.is_read; operand = r.operand }
-  by_level l tokens after (Err e) r = tt
+  pub by_level : {A : Type 0} (l : Level) (tokens after : List Lexeme) (r : Result A NotRead) (x : graph.Expression) (kind : Option Kind) (at : ℕ) → IfOk r (λ u. ReadOperand means (language_reader (level_format l) tokens) after x kind at)
+      → IfOk r (λ u. ReadOperand means (language_reader (ByRule l) tokens) after x kind at)
+  by_level l tokens after (Ok u) x kind at r = record { written = r.written; is_read = rule-is level_lookahead level_format levels-fine l tokens ∙ r.is_read; operand = r.operand }
+  by_level l tokens after (Err e) x kind at r = tt
 
   -- the first operand, and then what stands behind it
-  pub behind_first : (others : WrittenExpression → Parser WrittenExpression) (whole first : Parse WrittenExpression) (between after : List Lexeme) (r : Result Operand NotRead) (x : graph.Expression) (kind : Option Kind) (at : ℕ)
-      → whole ≡ and_next others first → ReadOperand means first between x kind at
-      → IfOk r (λ e. (w : WrittenExpression) → IsOperand means w x kind at → ReadOperand means (others w between) after (expression_of e.expr) e.kind e.at)
-      → IfOk r (λ e. ReadOperand means whole after (expression_of e.expr) e.kind e.at)
-  behind_first others whole first between after (Ok e) x kind at same read go =
+  pub behind_first : {A : Type 0} (others : WrittenExpression → Parser WrittenExpression) (whole first : Parse WrittenExpression) (between after : List Lexeme) (r : Result A NotRead) (x : graph.Expression) (kind : Option Kind) (at : ℕ) (y : graph.Expression)
+      (kind' : Option Kind) (at' : ℕ) → whole ≡ and_next others first → ReadOperand means first between x kind at
+      → IfOk r (λ u. (w : WrittenExpression) → IsOperand means w x kind at → ReadOperand means (others w between) after y kind' at')
+      → IfOk r (λ u. ReadOperand means whole after y kind' at')
+  behind_first others whole first between after (Ok u) x kind at y kind' at' same read go =
       let next = go read.written read.operand in
       record { written = next.written; is_read = same ∙ ap (and_next others) read.is_read ∙ next.is_read; operand = next.operand }
-  behind_first others whole first between after (Err e) x kind at same read go = tt
+  behind_first others whole first between after (Err e) x kind at y kind' at' same read go = tt

@@ -15,7 +15,7 @@ ghost use Rattle.one_pass.specs.Inner.ReadRows.{ReadRow};
 ghost use Rattle.one_pass.specs.Inner.ReadTargets.{IsTarget, ReadTarget};
 ghost use Rattle.one_pass.specs.Inner.ReadSources.{IsSource, ReadSource};
 
-use crate::expressions::{bracketed, known};
+use crate::expressions::{Operand, bracketed, known};
 use crate::not_read::NotRead;
 use crate::refusing::refuse_told;
 use crate::values::values;
@@ -35,7 +35,9 @@ fn target(alloc: Global, cursor: &mut Cursor<'_>, names: &Names) -> Result<Typed
     let is_array = cursor.begins_symbol(Symbol::OpenBracket);
     let var = known(names, is_array, name)?;
     let index = if is_array {
-        Some(bracketed(alloc, cursor, names)?.into_expr())
+        let mut index = Operand::unread();
+        bracketed(alloc, cursor, names, &mut index)?;
+        Some(index.into_expr())
     } else {
         None
     };

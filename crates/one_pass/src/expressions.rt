@@ -30,6 +30,7 @@ use sig_types::{
     spelled_variable,
 };
 use std::alloc::Global;
+use std::mem;
 
 /// An expression, its kind where that is known, and the byte at which it begins.
 pub(crate) struct Operand {
@@ -51,6 +52,24 @@ impl Drop for Operand {
 }
 
 impl Operand {
+    /// What stands for an operand until it is read.
+    pub(crate) fn unread() -> Operand {
+        Operand {
+            expr: Expr::Clk,
+            kind: None,
+            at: 0,
+        }
+    }
+
+    /// Takes the expression away.
+    fn take(&mut self) -> Expr
+        ensures expr { result ≡ self.old.expr }
+        ensures kind { self.new.kind ≡ self.old.kind }
+        ensures at { self.new.at ≡ self.old.at }
+    {
+        mem::replace(&mut self.expr, Expr::Clk)
+    }
+
     /// The expression alone.
     pub(crate) fn into_expr(self) -> Expr
         ensures { result ≡ self.expr }
@@ -91,28 +110,35 @@ pub(crate) fn known(
 }
 
 /// Reads an expression.
+// What is read is written in place, here and below: so it isn't copied on its way out.
 #[cycle(expressions)]
 pub(crate) fn expression(
     alloc: Global,
     cursor: &mut Cursor<'_>,
     names: &Names,
-) -> Result<Operand, NotRead>
-    ensures reads { IfOk result (λ e. ReadOperand (meaning_of names.now) (language_reader expression_format cursor.old) cursor.new (expression_of e.expr) e.kind e.at) }
-    ensures shorter { IfOk result (λ e. length cursor.new + 1 ≤ length cursor.old) }
+    read: &mut Operand,
+) -> Result<(), NotRead>
+    ensures reads { IfOk result (λ u. ReadOperand (meaning_of names.now) (language_reader expression_format cursor.old) cursor.new (expression_of read.new.expr) read.new.kind read.new.at) }
+    ensures shorter { IfOk result (λ u. length cursor.new + 1 ≤ length cursor.old) }
 {
-    conditional(alloc, cursor, names)
+    conditional(alloc, cursor, names, read)
 }
 
 /// Reads `if` with its parts, or else operands of `or`.
 #[cycle(expressions)]
-fn conditional(alloc: Global, cursor: &mut Cursor<'_>, names: &Names) -> Result<Operand, NotRead>
-    ensures reads { IfOk result (λ e. ReadOperand (meaning_of names.now) (language_reader whole_format cursor.old) cursor.new (expression_of e.expr) e.kind e.at) }
-    ensures shorter { IfOk result (λ e. length cursor.new + 1 ≤ length cursor.old) }
+fn conditional(
+    alloc: Global,
+    cursor: &mut Cursor<'_>,
+    names: &Names,
+    read: &mut Operand,
+) -> Result<(), NotRead>
+    ensures reads { IfOk result (λ u. ReadOperand (meaning_of names.now) (language_reader whole_format cursor.old) cursor.new (expression_of read.new.expr) read.new.kind read.new.at) }
+    ensures shorter { IfOk result (λ u. length cursor.new + 1 ≤ length cursor.old) }
 {
     if cursor.begins_word(Word::If) {
-        branches(alloc, cursor, names)
+        branches(alloc, cursor, names, read)
     } else {
-        operand_under(alloc, cursor, names, LEVELS)
+        operand_under(alloc, cursor, names, LEVELS, read)
     }
 }
 
@@ -120,24 +146,30 @@ fn conditional(alloc: Global, cursor: &mut Cursor<'_>, names: &Names) -> Result<
 // Not inlined, as others below: so the frame of the recursion that every expression goes through stays small.
 #[inline(never)]
 #[cycle(expressions)]
-fn branches(alloc: Global, cursor: &mut Cursor<'_>, names: &Names) -> Result<Operand, NotRead>
-    ensures reads { IfOk result (λ e. ReadOperand (meaning_of names.now) (language_reader if_format cursor.old) cursor.new (expression_of e.expr) e.kind e.at) }
-    ensures shorter { IfOk result (λ e. length cursor.new + 1 ≤ length cursor.old) }
+fn branches(
+    alloc: Global,
+    cursor: &mut Cursor<'_>,
+    names: &Names,
+    read: &mut Operand,
+) -> Result<(), NotRead>
+    ensures reads { IfOk result (λ u. ReadOperand (meaning_of names.now) (language_reader if_format cursor.old) cursor.new (expression_of read.new.expr) read.new.kind read.new.at) }
+    ensures shorter { IfOk result (λ u. length cursor.new + 1 ≤ length cursor.old) }
 {
     let at = cursor.word(Word::If)?;
-    let test = expression(alloc, cursor, names)?;
+    let mut test = Operand::unread();
+    expression(alloc, cursor, names, &mut test)?;
     expect(Some(Kind::Truth), &test)?;
     cursor.word(Word::Then)?;
-    let yes = expression(alloc, cursor, names)?;
+    let mut yes = Operand::unread();
+    expression(alloc, cursor, names, &mut yes)?;
     cursor.word(Word::Else)?;
-    let no = expression(alloc, cursor, names)?;
+    let mut no = Operand::unread();
+    expression(alloc, cursor, names, &mut no)?;
     expect(yes.kind, &no)?;
     let kind = known_or(yes.kind, no.kind);
-    Ok(Operand {
-        expr: Expr::conditional(alloc, test.into_expr(), yes.into_expr(), no.into_expr())?,
-        kind,
-        at,
-    })
+    let expr = Expr::conditional(alloc, test.into_expr(), yes.into_expr(), no.into_expr())?;
+    *read = Operand { expr, kind, at };
+    Ok(())
 }
 
 /// Reads an operand of operators of the level `under`.
@@ -147,15 +179,16 @@ fn operand_under(
     cursor: &mut Cursor<'_>,
     names: &Names,
     under: usize,
-) -> Result<Operand, NotRead>
+    read: &mut Operand,
+) -> Result<(), NotRead>
     requires { under ≤ 5 }
-    ensures reads { IfOk result (λ e. ReadOperand (meaning_of names.now) (language_reader (ByRule (operand_level under)) cursor.old) cursor.new (expression_of e.expr) e.kind e.at) }
-    ensures shorter { IfOk result (λ e. length cursor.new + 1 ≤ length cursor.old) }
+    ensures reads { IfOk result (λ u. ReadOperand (meaning_of names.now) (language_reader (ByRule (operand_level under)) cursor.old) cursor.new (expression_of read.new.expr) read.new.kind read.new.at) }
+    ensures shorter { IfOk result (λ u. length cursor.new + 1 ≤ length cursor.old) }
 {
     let is_negated = cursor.begins_negation(under);
-    let first = first_operand(alloc, cursor, names, is_negated)?;
+    first_operand(alloc, cursor, names, is_negated, read)?;
     let least = least_behind(is_negated);
-    others(alloc, cursor, names, first, least, under)
+    others(alloc, cursor, names, least, under, read)
 }
 
 /// Reads `not` with its operand, or else an operand of `*`.
@@ -165,14 +198,15 @@ fn first_operand(
     cursor: &mut Cursor<'_>,
     names: &Names,
     is_negated: bool,
-) -> Result<Operand, NotRead>
-    ensures reads { IfOk result (λ e. ReadOperand (meaning_of names.now) (first_operand is_negated cursor.old) cursor.new (expression_of e.expr) e.kind e.at) }
-    ensures shorter { IfOk result (λ e. length cursor.new + 1 ≤ length cursor.old) }
+    read: &mut Operand,
+) -> Result<(), NotRead>
+    ensures reads { IfOk result (λ u. ReadOperand (meaning_of names.now) (first_operand is_negated cursor.old) cursor.new (expression_of read.new.expr) read.new.kind read.new.at) }
+    ensures shorter { IfOk result (λ u. length cursor.new + 1 ≤ length cursor.old) }
 {
     if is_negated {
-        negated(alloc, cursor, names)
+        negated(alloc, cursor, names, read)
     } else {
-        unary(alloc, cursor, names)
+        unary(alloc, cursor, names, read)
     }
 }
 
@@ -183,24 +217,24 @@ fn others(
     alloc: Global,
     cursor: &mut Cursor<'_>,
     names: &Names,
-    first: Operand,
     least: usize,
     under: usize,
-) -> Result<Operand, NotRead>
+    read: &mut Operand,
+) -> Result<(), NotRead>
     requires { under ≤ 5 }
-    ensures reads { IfOk result (λ e. ClimbsFrom (meaning_of names.now) under least cursor.old cursor.new (expression_of first.expr) first.kind first.at (expression_of e.expr) e.kind e.at) }
-    ensures shorter { IfOk result (λ e. length cursor.new ≤ length cursor.old) }
+    ensures reads { IfOk result (λ u. ClimbsFrom (meaning_of names.now) under least cursor.old cursor.new (expression_of read.old.expr) read.old.kind read.old.at (expression_of read.new.expr) read.new.kind read.new.at) }
+    ensures shorter { IfOk result (λ u. length cursor.new ≤ length cursor.old) }
 {
-    let mut left = first;
     let mut least = least;
     while let Some(infix) = cursor.infix(least, under) {
-        expect(operand_kind(infix.op), &left)?;
-        let right = operand_under(alloc, cursor, names, infix.level)?;
-        expect(right_kind(infix.op, left.kind), &right)?;
-        left = joined(alloc, left, infix.op, right)?;
+        expect(operand_kind(infix.op), read)?;
+        let mut right = Operand::unread();
+        operand_under(alloc, cursor, names, infix.level, &mut right)?;
+        expect(right_kind(infix.op, read.kind), &right)?;
+        join(alloc, read, infix.op, right)?;
         least = next_level(infix.level);
     }
-    Ok(left)
+    Ok(())
 }
 
 /// The least level of an operator that may stand behind the first operand.
@@ -210,76 +244,99 @@ fn least_behind(is_negated: bool) -> usize
     if is_negated { CONJUNCTIONS } else { 0 }
 }
 
-/// Two operands with an operator between them.
-// Inlined: so both operands go from where they were read into their boxes.
-#[inline(always)]
-fn joined(alloc: Global, left: Operand, op: Op, right: Operand) -> Result<Operand, NotRead>
-    ensures expr { IfOk result (λ e. expression_of e.expr ≡ Binary (operator_of op) (expression_of left.expr) (expression_of right.expr)) }
-    ensures kind { IfOk result (λ e. e.kind ≡ Some (kinds.result_kind (operator_of op))) }
-    ensures at { IfOk result (λ e. e.at ≡ left.at) }
+/// Joins a right operand to a left one, with an operator between them.
+fn join(alloc: Global, left: &mut Operand, op: Op, right: Operand) -> Result<(), NotRead>
+    ensures expr { IfOk result (λ u. expression_of left.new.expr ≡ Binary (operator_of op) (expression_of left.old.expr) (expression_of right.expr)) }
+    ensures kind { IfOk result (λ u. left.new.kind ≡ Some (kinds.result_kind (operator_of op))) }
+    ensures at { IfOk result (λ u. left.new.at ≡ left.old.at) }
 {
-    let at = left.at;
-    Ok(Operand {
-        expr: Expr::binary(alloc, op, left.into_expr(), right.into_expr())?,
+    let expr = Expr::binary(alloc, op, left.take(), right.into_expr())?;
+    *left = Operand {
+        expr,
         kind: Some(result_kind(op)),
-        at,
-    })
+        at: left.at,
+    };
+    Ok(())
 }
 
 /// Reads `not` and its operand.
 #[inline(never)]
 #[cycle(expressions)]
-fn negated(alloc: Global, cursor: &mut Cursor<'_>, names: &Names) -> Result<Operand, NotRead>
-    ensures reads { IfOk result (λ e. ReadOperand (meaning_of names.now) (language_reader not_format cursor.old) cursor.new (expression_of e.expr) e.kind e.at) }
-    ensures shorter { IfOk result (λ e. length cursor.new + 1 ≤ length cursor.old) }
+fn negated(
+    alloc: Global,
+    cursor: &mut Cursor<'_>,
+    names: &Names,
+    read: &mut Operand,
+) -> Result<(), NotRead>
+    ensures reads { IfOk result (λ u. ReadOperand (meaning_of names.now) (language_reader not_format cursor.old) cursor.new (expression_of read.new.expr) read.new.kind read.new.at) }
+    ensures shorter { IfOk result (λ u. length cursor.new + 1 ≤ length cursor.old) }
 {
     let at = cursor.word(Word::Not)?;
-    let operand = operand_under(alloc, cursor, names, CONJUNCTIONS)?;
-    expect(Some(Kind::Truth), &operand)?;
-    Ok(Operand {
-        expr: Expr::Not(Box::new(alloc, operand.into_expr())?),
+    operand_under(alloc, cursor, names, CONJUNCTIONS, read)?;
+    expect(Some(Kind::Truth), read)?;
+    let operand = Box::new(alloc, read.take())?;
+    *read = Operand {
+        expr: Expr::Not(operand),
         kind: Some(Kind::Truth),
         at,
-    })
+    };
+    Ok(())
 }
 
 /// Reads an operand of `*`.
 #[cycle(expressions)]
-fn unary(alloc: Global, cursor: &mut Cursor<'_>, names: &Names) -> Result<Operand, NotRead>
-    ensures reads { IfOk result (λ e. ReadOperand (meaning_of names.now) (language_reader (ByRule Unary) cursor.old) cursor.new (expression_of e.expr) e.kind e.at) }
-    ensures shorter { IfOk result (λ e. length cursor.new + 1 ≤ length cursor.old) }
+fn unary(
+    alloc: Global,
+    cursor: &mut Cursor<'_>,
+    names: &Names,
+    read: &mut Operand,
+) -> Result<(), NotRead>
+    ensures reads { IfOk result (λ u. ReadOperand (meaning_of names.now) (language_reader (ByRule Unary) cursor.old) cursor.new (expression_of read.new.expr) read.new.kind read.new.at) }
+    ensures shorter { IfOk result (λ u. length cursor.new + 1 ≤ length cursor.old) }
 {
-    signed(alloc, cursor, names)
+    signed(alloc, cursor, names, read)
 }
 
 /// Reads `-` and its operand, or else a part that no operator divides.
 #[cycle(expressions)]
-fn signed(alloc: Global, cursor: &mut Cursor<'_>, names: &Names) -> Result<Operand, NotRead>
-    ensures reads { IfOk result (λ e. ReadOperand (meaning_of names.now) (language_reader unary_format cursor.old) cursor.new (expression_of e.expr) e.kind e.at) }
-    ensures shorter { IfOk result (λ e. length cursor.new + 1 ≤ length cursor.old) }
+fn signed(
+    alloc: Global,
+    cursor: &mut Cursor<'_>,
+    names: &Names,
+    read: &mut Operand,
+) -> Result<(), NotRead>
+    ensures reads { IfOk result (λ u. ReadOperand (meaning_of names.now) (language_reader unary_format cursor.old) cursor.new (expression_of read.new.expr) read.new.kind read.new.at) }
+    ensures shorter { IfOk result (λ u. length cursor.new + 1 ≤ length cursor.old) }
 {
     if cursor.begins_symbol(Symbol::Minus) {
-        negative(alloc, cursor, names)
+        negative(alloc, cursor, names, read)
     } else {
-        primary(alloc, cursor, names)
+        primary(alloc, cursor, names, read)
     }
 }
 
 /// Reads `-` and its operand.
 #[inline(never)]
 #[cycle(expressions)]
-fn negative(alloc: Global, cursor: &mut Cursor<'_>, names: &Names) -> Result<Operand, NotRead>
-    ensures reads { IfOk result (λ e. ReadOperand (meaning_of names.now) (language_reader negative_format cursor.old) cursor.new (expression_of e.expr) e.kind e.at) }
-    ensures shorter { IfOk result (λ e. length cursor.new + 1 ≤ length cursor.old) }
+fn negative(
+    alloc: Global,
+    cursor: &mut Cursor<'_>,
+    names: &Names,
+    read: &mut Operand,
+) -> Result<(), NotRead>
+    ensures reads { IfOk result (λ u. ReadOperand (meaning_of names.now) (language_reader negative_format cursor.old) cursor.new (expression_of read.new.expr) read.new.kind read.new.at) }
+    ensures shorter { IfOk result (λ u. length cursor.new + 1 ≤ length cursor.old) }
 {
     let at = cursor.symbol(Symbol::Minus)?;
-    let operand = unary(alloc, cursor, names)?;
-    expect(Some(Kind::Range), &operand)?;
-    Ok(Operand {
-        expr: Expr::Neg(Box::new(alloc, operand.into_expr())?),
+    unary(alloc, cursor, names, read)?;
+    expect(Some(Kind::Range), read)?;
+    let operand = Box::new(alloc, read.take())?;
+    *read = Operand {
+        expr: Expr::Neg(operand),
         kind: Some(Kind::Range),
         at,
-    })
+    };
+    Ok(())
 }
 
 /// Reads an index in brackets.
@@ -288,16 +345,17 @@ pub(crate) fn bracketed(
     alloc: Global,
     cursor: &mut Cursor<'_>,
     names: &Names,
-) -> Result<Operand, NotRead>
-    ensures reads { IfOk result (λ e. ReadOperand (meaning_of names.now) (language_reader index_format cursor.old) cursor.new (expression_of e.expr) e.kind e.at) }
-    ensures ranged { IfOk result (λ e. kind_mismatch (Some Range) e.kind e.at ≡ []) }
-    ensures shorter { IfOk result (λ e. length cursor.new + 1 ≤ length cursor.old) }
+    read: &mut Operand,
+) -> Result<(), NotRead>
+    ensures reads { IfOk result (λ u. ReadOperand (meaning_of names.now) (language_reader index_format cursor.old) cursor.new (expression_of read.new.expr) read.new.kind read.new.at) }
+    ensures ranged { IfOk result (λ u. kind_mismatch (Some Range) read.new.kind read.new.at ≡ []) }
+    ensures shorter { IfOk result (λ u. length cursor.new + 1 ≤ length cursor.old) }
 {
     cursor.symbol(Symbol::OpenBracket)?;
-    let index = expression(alloc, cursor, names)?;
-    expect(Some(Kind::Range), &index)?;
+    expression(alloc, cursor, names, read)?;
+    expect(Some(Kind::Range), read)?;
     cursor.symbol(Symbol::CloseBracket)?;
-    Ok(index)
+    Ok(())
 }
 
 /// Reads `min` or `max` with two operands in parentheses.
@@ -309,120 +367,151 @@ fn called(
     names: &Names,
     word: Word,
     op: Op,
-) -> Result<Operand, NotRead>
-    ensures reads { IfOk result (λ e. ReadOperand (meaning_of names.now) (language_reader (call_format word (operator_of op)) cursor.old) cursor.new (expression_of e.expr) e.kind e.at) }
-    ensures shorter { IfOk result (λ e. length cursor.new + 1 ≤ length cursor.old) }
+    read: &mut Operand,
+) -> Result<(), NotRead>
+    ensures reads { IfOk result (λ u. ReadOperand (meaning_of names.now) (language_reader (call_format word (operator_of op)) cursor.old) cursor.new (expression_of read.new.expr) read.new.kind read.new.at) }
+    ensures shorter { IfOk result (λ u. length cursor.new + 1 ≤ length cursor.old) }
 {
     let at = cursor.word(word)?;
     cursor.symbol(Symbol::OpenParenthesis)?;
-    let first = expression(alloc, cursor, names)?;
-    expect(operand_kind(op), &first)?;
+    expression(alloc, cursor, names, read)?;
+    expect(operand_kind(op), read)?;
     cursor.symbol(Symbol::Comma)?;
-    let second = expression(alloc, cursor, names)?;
-    expect(right_kind(op, first.kind), &second)?;
+    let mut second = Operand::unread();
+    expression(alloc, cursor, names, &mut second)?;
+    expect(right_kind(op, read.kind), &second)?;
     cursor.symbol(Symbol::CloseParenthesis)?;
-    let mut both = joined(alloc, first, op, second)?;
-    both.at = at;
-    Ok(both)
+    join(alloc, read, op, second)?;
+    read.at = at;
+    Ok(())
 }
 
 /// Reads a variable or a cell.
 #[inline(never)]
 #[cycle(expressions)]
-fn named(alloc: Global, cursor: &mut Cursor<'_>, names: &Names) -> Result<Operand, NotRead>
-    ensures reads { IfOk result (λ e. ReadOperand (meaning_of names.now) (language_reader named_format cursor.old) cursor.new (expression_of e.expr) e.kind e.at) }
-    ensures shorter { IfOk result (λ e. length cursor.new + 1 ≤ length cursor.old) }
+fn named(
+    alloc: Global,
+    cursor: &mut Cursor<'_>,
+    names: &Names,
+    read: &mut Operand,
+) -> Result<(), NotRead>
+    ensures reads { IfOk result (λ u. ReadOperand (meaning_of names.now) (language_reader named_format cursor.old) cursor.new (expression_of read.new.expr) read.new.kind read.new.at) }
+    ensures shorter { IfOk result (λ u. length cursor.new + 1 ≤ length cursor.old) }
 {
     let name = cursor.spelling()?;
     if !cursor.begins_symbol(Symbol::OpenBracket) {
         let var = known(names, false, name)?;
-        return Ok(Operand {
+        *read = Operand {
             expr: Expr::Scalar(var.part),
             kind: var.kind,
             at: name.at,
-        });
+        };
+        return Ok(());
     }
     let var = known(names, true, name)?;
-    let index = bracketed(alloc, cursor, names)?;
-    Ok(Operand {
-        expr: Expr::Cell(var.part, Box::new(alloc, index.into_expr())?),
+    bracketed(alloc, cursor, names, read)?;
+    let index = Box::new(alloc, read.take())?;
+    *read = Operand {
+        expr: Expr::Cell(var.part, index),
         kind: var.kind,
         at: name.at,
-    })
+    };
+    Ok(())
 }
 
 /// Reads an expression in parentheses, whose place is that of the first.
 #[inline(never)]
 #[cycle(expressions)]
-fn enclosed(alloc: Global, cursor: &mut Cursor<'_>, names: &Names) -> Result<Operand, NotRead>
-    ensures reads { IfOk result (λ e. ReadOperand (meaning_of names.now) (language_reader in_parentheses_format cursor.old) cursor.new (expression_of e.expr) e.kind e.at) }
-    ensures shorter { IfOk result (λ e. length cursor.new + 1 ≤ length cursor.old) }
+fn enclosed(
+    alloc: Global,
+    cursor: &mut Cursor<'_>,
+    names: &Names,
+    read: &mut Operand,
+) -> Result<(), NotRead>
+    ensures reads { IfOk result (λ u. ReadOperand (meaning_of names.now) (language_reader in_parentheses_format cursor.old) cursor.new (expression_of read.new.expr) read.new.kind read.new.at) }
+    ensures shorter { IfOk result (λ u. length cursor.new + 1 ≤ length cursor.old) }
 {
     let at = cursor.symbol(Symbol::OpenParenthesis)?;
-    let mut inner = expression(alloc, cursor, names)?;
+    expression(alloc, cursor, names, read)?;
     cursor.symbol(Symbol::CloseParenthesis)?;
-    inner.at = at;
-    Ok(inner)
+    read.at = at;
+    Ok(())
 }
 
 /// Reads what no operator divides.
 #[cycle(expressions)]
-fn primary(alloc: Global, cursor: &mut Cursor<'_>, names: &Names) -> Result<Operand, NotRead>
-    ensures reads { IfOk result (λ e. ReadOperand (meaning_of names.now) (language_reader (ByRule Primary) cursor.old) cursor.new (expression_of e.expr) e.kind e.at) }
-    ensures shorter { IfOk result (λ e. length cursor.new + 1 ≤ length cursor.old) }
+fn primary(
+    alloc: Global,
+    cursor: &mut Cursor<'_>,
+    names: &Names,
+    read: &mut Operand,
+) -> Result<(), NotRead>
+    ensures reads { IfOk result (λ u. ReadOperand (meaning_of names.now) (language_reader (ByRule Primary) cursor.old) cursor.new (expression_of read.new.expr) read.new.kind read.new.at) }
+    ensures shorter { IfOk result (λ u. length cursor.new + 1 ≤ length cursor.old) }
 {
-    undivided(alloc, cursor, names)
+    undivided(alloc, cursor, names, read)
 }
 
 /// Reads a number, a word, a variable, or what stands in parentheses.
 #[cycle(expressions)]
-fn undivided(alloc: Global, cursor: &mut Cursor<'_>, names: &Names) -> Result<Operand, NotRead>
-    ensures reads { IfOk result (λ e. ReadOperand (meaning_of names.now) (language_reader primary_format cursor.old) cursor.new (expression_of e.expr) e.kind e.at) }
-    ensures shorter { IfOk result (λ e. length cursor.new + 1 ≤ length cursor.old) }
+fn undivided(
+    alloc: Global,
+    cursor: &mut Cursor<'_>,
+    names: &Names,
+    read: &mut Operand,
+) -> Result<(), NotRead>
+    ensures reads { IfOk result (λ u. ReadOperand (meaning_of names.now) (language_reader primary_format cursor.old) cursor.new (expression_of read.new.expr) read.new.kind read.new.at) }
+    ensures shorter { IfOk result (λ u. length cursor.new + 1 ≤ length cursor.old) }
 {
     if cursor.begins_name() {
-        return named(alloc, cursor, names);
+        return named(alloc, cursor, names, read);
     }
     if cursor.begins_number() {
         let number = cursor.number()?;
         return match number.value {
             None => Err(NotRead::Broken),
-            Some(value) => Ok(Operand {
-                expr: Expr::Int(value),
-                kind: Some(Kind::Range),
-                at: number.at,
-            }),
+            Some(value) => {
+                *read = Operand {
+                    expr: Expr::Int(value),
+                    kind: Some(Kind::Range),
+                    at: number.at,
+                };
+                Ok(())
+            }
         };
     }
     if cursor.begins_symbol(Symbol::OpenParenthesis) {
-        return enclosed(alloc, cursor, names);
+        return enclosed(alloc, cursor, names, read);
     }
     if cursor.begins_word(Word::True) {
         let at = cursor.word(Word::True)?;
-        return Ok(Operand {
+        *read = Operand {
             expr: Expr::Truth(true),
             kind: Some(Kind::Truth),
             at,
-        });
+        };
+        return Ok(());
     }
     if cursor.begins_word(Word::False) {
         let at = cursor.word(Word::False)?;
-        return Ok(Operand {
+        *read = Operand {
             expr: Expr::Truth(false),
             kind: Some(Kind::Truth),
             at,
-        });
+        };
+        return Ok(());
     }
     if cursor.begins_word(Word::Clk) {
         let at = cursor.word(Word::Clk)?;
-        return Ok(Operand {
+        *read = Operand {
             expr: Expr::Clk,
             kind: Some(Kind::Range),
             at,
-        });
+        };
+        return Ok(());
     }
     if cursor.begins_word(Word::Min) {
-        return called(alloc, cursor, names, Word::Min, Op::Min);
+        return called(alloc, cursor, names, Word::Min, Op::Min, read);
     }
-    called(alloc, cursor, names, Word::Max, Op::Max)
+    called(alloc, cursor, names, Word::Max, Op::Max, read)
 }

@@ -13,7 +13,7 @@ ghost use Rattle.model_core.specs.Static.PartFaults.{operand_faults};
 ghost use Rattle.one_pass.specs.Inner.ReadParts.{ReadSure};
 ghost use Rattle.one_pass.specs.Inner.ReadValues.{fitting_faults};
 
-use crate::expressions::{expect, expression};
+use crate::expressions::{Operand, expect, expression};
 use crate::not_read::NotRead;
 use model_core::{Expr, Kind, Symbol};
 use model_read::{Cursor, packed};
@@ -30,7 +30,8 @@ pub(crate) fn value(
 ) -> Result<Expr, NotRead>
     ensures { IfOk result (λ e. ReadSure expression_format (meaning_of names.now) (operand_faults (meaning_of names.now) wanted) numbering.expression cursor.old cursor.new (expression_of e)) }
 {
-    let operand = expression(alloc, cursor, names)?;
+    let mut operand = Operand::unread();
+    expression(alloc, cursor, names, &mut operand)?;
     expect(wanted, &operand)?;
     Ok(operand.into_expr())
 }

@@ -14,15 +14,15 @@ use Rattle.one_pass.proofs.expressions.+expressions.Goals as goal
 
 pub expression-returns-clause-reads : goal.expression-returns-clause-reads
 unfolding level_format
-expression-returns-clause-reads t c = by_level (meaning_of c.args.names.now) Whole c.args.cursor.now c.conditional.new.cursor c.conditional.result c.conditional.ensures.reads
+expression-returns-clause-reads t c = by_level (meaning_of c.args.names.now) Whole c.args.cursor.now c.conditional.new.cursor c.conditional.result _ _ _ c.conditional.ensures.reads
 
 pub unary-returns-clause-reads : goal.unary-returns-clause-reads
 unfolding level_format
-unary-returns-clause-reads t c = by_level (meaning_of c.args.names.now) Unary c.args.cursor.now c.signed.new.cursor c.signed.result c.signed.ensures.reads
+unary-returns-clause-reads t c = by_level (meaning_of c.args.names.now) Unary c.args.cursor.now c.signed.new.cursor c.signed.result _ _ _ c.signed.ensures.reads
 
 pub primary-returns-clause-reads : goal.primary-returns-clause-reads
 unfolding level_format
-primary-returns-clause-reads t c = by_level (meaning_of c.args.names.now) Primary c.args.cursor.now c.undivided.new.cursor c.undivided.result c.undivided.ensures.reads
+primary-returns-clause-reads t c = by_level (meaning_of c.args.names.now) Primary c.args.cursor.now c.undivided.new.cursor c.undivided.result _ _ _ c.undivided.ensures.reads
 
 pub first_operand-returns-then-is_negated-clause-reads : goal.first_operand-returns-then-is_negated-clause-reads
 first_operand-returns-then-is_negated-clause-reads t c = rw c.if-is_negated.true c.negated.ensures.reads
@@ -33,17 +33,17 @@ first_operand-returns-else-is_negated-clause-reads t c = rw c.if-is_negated.fals
 pub operand_under-returns-clause-reads : goal.operand_under-returns-clause-reads
 operand_under-returns-clause-reads t c =
     let begins = c.begins_negation-is_negated in
-    behind_first (meaning_of c.args.names.now) (climb c.args.under c.least_behind-least.result) _ _ c.first_operand.new.cursor c.others.new.cursor c.others.result _ _ _
-    (first_comes c.args.under c.args.cursor.now begins.result c.least_behind-least.result c.requires begins.ensures.yes begins.ensures.no c.least_behind-least.ensures) c.in_ok-first.ensures.reads c.others.ensures.reads
+    behind_first (meaning_of c.args.names.now) (climb c.args.under c.least_behind-least.result) _ _ c.first_operand.new.cursor c.others.new.cursor c.others.result _ _ _ _ _ _
+    (first_comes c.args.under c.args.cursor.now begins.result c.least_behind-least.result c.requires begins.ensures.yes begins.ensures.no c.least_behind-least.ensures) c.in_ok-first_operand.ensures.reads c.others.ensures.reads
 
 pub others-loop-infix-preserved : goal.others-loop-infix-preserved
 others-loop-infix-preserved t c = record {
-  few = let a = c.in-Some.ensures.shorter in let b = c.in_ok-right.ensures.shorter in let d = c.loop-infix.invariant.few in omega arith;
+  few = let a = c.in-Some.ensures.shorter in let b = c.in_ok-operand_under.ensures.shorter in let d = c.loop-infix.invariant.few in omega arith;
   climbed = λ e is.
       let so_far = c.loop-infix.invariant.climbed e is in
-      let right = c.in_ok-right.ensures.reads in (
+      let right = c.in_ok-operand_under.ensures.reads in (
         joining so_far.0 (operator_of c.in-Some.infix.op, right.written),
-        joined_operand (meaning_of c.args.names.now) (operator_of c.in-Some.infix.op) so_far.0 right.written _ _ _ _ _ _ _ _ _ so_far.1 right.operand (rw c.operand_kind.ensures at c.in_ok-expect.ensures) (rw c.right_kind.ensures at c.in_ok-expect-2.ensures) c.in_ok-left.ensures.expr c.in_ok-left.ensures.kind c.in_ok-left.ensures.at,
+        joined_operand (meaning_of c.args.names.now) (operator_of c.in-Some.infix.op) so_far.0 right.written _ _ _ _ _ _ _ _ _ so_far.1 right.operand (rw c.operand_kind.ensures at c.in_ok-expect.ensures) (rw c.right_kind.ensures at c.in_ok-expect-2.ensures) c.in_ok-join.ensures.expr c.in_ok-join.ensures.kind c.in_ok-join.ensures.at,
         one-more c.args.under c.loop-infix.least c.next_level-least.result so_far.0 right.written (joining so_far.0 (operator_of c.in-Some.infix.op, right.written)) c.loop-infix.cursor c.infix.new.self c.operand_under.new.cursor (infix_of c.in-Some.infix)
             c.requires c.in-Some.ensures.takes c.infix.ensures.leaves right.is_read refl c.next_level-least.ensures
             ∙ so_far.2,
@@ -61,12 +61,12 @@ others-returns-clause-reads t c = λ e is.
 
 pub bracketed-returns-clause-reads : goal.bracketed-returns-clause-reads
 bracketed-returns-clause-reads t c =
-    let read = c.in_ok-index.ensures.reads in
+    let read = c.in_ok-expression.ensures.reads in
     record { written = read.written; is_read = rw (c.in_ok-symbol.ensures.reads, read.is_read, c.in_ok-symbol-2.ensures.reads) refl; operand = read.operand }
 
 pub enclosed-returns-clause-reads : goal.enclosed-returns-clause-reads
 enclosed-returns-clause-reads t c =
-    let read = c.in_ok-inner.ensures.reads in
+    let read = c.in_ok-expression.ensures.reads in
     record {
       written = moved c.in_ok-at.at read.written;
       is_read = rw (c.in_ok-at.ensures.reads, read.is_read, c.in_ok-symbol.ensures.reads) refl;
@@ -75,43 +75,43 @@ enclosed-returns-clause-reads t c =
 
 pub negated-returns-clause-reads : goal.negated-returns-clause-reads
 negated-returns-clause-reads t c =
-    let read = c.in_ok-operand.ensures.reads in
+    let read = c.in_ok-operand_under.ensures.reads in
     record {
       written = written.Not c.in_ok-at.at read.written;
       is_read = rw (c.in_ok-at.ensures.reads, read.is_read) refl;
-      operand = negated_operand (meaning_of c.args.names.now) c.in_ok-at.at read.written _ _ _ _ read.operand c.in_ok-expect.ensures (ap expression_of (c.in_ok-new.ensures.ok ∙ c.into_expr.ensures));
+      operand = negated_operand (meaning_of c.args.names.now) c.in_ok-at.at read.written _ _ _ _ read.operand c.in_ok-expect.ensures (ap expression_of (c.in_ok-operand.ensures.ok ∙ c.take.ensures.expr));
     }
 
 pub negative-returns-clause-reads : goal.negative-returns-clause-reads
 negative-returns-clause-reads t c =
-    let read = c.in_ok-operand.ensures.reads in
+    let read = c.in_ok-unary.ensures.reads in
     record {
       written = written.Negative c.in_ok-at.at read.written;
       is_read = rw (c.in_ok-at.ensures.reads, read.is_read) refl;
-      operand = negative_operand (meaning_of c.args.names.now) c.in_ok-at.at read.written _ _ _ _ read.operand c.in_ok-expect.ensures (ap expression_of (c.in_ok-new.ensures.ok ∙ c.into_expr.ensures));
+      operand = negative_operand (meaning_of c.args.names.now) c.in_ok-at.at read.written _ _ _ _ read.operand c.in_ok-expect.ensures (ap expression_of (c.in_ok-operand.ensures.ok ∙ c.take.ensures.expr));
     }
 
 pub called-returns-clause-reads : goal.called-returns-clause-reads
 called-returns-clause-reads t c =
     let op = operator_of c.args.op in
-    let first = c.in_ok-first.ensures.reads in
-    let second = c.in_ok-second.ensures.reads in
+    let first = c.in_ok-expression.ensures.reads in
+    let second = c.in_ok-expression-2.ensures.reads in
     record {
       written = written.Binary c.in_ok-at.at op first.written second.written;
       is_read = rw (c.in_ok-at.ensures.reads, c.in_ok-symbol.ensures.reads, first.is_read, c.in_ok-symbol-2.ensures.reads, second.is_read, c.in_ok-symbol-3.ensures.reads) refl;
-      operand = called_operand (meaning_of c.args.names.now) c.in_ok-at.at op first.written second.written _ _ _ _ _ _ _ _ first.operand second.operand (rw c.operand_kind.ensures at c.in_ok-expect.ensures) (rw c.right_kind.ensures at c.in_ok-expect-2.ensures) c.in_ok-both.ensures.expr c.in_ok-both.ensures.kind;
+      operand = called_operand (meaning_of c.args.names.now) c.in_ok-at.at op first.written second.written _ _ _ _ _ _ _ _ first.operand second.operand (rw c.operand_kind.ensures at c.in_ok-expect.ensures) (rw c.right_kind.ensures at c.in_ok-expect-2.ensures) c.in_ok-join.ensures.expr c.in_ok-join.ensures.kind;
     }
 
 pub branches-returns-clause-reads : goal.branches-returns-clause-reads
 branches-returns-clause-reads t c =
-    let test = c.in_ok-test.ensures.reads in
-    let yes = c.in_ok-yes.ensures.reads in
-    let no = c.in_ok-no.ensures.reads in
+    let test = c.in_ok-expression.ensures.reads in
+    let yes = c.in_ok-expression-2.ensures.reads in
+    let no = c.in_ok-expression-3.ensures.reads in
     record {
       written = written.If c.in_ok-at.at test.written yes.written no.written;
       is_read = rw (c.in_ok-at.ensures.reads, test.is_read, c.in_ok-word.ensures.reads, yes.is_read, c.in_ok-word-2.ensures.reads, no.is_read) refl;
       operand = chosen_operand (meaning_of c.args.names.now) c.in_ok-at.at test.written yes.written no.written _ _ _ _ _ _ _ _ _ _ _ test.operand yes.operand no.operand c.in_ok-expect.ensures c.in_ok-expect-2.ensures
-          (rw (c.into_expr.ensures, c.into_expr-2.ensures, c.into_expr-3.ensures) at c.in_ok-conditional.ensures) c.known_or-kind.ensures;
+          (rw (c.into_expr.ensures, c.into_expr-2.ensures, c.into_expr-3.ensures) at c.in_ok-expr.ensures) c.known_or-kind.ensures;
     }
 
 pub named-returns-then-not-begins_symbol-clause-reads : goal.named-returns-then-not-begins_symbol-clause-reads
@@ -126,9 +126,9 @@ named-returns-then-not-begins_symbol-clause-reads t c =
 pub named-returns-clause-reads : goal.named-returns-clause-reads
 named-returns-clause-reads t c =
     let name = spelled_name c.in_ok-name.name in
-    let index = c.in_ok-index.ensures.reads in
+    let index = c.in_ok-bracketed.ensures.reads in
     record {
       written = of_name name (Some index.written);
       is_read = rw (c.in_ok-name.ensures.reads, ← c.begins_symbol.ensures, c.if-not-begins_symbol.false, index.is_read) refl;
-      operand = cell_operand (meaning_of c.args.names.now) name index.written c.in_ok-var-2.var.part _ _ c.in_ok-var-2.var.kind _ _ c.in_ok-var-2.ensures.unbroken c.in_ok-var-2.ensures.numbers c.in_ok-var-2.ensures.kind index.operand c.in_ok-index.ensures.ranged (ap expression_of (c.in_ok-new.ensures.ok ∙ c.into_expr.ensures));
+      operand = cell_operand (meaning_of c.args.names.now) name index.written c.in_ok-var-2.var.part _ _ c.in_ok-var-2.var.kind _ _ c.in_ok-var-2.ensures.unbroken c.in_ok-var-2.ensures.numbers c.in_ok-var-2.ensures.kind index.operand c.in_ok-bracketed.ensures.ranged (ap expression_of (c.in_ok-index.ensures.ok ∙ c.take.ensures.expr));
     }

@@ -58,5 +58,5 @@ decreases-others-loop-infix l = length l.cursor
 abbrev pub invariant-others-loop-infix : goal.invariant-others-loop-infix
 invariant-others-loop-infix l = record {
   few : length l.cursor ≤ length l.fn.cursor;
-  climbed : ClimbedTo (meaning_of l.names) l.fn.under l.fn.least l.least l.fn.cursor l.cursor (expression_of l.fn.first.expr) l.fn.first.kind l.fn.first.at (expression_of l.left.expr) l.left.kind l.left.at;
+  climbed : ClimbedTo (meaning_of l.names) l.fn.under l.fn.least l.least l.fn.cursor l.cursor (expression_of l.fn.read.expr) l.fn.read.kind l.fn.read.at (expression_of l.read.expr) l.read.kind l.read.at;
 }
