@@ -22,6 +22,8 @@ use sig_types::{Names, wanted_at};
 use std::alloc::Global;
 
 /// Reads an expression of this kind, where both kinds are known.
+// Inlined: so the expression goes from where it was read to where the caller keeps it.
+#[inline(always)]
 pub(crate) fn value(
     alloc: Global,
     cursor: &mut Cursor<'_>,
