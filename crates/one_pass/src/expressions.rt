@@ -167,11 +167,10 @@ fn branches(
     let mut yes = Operand::unread();
     expression(alloc, cursor, names, &mut yes)?;
     cursor.word(Word::Else)?;
-    let mut no = Operand::unread();
-    expression(alloc, cursor, names, &mut no)?;
-    expect(yes.kind, &no)?;
-    let kind = known_or(yes.kind, no.kind);
-    let expr = Expr::conditional(alloc, test.into_expr(), yes.into_expr(), no.into_expr())?;
+    expression(alloc, cursor, names, read)?;
+    expect(yes.kind, read)?;
+    let kind = known_or(yes.kind, read.kind);
+    let expr = Expr::conditional(alloc, test.into_expr(), yes.into_expr(), read.take())?;
     *read = Operand { expr, kind, at };
     Ok(())
 }

@@ -111,7 +111,7 @@ branches-returns-clause-reads t c =
       written = written.If c.in_ok-at.at test.written yes.written no.written;
       is_read = rw (c.in_ok-at.ensures.reads, test.is_read, c.in_ok-word.ensures.reads, yes.is_read, c.in_ok-word-2.ensures.reads, no.is_read) refl;
       operand = chosen_operand (meaning_of c.args.names.now) c.in_ok-at.at test.written yes.written no.written _ _ _ _ _ _ _ _ _ _ _ test.operand yes.operand no.operand c.in_ok-expect.ensures c.in_ok-expect-2.ensures
-          (rw (c.into_expr.ensures, c.into_expr-2.ensures, c.into_expr-3.ensures) at c.in_ok-expr.ensures) c.known_or-kind.ensures;
+          (rw (c.into_expr.ensures, c.into_expr-2.ensures, c.take.ensures.expr) at c.in_ok-expr.ensures) c.known_or-kind.ensures;
     }
 
 pub named-returns-then-not-begins_symbol-clause-reads : goal.named-returns-then-not-begins_symbol-clause-reads
