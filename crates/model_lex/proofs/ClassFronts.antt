@@ -106,15 +106,54 @@ class-front bytes class some is =
     ap (λ k. front_of_class k bytes) is
     ∙ by_tests bytes (is_blank c) (c == 35) (is_ascii_alphabetic c) (words_with_first c) (is_ascii_digit c) (begins_one (symbols_of_length 2) c) (symbol_with (symbols_of_length 1) c) (name_is bytes some) (alone_is bytes some)
 
--- a byte that begins a word is a letter
-letter_by : (blank comment letter : Bool) (words : List (List ℕ × Word)) (digit pair : Bool) (symbol : Option Symbol) → classes.Word ≡ class_by blank comment letter words digit pair symbol → letter ≡ true
-letter_by true comment letter words digit pair symbol e = absurd cc
-letter_by false true letter words digit pair symbol e = absurd cc
-letter_by false false true words digit pair symbol e = refl
-letter_by false false false words true pair symbol e = absurd cc
-letter_by false false false words false true symbol e = absurd cc
-letter_by false false false words false false None e = absurd cc
-letter_by false false false words false false (Some s) e = absurd cc
+-- a byte that begins a word is a letter, and so a byte of words
+abbrev pub begins_word : Class → Bool
+begins_word classes.Name = true
+begins_word classes.Word = true
+begins_word classes.Blank = false
+begins_word classes.Comment = false
+begins_word classes.Digit = false
+begins_word classes.Pair = false
+begins_word (classes.Alone symbol) = false
+begins_word classes.Nothing = false
 
-pub word_class : (c : ℕ) → classes.Word ≡ class_of c → is_ascii_alphabetic c ≡ true
-word_class c e = letter_by (is_blank c) (c == 35) (is_ascii_alphabetic c) (words_with_first c) (is_ascii_digit c) (begins_one (symbols_of_length 2) c) (symbol_with (symbols_of_length 1) c) e
+letter_by : (blank comment letter : Bool) (words : List (List ℕ × Word)) (digit pair : Bool) (symbol : Option Symbol) → begins_word (class_by blank comment letter words digit pair symbol) ≡ true → letter ≡ true
+letter_by true comment letter words digit pair symbol e = absurd (false≢true e)
+letter_by false true letter words digit pair symbol e = absurd (false≢true e)
+letter_by false false true words digit pair symbol e = refl
+letter_by false false false words true pair symbol e = absurd (false≢true e)
+letter_by false false false words false true symbol e = absurd (false≢true e)
+letter_by false false false words false false None e = absurd (false≢true e)
+letter_by false false false words false false (Some s) e = absurd (false≢true e)
+
+pub letter_first : (c : ℕ) (class : Class) → class ≡ class_of c → begins_word class ≡ true → is_ascii_alphabetic c ≡ true
+letter_first c class is begins =
+    letter_by (is_blank c) (c == 35) (is_ascii_alphabetic c) (words_with_first c) (is_ascii_digit c) (begins_one (symbols_of_length 2) c) (symbol_with (symbols_of_length 1) c) (ap begins_word (sym is) ∙ begins)
+
+pub word_byte_first : (c : ℕ) (class : Class) → class ≡ class_of c → begins_word class ≡ true → is_word_byte c ≡ true
+word_byte_first c class is begins = rw (letter_first c class is begins) refl
+
+-- a byte that begins a number is a digit
+abbrev begins_number : Class → Bool
+begins_number classes.Digit = true
+begins_number classes.Name = false
+begins_number classes.Word = false
+begins_number classes.Blank = false
+begins_number classes.Comment = false
+begins_number classes.Pair = false
+begins_number (classes.Alone symbol) = false
+begins_number classes.Nothing = false
+
+digit_by : (blank comment letter : Bool) (words : List (List ℕ × Word)) (digit pair : Bool) (symbol : Option Symbol) → begins_number (class_by blank comment letter words digit pair symbol) ≡ true → digit ≡ true
+digit_by true comment letter words digit pair symbol e = absurd (false≢true e)
+digit_by false true letter words digit pair symbol e = absurd (false≢true e)
+digit_by false false true [] digit pair symbol e = absurd (false≢true e)
+digit_by false false true (w ∷ ws) digit pair symbol e = absurd (false≢true e)
+digit_by false false false words true pair symbol e = refl
+digit_by false false false words false true symbol e = absurd (false≢true e)
+digit_by false false false words false false None e = absurd (false≢true e)
+digit_by false false false words false false (Some s) e = absurd (false≢true e)
+
+pub digit_first : (c : ℕ) → classes.Digit ≡ class_of c → is_ascii_digit c ≡ true
+digit_first c is =
+    digit_by (is_blank c) (c == 35) (is_ascii_alphabetic c) (words_with_first c) (is_ascii_digit c) (begins_one (symbols_of_length 2) c) (symbol_with (symbols_of_length 1) c) (ap begins_number (sym is))

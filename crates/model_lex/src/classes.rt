@@ -39,7 +39,7 @@ const PAIR: Class = Class::Pair;
 
 const NO: Class = Class::Nothing;
 
-/// For each byte what it can begin. A table, since it is asked at each token and at each blank.
+/// For each byte what it can begin. A table, since it is asked at each token, and at each blank that is no space.
 fn classes() -> &'static [Class; 256]
     ensures { result.now ≡ map class_of (range_with_len 0 256) }
 {

@@ -24,7 +24,12 @@ pub(crate) fn pass_over(list: &mut Vec<Token>, text: &[u8], at: usize) -> Result
 {
     let bytes = &text[at..];
     let left = bytes.len();
-    match class_of(bytes[0]) {
+    let first = bytes[0];
+    // Most blanks are spaces, and many a byte is one: no table is asked.
+    if first == b' ' {
+        return Ok(at + 1);
+    }
+    match class_of(first) {
         Class::Blank => Ok(at + 1),
         Class::Comment => Ok(at + comment_length(bytes)),
         Class::Name => add(list, TokenKind::Name, at, word_length(bytes), left),

@@ -1,6 +1,6 @@
 //! How far a run of bytes of one kind goes.
 
-ghost use Rattle.std.specs.Prelude.{◌≡◌, map};
+ghost use Rattle.std.specs.Prelude.{◌≡◌, true, map, slice_index};
 ghost use Rattle.std.specs.List.{prefix_len, range_with_len};
 ghost use Rattle.std.specs.Char.{is_ascii_digit};
 ghost use Rattle.model_core.specs.Text.Lexing.{is_word_byte, is_comment_byte};
@@ -36,24 +36,26 @@ pub(crate) fn is_word_byte(byte: u8) -> bool
     word_bytes()[usize::from(byte)]
 }
 
-/// How many bytes of a word the bytes begin with.
+/// How many bytes of a word the bytes begin with, where it is known of the first that it is one: it isn't looked at.
 pub(crate) fn word_length(bytes: &[u8]) -> usize
+    requires { is_word_byte (slice_index bytes.now 0) ≡ true }
     ensures { result ≡ prefix_len is_word_byte bytes.now }
 {
-    for (place, byte) in bytes.iter().enumerate() {
-        if !is_word_byte(*byte) {
+    for place in 1..bytes.len() {
+        if !is_word_byte(bytes[place]) {
             return place;
         }
     }
     bytes.len()
 }
 
-/// How many digits the bytes begin with.
+/// How many digits the bytes begin with, where it is known of the first byte that it is one: it isn't looked at.
 pub(crate) fn digits_length(bytes: &[u8]) -> usize
+    requires { is_ascii_digit (slice_index bytes.now 0) ≡ true }
     ensures { result ≡ prefix_len is_ascii_digit bytes.now }
 {
-    for (place, byte) in bytes.iter().enumerate() {
-        if !byte.is_ascii_digit() {
+    for place in 1..bytes.len() {
+        if !bytes[place].is_ascii_digit() {
             return place;
         }
     }

@@ -97,7 +97,9 @@ pub(crate) fn expect(wanted: Option<Kind>, operand: &Operand) -> Result<(), NotR
     Ok(())
 }
 
-/// The place and the kind of the scalar or the array of this name.
+/// The place and the kind of the scalar or the array of this name. Inlined with what it calls, since it is asked at each name:
+/// so no fault is written down where there is none, and what the name means is looked at where it lies.
+#[inline(always)]
 pub(crate) fn known(
     names: &Names,
     is_array: bool,

@@ -58,6 +58,7 @@ impl Names {
     }
 
     /// What the name that these bytes spell means.
+    #[inline(always)]
     pub fn find(&self, name: &[u8]) -> Option<Meaning>
         ensures { option_map meaning_seen result ≡ meaning_of self.now name.now }
     {

@@ -33,6 +33,7 @@ pub enum Role {
 }
 
 /// Whether a name of this meaning may be used so.
+#[inline(always)]
 fn is_fit(role: Role, meaning: Meaning) -> bool
     ensures { result ≡ fits_role (role_seen role) (meaning_seen meaning) }
 {
@@ -47,6 +48,7 @@ fn is_fit(role: Role, meaning: Meaning) -> bool
 }
 
 /// What the name that these bytes spell means, which stands at this place and is used so.
+#[inline(always)]
 fn used(names: &Names, role: Role, name: &[u8], at: usize, told: &mut Told) -> Option<Meaning>
     ensures told { told.new ≡ earliest_fault told.old (use_faults (meaning_of names.now) (role_seen role) (record { name = name.now; at = at })) }
     ensures means { option_map meaning_seen result ≡ meaning_of names.now name.now }
@@ -63,6 +65,7 @@ fn used(names: &Names, role: Role, name: &[u8], at: usize, told: &mut Told) -> O
 }
 
 /// The place and the kind of a scalar or an array. Of anything else 0, and no kind.
+#[inline(always)]
 fn variable_meant(meaning: Option<Meaning>, is_array: bool) -> Typed<usize>
     ensures place { (k : ℕ) (kind : KnownKind) → option_map meaning_seen meaning ≡ Some (MeansVariable k kind is_array) → result.part ≡ k }
     ensures kind { result.kind ≡ kind_in_role (variable_role is_array) (option_map meaning_seen meaning) }
@@ -86,6 +89,7 @@ fn variable_meant(meaning: Option<Meaning>, is_array: bool) -> Typed<usize>
 }
 
 /// A name that is used as a variable, where it stands in the text.
+#[inline(always)]
 pub fn spelled_variable(
     names: &Names,
     is_array: bool,

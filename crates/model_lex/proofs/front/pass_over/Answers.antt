@@ -1,12 +1,12 @@
 -- The class of the first byte tells what the text has there.
-use Rattle.std.proofs.Common.{◌≡◌, ◌∙◌, ap, arith, slice_index, sym, take}
+use Rattle.std.proofs.Common.{◌≡◌, ◌∙◌, ap, arith, refl, slice_index, sym, take}
 use Rattle.std.specs.Char.{is_ascii_digit}
 use Rattle.model_core.specs.Text.Lexing.{Between, Longest, NameOf, NumberOf, digits_value}
 use Rattle.model_core.specs.declared.token.TokenKind.TheVariants.{Number}
 use Rattle.model_core.specs.Code.TokenViews.{lexeme_kind_of}
 use Rattle.model_lex.specs.Inner.Fronts.{front_at, symbol_seen}
 use Rattle.model_lex.specs.declared.classes.Class.TheVariants as classes
-use Rattle.model_lex.proofs.ClassFronts.{class-front, word_class}
+use Rattle.model_lex.proofs.ClassFronts.{class-front, digit_first, letter_first, word_byte_first}
 use Rattle.model_lex.proofs.Digits.{AllPass-prefix}
 use Rattle.model_lex.proofs.FrontLemmas.{word_begins}
 use Rattle.model_lex.proofs.TokensAdded.{bytes_from, has_bytes, none_from, passes_between, passes_token, room_from}
@@ -45,8 +45,17 @@ add-requires-clause-inside c =
     let room = room_from c.args.text.now c.args.at _ c.requires (name (goal.at.add-requires-clause-inside c).After-word_length) in
     omega (arith, room)
 
+pub word_length-requires : goal.word_length-requires
+word_length-requires c = word_byte_first (slice_index (bytes_from c.args.text.now c.args.at) 0) classes.Name (sym c.in-Name.is ∙ c.class_of.ensures) refl
+
+pub word_length-length-requires : goal.word_length-length-requires
+word_length-length-requires c = word_byte_first (slice_index (bytes_from c.args.text.now c.args.at) 0) classes.Word (sym c.in-Word.is ∙ c.class_of.ensures) refl
+
+pub digits_length-length-requires : goal.digits_length-length-requires
+digits_length-length-requires c = digit_first (slice_index (bytes_from c.args.text.now c.args.at) 0) (sym c.in-Digit.is ∙ c.class_of.ensures)
+
 pub word_kind-requires : goal.word_kind-requires
-word_kind-requires c = rw c.word_length-length.ensures (word_begins _ (has_bytes c.args.text.now c.args.at c.requires) (word_class (slice_index (bytes_from c.args.text.now c.args.at) 0) (sym c.in-Word.is ∙ c.class_of.ensures)))
+word_kind-requires c = rw c.word_length-length.ensures (word_begins _ (has_bytes c.args.text.now c.args.at c.requires) (letter_first (slice_index (bytes_from c.args.text.now c.args.at) 0) classes.Word (sym c.in-Word.is ∙ c.class_of.ensures) refl))
 
 pub literal_value-value-requires : goal.literal_value-value-requires
 literal_value-value-requires c = rw c.digits_length-length.ensures (AllPass-prefix is_ascii_digit (bytes_from c.args.text.now c.args.at))

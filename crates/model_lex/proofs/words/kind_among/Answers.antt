@@ -11,8 +11,8 @@ word_among-at words word i d b below e =
     at_drop_more (λ ws. word_among (map (λ w. (w.0.now, w.1)) ws) word) words i d below
     ∙ ap (λ t. cond t (Reserved (get_or words i d).1) (word_among (map (λ w. (w.0.now, w.1)) (drop (i + 1) words)) word)) e
 
-pub returns-then-eq : goal.returns-then-eq
-returns-then-eq c = sym (word_among-at c.args.words.now c.args.word.now c.loop-spelling.spelling-index _ _ c.loop-spelling-test.true (sym c.eq.ensures ∙ c.if-eq.true)) ∙ c.loop-spelling.invariant
+pub returns-then-is_spelled : goal.returns-then-is_spelled
+returns-then-is_spelled c = sym (word_among-at c.args.words.now c.args.word.now c.loop-spelling.spelling-index _ _ c.loop-spelling-test.true (sym c.is_spelled.ensures ∙ c.if-is_spelled.true)) ∙ c.loop-spelling.invariant
 
 pub loop-spelling-preserved : goal.loop-spelling-preserved
-loop-spelling-preserved c = sym (word_among-at c.args.words.now c.args.word.now c.loop-spelling.spelling-index _ _ c.loop-spelling-test.true (sym c.eq.ensures ∙ c.if-eq.false)) ∙ c.loop-spelling.invariant
+loop-spelling-preserved c = sym (word_among-at c.args.words.now c.args.word.now c.loop-spelling.spelling-index _ _ c.loop-spelling-test.true (sym c.is_spelled.ensures ∙ c.if-is_spelled.false)) ∙ c.loop-spelling.invariant
