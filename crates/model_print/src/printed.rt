@@ -5,7 +5,7 @@ ghost use Rattle.model_core.specs.Text.Canonical.{canonical, expression_text};
 ghost use Rattle.model_core.specs.Code.Views.{graph_of, expression_of};
 
 use crate::expressions::put_expression;
-use crate::lengths::{expr_length, printed_length};
+use crate::lengths::expr_length;
 use crate::model::put_model;
 use crate::pen::{Growing, Page};
 use model_core::{Expr, Model};
@@ -27,13 +27,19 @@ fn page_for(alloc: Global, length: u64) -> Result<Page, NoMemory>
 
 /// The canonical text of a model: one line for each declaration, change and edge, in the model's order.
 ///
-/// A place that no variable, table or vertex has prints as nothing. All memory is taken at once.
+/// A place that no variable, table or vertex has prints as nothing. The text isn't measured before: its memory grows with it.
 pub fn print(alloc: Global, model: &Model) -> Result<Text, NoMemory>
     ensures { IfOk result (λ t. t ≡ canonical (graph_of model.now)) }
 {
-    let mut page = page_for(alloc, printed_length(model))?;
-    put_model(&mut page, model);
-    Ok(Text::from_vec(page.bytes))
+    let mut text = Growing {
+        bytes: Vec::new(alloc),
+        lacks_memory: false,
+    };
+    put_model(&mut text, model);
+    if text.lacks_memory {
+        return Err(NoMemory);
+    }
+    Ok(Text::from_vec(text.bytes))
 }
 
 /// The canonical text of an expression of the model, with parentheses exactly where they are needed.
