@@ -13,6 +13,7 @@ use Rattle.model_core.proofs.Among.{Among, among-contained, contained-among, amo
 use Rattle.mark_laws.proofs.ReachedLong.{reached_marks-long}
 use Rattle.edge_pruning.proofs.ReachedMarks.{has_edges, reachable-marked, reached_marks-hold, reached_marks-reachable}
 use Rattle.mark_laws.proofs.Ranks.{rank-none}
+use Rattle.mark_laws.proofs.UnmarkedPlaces.{none_unmarked}
 use Rattle.model_core.proofs.Images.{at-map}
 use Rattle.edge_pruning.proofs.DropSame.{NamesVertices}
 
@@ -23,14 +24,6 @@ old_place (b ∷ bs) [] i below = absurd (omega arith)
 old_place (true ∷ bs) (x ∷ xs) zero below = (zero, refl, refl, omega arith)
 old_place (true ∷ bs) (x ∷ xs) (suc i) below = let (k, marked, e, within) = old_place bs xs i (omega arith) in (suc k, marked, ap suc e, omega arith)
 old_place (false ∷ bs) (x ∷ xs) i below = let (k, marked, e, within) = old_place bs xs i below in (suc k, marked, e, omega arith)
-
-pub none_unmarked : (marks : List Bool) → ((k : ℕ) → k < length marks → Marked marks k) → unmarked_places marks ≡ []
-none_unmarked marks all = from 0 (length marks) (omega arith) where
-  from : (a n : ℕ) → a + n ≡ length marks → filter (λ k. not (is_marked marks k)) (range_with_len a n) ≡ []
-  from a zero e = refl
-  from a (suc n) e =
-      ap (λ b. cond (not b) (a ∷ filter (λ k. not (is_marked marks k)) (range_with_len (a + 1) n)) (filter (λ k. not (is_marked marks k)) (range_with_len (a + 1) n))) (all a (omega (arith, e)))
-      ∙ from (a + 1) n (omega (arith, e))
 
 module _ (g : EventGraph) (names : NamesVertices g) where
   abbrev marks : List Bool

@@ -21,8 +21,8 @@ use Rattle.model_core.proofs.PlacesChanged.{length_placed, same_number}
 use Rattle.mark_laws.proofs.Marks.{Marked}
 use Rattle.mark_laws.proofs.EntailedMarks.{same-place}
 use Rattle.mark_laws.proofs.ReachedLong.{reached_marks-long}
+use Rattle.mark_laws.proofs.UnmarkedPlaces.{apart-or-same, none_unmarked, marked_all}
 use Rattle.edge_pruning.proofs.ReachedMarks.{has_edges, reachable-marked, reached_marks-hold, reached_marks-reachable}
-use Rattle.edge_pruning.proofs.AllReached.{none_unmarked}
 
 -- ---- lists with one element changed or taken out
 
@@ -71,9 +71,6 @@ at-among [] k below = absurd (omega arith)
 at-among (v ∷ vs) zero below = inl refl
 at-among (v ∷ vs) (suc k) below = inr (at-among vs k (omega (arith, below)))
 
-apart-or-same : (a b : ℕ) → (a ≡ b) ⊎ ((a == b) ≡ false)
-apart-or-same a b = grind (arith, nat_tests)
-
 differ : (a b : ℕ) → (a == b) ≡ false → a ≡ b → ⊥
 differ a b apart same = let e : (a == b) ≡ true = same_number a b same in let no : false ≡ true = sym apart ∙ e in cc
 
@@ -86,24 +83,6 @@ not_true false e = refl
 marked-or-not : (b : Bool) → (b ≡ true) ⊎ (b ≡ false)
 marked-or-not true = inl refl
 marked-or-not false = inr refl
-
-not_false : (b : Bool) → not b ≡ false → b ≡ true
-not_false true e = refl
-not_false false e = cc
-
-passes-none : (test : ℕ → Bool) (a n k : ℕ) → filter test (range_with_len a n) ≡ [] → a ≤ k → k < a + n → test k ≡ false
-passes-none test a zero k none from below = absurd (omega (arith, from, below))
-passes-none test a (suc n) k none from below = by (test a) refl none (passes-none test (a + 1) n k) where
-  by : (t : Bool) → test a ≡ t → cond t (a ∷ filter test (range_with_len (a + 1) n)) (filter test (range_with_len (a + 1) n)) ≡ []
-      → (filter test (range_with_len (a + 1) n) ≡ [] → a + 1 ≤ k → k < a + 1 + n → test k ≡ false) → test k ≡ false
-  by true is e later = cc
-  by false is e later = here (apart-or-same a k) where
-    here : (a ≡ k) ⊎ ((a == k) ≡ false) → test k ≡ false
-    here (inl same) = ap test (sym same) ∙ is
-    here (inr apart) = later e (let l : a + 1 ≤ k = grind (arith, nat_tests) in l) (omega (arith, below))
-
-marked_all : (marks : List Bool) (k : ℕ) → unmarked_places marks ≡ [] → k < length marks → Marked marks k
-marked_all marks k none below = not_false (is_marked marks k) (passes-none (λ k. not (is_marked marks k)) 0 (length marks) k none (omega arith) (omega (arith, below)))
 
 module _ (test : ℕ → Bool) (b : ℕ) where
   none-behind : (a n : ℕ) → b < a → ((k : ℕ) → k < a + n → (k == b) ≡ false → test k ≡ false) → filter test (range_with_len a n) ≡ []

@@ -3,6 +3,7 @@ pub mod LeadingLaws
 pub mod SideBySide
 pub mod DelayStreams
 pub mod NeedsCollected
+pub mod AllWatched
 pub mod LeftLists
 pub mod HeldByAll
 pub mod RenumberedValues

@@ -3,3 +3,4 @@ pub mod Beside
 pub mod Leading
 pub mod Linking
 pub mod Needing
+pub mod Unwatched

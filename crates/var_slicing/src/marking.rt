@@ -3,9 +3,10 @@
 ghost use Rattle.std.specs.Prelude.{◌≡◌, IfOk};
 ghost use Rattle.model_core.specs.Rules.Needed.{needed_marks, unneeded};
 ghost use Rattle.model_core.specs.Code.Views.{graph_of};
+ghost use Rattle.var_slicing.specs.Inner.Unwatched.{unwatched};
 
 use crate::linking::lists_behind;
-use crate::needs::Needs;
+use crate::needs::{Needs, add_watched};
 use crate::streams::add_stream_pairs;
 use marked_walks::{entailed, unmarked};
 use model_core::Model;
@@ -25,11 +26,27 @@ pub(crate) fn needed(alloc: Global, model: &Model) -> Result<Vec<bool>, NoMemory
     entailed(alloc, needs.first.as_slice(), &next)
 }
 
+/// The variables that aren't watched: their places from 0, in the order of declaration.
+fn unwatched(alloc: Global, model: &Model) -> Result<List<usize>, NoMemory>
+    ensures { IfOk result (λ vars. vars ≡ unwatched (graph_of model.now)) }
+{
+    let mut watched = Vec::new(alloc);
+    add_watched(&mut watched, model.watch.as_slice())?;
+    let next = lists_behind(alloc, model.vars.len(), &[])?;
+    let marks = entailed(alloc, watched.as_slice(), &next)?;
+    unmarked(alloc, marks.as_slice())
+}
+
 /// The variables that aren't needed: their places from 0, in the order of declaration. Those that are needed are found from a
-/// list of the newly found, and each use of a variable is visited once, when that variable's turn comes.
+/// list of the newly found, and each use of a variable is visited once, when that variable's turn comes. Where all variables
+/// are watched, nothing is looked for.
 pub fn unneeded(alloc: Global, model: &Model) -> Result<List<usize>, NoMemory>
     ensures { IfOk result (λ vars. vars ≡ unneeded (graph_of model.now)) }
 {
+    let unwatched = unwatched(alloc, model)?;
+    if unwatched.len() == 0 {
+        return Ok(unwatched);
+    }
     let marks = needed(alloc, model)?;
     unmarked(alloc, marks.as_slice())
 }

@@ -28,7 +28,7 @@ pub(crate) struct Needs {
 }
 
 /// Adds the variables of a watch list.
-fn add_watched(out: &mut Vec<usize>, watch: &[Watch]) -> Result<(), NoMemory>
+pub(crate) fn add_watched(out: &mut Vec<usize>, watch: &[Watch]) -> Result<(), NoMemory>
     ensures { OnOk result (out.new.items ≡ out.old.items ++ watched_variables (map watched_of watch.now)) }
 {
     for watched in watch {

@@ -1,0 +1,39 @@
+-- Where every variable is watched, every variable is needed.
+use Rattle.std.proofs.Common.{◌≡◌, ℕ, List, [], length, ap, arith, ◌∙◌}
+use Rattle.std.specs.List.{flat_map}
+use Rattle.model_core.specs.EventGraph.{EventGraph}
+use Rattle.model_core.specs.Run.Step.{vertex_at}
+use Rattle.model_core.specs.Rules.Entailed.{Entailed, from_first, over_pair, entailed_marks}
+use Rattle.model_core.specs.Rules.Needed.{all_changes, all_edges, watched_variables, faulting_writes, needed_by_edge, needed_by_delays, needed_at_once, needed_beside, needed_marks, unneeded}
+use Rattle.model_core.proofs.Among.{Among, among-contained, contained-among, among-front}
+use Rattle.mark_laws.specs.PlacePairs.{pairs_from}
+use Rattle.mark_laws.proofs.EntailedMarks.{entailed-marked, entailed_marks-long, entailed_marks-entailed, entailed_marks-hold, marks-implied}
+use Rattle.mark_laws.proofs.UnmarkedPlaces.{none_unmarked, marked_all}
+use Rattle.var_slicing.specs.Inner.Linking.{no_lists, linked}
+use Rattle.var_slicing.specs.Inner.Unwatched.{unwatched}
+use Rattle.var_slicing.proofs.LinkedLaws.{linked-length, pairs-linked, linked-pairs}
+
+-- what is there at first, with nothing that any pair leads to, is entailed by more at first and by pairs
+no_pair : (count : ℕ) (first whole : List ℕ) (pairs : List (ℕ × ℕ)) → ((k : ℕ) → Among k first → Among k whole) → {k : ℕ} → Entailed count first [] k → Entailed count whole pairs k
+no_pair count first whole pairs more (from_first k below there) = from_first k below (contained-among whole k (more k (among-contained first k there)))
+no_pair count first whole pairs more (over_pair j k below before there) = absurd (among-contained [] (j, k) there)
+
+module _ (g : EventGraph) where
+  -- the marks that are found with nothing behind any variable
+  pub unlinked-marked : (next : List (List ℕ)) (n : ℕ) → n ≡ length g.variables → next ≡ linked [] (no_lists n) → entailed_marks (length next) (watched_variables g.watch) (pairs_from 0 next) ≡ entailed_marks (length g.variables) (watched_variables g.watch) []
+  unlinked-marked next n sized listed = rw (listed, sized)
+      (ap (λ (m : ℕ). entailed_marks m (watched_variables g.watch) (pairs_from 0 (linked [] (no_lists (length g.variables))))) (linked-length [] (length g.variables))
+      ∙ marks-implied (length g.variables) (watched_variables g.watch) (pairs_from 0 (linked [] (no_lists (length g.variables)))) [] (linked-pairs [] (length g.variables) (watched_variables g.watch)) (pairs-linked [] (length g.variables) (watched_variables g.watch)))
+
+  watched-needed : (k : ℕ) → Among k (watched_variables g.watch) → Among k (needed_at_once g)
+  watched-needed k there =
+      among-front _ (needed_by_delays g) k (among-front _ (flat_map (needed_by_edge g) (all_edges g)) k (among-front _ (flat_map (faulting_writes g) (all_changes g)) k
+      (among-front (watched_variables g.watch) (vertex_at g 0).parameters k there)))
+
+  pub all-needed : unwatched g ≡ [] → unneeded g ≡ []
+  all-needed none = none_unmarked (needed_marks g) (λ k below.
+      let long : length (needed_marks g) ≡ length g.variables = entailed_marks-long (length g.variables) (needed_at_once g) (needed_beside g) in
+      let watched_long = entailed_marks-long (length g.variables) (watched_variables g.watch) [] in
+      entailed-marked (length g.variables) (needed_at_once g) (needed_beside g) (needed_marks g) (entailed_marks-hold (length g.variables) (needed_at_once g) (needed_beside g))
+      (no_pair (length g.variables) (watched_variables g.watch) (needed_at_once g) (needed_beside g) watched-needed
+      (entailed_marks-entailed (length g.variables) (watched_variables g.watch) [] k (marked_all (entailed_marks (length g.variables) (watched_variables g.watch) []) k none (omega (arith, below, long, watched_long))))))
