@@ -234,6 +234,7 @@ impl<'t> Cursor<'t> {
         ensures leaves { self.new ≡ behind (at_levels least under (infix_at self.old)) self.old }
         ensures below { IfSome result (λ i. i.level + 1 ≤ under) }
         ensures shorter { IfSome result (λ i. length self.new + 1 ≤ length self.old) }
+        ensures no_longer { length self.new ≤ length self.old }
     {
         let infix = self.next_infix()?;
         if infix.level < least || infix.level >= under {

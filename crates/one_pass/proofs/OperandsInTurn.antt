@@ -1,5 +1,5 @@
 -- Operators with their right operands, one after another, and the levels at which they stand.
-use Rattle.std.proofs.Common.{◌≡◌, ℕ, ◌≤◌, Bool, true, false, if◌then◌else◌, List, Option, refl, ap, ◌∙◌}
+use Rattle.std.proofs.Common.{◌≡◌, ℕ, ◌≤◌, Bool, true, false, if◌then◌else◌, List, Option, Some, refl, ap, ◌∙◌}
 use Rattle.std.specs.Prelude.{Result, Ok, Err, IfOk}
 use Rattle.model_core.specs.declared.model.Kind.{Kind}
 use Rattle.one_pass.specs.declared.not_read.NotRead.{NotRead}
@@ -15,14 +15,23 @@ use Rattle.text_laws.specs.LanguageReader.{level_lookahead, language_reader}
 use Rattle.text_laws.proofs.Formats.RuleLaws.{rule-is}
 use Rattle.text_laws.proofs.Formats.OneTokenDecides.{levels-fine}
 use Rattle.text_laws.specs.FirstTokens.{begins_as}
-use Rattle.text_laws.specs.Ladder.{operand_level, climb}
+use Rattle.text_laws.specs.Ladder.{operand_level, climb, infix_at, at_levels, behind}
 use Rattle.text_laws.proofs.OperandLevels.{from-not, from-unary}
-use Rattle.one_pass.specs.Inner.ReadOperands.{first_operand, IsOperand, ReadOperand}
+use Rattle.one_pass.specs.Inner.ReadOperands.{first_operand, IsOperand, ReadOperand, ClimbsFrom, ClimbsOn}
 
--- whatever stands before the first operator that is left: the operators from there on are what is left of those from the first on
-abbrev pub ClimbedTo : (List ℕ → Option Meaning) → ℕ → ℕ → ℕ → List Lexeme → List Lexeme → graph.Expression → Option Kind → ℕ → graph.Expression → Option Kind → ℕ → Type 0
-ClimbedTo means under least now before left x kind at y kind' at' =
-    (e : WrittenExpression) → IsOperand means e x kind at → (f : WrittenExpression) × IsOperand means f y kind' at' × (climb under now f left ≡ climb under least e before)
+-- An operator that was taken, or none, of the levels from the least one up to the one below `under`, and what is left of the tokens behind it.
+pub record IsTaken (under least : ℕ) (taken : Option (ℕ × graph.Operator)) (before left : List Lexeme) : Type 0 where
+  pub takes : taken ≡ at_levels least under (infix_at before)
+  pub leaves : left ≡ behind (at_levels least under (infix_at before)) before
+
+-- whatever stands before the operator that was taken: what goes on with it is what is left of the operators from the first on
+pub record ClimbedTo (means : List ℕ → Option Meaning) (under : ℕ) (whole : Parse WrittenExpression) (taken : Option (ℕ × graph.Operator)) (left : List Lexeme) (y : graph.Expression) (kind : Option Kind) (at : ℕ) : Type 0 where
+  pub written : WrittenExpression
+  pub operand : IsOperand means written y kind at
+  pub least : ℕ
+  pub before : List Lexeme
+  pub is_taken : IsTaken under least taken before left
+  pub goes_on : climb under least written before ≡ whole
 
 -- a level begins with its first operand, which may be a negated one, and goes on with the operators that may stand behind that
 pub first_comes : (under : ℕ) (tokens : List Lexeme) (negated : Bool) (least : ℕ) → under ≤ 5 → (negated ≡ true → (3 ≤ under) × (begins_as (AWord words.Not) tokens ≡ true)) → (negated ≡ false → 3 ≤ under → begins_as (AWord words.Not) tokens ≡ false)
@@ -46,3 +55,9 @@ module _ (means : List ℕ → Option Meaning) where
       let next = go read.written read.operand in
       record { written = next.written; is_read = same ∙ ap (and_next others) read.is_read ∙ next.is_read; operand = next.operand }
   behind_first others whole first between after (Err e) x kind at y kind' at' same read go = tt
+
+  -- behind an operand whatever stands behind the operator that was taken behind it
+  pub goes-on : {A : Type 0} (under : ℕ) (first : ℕ × graph.Operator) (left after : List Lexeme) (r : Result A NotRead) (x : graph.Expression) (kind : Option Kind) (at : ℕ) (y : graph.Expression) (kind' : Option Kind) (at' : ℕ) (least : ℕ) (before : List Lexeme)
+      → Some first ≡ at_levels least under (infix_at before) → left ≡ behind (at_levels least under (infix_at before)) before → IfOk r (λ u. ClimbsOn means under first left after x kind at y kind' at') → IfOk r (λ u. ClimbsFrom means under least before after x kind at y kind' at')
+  goes-on under first left after (Ok u) x kind at y kind' at' least before takes leaves goes = goes least before takes leaves
+  goes-on under first left after (Err e) x kind at y kind' at' least before takes leaves goes = tt

@@ -1,6 +1,6 @@
 //! Changes, which are checked as they are read. Where a change breaks a static rule these functions give up.
 
-ghost use Rattle.std.specs.Prelude.{◌+◌, ◌≤◌, length, map, IfOk};
+ghost use Rattle.std.specs.Prelude.{◌≡◌, ◌+◌, ◌≤◌, [], ◌∷◌, length, map, IfOk};
 ghost use Rattle.sig_base.specs.declared.limits.TheConstants.{TARGETS_MAX};
 ghost use Rattle.model_core.specs.Code.Views.{location_of, choice_of, change_of};
 ghost use Rattle.model_core.specs.Text.Format.{separated};
@@ -22,7 +22,7 @@ use crate::values::values;
 use arrayvec::ArrayVec;
 use model_core::{Change, Choice, Kind, Symbol, Target, Word};
 use model_read::{Cursor, RawSource, packed};
-use sig_base::{Held, List, TARGETS_MAX};
+use sig_base::{Held, List, NoMemory, TARGETS_MAX};
 use sig_types::{Names, Told, Typed, kinds_differ};
 use std::alloc::Global;
 
@@ -57,13 +57,30 @@ struct TypedTargets {
     kinds: ArrayVec<Option<Kind>, TARGETS_MAX>,
 }
 
+/// The list of one target, with room for another where a comma comes: most changes have one target or two.
+#[inline(always)]
+fn begun_targets(
+    alloc: Global,
+    cursor: &Cursor<'_>,
+    first: Target,
+) -> Result<List<Target>, NoMemory>
+    ensures { IfOk result (λ targets. targets ≡ first ∷ []) }
+{
+    if !cursor.begins_symbol(Symbol::Comma) {
+        return List::of_one(alloc, first);
+    }
+    let mut targets = Vec::with_capacity(alloc, 2)?;
+    targets.push(first)?;
+    Ok(List::from_vec(targets))
+}
+
 /// Reads targets, separated by commas: no more than a change may have.
 fn targets(alloc: Global, cursor: &mut Cursor<'_>, names: &Names) -> Result<TypedTargets, NotRead>
     ensures reads { IfOk result (λ t. ReadRow (separated target_format) (IsTarget (meaning_of names.now)) cursor.old cursor.new (map location_of t.targets) t.kinds.items) }
     ensures few { IfOk result (λ t. length t.kinds.items ≤ TARGETS_MAX) }
 {
     let first = target(alloc, cursor, names)?;
-    let mut targets = List::of_one(alloc, first.part)?;
+    let mut targets = begun_targets(alloc, cursor, first.part)?;
     let mut kinds = ArrayVec::new();
     kinds.push(first.kind);
     while cursor.begins_symbol(Symbol::Comma) {

@@ -16,15 +16,16 @@ ghost use Rattle.model_core.specs.Static.RuleTable.{kind_mismatch};
 ghost use Rattle.model_core.specs.Static.PartFaults.{use_faults};
 ghost use Rattle.text_laws.specs.LanguageReader.{language_reader};
 ghost use Rattle.text_laws.specs.Ladder.{operand_level, if_format, not_format, negative_format, named_format};
+ghost use Rattle.model_read.specs.Infixes.{infix_of};
 ghost use Rattle.model_read.specs.Spelled.{spelled_name};
 ghost use Rattle.static_laws.specs.Checked.{NumberedAs};
 ghost use Rattle.static_laws.specs.Roles.{variable_role};
-ghost use Rattle.one_pass.specs.Inner.ReadOperands.{first_operand, ReadOperand, ClimbsFrom};
+ghost use Rattle.one_pass.specs.Inner.ReadOperands.{first_operand, ReadOperand, ClimbsFrom, ClimbsOn};
 
 use crate::not_read::NotRead;
 use crate::refusing::refuse_told;
 use model_core::{Expr, Kind, Op, Symbol, Word};
-use model_read::{CONJUNCTIONS, Cursor, LEVELS, Spelling, next_level};
+use model_read::{CONJUNCTIONS, Cursor, Infix, LEVELS, Spelling, next_level};
 use sig_types::{
     Names, Told, Typed, kinds_differ, known_or, operand_kind, result_kind, right_kind,
     spelled_variable,
@@ -216,7 +217,8 @@ fn first_operand(
 }
 
 /// Reads what stands behind the first operand: operators with their right operands, of the levels from `least` up to the
-/// one below `under`.
+/// one below `under`. Behind most operands stands none: so that is asked before the call.
+#[inline(always)]
 #[cycle(expressions)]
 fn others(
     alloc: Global,
@@ -230,14 +232,36 @@ fn others(
     ensures reads { IfOk result (λ u. ClimbsFrom (meaning_of names.now) under least cursor.old cursor.new (expression_of read.old.expr) read.old.kind read.old.at (expression_of read.new.expr) read.new.kind read.new.at) }
     ensures shorter { IfOk result (λ u. length cursor.new ≤ length cursor.old) }
 {
-    let mut least = least;
-    while let Some(infix) = cursor.infix(least, under) {
+    match cursor.infix(least, under) {
+        None => Ok(()),
+        Some(first) => operators(alloc, cursor, names, first, under, read),
+    }
+}
+
+/// Reads what stands behind an operator that was taken: its right operand, and further operators with theirs.
+#[inline(never)]
+#[cycle(expressions)]
+fn operators(
+    alloc: Global,
+    cursor: &mut Cursor<'_>,
+    names: &Names,
+    first: Infix,
+    under: usize,
+    read: &mut Operand,
+) -> Result<(), NotRead>
+    requires under { under ≤ 5 }
+    requires below { first.level + 1 ≤ under }
+    ensures reads { IfOk result (λ u. ClimbsOn (meaning_of names.now) under (infix_of first) cursor.old cursor.new (expression_of read.old.expr) read.old.kind read.old.at (expression_of read.new.expr) read.new.kind read.new.at) }
+    ensures shorter { IfOk result (λ u. length cursor.new ≤ length cursor.old) }
+{
+    let mut taken = Some(first);
+    while let Some(infix) = taken {
         expect(operand_kind(infix.op), read)?;
         let mut right = Operand::unread();
         operand_under(alloc, cursor, names, infix.level, &mut right)?;
         expect(right_kind(infix.op, read.kind), &right)?;
         join(alloc, read, infix.op, right)?;
-        least = next_level(infix.level);
+        taken = cursor.infix(next_level(infix.level), under);
     }
     Ok(())
 }

@@ -62,6 +62,9 @@ pub(crate) trait Part: Drop {
     ghost some_tokens: { nullable format ≡ false };
 }
 
+/// How many parts a list has room for at first, where one comes. Room that isn't used is given back.
+const FIRST_ROOM: usize = 16;
+
 /// Reads parts as long as one comes.
 pub(crate) fn take_all<T: Part>(
     alloc: Global,
@@ -71,7 +74,8 @@ pub(crate) fn take_all<T: Part>(
 ) -> Result<List<T>, NotRead>
     ensures { IfOk result (λ parts. ReadParts T.format (meaning_of names.now) (T.faults (meaning_of names.now) taken.now) T.number cursor.old cursor.new (map T.plain parts)) }
 {
-    let mut parts = List::new(alloc);
+    let room = if T::begins(cursor) { FIRST_ROOM } else { 0 };
+    let mut parts = List::from_vec(Vec::with_capacity(alloc, room)?);
     while T::begins(cursor) {
         parts.push(T::take(alloc, cursor, names, taken)?)?;
     }

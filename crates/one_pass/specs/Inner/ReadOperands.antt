@@ -1,5 +1,5 @@
 -- An expression that was read and checked at once.
-use Rattle.std.specs.Prelude.{◌≡◌, ℕ, Bool, true, false, List, [], Option}
+use Rattle.std.specs.Prelude.{◌≡◌, ℕ, Bool, true, false, List, [], Option, Some}
 use Rattle.model_core.specs.declared.model.Kind.{Kind}
 use Rattle.model_core.specs.EventGraph as graph
 use Rattle.model_core.specs.Text.Lexing.{Lexeme}
@@ -12,7 +12,7 @@ use Rattle.model_core.specs.Static.Kinds.{expression_kind}
 use Rattle.model_core.specs.Static.PartFaults.{expression_faults}
 use Rattle.text_laws.specs.FormatReader.{Parse, took}
 use Rattle.text_laws.specs.LanguageReader.{language_reader}
-use Rattle.text_laws.specs.Ladder.{climb, not_format}
+use Rattle.text_laws.specs.Ladder.{climb, not_format, infix_at, at_levels, behind}
 use Rattle.static_laws.specs.Checked.{NumberedAs}
 
 -- the first operand at a level, which may be a negated one
@@ -37,3 +37,8 @@ pub record ReadOperand (means : List ℕ → Option Meaning) (read : Parse Writt
 abbrev pub ClimbsFrom : (List ℕ → Option Meaning) → ℕ → ℕ → List Lexeme → List Lexeme → graph.Expression → Option Kind → ℕ → graph.Expression → Option Kind → ℕ → Type 0
 ClimbsFrom means under least before after x kind at y kind' at' =
     (e : WrittenExpression) → IsOperand means e x kind at → ReadOperand means (climb under least e before) after y kind' at'
+
+-- behind an operator that was taken of such operators, the same: its right operand comes first
+abbrev pub ClimbsOn : (List ℕ → Option Meaning) → ℕ → ℕ × graph.Operator → List Lexeme → List Lexeme → graph.Expression → Option Kind → ℕ → graph.Expression → Option Kind → ℕ → Type 0
+ClimbsOn means under first left after x kind at y kind' at' =
+    (least : ℕ) (before : List Lexeme) → Some first ≡ at_levels least under (infix_at before) → left ≡ behind (at_levels least under (infix_at before)) before → ClimbsFrom means under least before after x kind at y kind' at'

@@ -5,11 +5,12 @@ use Rattle.model_core.specs.Text.Written as written
 use Rattle.model_core.specs.Text.Expressions.{Whole, Unary, Primary, moved, of_name, joining, level_format}
 use Rattle.model_core.specs.Static.Meanings.{meaning_of}
 use Rattle.text_laws.specs.Ladder.{climb}
+use Rattle.std.specs.Option.{option_map}
 use Rattle.model_read.specs.Infixes.{infix_of}
 use Rattle.model_read.specs.Spelled.{spelled_name}
 use Rattle.text_laws.proofs.OperatorsInTurn.{not-taken-is, one-more}
 use Rattle.one_pass.proofs.SureOperands.{joined_operand, called_operand, negated_operand, negative_operand, scalar_operand, cell_operand, chosen_operand, moved_operand}
-use Rattle.one_pass.proofs.OperandsInTurn.{by_level, first_comes, behind_first}
+use Rattle.one_pass.proofs.OperandsInTurn.{by_level, first_comes, behind_first, goes-on}
 use Rattle.one_pass.proofs.expressions.+expressions.Goals as goal
 
 pub expression-returns-clause-reads : goal.expression-returns-clause-reads
@@ -36,27 +37,52 @@ operand_under-returns-clause-reads t c =
     behind_first (meaning_of c.args.names.now) (climb c.args.under c.least_behind-least.result) _ _ c.first_operand.new.cursor c.others.new.cursor c.others.result _ _ _ _ _ _
     (first_comes c.args.under c.args.cursor.now begins.result c.least_behind-least.result c.requires begins.ensures.yes begins.ensures.no c.least_behind-least.ensures) c.in_ok-first_operand.ensures.reads c.others.ensures.reads
 
-pub others-loop-infix-preserved : goal.others-loop-infix-preserved
-others-loop-infix-preserved t c = record {
-  few = let a = c.in-Some.ensures.shorter in let b = c.in_ok-operand_under.ensures.shorter in let d = c.loop-infix.invariant.few in omega arith;
-  climbed = λ e is.
-      let so_far = c.loop-infix.invariant.climbed e is in
-      let right = c.in_ok-operand_under.ensures.reads in (
-        joining so_far.0 (operator_of c.in-Some.infix.op, right.written),
-        joined_operand (meaning_of c.args.names.now) (operator_of c.in-Some.infix.op) so_far.0 right.written _ _ _ _ _ _ _ _ _ so_far.1 right.operand (rw c.operand_kind.ensures at c.in_ok-expect.ensures) (rw c.right_kind.ensures at c.in_ok-expect-2.ensures) c.in_ok-join.ensures.expr c.in_ok-join.ensures.kind c.in_ok-join.ensures.at,
-        one-more c.args.under c.loop-infix.least c.next_level-least.result so_far.0 right.written (joining so_far.0 (operator_of c.in-Some.infix.op, right.written)) c.loop-infix.cursor c.infix.new.self c.operand_under.new.cursor (infix_of c.in-Some.infix)
-            c.requires c.in-Some.ensures.takes c.infix.ensures.leaves right.is_read refl c.next_level-least.ensures
-            ∙ so_far.2,
-      );
+pub others-returns-in-None-clause-reads : goal.others-returns-in-None-clause-reads
+others-returns-in-None-clause-reads t c = λ e is. record {
+  written = e;
+  is_read = not-taken-is c.args.under c.args.least e c.args.cursor.now c.infix.new.self c.requires c.in-None.ensures.takes c.infix.ensures.leaves;
+  operand = is;
 }
 
-pub others-returns-clause-reads : goal.others-returns-clause-reads
-others-returns-clause-reads t c = λ e is.
-    let so_far = c.loop-infix.invariant.climbed e is in
+pub others-returns-in-Some-clause-reads : goal.others-returns-in-Some-clause-reads
+others-returns-in-Some-clause-reads t c = goes-on (meaning_of c.args.names.now) c.args.under _ _ _ c.operators.result _ _ _ _ _ _ c.args.least c.args.cursor.now c.in-Some.ensures.takes c.infix.ensures.leaves c.operators.ensures.reads
+
+pub operators-loop-taken-init : goal.operators-loop-taken-init
+operators-loop-taken-init t c = record {
+  few = omega arith;
+  below = c.requires.below;
+  climbed = λ least before is e reads. record { written = e; operand = reads; least = least; before = before; is_taken = is; goes_on = refl };
+}
+
+pub operators-loop-taken-preserved : goal.operators-loop-taken-preserved
+operators-loop-taken-preserved t c = record {
+  few = let a = c.infix-taken.ensures.no_longer in let b = c.in_ok-operand_under.ensures.shorter in let d = c.loop-taken.invariant.few in omega arith;
+  below = c.infix-taken.ensures.below;
+  climbed = λ least before is e reads.
+      let so_far = c.loop-taken.invariant.climbed least before is e reads in
+      let right = c.in_ok-operand_under.ensures.reads in
+      let op = operator_of c.in-Some.infix.op in
+      let both = joining so_far.written (op, right.written) in
+      record {
+        written = both;
+        operand = joined_operand (meaning_of c.args.names.now) op so_far.written right.written _ _ _ _ _ _ _ _ _ so_far.operand right.operand (rw c.operand_kind.ensures at c.in_ok-expect.ensures) (rw c.right_kind.ensures at c.in_ok-expect-2.ensures) c.in_ok-join.ensures.expr c.in_ok-join.ensures.kind c.in_ok-join.ensures.at;
+        least = c.next_level.result;
+        before = c.operand_under.new.cursor;
+        is_taken = record { takes = c.infix-taken.ensures.takes; leaves = c.infix-taken.ensures.leaves };
+        goes_on =
+            one-more c.args.under so_far.least c.next_level.result so_far.written right.written both so_far.before c.loop-taken.cursor c.operand_under.new.cursor (infix_of c.in-Some.infix)
+            c.requires.under (sym (ap (option_map infix_of) c.in-Some.is) ∙ so_far.is_taken.takes) so_far.is_taken.leaves right.is_read refl c.next_level.ensures
+            ∙ so_far.goes_on;
+      };
+}
+
+pub operators-returns-clause-reads : goal.operators-returns-clause-reads
+operators-returns-clause-reads t c = λ least before takes leaves e is.
+    let so_far = c.loop-taken.invariant.climbed least before (record { takes = takes; leaves = leaves }) e is in
     record {
-      written = so_far.0;
-      is_read = sym so_far.2 ∙ not-taken-is c.args.under c.loop-infix.least so_far.0 c.loop-infix.cursor c.infix.new.self c.requires c.in_default.ensures.takes c.infix.ensures.leaves;
-      operand = so_far.1;
+      written = so_far.written;
+      is_read = sym so_far.goes_on ∙ not-taken-is c.args.under so_far.least so_far.written so_far.before c.loop-taken.cursor c.requires.under (sym (ap (option_map infix_of) c.in_default.is) ∙ so_far.is_taken.takes) so_far.is_taken.leaves;
+      operand = so_far.operand;
     }
 
 pub bracketed-returns-clause-reads : goal.bracketed-returns-clause-reads

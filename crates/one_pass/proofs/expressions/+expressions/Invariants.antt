@@ -1,7 +1,13 @@
-use Rattle.std.proofs.Common.{◌+◌, ◌*◌, ◌≤◌, length}
+use Rattle.std.proofs.Common.{◌+◌, ◌*◌, ◌≤◌, ℕ, List, Some, length}
+use Rattle.std.specs.Option.{option_map, IfSome}
+use Rattle.model_core.specs.Text.Lexing.{Lexeme}
+use Rattle.model_core.specs.Text.Written.{WrittenExpression}
 use Rattle.model_core.specs.Code.Views.{expression_of}
 use Rattle.model_core.specs.Static.Meanings.{meaning_of}
-use Rattle.one_pass.proofs.OperandsInTurn.{ClimbedTo}
+use Rattle.text_laws.specs.Ladder.{climb}
+use Rattle.model_read.specs.Infixes.{infix_of}
+use Rattle.one_pass.specs.Inner.ReadOperands.{IsOperand}
+use Rattle.one_pass.proofs.OperandsInTurn.{IsTaken, ClimbedTo}
 use Rattle.one_pass.proofs.expressions.+expressions.Given as goal
 
 abbrev pub decreases-expression : goal.decreases-expression
@@ -34,6 +40,9 @@ decreases-bracketed l = length l.cursor.now * 32 + 1
 abbrev pub decreases-others : goal.decreases-others
 decreases-others l = length l.cursor.now * 32 + 31
 
+abbrev pub decreases-operators : goal.decreases-operators
+decreases-operators l = length l.cursor.now * 32 + 31
+
 abbrev pub decreases-negated : goal.decreases-negated
 decreases-negated l = length l.cursor.now * 32 + 14
 
@@ -52,11 +61,13 @@ decreases-named l = length l.cursor.now * 32 + 2
 abbrev pub decreases-enclosed : goal.decreases-enclosed
 decreases-enclosed l = length l.cursor.now * 32 + 1
 
-abbrev pub decreases-others-loop-infix : goal.decreases-others-loop-infix
-decreases-others-loop-infix l = length l.cursor
+abbrev pub decreases-operators-loop-taken : goal.decreases-operators-loop-taken
+decreases-operators-loop-taken l = length l.cursor
 
-abbrev pub invariant-others-loop-infix : goal.invariant-others-loop-infix
-invariant-others-loop-infix l = record {
+abbrev pub invariant-operators-loop-taken : goal.invariant-operators-loop-taken
+invariant-operators-loop-taken l = record {
   few : length l.cursor ≤ length l.fn.cursor;
-  climbed : ClimbedTo (meaning_of l.names) l.fn.under l.fn.least l.least l.fn.cursor l.cursor (expression_of l.fn.read.expr) l.fn.read.kind l.fn.read.at (expression_of l.read.expr) l.read.kind l.read.at;
+  below : IfSome l.taken (λ i. i.level + 1 ≤ l.under);
+  climbed : (least : ℕ) (before : List Lexeme) → IsTaken l.under least (Some (infix_of l.fn.first)) before l.fn.cursor → (e : WrittenExpression) → IsOperand (meaning_of l.names) e (expression_of l.fn.read.expr) l.fn.read.kind l.fn.read.at
+      → ClimbedTo (meaning_of l.names) l.under (climb l.under least e before) (option_map infix_of l.taken) l.cursor (expression_of l.read.expr) l.read.kind l.read.at;
 }
