@@ -234,13 +234,23 @@ impl<'m, P: Pending> Run<'m, P> {
                 time: fault.time,
                 kind: fault.kind,
             }),
-            None => self.go_on(until, steps),
+            None => {
+                let first = self.pending.first();
+                self.go_on(first, until, steps)
+            }
         }
     }
 
-    /// Makes one step of a run that hasn't faulted.
-    fn go_on<L: Ledger>(&mut self, until: u64, steps: &mut Steps<L>) -> Result<Turn, NoMemory>
+    /// Makes one step of a run that hasn't faulted, and of which this is told of the next event.
+    #[inline(always)]
+    pub fn go_on<L: Ledger>(
+        &mut self,
+        next: Option<First>,
+        until: u64,
+        steps: &mut Steps<L>,
+    ) -> Result<Turn, NoMemory>
         requires goes_on { self.old.faulted ≡ None }
+        requires told { next ≡ told_next self.old None }
         requires soon { until ≤ 2 ^ 48 }
         requires budget { self.old.turns < 2 ^ 40 }
         ensures ok { IfOk result (λ turn. ComesNext self.old until turn self.new (next_entry self.old.now.pending)) }
@@ -249,7 +259,7 @@ impl<'m, P: Pending> Run<'m, P> {
         ensures due { OnErr result (IsDue until (next_entry self.old.now.pending)) }
         ensures keeps { StepKeeps self.old self.new }
     {
-        let Some(first) = self.pending.first() else {
+        let Some(first) = next else {
             return Ok(Turn::Ended { time: self.clock });
         };
         let (vertex, time) = (first.vertex, first.time);
