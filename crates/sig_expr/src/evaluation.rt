@@ -65,8 +65,8 @@ fn plain_value(model: &Model, expr: &Expr, state: &State) -> Option<i64>
     }
 }
 
-/// The value of an expression in a state and at a clock's time in ticks, or its first fault from left to right. Numbers,
-/// truth values and scalars, which are most expressions, are answered without a call.
+/// The value of an expression in a state and at a clock's time in ticks, or its first fault from left to right. Numbers and
+/// scalars, which are most expressions, are answered without a call.
 #[cycle(evaluation)]
 #[inline(always)]
 pub fn value(model: &Model, expr: &Expr, state: &State, clk: u64) -> Result<i64, FaultKind>
@@ -77,7 +77,6 @@ pub fn value(model: &Model, expr: &Expr, state: &State, clk: u64) -> Result<i64,
 {
     match expr {
         Expr::Int(n) => Ok(*n),
-        Expr::Truth(b) => Ok(i64::from(*b)),
         Expr::Scalar(var) => Ok(scalar(model, *var, state)),
         _ => evaluate(model, expr, state, clk),
     }
