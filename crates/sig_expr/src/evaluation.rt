@@ -58,11 +58,13 @@ fn plain_value(model: &Model, expr: &Expr, state: &State) -> Option<i64>
     requires inside { IsTrue (in_range (graph_of model.now) state.now) }
     ensures { (clk : ℕ) → IfSome result (λ x. value_of (graph_of model.now) state.now clk (expression_of expr.now) ≡ Ok x) }
 {
-    match expr {
-        Expr::Int(n) => Some(*n),
-        Expr::Scalar(var) => Some(scalar(model, *var, state)),
-        _ => None,
+    if let Expr::Scalar(var) = expr {
+        return Some(scalar(model, *var, state));
     }
+    if let Expr::Int(n) = expr {
+        return Some(*n);
+    }
+    None
 }
 
 /// The value of an expression in a state and at a clock's time in ticks, or its first fault from left to right. Numbers and
@@ -90,17 +92,19 @@ fn evaluate(model: &Model, expr: &Expr, state: &State, clk: u64) -> Result<i64, 
     requires soon { clk ≤ 2 ^ 48 }
     ensures { result ≡ value_of (graph_of model.now) state.now clk (expression_of expr.now) }
 {
-    if let Expr::Binary(op, left, right) = expr {
-        if let Some(a) = plain_value(model, left, state) {
-            if let Some(b) = plain_value(model, right, state) {
-                if is_decided(*op, a) {
-                    return Ok(a);
-                }
-                return operate(*op, a, b);
-            }
-        }
+    let Expr::Binary(op, left, right) = expr else {
+        return evaluate_parts(model, expr, state, clk);
+    };
+    let Some(a) = plain_value(model, left, state) else {
+        return evaluate_parts(model, expr, state, clk);
+    };
+    let Some(b) = plain_value(model, right, state) else {
+        return evaluate_parts(model, expr, state, clk);
+    };
+    if is_decided(*op, a) {
+        return Ok(a);
     }
-    evaluate_parts(model, expr, state, clk)
+    operate(*op, a, b)
 }
 
 /// The same, part by part.
