@@ -117,6 +117,7 @@ impl Pending for HeapPending {
     }
 
     /// Schedules an event, by few comparisons of keys.
+    #[inline(always)]
     fn schedule<L: Ledger>(&mut self, entry: &Entry, steps: &mut Steps<L>)
         requires spare { 0 < self.old.spare }
         requires countable { self.old.numbered < 2 ^ 62 }
@@ -139,7 +140,7 @@ impl Pending for HeapPending {
         };
         match self.heaps.first(vertex) {
             Some(item) => Some(item.told()),
-            None => None,
+            None => unreachable!(),
         }
     }
 
@@ -162,6 +163,7 @@ impl Pending for HeapPending {
     }
 
     /// Takes the next event off, which `entry` becomes, by few comparisons of keys.
+    #[inline(always)]
     fn take_first_into<L: Ledger>(&mut self, entry: &mut Entry, steps: &mut Steps<L>)
         requires pending { IsSome (next_entry self.old.entries) }
         ensures gives { Some entry.new ≡ option_map (λ n. n.entry) (next_entry self.old.entries) }
@@ -176,7 +178,9 @@ impl Pending for HeapPending {
             unreachable!()
         };
         self.heaps.copy_first(vertex, entry);
-        self.heaps.take(vertex, steps);
+        if self.heaps.take(vertex, steps) == 0 {
+            unreachable!()
+        }
         replay(&self.heaps, &mut self.tournament, vertex, steps);
     }
 

@@ -28,7 +28,8 @@ struct Fault {
     kind: FaultKind,
 }
 
-/// A run of a model over a pending list. Its parts fit together at all times: it is sound.
+/// A run of a model over a pending list. Its parts fit together at all times: it is sound. The last two are places in which
+/// a step puts the event that occurs, and each one that is scheduled, so that it needs no new ones.
 #[derive(Drop)]
 pub struct Run<'m, P: Pending> {
     model: &'m Graph,
@@ -38,6 +39,8 @@ pub struct Run<'m, P: Pending> {
     clock: u64,
     turns: u64,
     fault: Option<Fault>,
+    happening: Entry,
+    scheduled: Entry,
 }
 
 impl<'m, P: Pending> Model for Run<'m, P> {
@@ -120,6 +123,8 @@ impl<'m, P: Pending> Run<'m, P> {
             clock: 0,
             turns: 0,
             fault: None,
+            happening: Entry::blank(),
+            scheduled: Entry::blank(),
         })
     }
 
@@ -156,6 +161,8 @@ impl<'m, P: Pending> Run<'m, P> {
             clock,
             turns,
             fault: None,
+            happening: Entry::blank(),
+            scheduled: Entry::blank(),
         }
     }
 
@@ -234,13 +241,23 @@ impl<'m, P: Pending> Run<'m, P> {
                 time: fault.time,
                 kind: fault.kind,
             }),
-            None => self.go_on(until, steps),
+            None => {
+                let first = self.pending.first();
+                self.go_on(first, until, steps)
+            }
         }
     }
 
-    /// Makes one step of a run that hasn't faulted.
-    fn go_on<L: Ledger>(&mut self, until: u64, steps: &mut Steps<L>) -> Result<Turn, NoMemory>
+    /// Makes one step of a run that hasn't faulted, and of which this is told of the next event.
+    #[inline(always)]
+    pub fn go_on<L: Ledger>(
+        &mut self,
+        next: Option<First>,
+        until: u64,
+        steps: &mut Steps<L>,
+    ) -> Result<Turn, NoMemory>
         requires goes_on { self.old.faulted ≡ None }
+        requires told { next ≡ told_next self.old None }
         requires soon { until ≤ 2 ^ 48 }
         requires budget { self.old.turns < 2 ^ 40 }
         ensures ok { IfOk result (λ turn. ComesNext self.old until turn self.new (next_entry self.old.now.pending)) }
@@ -249,7 +266,7 @@ impl<'m, P: Pending> Run<'m, P> {
         ensures due { OnErr result (IsDue until (next_entry self.old.now.pending)) }
         ensures keeps { StepKeeps self.old self.new }
     {
-        let Some(first) = self.pending.first() else {
+        let Some(first) = next else {
             return Ok(Turn::Ended { time: self.clock });
         };
         let (vertex, time) = (first.vertex, first.time);
@@ -259,8 +276,7 @@ impl<'m, P: Pending> Run<'m, P> {
         let model = self.model;
         let happening = vertex_at(model, vertex);
         make_room(&mut self.pending, happening.edges.as_slice())?;
-        let mut entry = Entry::blank();
-        self.pending.take_first_into(&mut entry, steps);
+        self.pending.take_first_into(&mut self.happening, steps);
         self.clock = time;
         self.turns += 1;
         let state = &mut self.state;
@@ -268,10 +284,11 @@ impl<'m, P: Pending> Run<'m, P> {
         match occur(
             model,
             happening,
-            &entry,
+            &self.happening,
             state,
             streams,
             &mut self.pending,
+            &mut self.scheduled,
             steps,
         ) {
             Ok(()) => Ok(Turn::Ran { vertex, time }),

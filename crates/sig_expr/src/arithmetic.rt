@@ -10,19 +10,27 @@ use sig_base::FaultKind;
 fn sum(a: i64, b: i64) -> Result<i64, FaultKind>
     ensures { result ≡ exact (a +ℤ b) }
 {
-    match a.checked_add(b) {
-        Some(n) => Ok(n),
-        None => Err(FaultKind::Overflow),
+    if b >= 0 {
+        if a > i64::MAX - b {
+            return Err(FaultKind::Overflow);
+        }
+    } else if a < i64::MIN - b {
+        return Err(FaultKind::Overflow);
     }
+    Ok(a + b)
 }
 
 fn difference(a: i64, b: i64) -> Result<i64, FaultKind>
     ensures { result ≡ exact (a -ℤ b) }
 {
-    match a.checked_sub(b) {
-        Some(n) => Ok(n),
-        None => Err(FaultKind::Overflow),
+    if b >= 0 {
+        if a < i64::MIN + b {
+            return Err(FaultKind::Overflow);
+        }
+    } else if a > i64::MAX + b {
+        return Err(FaultKind::Overflow);
     }
+    Ok(a - b)
 }
 
 fn product(a: i64, b: i64) -> Result<i64, FaultKind>

@@ -106,11 +106,15 @@ fn set(
     ensures left { state.new ≡ left_by_set (graph_of model.now) clk (map location_of targets.now) (map expression_of rights.now) state.old }
     ensures stays { IsTrue (in_range (graph_of model.now) state.new) }
 {
-    if let ([target], [right]) = (targets, rights) {
-        return set_one(model, target, right, state, clk);
+    if let [target] = targets {
+        if let [right] = rights {
+            return set_one(model, target, right, state, clk);
+        }
     }
-    if let ([first, second], [left, right]) = (targets, rights) {
-        return set_two(model, first, second, left, right, state, clk);
+    if let [first, second] = targets {
+        if let [left, right] = rights {
+            return set_two(model, first, second, left, right, state, clk);
+        }
     }
     set_several(model, targets, rights, state, clk)
 }

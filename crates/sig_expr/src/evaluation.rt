@@ -1,6 +1,6 @@
 //! The value of an expression.
 
-ghost use Rattle.std.specs.Prelude.{◌≡◌, ◌<◌, ◌≤◌, ◌^◌, ◌-ℤ◌, pos, IsTrue, Ok, length};
+ghost use Rattle.std.specs.Prelude.{◌≡◌, ◌<◌, ◌≤◌, ◌^◌, ◌-ℤ◌, pos, ℕ, IsTrue, IfSome, Ok, length};
 ghost use Rattle.model_core.specs.Run.State.{in_range, cell_at};
 ghost use Rattle.model_core.specs.Run.Value.{◌>>=◌ as and_then, value_of, indexed};
 ghost use Rattle.model_core.specs.Code.Views.{graph_of, expression_of};
@@ -51,8 +51,24 @@ fn other_truth(a: i64) -> i64
     1 - a
 }
 
-/// The value of an expression in a state and at a clock's time in ticks, or its first fault from left to right. Numbers,
-/// truth values and scalars, which are most expressions, are answered without a call.
+/// The value of a number or of a scalar, and `None` of any other expression.
+#[inline(always)]
+fn plain_value(model: &Model, expr: &Expr, state: &State) -> Option<i64>
+    requires possible { PossibleExpression (graph_of model.now) (expression_of expr.now) }
+    requires inside { IsTrue (in_range (graph_of model.now) state.now) }
+    ensures { (clk : ℕ) → IfSome result (λ x. value_of (graph_of model.now) state.now clk (expression_of expr.now) ≡ Ok x) }
+{
+    if let Expr::Scalar(var) = expr {
+        return Some(scalar(model, *var, state));
+    }
+    if let Expr::Int(n) = expr {
+        return Some(*n);
+    }
+    None
+}
+
+/// The value of an expression in a state and at a clock's time in ticks, or its first fault from left to right. Numbers and
+/// scalars, which are most expressions, are answered without a call.
 #[cycle(evaluation)]
 #[inline(always)]
 pub fn value(model: &Model, expr: &Expr, state: &State, clk: u64) -> Result<i64, FaultKind>
@@ -63,15 +79,38 @@ pub fn value(model: &Model, expr: &Expr, state: &State, clk: u64) -> Result<i64,
 {
     match expr {
         Expr::Int(n) => Ok(*n),
-        Expr::Truth(b) => Ok(i64::from(*b)),
         Expr::Scalar(var) => Ok(scalar(model, *var, state)),
         _ => evaluate(model, expr, state, clk),
     }
 }
 
-/// The same, of any expression.
+/// The same, of any expression. An operator between numbers and scalars is answered without a further call.
 #[cycle(evaluation)]
 fn evaluate(model: &Model, expr: &Expr, state: &State, clk: u64) -> Result<i64, FaultKind>
+    requires possible { PossibleExpression (graph_of model.now) (expression_of expr.now) }
+    requires inside { IsTrue (in_range (graph_of model.now) state.now) }
+    requires soon { clk ≤ 2 ^ 48 }
+    ensures { result ≡ value_of (graph_of model.now) state.now clk (expression_of expr.now) }
+{
+    let Expr::Binary(op, left, right) = expr else {
+        return evaluate_parts(model, expr, state, clk);
+    };
+    let Some(a) = plain_value(model, left, state) else {
+        return evaluate_parts(model, expr, state, clk);
+    };
+    let Some(b) = plain_value(model, right, state) else {
+        return evaluate_parts(model, expr, state, clk);
+    };
+    if is_decided(*op, a) {
+        return Ok(a);
+    }
+    operate(*op, a, b)
+}
+
+/// The same, part by part.
+#[cycle(evaluation)]
+#[inline(never)]
+fn evaluate_parts(model: &Model, expr: &Expr, state: &State, clk: u64) -> Result<i64, FaultKind>
     requires possible { PossibleExpression (graph_of model.now) (expression_of expr.now) }
     requires inside { IsTrue (in_range (graph_of model.now) state.now) }
     requires soon { clk ≤ 2 ^ 48 }

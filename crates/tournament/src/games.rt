@@ -1,6 +1,6 @@
 //! The games of a tournament.
 
-ghost use Rattle.std.specs.Prelude.{◌≡◌, ℕ, ◌+◌, ◌/◌, ◌^◌, ◌<◌, ◌≤◌, length};
+ghost use Rattle.std.specs.Prelude.{◌≡◌, ℕ, ◌+◌, ◌/◌, ◌^◌, ◌*◌, ◌<◌, ◌≤◌, length, slice_index};
 ghost use Rattle.tournament.specs.Inner.Games.{winner_of, IsPlayed, IsReplayed};
 
 use event_list::Key;
@@ -33,6 +33,17 @@ fn winner<L: Ledger>(keys: &[Option<Key>], left: usize, right: usize, steps: &mu
     }
 }
 
+/// The two vertices of the game at a place, the left one first.
+#[inline(always)]
+fn players(winners: &[usize], place: usize) -> (usize, usize)
+    requires { 2 * place + 1 < length winners.now }
+    ensures left { result.0 ≡ slice_index winners.now (2 * place) }
+    ensures right { result.1 ≡ slice_index winners.now (2 * place + 1) }
+{
+    let both = &winners[2 * place..2 * place + 2];
+    (both[0], both[1])
+}
+
 /// Plays the games of a vertex with a new key, from the place above its own to the top. Once a game has the winner
 /// that it had before, which isn't this vertex, no game above it changes; where vertices are few they are played all the
 /// same.
@@ -50,7 +61,8 @@ pub fn play<L: Ledger>(
     let looks = keys.len() >= MANY;
     let mut place = (keys.len() + vertex) / 2;
     while place > 0 {
-        let won = winner(keys, winners[2 * place], winners[2 * place + 1], steps);
+        let (left, right) = players(winners, place);
+        let won = winner(keys, left, right, steps);
         if looks && won == winners[place] && won != vertex {
             return;
         }

@@ -7,7 +7,7 @@ ghost use Rattle.model_core.specs.Run.History.{watched_values, watches};
 ghost use Rattle.model_core.specs.Code.Views.{graph_of, watched_of};
 
 use crate::watched_cells::{are_same, put_values, take_values, zeros};
-use event_list::Pending;
+use event_list::{First, Pending};
 use model_core::{Model as Graph, Watch, watches};
 use run_control::{Run, Turn};
 use sig_base::NoMemory;
@@ -62,6 +62,7 @@ impl<'m> LastNotes<'m> {
     ghost use Rattle.std.specs.Option.{option_map};
     ghost use Rattle.model_core.specs.Saved.Cells.{watched_sizes, cut_up, in_one_list};
     ghost use Rattle.model_core.specs.Run.Pending.{next_entry};
+    ghost use Rattle.run_control.specs.Running.{told_next};
     ghost use Rattle.watch_trace.specs.Tracing.{leaves_time, is_new, place_of_turn};
 
     /// Nothing is noted yet. All memory is taken here.
@@ -120,14 +121,14 @@ impl<'m> LastNotes<'m> {
         self.noted = true;
     }
 
-    /// Whether an `at` note is due before the run's next turn.
-    pub fn leaving<P: Pending>(&self, run: &Run<'m, P>, until: u64) -> bool
+    /// Whether an `at` note is due before the run's next turn, of whose event this is told.
+    pub fn leaving<P: Pending>(&self, run: &Run<'m, P>, next: Option<First>, until: u64) -> bool
         requires one_model { self.now.model ≡ run.now.model }
-        requires goes_on { run.now.faulted ≡ None }
+        requires told { next ≡ told_next run.now None }
         ensures { result ≡ (leaves_time run.now.now.clock until (next_entry run.now.now.pending)
             && is_new (watched_values (map watched_of self.now.model.watch) run.now.now.state) self.now.noted) }
     {
-        let left = match run.next() {
+        let left = match next {
             Some(first) => until < first.time || run.clock() < first.time,
             None => true,
         };

@@ -56,7 +56,7 @@ impl<'m> Tracer<'m> {
         ensures { result ≡ (leaves_time run.now.now.clock until (next_entry run.now.now.pending)
             && is_new (watched_values (map watched_of self.now.model.watch) run.now.now.state) self.now.noted) }
     {
-        self.last_notes.leaving(run, until)
+        self.last_notes.leaving(run, run.next(), until)
     }
 
     /// Takes the run's watched values as those of the last `at` note.

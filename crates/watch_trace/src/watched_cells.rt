@@ -55,6 +55,19 @@ pub fn zeros(alloc: Global, model: &Model) -> Result<Vec<i64>, NoMemory>
     Ok(values)
 }
 
+/// Whether two lists of values are the same. Most are of one value, and compared at once.
+#[inline(always)]
+fn same(a: &[i64], b: &[i64]) -> bool
+    ensures { result ≡ same_values a.now b.now }
+{
+    if let [x] = a {
+        if let [y] = b {
+            return x == y;
+        }
+    }
+    a == b
+}
+
 /// Whether these are the watched values of a state.
 pub fn are_same(watch: &[Watch], values: &[i64], state: &State) -> bool
     requires { length (flat_map (values_watched state.now) (map watched_of watch.now)) ≡ length values.now }
@@ -64,7 +77,7 @@ pub fn are_same(watch: &[Watch], values: &[i64], state: &State) -> bool
     for watched in watch {
         let cells = values_watched(state, *watched);
         let upto = from + cells.len();
-        if &values[from..upto] != cells {
+        if !same(&values[from..upto], cells) {
             return false;
         }
         from = upto;
