@@ -1,14 +1,10 @@
-//! The top call over memory: worked texts, words, limits, and devices that fail at one call.
+//! The top call over memory: worked texts, words and limits.
 
-use crate::calls::{Answer, Failing, SOUND, Seen, called, done, told};
-use crate::models::{BANK, ONE};
-use sig_base::{NoMemory, TEXT_MAX};
+use crate::calls::{Failing, SOUND, Seen, called, done, told};
+use crate::models::{BANK, ONE, ONE_WRITTEN};
+use sig_base::TEXT_MAX;
 use sigma_top::Status;
-use std::alloc::Global;
 use std::test::*;
-
-const ONE_WRITTEN: &[u8] =
-    b"model ONE;\nvar N : 0..9 = 0;\nwatch N;\nvertex RUN {\n  set N := 4;\n}\nend\ncertificate\nprune RUN 1\nend\n";
 
 const TWO: &[u8] =
     b"model ONE;\nvar N : 0..9 = 0;\nwatch N;\nvertex RUN {\n  set N := 4;\n  schedule RUN after 5 when false;\n  schedule RUN after 7 when false;\n}\nend\n";
@@ -126,16 +122,6 @@ const BANK_USES: &[u8] =
 
 const TOO_LONG: &[u8] = b"sigma: text too long\n";
 
-/// What is seen of `reduce` with this text.
-fn reduced(
-    alloc: Global,
-    text: &[u8],
-    failing: Failing,
-    wanted: Answer<'_>,
-) -> Result<Seen, NoMemory> {
-    called(alloc, "reduce", text, failing, wanted)
-}
-
 #[test]
 fn models_are_reduced(rt: HostRuntime) -> Result<(), Fail> {
     for (text, written) in [
@@ -144,7 +130,7 @@ fn models_are_reduced(rt: HostRuntime) -> Result<(), Fail> {
         (WIDEST, WIDEST_WRITTEN),
         (CLIPPED, CLIPPED_WRITTEN),
     ] {
-        assert!(rt; reduced(rt.alloc(), text, SOUND, done(written))?.is_wanted);
+        assert!(rt; called(rt.alloc(), "reduce", text, SOUND, done(written))?.is_wanted);
     }
     Ok(())
 }
@@ -210,63 +196,15 @@ fn other_words_are_usage(rt: HostRuntime) -> Result<(), Fail> {
 
 #[test]
 fn a_text_ends_at_its_limit(rt: HostRuntime) -> Result<(), Fail> {
-    for (length, wanted) in [
-        (TEXT_MAX, done(ONE_WRITTEN)),
-        (TEXT_MAX + 1, told(Status::Refused, TOO_LONG)),
+    for (length, word, wanted) in [
+        (TEXT_MAX, "check", done(b"accepted ONE\n")),
+        (TEXT_MAX, "reduce", done(ONE_WRITTEN)),
+        (TEXT_MAX + 1, "check", told(Status::Refused, TOO_LONG)),
+        (TEXT_MAX + 1, "reduce", told(Status::Refused, TOO_LONG)),
     ] {
         let mut text = Vec::from_slice(rt.alloc(), ONE)?;
         text.resize(length, b' ')?;
-        assert!(rt; reduced(rt.alloc(), &text, SOUND, wanted)?.is_wanted);
+        assert!(rt; called(rt.alloc(), word, &text, SOUND, wanted)?.is_wanted);
     }
-    Ok(())
-}
-
-#[test]
-fn a_failed_read_is_the_last(rt: HostRuntime) -> Result<(), Fail> {
-    // Pieces of 7 bytes, and a last read that finds the end.
-    let reads = ONE.len() as u64 / 7 + 2;
-    assert_eq!(rt;
-        reduced(rt.alloc(), ONE, SOUND, done(ONE_WRITTEN))?.reads,
-        reads
-    );
-    for read in 1..reads + 1 {
-        let failing = Failing { read, ..SOUND };
-        let wanted = told(Status::ReadFault, b"sigma: cannot read\n");
-        let last = Seen {
-            is_wanted: true,
-            reads: read,
-            writes: 0,
-            tells: 1,
-        };
-        assert_eq!(rt; reduced(rt.alloc(), ONE, failing, wanted)?, last);
-    }
-    Ok(())
-}
-
-/// What is seen where this write fails, behind these bytes.
-fn write_fails(alloc: Global, write: u64, written: &[u8]) -> Result<Seen, NoMemory> {
-    let wanted = Answer {
-        status: Status::WriteFault,
-        output: written,
-        errors: b"sigma: cannot write\n",
-    };
-    reduced(alloc, ONE, Failing { write, ..SOUND }, wanted)
-}
-
-#[test]
-fn a_failed_write_is_the_last(rt: HostRuntime) -> Result<(), Fail> {
-    // One byte a write, and the call that finishes the output.
-    let mut written = Vec::new(rt.alloc());
-    for (before, byte) in ONE_WRITTEN.iter().enumerate() {
-        let write = before as u64 + 1;
-        let answer = write_fails(rt.alloc(), write, &written)?;
-        assert_eq!(rt; (answer.is_wanted, answer.writes), (true, write));
-        written.push(*byte)?;
-    }
-    let finish = ONE_WRITTEN.len() as u64 + 1;
-    let answer = write_fails(rt.alloc(), finish, ONE_WRITTEN)?;
-    assert_eq!(rt; (answer.is_wanted, answer.writes), (true, finish));
-    let answer = reduced(rt.alloc(), ONE, SOUND, done(ONE_WRITTEN))?;
-    assert_eq!(rt; answer.writes, finish);
     Ok(())
 }

@@ -78,6 +78,14 @@ pub fn run(
     })
 }
 
+/// So many bytes of these.
+pub fn front(bytes: &[u8], length: usize) -> &[u8] {
+    match bytes.get(..length) {
+        Some(front) => front,
+        None => bytes,
+    }
+}
+
 /// The words of a command line.
 pub fn words(alloc: Global, line: &str) -> Result<Vec<String>, AllocError> {
     let mut words = Vec::new(alloc);

@@ -89,7 +89,20 @@ const JUDGED: [Case; 8] = [
     ),
 ];
 
-const REFUSED: [Case; 8] = [
+/// What `ONE` is reduced to.
+const ONE_REDUCED: &[u8] =
+    b"model ONE;\nvar N : 0..9 = 0;\nwatch N;\nvertex RUN {\n  set N := 4;\n}\nend\n";
+
+const REFUSED: [Case; 9] = [
+    // what `reduce` writes, without the last word
+    (
+        ONE,
+        ONE_REDUCED,
+        b"certificate\nprune RUN 1\n",
+        Status::Refused,
+        b"",
+        b"sigma: byte 201: unexpected\n",
+    ),
     (
         ONE,
         ONE,

@@ -21,11 +21,23 @@ fn repeated(
     Ok(text)
 }
 
+/// The openings are counted before the grammar is tried.
 #[test]
 fn too_many_openings_are_told(rt: HostRuntime) -> Result<(), Fail> {
-    let text = repeated(rt.alloc(), b"model M; vertex A { set X := ", b"(", 257, b"")?;
-    let refused = told(Status::Refused, b"sigma: byte 285: too deep\n");
-    assert!(rt; called(rt.alloc(), "check", text.as_slice(), SOUND, refused)?.is_wanted);
+    for (times, line) in [
+        (256, b"sigma: byte 285: unexpected\n".as_slice()),
+        (257, b"sigma: byte 285: too deep\n"),
+    ] {
+        let text = repeated(
+            rt.alloc(),
+            b"model M; vertex A { set X := ",
+            b"(",
+            times,
+            b"",
+        )?;
+        let refused = told(Status::Refused, line);
+        assert!(rt; called(rt.alloc(), "check", text.as_slice(), SOUND, refused)?.is_wanted);
+    }
     Ok(())
 }
 
@@ -33,6 +45,38 @@ fn too_many_openings_are_told(rt: HostRuntime) -> Result<(), Fail> {
 fn the_longest_names_are_told(rt: HostRuntime) -> Result<(), Fail> {
     let text = repeated(rt.alloc(), b"model ", b"A", 5_000, b"; vertex V { } end")?;
     let refused = told(Status::Refused, b"sigma: byte 6: name too long\n");
+    assert!(rt; called(rt.alloc(), "check", text.as_slice(), SOUND, refused)?.is_wanted);
+    Ok(())
+}
+
+/// A text of 400 vertices with 1,000 edges each, without blanks, up to its last word.
+fn dense_text(alloc: Global) -> Result<Vec<u8>, NoMemory> {
+    let edges = b"cancel A;".repeat(alloc, 1_000)?;
+    let mut text = Vec::from_slice(alloc, b"model M;")?;
+    for vertex in 0..400 {
+        put_bytes(&mut text, b"vertex ")?;
+        if vertex == 0 {
+            put_bytes(&mut text, b"A")?;
+        } else {
+            put_bytes(&mut text, b"V")?;
+            put_number(&mut text, vertex)?;
+        }
+        put_bytes(&mut text, b"{")?;
+        put_bytes(&mut text, edges.as_slice())?;
+        put_bytes(&mut text, b"}")?;
+    }
+    Ok(text)
+}
+
+/// The text is within its limit, and its canonical text isn't.
+#[test]
+fn a_model_that_is_too_long_is_told_at_its_last_word(rt: HostRuntime) -> Result<(), Fail> {
+    let mut text = dense_text(rt.alloc())?;
+    let mut line = Vec::from_slice(rt.alloc(), b"sigma: byte ")?;
+    put_number(&mut line, text.len() as u64)?;
+    put_bytes(&mut line, b": model too long\n")?;
+    put_bytes(&mut text, b"end")?;
+    let refused = told(Status::Refused, line.as_slice());
     assert!(rt; called(rt.alloc(), "check", text.as_slice(), SOUND, refused)?.is_wanted);
     Ok(())
 }

@@ -15,11 +15,15 @@ mod endings;
 #[cfg(test)]
 mod error_output;
 #[cfg(test)]
+mod failing_devices;
+#[cfg(test)]
 mod histories;
 #[cfg(test)]
 mod large_inputs;
 #[cfg(test)]
 mod models;
+#[cfg(test)]
+mod places;
 #[cfg(test)]
 mod reductions;
 #[cfg(test)]

@@ -1,13 +1,9 @@
 //! `save` and `resume` over memory: worked snapshots, what is written from there on, and refusals.
 
 use crate::calls::{Answer, SOUND, called};
-use crate::models::CLOCK;
+use crate::models::{CLOCK, CLOCK_SAVED};
 use sigma_top::Status;
 use std::test::*;
-
-/// The clock after two events.
-const CLOCK_SAVED: &[u8] =
-    b"model CLOCK;\nvar N : 0..3 clip = 0;\nwatch N;\nvertex RUN {\n  set N := N + 1;\n  schedule RUN after 5;\n}\nend\nsnapshot\nseed 0 42\nclk 5\nevents 2\nvalue N 2\nnoted 1\npending 5 5 RUN\nend\n";
 
 /// A clock whose delays are drawn by its edge.
 const DELAY: &[u8] =

@@ -218,7 +218,7 @@ fn value(
 
 /// Values with 256 openings: a front, a middle and a back, and how often the front and the back stand. Where they stand once
 /// more, the opening that is too many stands at this place.
-const DEEPEST: [(&[u8], &[u8], &[u8], usize, usize); 13] = [
+const DEEPEST: [(&[u8], &[u8], &[u8], usize, usize); 22] = [
     (b"(", b"1", b")", 256, 285),
     (b"not ", b"true", b"", 256, 1053),
     (b"-", b"1", b"", 256, 285),
@@ -232,6 +232,15 @@ const DEEPEST: [(&[u8], &[u8], &[u8], usize, usize); 13] = [
     (b"1 * ", b"1", b"", 256, 1055),
     (b"true and ", b"true", b"", 256, 2338),
     (b"true or not ", b"true", b"", 128, 1570),
+    (b"1 - ", b"1", b"", 256, 1055),
+    (b"1 / ", b"1", b"", 256, 1055),
+    (b"1 % ", b"1", b"", 256, 1055),
+    (b"1 = (", b"1", b")", 128, 671),
+    (b"1 <> (", b"1", b")", 128, 799),
+    (b"1 < (", b"1", b")", 128, 671),
+    (b"1 <= (", b"1", b")", 128, 799),
+    (b"1 > (", b"1", b")", 128, 671),
+    (b"1 >= (", b"1", b")", 128, 799),
 ];
 
 /// The deepest values are read, and dropped again.
@@ -240,7 +249,7 @@ fn the_deepest_texts_are_read(rt: HostRuntime) -> Result<(), Fail> {
     for (front, middle, back, times, place) in DEEPEST {
         assert_eq!(rt; value(rt.alloc(), front, middle, back, times)?, None);
         assert_eq!(rt;
-            value(rt.alloc(), front, middle, back, times + 1)?,
+            value(rt.alloc(), front, middle, back, times.saturating_add(1))?,
             Some(Refused::TooDeep(place))
         );
     }
