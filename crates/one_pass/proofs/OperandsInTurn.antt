@@ -25,9 +25,9 @@ pub record IsTaken (under least : ℕ) (taken : Option (ℕ × graph.Operator)) 
   pub leaves : left ≡ behind (at_levels least under (infix_at before)) before
 
 -- whatever stands before the operator that was taken: what goes on with it is what is left of the operators from the first on
-pub record ClimbedTo (means : List ℕ → Option Meaning) (under : ℕ) (whole : Parse WrittenExpression) (taken : Option (ℕ × graph.Operator)) (left : List Lexeme) (y : graph.Expression) (kind : Option Kind) (at : ℕ) : Type 0 where
+pub record ClimbedTo (means : List ℕ → Option Meaning) (under : ℕ) (whole : Parse WrittenExpression) (taken : Option (ℕ × graph.Operator)) (left : List Lexeme) (y : graph.Expression) (kind : Option Kind) : Type 0 where
   pub written : WrittenExpression
-  pub operand : IsOperand means written y kind at
+  pub operand : IsOperand means written y kind
   pub least : ℕ
   pub before : List Lexeme
   pub is_taken : IsTaken under least taken before left
@@ -41,23 +41,23 @@ first_comes under tokens false least few comes absent is = rw is (from-unary und
 
 module _ (means : List ℕ → Option Meaning) where
   -- a level reads as its format does
-  pub by_level : {A : Type 0} (l : Level) (tokens after : List Lexeme) (r : Result A NotRead) (x : graph.Expression) (kind : Option Kind) (at : ℕ) → IfOk r (λ u. ReadOperand means (language_reader (level_format l) tokens) after x kind at)
-      → IfOk r (λ u. ReadOperand means (language_reader (ByRule l) tokens) after x kind at)
-  by_level l tokens after (Ok u) x kind at r = record { written = r.written; is_read = rule-is level_lookahead level_format levels-fine l tokens ∙ r.is_read; operand = r.operand }
-  by_level l tokens after (Err e) x kind at r = tt
+  pub by_level : {A : Type 0} (l : Level) (tokens after : List Lexeme) (r : Result A NotRead) (x : graph.Expression) (kind : Option Kind) → IfOk r (λ u. ReadOperand means (language_reader (level_format l) tokens) after x kind)
+      → IfOk r (λ u. ReadOperand means (language_reader (ByRule l) tokens) after x kind)
+  by_level l tokens after (Ok u) x kind r = record { written = r.written; is_read = rule-is level_lookahead level_format levels-fine l tokens ∙ r.is_read; operand = r.operand }
+  by_level l tokens after (Err e) x kind r = tt
 
   -- the first operand, and then what stands behind it
-  pub behind_first : {A : Type 0} (others : WrittenExpression → Parser WrittenExpression) (whole first : Parse WrittenExpression) (between after : List Lexeme) (r : Result A NotRead) (x : graph.Expression) (kind : Option Kind) (at : ℕ) (y : graph.Expression)
-      (kind' : Option Kind) (at' : ℕ) → whole ≡ and_next others first → ReadOperand means first between x kind at
-      → IfOk r (λ u. (w : WrittenExpression) → IsOperand means w x kind at → ReadOperand means (others w between) after y kind' at')
-      → IfOk r (λ u. ReadOperand means whole after y kind' at')
-  behind_first others whole first between after (Ok u) x kind at y kind' at' same read go =
+  pub behind_first : {A : Type 0} (others : WrittenExpression → Parser WrittenExpression) (whole first : Parse WrittenExpression) (between after : List Lexeme) (r : Result A NotRead) (x : graph.Expression) (kind : Option Kind) (y : graph.Expression)
+      (kind' : Option Kind) → whole ≡ and_next others first → ReadOperand means first between x kind
+      → IfOk r (λ u. (w : WrittenExpression) → IsOperand means w x kind → ReadOperand means (others w between) after y kind')
+      → IfOk r (λ u. ReadOperand means whole after y kind')
+  behind_first others whole first between after (Ok u) x kind y kind' same read go =
       let next = go read.written read.operand in
       record { written = next.written; is_read = same ∙ ap (and_next others) read.is_read ∙ next.is_read; operand = next.operand }
-  behind_first others whole first between after (Err e) x kind at y kind' at' same read go = tt
+  behind_first others whole first between after (Err e) x kind y kind' same read go = tt
 
   -- behind an operand whatever stands behind the operator that was taken behind it
-  pub goes-on : {A : Type 0} (under : ℕ) (first : ℕ × graph.Operator) (left after : List Lexeme) (r : Result A NotRead) (x : graph.Expression) (kind : Option Kind) (at : ℕ) (y : graph.Expression) (kind' : Option Kind) (at' : ℕ) (least : ℕ) (before : List Lexeme)
-      → Some first ≡ at_levels least under (infix_at before) → left ≡ behind (at_levels least under (infix_at before)) before → IfOk r (λ u. ClimbsOn means under first left after x kind at y kind' at') → IfOk r (λ u. ClimbsFrom means under least before after x kind at y kind' at')
-  goes-on under first left after (Ok u) x kind at y kind' at' least before takes leaves goes = goes least before takes leaves
-  goes-on under first left after (Err e) x kind at y kind' at' least before takes leaves goes = tt
+  pub goes-on : {A : Type 0} (under : ℕ) (first : ℕ × graph.Operator) (left after : List Lexeme) (r : Result A NotRead) (x : graph.Expression) (kind : Option Kind) (y : graph.Expression) (kind' : Option Kind) (least : ℕ) (before : List Lexeme)
+      → Some first ≡ at_levels least under (infix_at before) → left ≡ behind (at_levels least under (infix_at before)) before → IfOk r (λ u. ClimbsOn means under first left after x kind y kind') → IfOk r (λ u. ClimbsFrom means under least before after x kind y kind')
+  goes-on under first left after (Ok u) x kind y kind' least before takes leaves goes = goes least before takes leaves
+  goes-on under first left after (Err e) x kind y kind' least before takes leaves goes = tt

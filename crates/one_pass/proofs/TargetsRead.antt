@@ -11,8 +11,7 @@ use Rattle.model_core.specs.Text.Expressions.{index_format}
 use Rattle.model_core.specs.Text.Language.{target_written, target_format}
 use Rattle.model_core.specs.Text.Numbering.{declared_place}
 use Rattle.model_core.specs.Static.Meanings.{Meaning}
-use Rattle.model_core.specs.Static.Kinds.{kind_in_role}
-use Rattle.model_core.specs.Static.RuleTable.{kind_mismatch}
+use Rattle.model_core.specs.Static.Kinds.{kinds_differ, kind_in_role}
 use Rattle.model_core.specs.Static.PartFaults.{use_faults, operand_faults}
 use Rattle.text_laws.specs.FirstTokens.{begins_as}
 use Rattle.text_laws.specs.FormatReader.{took}
@@ -35,16 +34,16 @@ module _ (means : List ℕ → Option Meaning) where
     target = record { unbroken = both_empty (use_faults means (variable_role false) n) [] known refl; numbers = λ d p. rw (numbers d p) refl; has_kind = is };
   }
 
-  pub cell_read : (n : WrittenName) (k : ℕ) (kind found : Option Kind) (x : graph.Expression) (at : ℕ) (before between after : List Lexeme) → language_reader any_name before ≡ took n between → begins_as (ASymbol symbols.OpenBracket) between ≡ true
+  pub cell_read : (n : WrittenName) (k : ℕ) (kind found : Option Kind) (x : graph.Expression) (before between after : List Lexeme) → language_reader any_name before ≡ took n between → begins_as (ASymbol symbols.OpenBracket) between ≡ true
       → use_faults means (variable_role true) n ≡ [] → NumberedAs means (λ d. declared_place n.name d.variables) k → kind ≡ kind_in_role (variable_role true) (means n.name)
-      → ReadOperand means (language_reader index_format between) after x found at → kind_mismatch (Some kinds.Range) found at ≡ []
+      → ReadOperand means (language_reader index_format between) after x found → kinds_differ (Some kinds.Range) found ≡ false
       → ReadTarget means (language_reader target_format before) after (record { variable = k; index = Some x }) kind
   unfolding target_format
-  cell_read n k kind found x at before between after named goes_on known numbers is index fits = record {
+  cell_read n k kind found x before between after named goes_on known numbers is index fits = record {
     written = target_written n (Some index.written);
     is_read = rw (named, goes_on, index.is_read) refl;
     target = record {
-      unbroken = both_empty (use_faults means (variable_role true) n) (operand_faults means (Some kinds.Range) index.written) known (fitting means index.written x found (Some kinds.Range) at index.operand fits);
+      unbroken = both_empty (use_faults means (variable_role true) n) (operand_faults means (Some kinds.Range) index.written) known (fitting means index.written x found (Some kinds.Range) index.operand fits);
       numbers = λ d p. rw (numbers d p, index.operand.numbers d p) refl;
       has_kind = is;
     };

@@ -12,7 +12,6 @@ ghost use Rattle.model_core.specs.Text.Numbering.{declared_place};
 ghost use Rattle.model_core.specs.Static.Meanings.{meaning_of};
 ghost use Rattle.model_core.specs.Static.Kinds.{kind_in_role};
 ghost use Rattle.model_core.specs.Static.Kinds as kinds;
-ghost use Rattle.model_core.specs.Static.RuleTable.{kind_mismatch};
 ghost use Rattle.model_core.specs.Static.PartFaults.{use_faults};
 ghost use Rattle.text_laws.specs.LanguageReader.{language_reader};
 ghost use Rattle.text_laws.specs.Ladder.{operand_level, if_format, not_format, negative_format, named_format};
@@ -33,21 +32,16 @@ use sig_types::{
 use std::alloc::Global;
 use std::mem;
 
-/// An expression, its kind where that is known, and the byte at which it begins.
+/// An expression, and its kind where that is known.
 pub(crate) struct Operand {
     pub expr: Expr,
     pub kind: Option<Kind>,
-    pub at: usize,
 }
 
 // Written out, so that a function that lets an operand go does so by one call.
 impl Drop for Operand {
     fn drop(self) {
-        let Operand {
-            expr,
-            kind: _,
-            at: _,
-        } = self;
+        let Operand { expr, kind: _ } = self;
         match expr {
             // It stands where nothing is read yet, and holds no memory: asking is cheaper than the call.
             Expr::Clk => {}
@@ -62,7 +56,6 @@ impl Operand {
         Operand {
             expr: Expr::Clk,
             kind: None,
-            at: 0,
         }
     }
 
@@ -70,7 +63,6 @@ impl Operand {
     fn take(&mut self) -> Expr
         ensures expr { result ≡ self.old.expr }
         ensures kind { self.new.kind ≡ self.old.kind }
-        ensures at { self.new.at ≡ self.old.at }
     {
         mem::replace(&mut self.expr, Expr::Clk)
     }
@@ -79,18 +71,14 @@ impl Operand {
     pub(crate) fn into_expr(self) -> Expr
         ensures { result ≡ self.expr }
     {
-        let Operand {
-            expr,
-            kind: _,
-            at: _,
-        } = self;
+        let Operand { expr, kind: _ } = self;
         expr
     }
 }
 
 /// Refuses an expression of another kind, where both kinds are known.
 pub(crate) fn expect(wanted: Option<Kind>, operand: &Operand) -> Result<(), NotRead>
-    ensures { OnOk result (kind_mismatch wanted operand.now.kind operand.now.at ≡ []) }
+    ensures { OnOk result (kinds.kinds_differ wanted operand.now.kind ≡ false) }
 {
     if kinds_differ(wanted, operand.kind) {
         return Err(NotRead::Broken);
@@ -125,7 +113,7 @@ pub(crate) fn expression(
     names: &Names,
     read: &mut Operand,
 ) -> Result<(), NotRead>
-    ensures reads { IfOk result (λ u. ReadOperand (meaning_of names.now) (language_reader expression_format cursor.old) cursor.new (expression_of read.new.expr) read.new.kind read.new.at) }
+    ensures reads { IfOk result (λ u. ReadOperand (meaning_of names.now) (language_reader expression_format cursor.old) cursor.new (expression_of read.new.expr) read.new.kind) }
     ensures shorter { IfOk result (λ u. length cursor.new + 1 ≤ length cursor.old) }
 {
     conditional(alloc, cursor, names, read)
@@ -139,7 +127,7 @@ fn conditional(
     names: &Names,
     read: &mut Operand,
 ) -> Result<(), NotRead>
-    ensures reads { IfOk result (λ u. ReadOperand (meaning_of names.now) (language_reader whole_format cursor.old) cursor.new (expression_of read.new.expr) read.new.kind read.new.at) }
+    ensures reads { IfOk result (λ u. ReadOperand (meaning_of names.now) (language_reader whole_format cursor.old) cursor.new (expression_of read.new.expr) read.new.kind) }
     ensures shorter { IfOk result (λ u. length cursor.new + 1 ≤ length cursor.old) }
 {
     if cursor.begins_word(Word::If) {
@@ -159,10 +147,10 @@ fn branches(
     names: &Names,
     read: &mut Operand,
 ) -> Result<(), NotRead>
-    ensures reads { IfOk result (λ u. ReadOperand (meaning_of names.now) (language_reader if_format cursor.old) cursor.new (expression_of read.new.expr) read.new.kind read.new.at) }
+    ensures reads { IfOk result (λ u. ReadOperand (meaning_of names.now) (language_reader if_format cursor.old) cursor.new (expression_of read.new.expr) read.new.kind) }
     ensures shorter { IfOk result (λ u. length cursor.new + 1 ≤ length cursor.old) }
 {
-    let at = cursor.word(Word::If)?;
+    cursor.word(Word::If)?;
     let mut test = Operand::unread();
     expression(alloc, cursor, names, &mut test)?;
     expect(Some(Kind::Truth), &test)?;
@@ -174,7 +162,7 @@ fn branches(
     expect(yes.kind, read)?;
     let kind = known_or(yes.kind, read.kind);
     let expr = Expr::conditional(alloc, test.into_expr(), yes.into_expr(), read.take())?;
-    *read = Operand { expr, kind, at };
+    *read = Operand { expr, kind };
     Ok(())
 }
 
@@ -188,7 +176,7 @@ fn operand_under(
     read: &mut Operand,
 ) -> Result<(), NotRead>
     requires { under ≤ 5 }
-    ensures reads { IfOk result (λ u. ReadOperand (meaning_of names.now) (language_reader (ByRule (operand_level under)) cursor.old) cursor.new (expression_of read.new.expr) read.new.kind read.new.at) }
+    ensures reads { IfOk result (λ u. ReadOperand (meaning_of names.now) (language_reader (ByRule (operand_level under)) cursor.old) cursor.new (expression_of read.new.expr) read.new.kind) }
     ensures shorter { IfOk result (λ u. length cursor.new + 1 ≤ length cursor.old) }
 {
     let is_negated = cursor.begins_negation(under);
@@ -206,7 +194,7 @@ fn first_operand(
     is_negated: bool,
     read: &mut Operand,
 ) -> Result<(), NotRead>
-    ensures reads { IfOk result (λ u. ReadOperand (meaning_of names.now) (first_operand is_negated cursor.old) cursor.new (expression_of read.new.expr) read.new.kind read.new.at) }
+    ensures reads { IfOk result (λ u. ReadOperand (meaning_of names.now) (first_operand is_negated cursor.old) cursor.new (expression_of read.new.expr) read.new.kind) }
     ensures shorter { IfOk result (λ u. length cursor.new + 1 ≤ length cursor.old) }
 {
     if is_negated {
@@ -229,7 +217,7 @@ fn others(
     read: &mut Operand,
 ) -> Result<(), NotRead>
     requires { under ≤ 5 }
-    ensures reads { IfOk result (λ u. ClimbsFrom (meaning_of names.now) under least cursor.old cursor.new (expression_of read.old.expr) read.old.kind read.old.at (expression_of read.new.expr) read.new.kind read.new.at) }
+    ensures reads { IfOk result (λ u. ClimbsFrom (meaning_of names.now) under least cursor.old cursor.new (expression_of read.old.expr) read.old.kind (expression_of read.new.expr) read.new.kind) }
     ensures shorter { IfOk result (λ u. length cursor.new ≤ length cursor.old) }
 {
     match cursor.infix(least, under) {
@@ -251,7 +239,7 @@ fn operators(
 ) -> Result<(), NotRead>
     requires under { under ≤ 5 }
     requires below { first.level + 1 ≤ under }
-    ensures reads { IfOk result (λ u. ClimbsOn (meaning_of names.now) under (infix_of first) cursor.old cursor.new (expression_of read.old.expr) read.old.kind read.old.at (expression_of read.new.expr) read.new.kind read.new.at) }
+    ensures reads { IfOk result (λ u. ClimbsOn (meaning_of names.now) under (infix_of first) cursor.old cursor.new (expression_of read.old.expr) read.old.kind (expression_of read.new.expr) read.new.kind) }
     ensures shorter { IfOk result (λ u. length cursor.new ≤ length cursor.old) }
 {
     let mut taken = Some(first);
@@ -277,13 +265,11 @@ fn least_behind(is_negated: bool) -> usize
 fn join(alloc: Global, left: &mut Operand, op: Op, right: Operand) -> Result<(), NotRead>
     ensures expr { IfOk result (λ u. expression_of left.new.expr ≡ Binary (operator_of op) (expression_of left.old.expr) (expression_of right.expr)) }
     ensures kind { IfOk result (λ u. left.new.kind ≡ Some (kinds.result_kind (operator_of op))) }
-    ensures at { IfOk result (λ u. left.new.at ≡ left.old.at) }
 {
     let expr = Expr::binary(alloc, op, left.take(), right.into_expr())?;
     *left = Operand {
         expr,
         kind: Some(result_kind(op)),
-        at: left.at,
     };
     Ok(())
 }
@@ -297,17 +283,16 @@ fn negated(
     names: &Names,
     read: &mut Operand,
 ) -> Result<(), NotRead>
-    ensures reads { IfOk result (λ u. ReadOperand (meaning_of names.now) (language_reader not_format cursor.old) cursor.new (expression_of read.new.expr) read.new.kind read.new.at) }
+    ensures reads { IfOk result (λ u. ReadOperand (meaning_of names.now) (language_reader not_format cursor.old) cursor.new (expression_of read.new.expr) read.new.kind) }
     ensures shorter { IfOk result (λ u. length cursor.new + 1 ≤ length cursor.old) }
 {
-    let at = cursor.word(Word::Not)?;
+    cursor.word(Word::Not)?;
     operand_under(alloc, cursor, names, CONJUNCTIONS, read)?;
     expect(Some(Kind::Truth), read)?;
     let operand = Box::new(alloc, read.take())?;
     *read = Operand {
         expr: Expr::Not(operand),
         kind: Some(Kind::Truth),
-        at,
     };
     Ok(())
 }
@@ -320,7 +305,7 @@ fn unary(
     names: &Names,
     read: &mut Operand,
 ) -> Result<(), NotRead>
-    ensures reads { IfOk result (λ u. ReadOperand (meaning_of names.now) (language_reader (ByRule Unary) cursor.old) cursor.new (expression_of read.new.expr) read.new.kind read.new.at) }
+    ensures reads { IfOk result (λ u. ReadOperand (meaning_of names.now) (language_reader (ByRule Unary) cursor.old) cursor.new (expression_of read.new.expr) read.new.kind) }
     ensures shorter { IfOk result (λ u. length cursor.new + 1 ≤ length cursor.old) }
 {
     signed(alloc, cursor, names, read)
@@ -334,7 +319,7 @@ fn signed(
     names: &Names,
     read: &mut Operand,
 ) -> Result<(), NotRead>
-    ensures reads { IfOk result (λ u. ReadOperand (meaning_of names.now) (language_reader unary_format cursor.old) cursor.new (expression_of read.new.expr) read.new.kind read.new.at) }
+    ensures reads { IfOk result (λ u. ReadOperand (meaning_of names.now) (language_reader unary_format cursor.old) cursor.new (expression_of read.new.expr) read.new.kind) }
     ensures shorter { IfOk result (λ u. length cursor.new + 1 ≤ length cursor.old) }
 {
     if cursor.begins_symbol(Symbol::Minus) {
@@ -353,17 +338,16 @@ fn negative(
     names: &Names,
     read: &mut Operand,
 ) -> Result<(), NotRead>
-    ensures reads { IfOk result (λ u. ReadOperand (meaning_of names.now) (language_reader negative_format cursor.old) cursor.new (expression_of read.new.expr) read.new.kind read.new.at) }
+    ensures reads { IfOk result (λ u. ReadOperand (meaning_of names.now) (language_reader negative_format cursor.old) cursor.new (expression_of read.new.expr) read.new.kind) }
     ensures shorter { IfOk result (λ u. length cursor.new + 1 ≤ length cursor.old) }
 {
-    let at = cursor.symbol(Symbol::Minus)?;
+    cursor.symbol(Symbol::Minus)?;
     unary(alloc, cursor, names, read)?;
     expect(Some(Kind::Range), read)?;
     let operand = Box::new(alloc, read.take())?;
     *read = Operand {
         expr: Expr::Neg(operand),
         kind: Some(Kind::Range),
-        at,
     };
     Ok(())
 }
@@ -376,8 +360,8 @@ pub(crate) fn bracketed(
     names: &Names,
     read: &mut Operand,
 ) -> Result<(), NotRead>
-    ensures reads { IfOk result (λ u. ReadOperand (meaning_of names.now) (language_reader index_format cursor.old) cursor.new (expression_of read.new.expr) read.new.kind read.new.at) }
-    ensures ranged { IfOk result (λ u. kind_mismatch (Some Range) read.new.kind read.new.at ≡ []) }
+    ensures reads { IfOk result (λ u. ReadOperand (meaning_of names.now) (language_reader index_format cursor.old) cursor.new (expression_of read.new.expr) read.new.kind) }
+    ensures ranged { IfOk result (λ u. kinds.kinds_differ (Some Range) read.new.kind ≡ false) }
     ensures shorter { IfOk result (λ u. length cursor.new + 1 ≤ length cursor.old) }
 {
     cursor.symbol(Symbol::OpenBracket)?;
@@ -398,10 +382,10 @@ fn called(
     op: Op,
     read: &mut Operand,
 ) -> Result<(), NotRead>
-    ensures reads { IfOk result (λ u. ReadOperand (meaning_of names.now) (language_reader (call_format word (operator_of op)) cursor.old) cursor.new (expression_of read.new.expr) read.new.kind read.new.at) }
+    ensures reads { IfOk result (λ u. ReadOperand (meaning_of names.now) (language_reader (call_format word (operator_of op)) cursor.old) cursor.new (expression_of read.new.expr) read.new.kind) }
     ensures shorter { IfOk result (λ u. length cursor.new + 1 ≤ length cursor.old) }
 {
-    let at = cursor.word(word)?;
+    cursor.word(word)?;
     cursor.symbol(Symbol::OpenParenthesis)?;
     expression(alloc, cursor, names, read)?;
     expect(operand_kind(op), read)?;
@@ -411,7 +395,6 @@ fn called(
     expect(right_kind(op, read.kind), &second)?;
     cursor.symbol(Symbol::CloseParenthesis)?;
     join(alloc, read, op, second)?;
-    read.at = at;
     Ok(())
 }
 
@@ -424,7 +407,7 @@ fn named(
     names: &Names,
     read: &mut Operand,
 ) -> Result<(), NotRead>
-    ensures reads { IfOk result (λ u. ReadOperand (meaning_of names.now) (language_reader named_format cursor.old) cursor.new (expression_of read.new.expr) read.new.kind read.new.at) }
+    ensures reads { IfOk result (λ u. ReadOperand (meaning_of names.now) (language_reader named_format cursor.old) cursor.new (expression_of read.new.expr) read.new.kind) }
     ensures shorter { IfOk result (λ u. length cursor.new + 1 ≤ length cursor.old) }
 {
     let name = cursor.spelling()?;
@@ -433,7 +416,6 @@ fn named(
         *read = Operand {
             expr: Expr::Scalar(var.part),
             kind: var.kind,
-            at: name.at,
         };
         return Ok(());
     }
@@ -443,12 +425,11 @@ fn named(
     *read = Operand {
         expr: Expr::Cell(var.part, index),
         kind: var.kind,
-        at: name.at,
     };
     Ok(())
 }
 
-/// Reads an expression in parentheses, whose place is that of the first.
+/// Reads an expression in parentheses.
 #[inline(never)]
 #[cycle(expressions)]
 fn enclosed(
@@ -457,13 +438,12 @@ fn enclosed(
     names: &Names,
     read: &mut Operand,
 ) -> Result<(), NotRead>
-    ensures reads { IfOk result (λ u. ReadOperand (meaning_of names.now) (language_reader in_parentheses_format cursor.old) cursor.new (expression_of read.new.expr) read.new.kind read.new.at) }
+    ensures reads { IfOk result (λ u. ReadOperand (meaning_of names.now) (language_reader in_parentheses_format cursor.old) cursor.new (expression_of read.new.expr) read.new.kind) }
     ensures shorter { IfOk result (λ u. length cursor.new + 1 ≤ length cursor.old) }
 {
-    let at = cursor.symbol(Symbol::OpenParenthesis)?;
+    cursor.symbol(Symbol::OpenParenthesis)?;
     expression(alloc, cursor, names, read)?;
     cursor.symbol(Symbol::CloseParenthesis)?;
-    read.at = at;
     Ok(())
 }
 
@@ -475,7 +455,7 @@ fn primary(
     names: &Names,
     read: &mut Operand,
 ) -> Result<(), NotRead>
-    ensures reads { IfOk result (λ u. ReadOperand (meaning_of names.now) (language_reader (ByRule Primary) cursor.old) cursor.new (expression_of read.new.expr) read.new.kind read.new.at) }
+    ensures reads { IfOk result (λ u. ReadOperand (meaning_of names.now) (language_reader (ByRule Primary) cursor.old) cursor.new (expression_of read.new.expr) read.new.kind) }
     ensures shorter { IfOk result (λ u. length cursor.new + 1 ≤ length cursor.old) }
 {
     undivided(alloc, cursor, names, read)
@@ -489,7 +469,7 @@ fn undivided(
     names: &Names,
     read: &mut Operand,
 ) -> Result<(), NotRead>
-    ensures reads { IfOk result (λ u. ReadOperand (meaning_of names.now) (language_reader primary_format cursor.old) cursor.new (expression_of read.new.expr) read.new.kind read.new.at) }
+    ensures reads { IfOk result (λ u. ReadOperand (meaning_of names.now) (language_reader primary_format cursor.old) cursor.new (expression_of read.new.expr) read.new.kind) }
     ensures shorter { IfOk result (λ u. length cursor.new + 1 ≤ length cursor.old) }
 {
     if cursor.begins_name() {
@@ -503,7 +483,6 @@ fn undivided(
                 *read = Operand {
                     expr: Expr::Int(value),
                     kind: Some(Kind::Range),
-                    at: number.at,
                 };
                 Ok(())
             }
@@ -513,29 +492,26 @@ fn undivided(
         return enclosed(alloc, cursor, names, read);
     }
     if cursor.begins_word(Word::True) {
-        let at = cursor.word(Word::True)?;
+        cursor.word(Word::True)?;
         *read = Operand {
             expr: Expr::Truth(true),
             kind: Some(Kind::Truth),
-            at,
         };
         return Ok(());
     }
     if cursor.begins_word(Word::False) {
-        let at = cursor.word(Word::False)?;
+        cursor.word(Word::False)?;
         *read = Operand {
             expr: Expr::Truth(false),
             kind: Some(Kind::Truth),
-            at,
         };
         return Ok(());
     }
     if cursor.begins_word(Word::Clk) {
-        let at = cursor.word(Word::Clk)?;
+        cursor.word(Word::Clk)?;
         *read = Operand {
             expr: Expr::Clk,
             kind: Some(Kind::Range),
-            at,
         };
         return Ok(());
     }

@@ -5,7 +5,7 @@ use Rattle.model_core.specs.EventGraph as graph
 use Rattle.model_core.specs.Text.Lexing.{Lexeme}
 use Rattle.model_core.specs.Text.Written.{WrittenExpression}
 use Rattle.model_core.specs.Text.Format.{ByRule}
-use Rattle.model_core.specs.Text.Expressions.{Unary, place}
+use Rattle.model_core.specs.Text.Expressions.{Unary}
 use Rattle.model_core.specs.Text.Numbering.{expression}
 use Rattle.model_core.specs.Static.Meanings.{Meaning}
 use Rattle.model_core.specs.Static.Kinds.{expression_kind}
@@ -20,25 +20,24 @@ abbrev pub first_operand : Bool → List Lexeme → Parse WrittenExpression
 first_operand true tokens = language_reader not_format tokens
 first_operand false tokens = language_reader (ByRule Unary) tokens
 
--- where names mean this, an expression without faults, of this number, this kind and at this place
-pub record IsOperand (means : List ℕ → Option Meaning) (e : WrittenExpression) (x : graph.Expression) (kind : Option Kind) (at : ℕ) : Type 0 where
+-- where names mean this, an expression without faults, of this number and this kind
+pub record IsOperand (means : List ℕ → Option Meaning) (e : WrittenExpression) (x : graph.Expression) (kind : Option Kind) : Type 0 where
   pub unbroken : expression_faults means e ≡ []
   pub numbers : NumberedAs means (λ d. expression d e) x
   pub has_kind : kind ≡ expression_kind means e
-  pub begins : at ≡ place e
 
 -- what is read is such an expression
-pub record ReadOperand (means : List ℕ → Option Meaning) (read : Parse WrittenExpression) (after : List Lexeme) (x : graph.Expression) (kind : Option Kind) (at : ℕ) : Type 0 where
+pub record ReadOperand (means : List ℕ → Option Meaning) (read : Parse WrittenExpression) (after : List Lexeme) (x : graph.Expression) (kind : Option Kind) : Type 0 where
   pub written : WrittenExpression
   pub is_read : read ≡ took written after
-  pub operand : IsOperand means written x kind at
+  pub operand : IsOperand means written x kind
 
 -- behind an expression stand operators and their right operands, which together are such an expression
-abbrev pub ClimbsFrom : (List ℕ → Option Meaning) → ℕ → ℕ → List Lexeme → List Lexeme → graph.Expression → Option Kind → ℕ → graph.Expression → Option Kind → ℕ → Type 0
-ClimbsFrom means under least before after x kind at y kind' at' =
-    (e : WrittenExpression) → IsOperand means e x kind at → ReadOperand means (climb under least e before) after y kind' at'
+abbrev pub ClimbsFrom : (List ℕ → Option Meaning) → ℕ → ℕ → List Lexeme → List Lexeme → graph.Expression → Option Kind → graph.Expression → Option Kind → Type 0
+ClimbsFrom means under least before after x kind y kind' =
+    (e : WrittenExpression) → IsOperand means e x kind → ReadOperand means (climb under least e before) after y kind'
 
 -- behind an operator that was taken of such operators, the same: its right operand comes first
-abbrev pub ClimbsOn : (List ℕ → Option Meaning) → ℕ → ℕ × graph.Operator → List Lexeme → List Lexeme → graph.Expression → Option Kind → ℕ → graph.Expression → Option Kind → ℕ → Type 0
-ClimbsOn means under first left after x kind at y kind' at' =
-    (least : ℕ) (before : List Lexeme) → Some first ≡ at_levels least under (infix_at before) → left ≡ behind (at_levels least under (infix_at before)) before → ClimbsFrom means under least before after x kind at y kind' at'
+abbrev pub ClimbsOn : (List ℕ → Option Meaning) → ℕ → ℕ × graph.Operator → List Lexeme → List Lexeme → graph.Expression → Option Kind → graph.Expression → Option Kind → Type 0
+ClimbsOn means under first left after x kind y kind' =
+    (least : ℕ) (before : List Lexeme) → Some first ≡ at_levels least under (infix_at before) → left ≡ behind (at_levels least under (infix_at before)) before → ClimbsFrom means under least before after x kind y kind'

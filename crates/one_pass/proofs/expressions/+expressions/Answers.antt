@@ -15,15 +15,15 @@ use Rattle.one_pass.proofs.expressions.+expressions.Goals as goal
 
 pub expression-returns-clause-reads : goal.expression-returns-clause-reads
 unfolding level_format
-expression-returns-clause-reads t c = by_level (meaning_of c.args.names.now) Whole c.args.cursor.now c.conditional.new.cursor c.conditional.result _ _ _ c.conditional.ensures.reads
+expression-returns-clause-reads t c = by_level (meaning_of c.args.names.now) Whole c.args.cursor.now c.conditional.new.cursor c.conditional.result _ _ c.conditional.ensures.reads
 
 pub unary-returns-clause-reads : goal.unary-returns-clause-reads
 unfolding level_format
-unary-returns-clause-reads t c = by_level (meaning_of c.args.names.now) Unary c.args.cursor.now c.signed.new.cursor c.signed.result _ _ _ c.signed.ensures.reads
+unary-returns-clause-reads t c = by_level (meaning_of c.args.names.now) Unary c.args.cursor.now c.signed.new.cursor c.signed.result _ _ c.signed.ensures.reads
 
 pub primary-returns-clause-reads : goal.primary-returns-clause-reads
 unfolding level_format
-primary-returns-clause-reads t c = by_level (meaning_of c.args.names.now) Primary c.args.cursor.now c.undivided.new.cursor c.undivided.result _ _ _ c.undivided.ensures.reads
+primary-returns-clause-reads t c = by_level (meaning_of c.args.names.now) Primary c.args.cursor.now c.undivided.new.cursor c.undivided.result _ _ c.undivided.ensures.reads
 
 pub first_operand-returns-then-is_negated-clause-reads : goal.first_operand-returns-then-is_negated-clause-reads
 first_operand-returns-then-is_negated-clause-reads t c = rw c.if-is_negated.true c.negated.ensures.reads
@@ -34,7 +34,7 @@ first_operand-returns-else-is_negated-clause-reads t c = rw c.if-is_negated.fals
 pub operand_under-returns-clause-reads : goal.operand_under-returns-clause-reads
 operand_under-returns-clause-reads t c =
     let begins = c.begins_negation-is_negated in
-    behind_first (meaning_of c.args.names.now) (climb c.args.under c.least_behind-least.result) _ _ c.first_operand.new.cursor c.others.new.cursor c.others.result _ _ _ _ _ _
+    behind_first (meaning_of c.args.names.now) (climb c.args.under c.least_behind-least.result) _ _ c.first_operand.new.cursor c.others.new.cursor c.others.result _ _ _ _
     (first_comes c.args.under c.args.cursor.now begins.result c.least_behind-least.result c.requires begins.ensures.yes begins.ensures.no c.least_behind-least.ensures) c.in_ok-first_operand.ensures.reads c.others.ensures.reads
 
 pub others-returns-in-None-clause-reads : goal.others-returns-in-None-clause-reads
@@ -45,7 +45,7 @@ others-returns-in-None-clause-reads t c = λ e is. record {
 }
 
 pub others-returns-in-Some-clause-reads : goal.others-returns-in-Some-clause-reads
-others-returns-in-Some-clause-reads t c = goes-on (meaning_of c.args.names.now) c.args.under _ _ _ c.operators.result _ _ _ _ _ _ c.args.least c.args.cursor.now c.in-Some.ensures.takes c.infix.ensures.leaves c.operators.ensures.reads
+others-returns-in-Some-clause-reads t c = goes-on (meaning_of c.args.names.now) c.args.under _ _ _ c.operators.result _ _ _ _ c.args.least c.args.cursor.now c.in-Some.ensures.takes c.infix.ensures.leaves c.operators.ensures.reads
 
 pub operators-loop-taken-init : goal.operators-loop-taken-init
 operators-loop-taken-init t c = record {
@@ -65,7 +65,7 @@ operators-loop-taken-preserved t c = record {
       let both = joining so_far.written (op, right.written) in
       record {
         written = both;
-        operand = joined_operand (meaning_of c.args.names.now) op so_far.written right.written _ _ _ _ _ _ _ _ _ so_far.operand right.operand (rw c.operand_kind.ensures at c.in_ok-expect.ensures) (rw c.right_kind.ensures at c.in_ok-expect-2.ensures) c.in_ok-join.ensures.expr c.in_ok-join.ensures.kind c.in_ok-join.ensures.at;
+        operand = joined_operand (meaning_of c.args.names.now) op so_far.written right.written _ _ _ _ _ _ so_far.operand right.operand (rw c.operand_kind.ensures at c.in_ok-expect.ensures) (rw c.right_kind.ensures at c.in_ok-expect-2.ensures) c.in_ok-join.ensures.expr c.in_ok-join.ensures.kind;
         least = c.next_level.result;
         before = c.operand_under.new.cursor;
         is_taken = record { takes = c.infix-taken.ensures.takes; leaves = c.infix-taken.ensures.leaves };
@@ -94,27 +94,27 @@ pub enclosed-returns-clause-reads : goal.enclosed-returns-clause-reads
 enclosed-returns-clause-reads t c =
     let read = c.in_ok-expression.ensures.reads in
     record {
-      written = moved c.in_ok-at.at read.written;
-      is_read = rw (c.in_ok-at.ensures.reads, read.is_read, c.in_ok-symbol.ensures.reads) refl;
-      operand = moved_operand (meaning_of c.args.names.now) c.in_ok-at.at read.written _ _ _ read.operand;
+      written = moved c.in_ok-symbol.field-0 read.written;
+      is_read = rw (c.in_ok-symbol.ensures.reads, read.is_read, c.in_ok-symbol-2.ensures.reads) refl;
+      operand = moved_operand (meaning_of c.args.names.now) c.in_ok-symbol.field-0 read.written _ _ read.operand;
     }
 
 pub negated-returns-clause-reads : goal.negated-returns-clause-reads
 negated-returns-clause-reads t c =
     let read = c.in_ok-operand_under.ensures.reads in
     record {
-      written = written.Not c.in_ok-at.at read.written;
-      is_read = rw (c.in_ok-at.ensures.reads, read.is_read) refl;
-      operand = negated_operand (meaning_of c.args.names.now) c.in_ok-at.at read.written _ _ _ _ read.operand c.in_ok-expect.ensures (ap expression_of (c.in_ok-operand.ensures.ok ∙ c.take.ensures.expr));
+      written = written.Not c.in_ok-word.field-0 read.written;
+      is_read = rw (c.in_ok-word.ensures.reads, read.is_read) refl;
+      operand = negated_operand (meaning_of c.args.names.now) c.in_ok-word.field-0 read.written _ _ _ read.operand c.in_ok-expect.ensures (ap expression_of (c.in_ok-operand.ensures.ok ∙ c.take.ensures.expr));
     }
 
 pub negative-returns-clause-reads : goal.negative-returns-clause-reads
 negative-returns-clause-reads t c =
     let read = c.in_ok-unary.ensures.reads in
     record {
-      written = written.Negative c.in_ok-at.at read.written;
-      is_read = rw (c.in_ok-at.ensures.reads, read.is_read) refl;
-      operand = negative_operand (meaning_of c.args.names.now) c.in_ok-at.at read.written _ _ _ _ read.operand c.in_ok-expect.ensures (ap expression_of (c.in_ok-operand.ensures.ok ∙ c.take.ensures.expr));
+      written = written.Negative c.in_ok-symbol.field-0 read.written;
+      is_read = rw (c.in_ok-symbol.ensures.reads, read.is_read) refl;
+      operand = negative_operand (meaning_of c.args.names.now) c.in_ok-symbol.field-0 read.written _ _ _ read.operand c.in_ok-expect.ensures (ap expression_of (c.in_ok-operand.ensures.ok ∙ c.take.ensures.expr));
     }
 
 pub called-returns-clause-reads : goal.called-returns-clause-reads
@@ -123,9 +123,9 @@ called-returns-clause-reads t c =
     let first = c.in_ok-expression.ensures.reads in
     let second = c.in_ok-expression-2.ensures.reads in
     record {
-      written = written.Binary c.in_ok-at.at op first.written second.written;
-      is_read = rw (c.in_ok-at.ensures.reads, c.in_ok-symbol.ensures.reads, first.is_read, c.in_ok-symbol-2.ensures.reads, second.is_read, c.in_ok-symbol-3.ensures.reads) refl;
-      operand = called_operand (meaning_of c.args.names.now) c.in_ok-at.at op first.written second.written _ _ _ _ _ _ _ _ first.operand second.operand (rw c.operand_kind.ensures at c.in_ok-expect.ensures) (rw c.right_kind.ensures at c.in_ok-expect-2.ensures) c.in_ok-join.ensures.expr c.in_ok-join.ensures.kind;
+      written = written.Binary c.in_ok-word.field-0 op first.written second.written;
+      is_read = rw (c.in_ok-word.ensures.reads, c.in_ok-symbol.ensures.reads, first.is_read, c.in_ok-symbol-2.ensures.reads, second.is_read, c.in_ok-symbol-3.ensures.reads) refl;
+      operand = called_operand (meaning_of c.args.names.now) c.in_ok-word.field-0 op first.written second.written _ _ _ _ _ _ first.operand second.operand (rw c.operand_kind.ensures at c.in_ok-expect.ensures) (rw c.right_kind.ensures at c.in_ok-expect-2.ensures) c.in_ok-join.ensures.expr c.in_ok-join.ensures.kind;
     }
 
 pub branches-returns-clause-reads : goal.branches-returns-clause-reads
@@ -134,9 +134,9 @@ branches-returns-clause-reads t c =
     let yes = c.in_ok-expression-2.ensures.reads in
     let no = c.in_ok-expression-3.ensures.reads in
     record {
-      written = written.If c.in_ok-at.at test.written yes.written no.written;
-      is_read = rw (c.in_ok-at.ensures.reads, test.is_read, c.in_ok-word.ensures.reads, yes.is_read, c.in_ok-word-2.ensures.reads, no.is_read) refl;
-      operand = chosen_operand (meaning_of c.args.names.now) c.in_ok-at.at test.written yes.written no.written _ _ _ _ _ _ _ _ _ _ _ test.operand yes.operand no.operand c.in_ok-expect.ensures c.in_ok-expect-2.ensures
+      written = written.If c.in_ok-word.field-0 test.written yes.written no.written;
+      is_read = rw (c.in_ok-word.ensures.reads, test.is_read, c.in_ok-word-2.ensures.reads, yes.is_read, c.in_ok-word-3.ensures.reads, no.is_read) refl;
+      operand = chosen_operand (meaning_of c.args.names.now) c.in_ok-word.field-0 test.written yes.written no.written _ _ _ _ _ _ _ _ test.operand yes.operand no.operand c.in_ok-expect.ensures c.in_ok-expect-2.ensures
           (rw (c.into_expr.ensures, c.into_expr-2.ensures, c.take.ensures.expr) at c.in_ok-expr.ensures) c.known_or-kind.ensures;
     }
 
@@ -156,5 +156,5 @@ named-returns-clause-reads t c =
     record {
       written = of_name name (Some index.written);
       is_read = rw (c.in_ok-name.ensures.reads, ← c.begins_symbol.ensures, c.if-not-begins_symbol.false, index.is_read) refl;
-      operand = cell_operand (meaning_of c.args.names.now) name index.written c.in_ok-var-2.var.part _ _ c.in_ok-var-2.var.kind _ _ c.in_ok-var-2.ensures.unbroken c.in_ok-var-2.ensures.numbers c.in_ok-var-2.ensures.kind index.operand c.in_ok-bracketed.ensures.ranged (ap expression_of (c.in_ok-index.ensures.ok ∙ c.take.ensures.expr));
+      operand = cell_operand (meaning_of c.args.names.now) name index.written c.in_ok-var-2.var.part _ _ c.in_ok-var-2.var.kind _ c.in_ok-var-2.ensures.unbroken c.in_ok-var-2.ensures.numbers c.in_ok-var-2.ensures.kind index.operand c.in_ok-bracketed.ensures.ranged (ap expression_of (c.in_ok-index.ensures.ok ∙ c.take.ensures.expr));
     }

@@ -68,6 +68,6 @@ abbrev pub invariant-operators-loop-taken : goal.invariant-operators-loop-taken
 invariant-operators-loop-taken l = record {
   few : length l.cursor ≤ length l.fn.cursor;
   below : IfSome l.taken (λ i. i.level + 1 ≤ l.under);
-  climbed : (least : ℕ) (before : List Lexeme) → IsTaken l.under least (Some (infix_of l.fn.first)) before l.fn.cursor → (e : WrittenExpression) → IsOperand (meaning_of l.names) e (expression_of l.fn.read.expr) l.fn.read.kind l.fn.read.at
-      → ClimbedTo (meaning_of l.names) l.under (climb l.under least e before) (option_map infix_of l.taken) l.cursor (expression_of l.read.expr) l.read.kind l.read.at;
+  climbed : (least : ℕ) (before : List Lexeme) → IsTaken l.under least (Some (infix_of l.fn.first)) before l.fn.cursor → (e : WrittenExpression) → IsOperand (meaning_of l.names) e (expression_of l.fn.read.expr) l.fn.read.kind
+      → ClimbedTo (meaning_of l.names) l.under (climb l.under least e before) (option_map infix_of l.taken) l.cursor (expression_of l.read.expr) l.read.kind;
 }
