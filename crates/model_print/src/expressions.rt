@@ -47,6 +47,12 @@ fn level(expr: &Expr) -> u8
 fn put_operand<P: Pen>(out: &mut P, model: &Model, asked: u8, expr: &Expr)
     ensures { P.adds out.old out.new (operand asked (expression_of expr.now) (expression_text (graph_of model.now) (expression_of expr.now))) }
 {
+    // Most operands are variables: such a name is put without a call.
+    if let Expr::Scalar(var) = expr
+        && asked <= CALL_LEVEL
+    {
+        return put_variable_name(out, model, *var);
+    }
     if level(expr) < asked {
         out.put_bytes(b"(");
         put_expression(out, model, expr);
