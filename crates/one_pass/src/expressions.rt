@@ -262,13 +262,15 @@ fn least_behind(is_negated: bool) -> usize
 }
 
 /// Joins a right operand to a left one, with an operator between them.
+#[inline(always)]
 fn join(alloc: Global, left: &mut Operand, op: Op, right: Operand) -> Result<(), NotRead>
     ensures expr { IfOk result (λ u. expression_of left.new.expr ≡ Binary (operator_of op) (expression_of left.old.expr) (expression_of right.expr)) }
     ensures kind { IfOk result (λ u. left.new.kind ≡ Some (kinds.result_kind (operator_of op))) }
 {
-    let expr = Expr::binary(alloc, op, left.take(), right.into_expr())?;
+    let first = Box::new(alloc, left.take())?;
+    let second = Box::new(alloc, right.into_expr())?;
     *left = Operand {
-        expr,
+        expr: Expr::Binary(op, first, second),
         kind: Some(result_kind(op)),
     };
     Ok(())
