@@ -2,3 +2,4 @@
 pub mod LineFormats
 pub mod Cancels
 pub mod Versions
+pub mod CountedTokens

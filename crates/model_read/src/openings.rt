@@ -4,7 +4,9 @@ ghost use Rattle.std.specs.Prelude.{◌≡◌, ◌<◌, ◌≤◌, ℕ, List, le
 ghost use Rattle.std.specs.Option.{IfSome};
 ghost use Rattle.model_core.specs.declared.token.Token.{Token};
 ghost use Rattle.model_core.specs.Code.TokenViews.{lexeme_kind_of, lexeme_of};
-ghost use Rattle.model_core.specs.Text.Openings.{ends_part, is_opening, too_deep_at, front_to_end};
+ghost use Rattle.model_core.specs.Text.Lexing.{Mark};
+ghost use Rattle.model_core.specs.Text.Openings.{ends_part, too_deep_at, front_to_end};
+ghost use Rattle.model_read.specs.Inner.CountedTokens.{IsCounted};
 
 use model_core::{Symbol, Token, TokenKind, Word};
 
@@ -18,32 +20,54 @@ fn ends_part(kind: TokenKind) -> bool
     }
 }
 
-/// Whether a token of the kind counts as an opening.
-fn opens(kind: TokenKind) -> bool
-    ensures { (bytes : List ℕ) → result ≡ is_opening (lexeme_kind_of bytes kind) }
+/// What a token is to a count of openings: the end of a part, an opening, or neither.
+#[derive(Clone, Copy)]
+enum Counted {
+    End,
+    Opening,
+    Other,
+}
+
+/// What a symbol is to a count of openings.
+#[inline(always)]
+fn count_of_symbol(symbol: Symbol) -> Counted
+    ensures { IsCounted result (Mark symbol) }
+{
+    match symbol {
+        Symbol::Equal
+        | Symbol::NotEqual
+        | Symbol::Below
+        | Symbol::AtMost
+        | Symbol::Above
+        | Symbol::AtLeast
+        | Symbol::Plus
+        | Symbol::Minus
+        | Symbol::Times
+        | Symbol::Over
+        | Symbol::Percent
+        | Symbol::OpenParenthesis
+        | Symbol::OpenBracket => Counted::Opening,
+        Symbol::Semicolon | Symbol::OpenBrace | Symbol::CloseBrace => Counted::End,
+        Symbol::Comma
+        | Symbol::Colon
+        | Symbol::Becomes
+        | Symbol::To
+        | Symbol::CloseParenthesis
+        | Symbol::CloseBracket => Counted::Other,
+    }
+}
+
+/// What a token of the kind is to a count of openings.
+#[inline(always)]
+fn count_of(kind: TokenKind) -> Counted
+    ensures { (bytes : List ℕ) → IsCounted result (lexeme_kind_of bytes kind) }
 {
     match kind {
-        TokenKind::Name | TokenKind::Number(_) => false,
+        TokenKind::Symbol(symbol) => count_of_symbol(symbol),
         TokenKind::Word(Word::Or | Word::And | Word::Not | Word::If | Word::Min | Word::Max) => {
-            true
+            Counted::Opening
         }
-        TokenKind::Word(_) => false,
-        TokenKind::Symbol(
-            Symbol::Equal
-            | Symbol::NotEqual
-            | Symbol::Below
-            | Symbol::AtMost
-            | Symbol::Above
-            | Symbol::AtLeast
-            | Symbol::Plus
-            | Symbol::Minus
-            | Symbol::Times
-            | Symbol::Over
-            | Symbol::Percent
-            | Symbol::OpenParenthesis
-            | Symbol::OpenBracket,
-        ) => true,
-        TokenKind::Symbol(_) => false,
+        TokenKind::Word(_) | TokenKind::Name | TokenKind::Number(_) => Counted::Other,
     }
 }
 
@@ -83,13 +107,15 @@ fn counted_too_deep(tokens: &[Token], limit: usize) -> Option<usize>
 {
     let mut room = limit;
     for token in tokens {
-        if ends_part(token.kind) {
-            room = limit;
-        } else if opens(token.kind) {
-            if room == 0 {
-                return Some(token.from);
+        match count_of(token.kind) {
+            Counted::Opening => {
+                if room == 0 {
+                    return Some(token.from);
+                }
+                room -= 1;
             }
-            room -= 1;
+            Counted::End => room = limit,
+            Counted::Other => {}
         }
     }
     None

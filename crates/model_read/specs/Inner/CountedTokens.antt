@@ -1,0 +1,20 @@
+-- What a token is to a count of openings.
+use Rattle.std.specs.Prelude.{◌≡◌, Bool, true, false}
+use Rattle.model_core.specs.Text.Lexing.{LexemeKind}
+use Rattle.model_core.specs.Text.Openings.{ends_part, is_opening}
+use Rattle.model_read.specs.declared.openings.Counted.{Counted}
+use Rattle.model_read.specs.declared.openings.Counted.TheVariants.{End, Opening, Other}
+
+abbrev pub is_end : Counted → Bool
+is_end End = true
+is_end Opening = false
+is_end Other = false
+
+abbrev pub opens : Counted → Bool
+opens End = false
+opens Opening = true
+opens Other = false
+
+-- it is told rightly of a token of this kind
+abbrev pub IsCounted : Counted → LexemeKind → Type 0
+IsCounted c kind = (is_end c ≡ ends_part kind) × (opens c ≡ is_opening kind)
