@@ -61,6 +61,45 @@ fn replay<L: Ledger>(
     }
 }
 
+/// The same of a vertex that alone has an event, or had the last one.
+fn replay_alone(heaps: &Heaps, tournament: &mut Tournament, vertex: usize)
+    requires games { (u : ℕ) → u ≢ vertex → slice_index_or tournament.old u None ≡ option_map key_of (top_of heaps.now u) }
+    requires alone { (u : ℕ) → u ≢ vertex → slice_index_or tournament.old u None ≡ None }
+    requires vertices { length tournament.old ≡ length heaps.now.tops }
+    ensures games { (u : ℕ) → slice_index_or tournament.new u None ≡ option_map key_of (top_of heaps.now u) }
+    ensures vertices { length tournament.new ≡ length heaps.now.tops }
+{
+    if vertex < tournament.vertices() {
+        match heaps.first_key(vertex) {
+            Some(key) => tournament.set_alone(vertex, Some(key)),
+            None => tournament.clear_alone(vertex),
+        }
+    }
+}
+
+/// The same, where it is known whether another vertex has an event.
+#[inline(always)]
+fn replay_known<L: Ledger>(
+    heaps: &Heaps,
+    tournament: &mut Tournament,
+    vertex: usize,
+    is_alone: bool,
+    steps: &mut Steps<L>,
+)
+    requires games { (u : ℕ) → u ≢ vertex → slice_index_or tournament.old u None ≡ option_map key_of (top_of heaps.now u) }
+    requires alone { is_alone ≡ true → (u : ℕ) → u ≢ vertex → slice_index_or tournament.old u None ≡ None }
+    requires vertices { length tournament.old ≡ length heaps.now.tops }
+    ensures games { (u : ℕ) → slice_index_or tournament.new u None ≡ option_map key_of (top_of heaps.now u) }
+    ensures vertices { length tournament.new ≡ length heaps.now.tops }
+    ensures ticks { (d : ℕ) → length heaps.now.tops ≤ 2 ^ d → steps.new ≤ steps.old + d }
+{
+    if is_alone {
+        replay_alone(heaps, tournament, vertex);
+    } else {
+        replay(heaps, tournament, vertex, steps);
+    }
+}
+
 /// The vertex of the next event, or `None` where there is no event.
 fn next_vertex(heaps: &Heaps, tournament: &Tournament) -> Option<usize>
     requires { (u : ℕ) → slice_index_or tournament.now u None ≡ option_map key_of (top_of heaps.now u) }
@@ -129,9 +168,17 @@ impl Pending for HeapPending {
         ensures vertices { self.new.vertices ≡ self.old.vertices }
         ensures ticks { steps.new ≤ steps.old + (3 * (digits (length self.old.entries) + 1) + digits self.old.vertices) }
     {
+        self.heaps.tell();
+        let is_first = self.heaps.count() == 0;
         self.heaps.add(self.numbered, entry, steps);
         self.numbered += 1;
-        replay(&self.heaps, &mut self.tournament, entry.vertex, steps);
+        replay_known(
+            &self.heaps,
+            &mut self.tournament,
+            entry.vertex,
+            is_first,
+            steps,
+        );
     }
 
     fn first(&self) -> Option<First> {
@@ -181,7 +228,9 @@ impl Pending for HeapPending {
         if self.heaps.take(vertex, steps) == 0 {
             unreachable!()
         }
-        replay(&self.heaps, &mut self.tournament, vertex, steps);
+        self.heaps.tell();
+        let was_last = self.heaps.count() == 0;
+        replay_known(&self.heaps, &mut self.tournament, vertex, was_last, steps);
     }
 
     /// Deletes the next event of a vertex, by few comparisons of keys, and answers how many were deleted.
