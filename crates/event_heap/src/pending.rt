@@ -1,6 +1,6 @@
 //! The pending list of a run in heaps.
 
-ghost use Rattle.std.specs.Prelude.{◌≡◌, ◌≢◌, ℕ, ◌+◌, ◌*◌, ◌^◌, ◌<◌, ◌≤◌, length, [], ◌∷◌, ◌++◌, Some, None, IsSome, true, IfOk, slice_index_or};
+ghost use Rattle.std.specs.Prelude.{◌≡◌, ◌≢◌, ℕ, ◌+◌, ◌*◌, ◌^◌, ◌<◌, ◌≤◌, length, [], ◌∷◌, ◌++◌, Some, None, IsSome, true, false, IfOk, slice_set, slice_index_or};
 ghost use Rattle.std.specs.Option.{option_map};
 ghost use Rattle.model_core.specs.Run.Pending.{next_entry, without_next, is_of};
 ghost use Rattle.event_heap.specs.Inner.Tree.{key_of};
@@ -9,7 +9,7 @@ ghost use Rattle.event_heap.specs.Inner.Kept.{IsNextVertex};
 ghost use Rattle.event_heap.specs.BinaryLength.{digits};
 
 use crate::heaps::Heaps;
-use event_list::{Entry, First, Pending};
+use event_list::{Entry, First, Key, Pending};
 use sig_base::{Carried, NoMemory, Steps};
 use std::alloc::Global;
 use std::marker::Model;
@@ -100,6 +100,54 @@ fn replay_known<L: Ledger>(
     }
 }
 
+/// Puts the key of an event that is now the first of its vertex, and plays the games of this vertex. Not inlined, so that
+/// they are played where they stand once.
+#[inline(never)]
+fn play_first<L: Ledger>(
+    tournament: &mut Tournament,
+    entry: &Entry,
+    number: u64,
+    steps: &mut Steps<L>,
+)
+    requires known { entry.now.vertex < length tournament.old }
+    ensures keys { tournament.new ≡ slice_set tournament.old entry.now.vertex (Some (key_of (record { number = number; entry = entry.now }))) }
+    ensures ticks { (d : ℕ) → length tournament.old ≤ 2 ^ d → steps.new ≤ steps.old + d }
+{
+    let key = Key::new(entry.time, entry.priority, number);
+    tournament.set(entry.vertex, Some(key), steps);
+}
+
+/// Plays the games of a vertex into whose heap an event came, where they may change.
+#[inline(always)]
+fn replay_added<L: Ledger>(
+    heaps: &Heaps,
+    tournament: &mut Tournament,
+    entry: &Entry,
+    number: u64,
+    leads: bool,
+    is_alone: bool,
+    steps: &mut Steps<L>,
+)
+    requires known { entry.now.vertex < length tournament.old }
+    requires games { (u : ℕ) → u ≢ entry.now.vertex → slice_index_or tournament.old u None ≡ option_map key_of (top_of heaps.now u) }
+    requires leads { leads ≡ true → top_of heaps.now entry.now.vertex ≡ Some (record { number = number; entry = entry.now }) }
+    requires follows { leads ≡ false → slice_index_or tournament.old entry.now.vertex None ≡ option_map key_of (top_of heaps.now entry.now.vertex) }
+    requires alone { is_alone ≡ true → (u : ℕ) → u ≢ entry.now.vertex → slice_index_or tournament.old u None ≡ None }
+    requires vertices { length tournament.old ≡ length heaps.now.tops }
+    ensures games { (u : ℕ) → slice_index_or tournament.new u None ≡ option_map key_of (top_of heaps.now u) }
+    ensures vertices { length tournament.new ≡ length heaps.now.tops }
+    ensures ticks { (d : ℕ) → length heaps.now.tops ≤ 2 ^ d → steps.new ≤ steps.old + d }
+{
+    if leads {
+        if is_alone {
+            let key = Key::new(entry.time, entry.priority, number);
+            tournament.set_alone(entry.vertex, Some(key));
+        } else {
+            play_first(tournament, entry, number, steps);
+        }
+    }
+}
+
 /// The vertex of the next event, or `None` where there is no event.
 fn next_vertex(heaps: &Heaps, tournament: &Tournament) -> Option<usize>
     requires { (u : ℕ) → slice_index_or tournament.now u None ≡ option_map key_of (top_of heaps.now u) }
@@ -170,12 +218,15 @@ impl Pending for HeapPending {
     {
         self.heaps.tell();
         let is_first = self.heaps.count() == 0;
-        self.heaps.add(self.numbered, entry, steps);
+        let number = self.numbered;
+        let leads = self.heaps.add(number, entry, steps);
         self.numbered += 1;
-        replay_known(
+        replay_added(
             &self.heaps,
             &mut self.tournament,
-            entry.vertex,
+            entry,
+            number,
+            leads,
             is_first,
             steps,
         );

@@ -53,6 +53,7 @@ impl Tournament {
     }
 
     /// Puts a vertex's next key in place of the one before, and plays its games again.
+    #[inline(always)]
     pub fn set<L: Ledger>(&mut self, vertex: usize, key: Option<Key>, steps: &mut Steps<L>)
         requires { vertex < length self.old }
         ensures keys { self.new ≡ slice_set self.old vertex key }
