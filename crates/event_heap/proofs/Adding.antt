@@ -112,7 +112,7 @@ module _ (old mid : List Node) (roots : List (Option ℕ)) (free later : Option 
     times_in-grown : (q : ℕ) → times_in q (merged_heap (trees v) (Fork i x Leaf Leaf)) ≡ times_in q (trees v) + cond (q == i) 1 0
     times_in-grown q = let parts = times_in-merged q (trees v) (Fork i x Leaf Leaf) in omega arith
 
-    item_i : item_at new i ≡ Some x
+    pub item_i : item_at new i ≡ Some x
     item_i = item-same new mid i b.items ∙ ap (λ n. n.item) k.node
 
     item_q : (q : ℕ) → q ≢ i → item_at new q ≡ item_at old q

@@ -15,7 +15,7 @@ use Rattle.event_heap.specs.Inner.Kept.{IsNextVertex}
 use Rattle.event_heap.specs.BinaryLength.{digits_within, digits}
 use Rattle.tournament.specs.Top.{IsTop}
 use Rattle.event_heap.proofs.TreeLaws.{first_along}
-use Rattle.event_heap.proofs.ListedLaws.{next-placed, none-passes, placed-last, each-placed, each-weaker}
+use Rattle.event_heap.proofs.ListedLaws.{length-placed, next-placed, none-passes, placed-last, each-placed, each-weaker}
 use Rattle.event_heap.proofs.HeldLaws.{one-less}
 use Rattle.event_heap.proofs.Arriving.{each-of_placed}
 
@@ -30,6 +30,15 @@ pub rest-is : (test : Entry → Bool) (events rest : List Item) (o : Option Item
 rest-is test events rest None h = rw (none-passes test events h.1) (ap entries_of h.0)
 rest-is test events rest (Some x) h =
     sym (ap (λ xs. without_next test (entries_of xs)) h.is ∙ ap (λ o. unwrap_or (option_map (λ (n : TakenOff). n.others) o) (entries_of (placed x rest))) (next-placed test x rest h.passes h.rising h.first))
+
+-- ---- without events no vertex has a key
+
+pub no-next : (test : Entry → Bool) (events : List Item) (o : Option Item) → length events ≡ 0 → IsNext test events o → o ≡ None
+no-next test events None e h = refl
+no-next test events (Some x) e (rest, n) = let more = ap length n.is ∙ length-placed x rest in absurd (omega arith)
+
+pub keyless : (heaps : Held) (keys : List (Option KeyParts)) (u : ℕ) → get_or keys u None ≡ option_map key_of (top_of heaps u) → IsNext (is_of u) heaps.events (top_of heaps u) → length heaps.events ≡ 0 → get_or keys u None ≡ None
+keyless heaps keys u game next e = game ∙ ap (option_map key_of) (no-next (is_of u) heaps.events (top_of heaps u) e next)
 
 -- ---- the vertex at the top has the next event
 

@@ -1,6 +1,6 @@
 //! The pending list of a run in heaps.
 
-ghost use Rattle.std.specs.Prelude.{◌≡◌, ◌≢◌, ℕ, ◌+◌, ◌*◌, ◌^◌, ◌<◌, ◌≤◌, length, [], ◌∷◌, ◌++◌, Some, None, IsSome, true, IfOk, slice_index_or};
+ghost use Rattle.std.specs.Prelude.{◌≡◌, ◌≢◌, ℕ, ◌+◌, ◌*◌, ◌^◌, ◌<◌, ◌≤◌, length, [], ◌∷◌, ◌++◌, Some, None, IsSome, true, false, IfOk, slice_set, slice_index_or};
 ghost use Rattle.std.specs.Option.{option_map};
 ghost use Rattle.model_core.specs.Run.Pending.{next_entry, without_next, is_of};
 ghost use Rattle.event_heap.specs.Inner.Tree.{key_of};
@@ -9,7 +9,7 @@ ghost use Rattle.event_heap.specs.Inner.Kept.{IsNextVertex};
 ghost use Rattle.event_heap.specs.BinaryLength.{digits};
 
 use crate::heaps::Heaps;
-use event_list::{Entry, First, Pending};
+use event_list::{Entry, First, Key, Pending};
 use sig_base::{Carried, NoMemory, Steps};
 use std::alloc::Global;
 use std::marker::Model;
@@ -58,6 +58,93 @@ fn replay<L: Ledger>(
     if vertex < tournament.vertices() {
         let key = heaps.first_key(vertex);
         tournament.set(vertex, key, steps);
+    }
+}
+
+/// The same of a vertex that alone has an event, or had the last one.
+fn replay_alone(heaps: &Heaps, tournament: &mut Tournament, vertex: usize)
+    requires games { (u : ℕ) → u ≢ vertex → slice_index_or tournament.old u None ≡ option_map key_of (top_of heaps.now u) }
+    requires alone { (u : ℕ) → u ≢ vertex → slice_index_or tournament.old u None ≡ None }
+    requires vertices { length tournament.old ≡ length heaps.now.tops }
+    ensures games { (u : ℕ) → slice_index_or tournament.new u None ≡ option_map key_of (top_of heaps.now u) }
+    ensures vertices { length tournament.new ≡ length heaps.now.tops }
+{
+    if vertex < tournament.vertices() {
+        match heaps.first_key(vertex) {
+            Some(key) => tournament.set_alone(vertex, Some(key)),
+            None => tournament.clear_alone(vertex),
+        }
+    }
+}
+
+/// The same, where it is known whether another vertex has an event.
+#[inline(always)]
+fn replay_known<L: Ledger>(
+    heaps: &Heaps,
+    tournament: &mut Tournament,
+    vertex: usize,
+    is_alone: bool,
+    steps: &mut Steps<L>,
+)
+    requires games { (u : ℕ) → u ≢ vertex → slice_index_or tournament.old u None ≡ option_map key_of (top_of heaps.now u) }
+    requires alone { is_alone ≡ true → (u : ℕ) → u ≢ vertex → slice_index_or tournament.old u None ≡ None }
+    requires vertices { length tournament.old ≡ length heaps.now.tops }
+    ensures games { (u : ℕ) → slice_index_or tournament.new u None ≡ option_map key_of (top_of heaps.now u) }
+    ensures vertices { length tournament.new ≡ length heaps.now.tops }
+    ensures ticks { (d : ℕ) → length heaps.now.tops ≤ 2 ^ d → steps.new ≤ steps.old + d }
+{
+    if is_alone {
+        replay_alone(heaps, tournament, vertex);
+    } else {
+        replay(heaps, tournament, vertex, steps);
+    }
+}
+
+/// Puts the key of an event that is now the first of its vertex, and plays the games of this vertex. Not inlined, so that
+/// they are played where they stand once.
+#[inline(never)]
+fn play_first<L: Ledger>(
+    tournament: &mut Tournament,
+    entry: &Entry,
+    number: u64,
+    steps: &mut Steps<L>,
+)
+    requires known { entry.now.vertex < length tournament.old }
+    ensures keys { tournament.new ≡ slice_set tournament.old entry.now.vertex (Some (key_of (record { number = number; entry = entry.now }))) }
+    ensures ticks { (d : ℕ) → length tournament.old ≤ 2 ^ d → steps.new ≤ steps.old + d }
+{
+    let key = Key::new(entry.time, entry.priority, number);
+    tournament.set(entry.vertex, Some(key), steps);
+}
+
+/// Plays the games of a vertex into whose heap an event came, where they may change.
+#[inline(always)]
+fn replay_added<L: Ledger>(
+    heaps: &Heaps,
+    tournament: &mut Tournament,
+    entry: &Entry,
+    number: u64,
+    leads: bool,
+    is_alone: bool,
+    steps: &mut Steps<L>,
+)
+    requires known { entry.now.vertex < length tournament.old }
+    requires games { (u : ℕ) → u ≢ entry.now.vertex → slice_index_or tournament.old u None ≡ option_map key_of (top_of heaps.now u) }
+    requires leads { leads ≡ true → top_of heaps.now entry.now.vertex ≡ Some (record { number = number; entry = entry.now }) }
+    requires follows { leads ≡ false → slice_index_or tournament.old entry.now.vertex None ≡ option_map key_of (top_of heaps.now entry.now.vertex) }
+    requires alone { is_alone ≡ true → (u : ℕ) → u ≢ entry.now.vertex → slice_index_or tournament.old u None ≡ None }
+    requires vertices { length tournament.old ≡ length heaps.now.tops }
+    ensures games { (u : ℕ) → slice_index_or tournament.new u None ≡ option_map key_of (top_of heaps.now u) }
+    ensures vertices { length tournament.new ≡ length heaps.now.tops }
+    ensures ticks { (d : ℕ) → length heaps.now.tops ≤ 2 ^ d → steps.new ≤ steps.old + d }
+{
+    if leads {
+        if is_alone {
+            let key = Key::new(entry.time, entry.priority, number);
+            tournament.set_alone(entry.vertex, Some(key));
+        } else {
+            play_first(tournament, entry, number, steps);
+        }
     }
 }
 
@@ -129,9 +216,20 @@ impl Pending for HeapPending {
         ensures vertices { self.new.vertices ≡ self.old.vertices }
         ensures ticks { steps.new ≤ steps.old + (3 * (digits (length self.old.entries) + 1) + digits self.old.vertices) }
     {
-        self.heaps.add(self.numbered, entry, steps);
+        self.heaps.tell();
+        let is_first = self.heaps.count() == 0;
+        let number = self.numbered;
+        let leads = self.heaps.add(number, entry, steps);
         self.numbered += 1;
-        replay(&self.heaps, &mut self.tournament, entry.vertex, steps);
+        replay_added(
+            &self.heaps,
+            &mut self.tournament,
+            entry,
+            number,
+            leads,
+            is_first,
+            steps,
+        );
     }
 
     fn first(&self) -> Option<First> {
@@ -181,7 +279,9 @@ impl Pending for HeapPending {
         if self.heaps.take(vertex, steps) == 0 {
             unreachable!()
         }
-        replay(&self.heaps, &mut self.tournament, vertex, steps);
+        self.heaps.tell();
+        let was_last = self.heaps.count() == 0;
+        replay_known(&self.heaps, &mut self.tournament, vertex, was_last, steps);
     }
 
     /// Deletes the next event of a vertex, by few comparisons of keys, and answers how many were deleted.

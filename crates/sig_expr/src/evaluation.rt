@@ -67,6 +67,32 @@ fn plain_value(model: &Model, expr: &Expr, state: &State) -> Option<i64>
     None
 }
 
+/// The value of an operator between numbers and scalars, and `None` where it faults, and of any other expression. It comes
+/// in two registers, where a fault would want a place in memory.
+#[inline(never)]
+fn operator_value(model: &Model, expr: &Expr, state: &State) -> Option<i64>
+    requires possible { PossibleExpression (graph_of model.now) (expression_of expr.now) }
+    requires inside { IsTrue (in_range (graph_of model.now) state.now) }
+    ensures { (clk : ℕ) → IfSome result (λ x. value_of (graph_of model.now) state.now clk (expression_of expr.now) ≡ Ok x) }
+{
+    let Expr::Binary(op, left, right) = expr else {
+        return None;
+    };
+    let Some(a) = plain_value(model, left, state) else {
+        return None;
+    };
+    let Some(b) = plain_value(model, right, state) else {
+        return None;
+    };
+    if is_decided(*op, a) {
+        return Some(a);
+    }
+    match operate(*op, a, b) {
+        Ok(x) => Some(x),
+        Err(_) => None,
+    }
+}
+
 /// The value of an expression in a state and at a clock's time in ticks, or its first fault from left to right. Numbers and
 /// scalars, which are most expressions, are answered without a call.
 #[cycle(evaluation)]
@@ -84,27 +110,19 @@ pub fn value(model: &Model, expr: &Expr, state: &State, clk: u64) -> Result<i64,
     }
 }
 
-/// The same, of any expression. An operator between numbers and scalars is answered without a further call.
+/// The same, of any expression. An operator between numbers and scalars is tried first.
 #[cycle(evaluation)]
+#[inline(always)]
 fn evaluate(model: &Model, expr: &Expr, state: &State, clk: u64) -> Result<i64, FaultKind>
     requires possible { PossibleExpression (graph_of model.now) (expression_of expr.now) }
     requires inside { IsTrue (in_range (graph_of model.now) state.now) }
     requires soon { clk ≤ 2 ^ 48 }
     ensures { result ≡ value_of (graph_of model.now) state.now clk (expression_of expr.now) }
 {
-    let Expr::Binary(op, left, right) = expr else {
-        return evaluate_parts(model, expr, state, clk);
-    };
-    let Some(a) = plain_value(model, left, state) else {
-        return evaluate_parts(model, expr, state, clk);
-    };
-    let Some(b) = plain_value(model, right, state) else {
-        return evaluate_parts(model, expr, state, clk);
-    };
-    if is_decided(*op, a) {
-        return Ok(a);
+    if let Some(x) = operator_value(model, expr, state) {
+        return Ok(x);
     }
-    operate(*op, a, b)
+    evaluate_parts(model, expr, state, clk)
 }
 
 /// The same, part by part.

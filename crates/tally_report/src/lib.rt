@@ -12,6 +12,7 @@ mod tallying;
 mod total_laws;
 mod totals;
 mod worked_report;
+mod written_rows;
 
 pub use item::{Item, Span};
 pub use report::{header_csv, run_csv, totals_csv};

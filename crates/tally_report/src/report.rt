@@ -7,9 +7,10 @@ ghost use Rattle.tally_report.specs.ReportText.{cell_name, names_of_variable, na
 ghost use Rattle.tally_report.specs.Inner.Headings.{heading_of};
 
 use crate::item::Item;
-use crate::rows::{RowHead, put_next, row};
+use crate::rows::{RowHead, put_next};
 use crate::run_tally::{RunEnd, RunTally};
 use crate::totals::Totals;
+use crate::written_rows::WrittenRows;
 use itoa::Buffer;
 use model_core::{Model, Var, Watch};
 use sig_base::{NoMemory, Text, put_bytes, put_number};
@@ -29,13 +30,13 @@ fn cell_name(alloc: Global, name: &[u8], index: usize) -> Result<Vec<u8>, NoMemo
 /// Puts the rows of the cells of an array, which are the first of these items. Gives the others.
 fn put_cells<'i>(
     alloc: Global,
-    out: &mut Vec<u8>,
+    out: &mut WrittenRows,
     head: &RowHead,
     name: &[u8],
     size: usize,
     items: &'i [Item],
 ) -> Result<&'i [Item], NoMemory>
-    ensures rows { OnOk result (out.new.items ≡ out.old.items ++ item_rows (heading_of head.now) (map (cell_name name.now) (range_with_len 0 size)) items.now) }
+    ensures rows { OnOk result (out.new ≡ out.old ++ item_rows (heading_of head.now) (map (cell_name name.now) (range_with_len 0 size)) items.now) }
     ensures left { IfOk result (λ left. left.now ≡ drop size items.now) }
 {
     let mut left = items;
@@ -49,12 +50,12 @@ fn put_cells<'i>(
 /// Puts the rows of a variable, whose items are the first of these. Gives the others.
 fn put_variable<'i>(
     alloc: Global,
-    out: &mut Vec<u8>,
+    out: &mut WrittenRows,
     head: &RowHead,
     var: &Var,
     items: &'i [Item],
 ) -> Result<&'i [Item], NoMemory>
-    ensures rows { OnOk result (out.new.items ≡ out.old.items ++ item_rows (heading_of head.now) (names_of_variable (variable_of var.now)) items.now) }
+    ensures rows { OnOk result (out.new ≡ out.old ++ item_rows (heading_of head.now) (names_of_variable (variable_of var.now)) items.now) }
     ensures left { IfOk result (λ left. left.now ≡ drop (length (names_of_variable (variable_of var.now))) items.now) }
 {
     if var.size == 0 {
@@ -66,13 +67,13 @@ fn put_variable<'i>(
 /// Puts the rows of something watched, whose items are the first of these. Gives the others.
 fn put_watched<'i>(
     alloc: Global,
-    out: &mut Vec<u8>,
+    out: &mut WrittenRows,
     head: &RowHead,
     model: &Model,
     watch: Watch,
     items: &'i [Item],
 ) -> Result<&'i [Item], NoMemory>
-    ensures rows { OnOk result (out.new.items ≡ out.old.items ++ item_rows (heading_of head.now) (names_watched (graph_of model.now) (watched_of watch)) items.now) }
+    ensures rows { OnOk result (out.new ≡ out.old ++ item_rows (heading_of head.now) (names_watched (graph_of model.now) (watched_of watch)) items.now) }
     ensures left { IfOk result (λ left. left.now ≡ drop (length (names_watched (graph_of model.now) (watched_of watch))) items.now) }
 {
     match watch {
@@ -87,12 +88,12 @@ fn put_watched<'i>(
 /// Puts the rows of all items.
 fn put_items(
     alloc: Global,
-    out: &mut Vec<u8>,
+    out: &mut WrittenRows,
     head: &RowHead,
     model: &Model,
     items: &[Item],
 ) -> Result<(), NoMemory>
-    ensures { OnOk result (out.new.items ≡ out.old.items ++ item_rows (heading_of head.now) (item_names (graph_of model.now)) items.now) }
+    ensures { OnOk result (out.new ≡ out.old ++ item_rows (heading_of head.now) (item_names (graph_of model.now)) items.now) }
 {
     let mut left = items;
     for watch in model.watch.as_slice() {
@@ -117,7 +118,8 @@ fn end_word(end: RunEnd) -> &'static [u8]
 pub fn header_csv(alloc: Global) -> Result<Text, NoMemory>
     ensures { IfOk result (λ text. text ≡ header_row) }
 {
-    let text = row(
+    let mut rows = WrittenRows::begin(alloc);
+    rows.put(
         alloc,
         &[
             b"run",
@@ -132,7 +134,7 @@ pub fn header_csv(alloc: Global) -> Result<Text, NoMemory>
             b"count",
         ],
     )?;
-    Ok(Text::from_vec(text))
+    Ok(Text::from_vec(rows.into_text()?))
 }
 
 /// The rows of the run of a model of this number, which counts from 1, and with this seed.
@@ -145,7 +147,7 @@ pub fn run_csv(
 ) -> Result<Text, NoMemory>
     ensures { IfOk result (λ text. text ≡ run_rows (graph_of model.now) number seed run.now) }
 {
-    let mut out = Vec::new(alloc);
+    let mut out = WrittenRows::begin(alloc);
     let mut number_digits = Buffer::new();
     let mut seed_digits = Buffer::new();
     let mut time_digits = Buffer::new();
@@ -157,14 +159,14 @@ pub fn run_csv(
         last: true,
     };
     put_items(alloc, &mut out, &head, model, run.items.as_slice())?;
-    Ok(Text::from_vec(out))
+    Ok(Text::from_vec(out.into_text()?))
 }
 
 /// The rows of the totals of runs of a model.
 pub fn totals_csv(alloc: Global, model: &Model, totals: &Totals) -> Result<Text, NoMemory>
     ensures { IfOk result (λ text. text ≡ total_rows (graph_of model.now) totals.now) }
 {
-    let mut out = Vec::new(alloc);
+    let mut out = WrittenRows::begin(alloc);
     let head = RowHead {
         run: b"total",
         seed: b"",
@@ -173,5 +175,5 @@ pub fn totals_csv(alloc: Global, model: &Model, totals: &Totals) -> Result<Text,
         last: false,
     };
     put_items(alloc, &mut out, &head, model, totals.items())?;
-    Ok(Text::from_vec(out))
+    Ok(Text::from_vec(out.into_text()?))
 }

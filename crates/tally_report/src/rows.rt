@@ -1,13 +1,13 @@
 //! The rows of a report.
 
-ghost use Rattle.std.specs.Prelude.{◌≡◌, ◌++◌, ◌∷◌, [], cond, drop, map, IfOk, OnOk};
+ghost use Rattle.std.specs.Prelude.{◌≡◌, ◌++◌, ◌∷◌, [], cond, drop, IfOk, OnOk};
 ghost use Rattle.std.specs.Fmt.{signed_decimal};
 ghost use Rattle.tally_report.specs.declared.item.Item.TheVariants.{Cell as CellItem, Count as CountItem};
-ghost use Rattle.tally_report.specs.ReportText.{row_of_fields, item_row, item_rows};
+ghost use Rattle.tally_report.specs.ReportText.{item_row, item_rows};
 ghost use Rattle.tally_report.specs.Inner.Headings.{heading_of};
 
 use crate::item::{Item, Span};
-use csv::WriterBuilder;
+use crate::written_rows::WrittenRows;
 use itoa::Buffer;
 use sig_base::NoMemory;
 use std::alloc::Global;
@@ -20,28 +20,6 @@ pub(crate) struct RowHead<'b> {
     pub outcome: &'b [u8],
     pub time: &'b [u8],
     pub last: bool,
-}
-
-/// The text of a row.
-pub(crate) fn row(alloc: Global, fields: &[&[u8]]) -> Result<Vec<u8>, NoMemory>
-    ensures { IfOk result (λ text. text.items ≡ row_of_fields (map (λ f. f.now) fields.now)) }
-{
-    let mut writer = WriterBuilder::new().from_writer(Vec::new(alloc));
-    if writer.write_fields(fields).is_err() {
-        return Err(NoMemory);
-    }
-    match writer.into_inner() {
-        Ok(text) => Ok(text),
-        Err(_) => Err(NoMemory),
-    }
-}
-
-/// Puts a row.
-fn put_row(alloc: Global, out: &mut Vec<u8>, fields: &[&[u8]]) -> Result<(), NoMemory>
-    ensures { OnOk result (out.new.items ≡ out.old.items ++ row_of_fields (map (λ f. f.now) fields.now)) }
-{
-    out.extend_from_slice(row(alloc, fields)?.as_slice())?;
-    Ok(())
 }
 
 /// A number in decimal, where it is told.
@@ -58,21 +36,20 @@ fn digits_if(buffer: &mut Buffer, told: bool, value: i64) -> &[u8]
 /// Puts the row of a cell of which values were noted.
 fn put_noted(
     alloc: Global,
-    out: &mut Vec<u8>,
+    out: &mut WrittenRows,
     head: &RowHead,
     name: &[u8],
     span: Span,
     area: i128,
 ) -> Result<(), NoMemory>
-    ensures { OnOk result (out.new.items ≡ out.old.items ++ item_row (heading_of head.now) name.now (CellItem (Some span) area)) }
+    ensures { OnOk result (out.new ≡ out.old ++ item_row (heading_of head.now) name.now (CellItem (Some span) area)) }
 {
     let mut least = Buffer::new();
     let mut greatest = Buffer::new();
     let mut last = Buffer::new();
     let mut sum = Buffer::new();
-    put_row(
+    out.put(
         alloc,
-        out,
         &[
             head.run,
             head.seed,
@@ -91,17 +68,16 @@ fn put_noted(
 /// Puts the row of a cell of which no value was noted.
 fn put_unnoted(
     alloc: Global,
-    out: &mut Vec<u8>,
+    out: &mut WrittenRows,
     head: &RowHead,
     name: &[u8],
     area: i128,
 ) -> Result<(), NoMemory>
-    ensures { OnOk result (out.new.items ≡ out.old.items ++ item_row (heading_of head.now) name.now (CellItem None area)) }
+    ensures { OnOk result (out.new ≡ out.old ++ item_row (heading_of head.now) name.now (CellItem None area)) }
 {
     let mut sum = Buffer::new();
-    put_row(
+    out.put(
         alloc,
-        out,
         &[
             head.run,
             head.seed,
@@ -120,17 +96,16 @@ fn put_unnoted(
 /// Puts the row of a vertex.
 fn put_count(
     alloc: Global,
-    out: &mut Vec<u8>,
+    out: &mut WrittenRows,
     head: &RowHead,
     name: &[u8],
     occurrences: u64,
 ) -> Result<(), NoMemory>
-    ensures { OnOk result (out.new.items ≡ out.old.items ++ item_row (heading_of head.now) name.now (CountItem occurrences)) }
+    ensures { OnOk result (out.new ≡ out.old ++ item_row (heading_of head.now) name.now (CountItem occurrences)) }
 {
     let mut count = Buffer::new();
-    put_row(
+    out.put(
         alloc,
-        out,
         &[
             head.run,
             head.seed,
@@ -149,12 +124,12 @@ fn put_count(
 /// Puts the row of an item.
 fn put_item(
     alloc: Global,
-    out: &mut Vec<u8>,
+    out: &mut WrittenRows,
     head: &RowHead,
     name: &[u8],
     item: Item,
 ) -> Result<(), NoMemory>
-    ensures { OnOk result (out.new.items ≡ out.old.items ++ item_row (heading_of head.now) name.now item) }
+    ensures { OnOk result (out.new ≡ out.old ++ item_row (heading_of head.now) name.now item) }
 {
     match item {
         Item::Cell {
@@ -169,12 +144,12 @@ fn put_item(
 /// Puts the row of the first of these items, if there is one. Gives the others.
 pub(crate) fn put_next<'i>(
     alloc: Global,
-    out: &mut Vec<u8>,
+    out: &mut WrittenRows,
     head: &RowHead,
     name: &[u8],
     items: &'i [Item],
 ) -> Result<&'i [Item], NoMemory>
-    ensures rows { OnOk result (out.new.items ≡ out.old.items ++ item_rows (heading_of head.now) (name.now ∷ []) items.now) }
+    ensures rows { OnOk result (out.new ≡ out.old ++ item_rows (heading_of head.now) (name.now ∷ []) items.now) }
     ensures left { IfOk result (λ left. left.now ≡ drop 1 items.now) }
 {
     let [first, rest @ ..] = items else {

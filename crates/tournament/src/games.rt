@@ -1,6 +1,6 @@
 //! The games of a tournament.
 
-ghost use Rattle.std.specs.Prelude.{◌≡◌, ℕ, ◌+◌, ◌/◌, ◌^◌, ◌*◌, ◌<◌, ◌≤◌, length, slice_index};
+ghost use Rattle.std.specs.Prelude.{◌≡◌, ◌≢◌, ℕ, ◌+◌, ◌/◌, ◌^◌, ◌*◌, ◌<◌, ◌≤◌, None, length, slice_index, slice_index_or};
 ghost use Rattle.tournament.specs.Inner.Games.{winner_of, IsPlayed, IsReplayed};
 
 use event_list::Key;
@@ -67,6 +67,21 @@ pub fn play<L: Ledger>(
             return;
         }
         winners[place] = won;
+        place /= 2;
+    }
+}
+
+/// Puts a vertex at each place from the one above its own to the top. It has won each game there, without a comparison,
+/// where no other vertex has a key.
+pub fn play_alone(keys: &[Option<Key>], winners: &mut [usize], vertex: usize)
+    requires vertex { vertex < length keys.now }
+    requires alone { (u : ℕ) → u ≢ vertex → slice_index_or keys.now u None ≡ None }
+    requires others { IsReplayed keys.now winners.old vertex ((length keys.now + vertex) / 2) }
+    ensures { IsPlayed keys.now winners.new 0 }
+{
+    let mut place = (keys.len() + vertex) / 2;
+    while place > 0 {
+        winners[place] = vertex;
         place /= 2;
     }
 }

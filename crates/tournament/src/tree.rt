@@ -1,9 +1,9 @@
 //! The tournament tree.
 
-ghost use Rattle.std.specs.Prelude.{◌≡◌, ℕ, ◌+◌, ◌≤◌, ◌<◌, ◌^◌, length, slice_set, replicate, None, IfOk};
+ghost use Rattle.std.specs.Prelude.{◌≡◌, ◌≢◌, ℕ, ◌+◌, ◌≤◌, ◌<◌, ◌^◌, length, slice_set, slice_index_or, replicate, None, IfOk};
 ghost use Rattle.tournament.specs.Top.{IsTop};
 
-use crate::games::play;
+use crate::games::{play, play_alone};
 use crate::opening::{keyless, opened};
 use event_list::Key;
 use sig_base::{NoMemory, Steps};
@@ -53,6 +53,7 @@ impl Tournament {
     }
 
     /// Puts a vertex's next key in place of the one before, and plays its games again.
+    #[inline(always)]
     pub fn set<L: Ledger>(&mut self, vertex: usize, key: Option<Key>, steps: &mut Steps<L>)
         requires { vertex < length self.old }
         ensures keys { self.new ≡ slice_set self.old vertex key }
@@ -65,6 +66,25 @@ impl Tournament {
             vertex,
             steps,
         );
+    }
+
+    /// Puts a vertex's next key in place of the one before, where no other vertex has a key: it wins all its games.
+    pub fn set_alone(&mut self, vertex: usize, key: Option<Key>)
+        requires vertex { vertex < length self.old }
+        requires alone { (u : ℕ) → u ≢ vertex → slice_index_or self.old u None ≡ None }
+        ensures { self.new ≡ slice_set self.old vertex key }
+    {
+        self.keys[vertex] = key;
+        play_alone(self.keys.as_slice(), self.winners.as_mut_slice(), vertex);
+    }
+
+    /// Takes a vertex's key away, where no other vertex has one: then it doesn't matter who won a game.
+    pub fn clear_alone(&mut self, vertex: usize)
+        requires vertex { vertex < length self.old }
+        requires alone { (u : ℕ) → u ≢ vertex → slice_index_or self.old u None ≡ None }
+        ensures { self.new ≡ slice_set self.old vertex None }
+    {
+        self.keys[vertex] = None;
     }
 
     /// The vertex whose next key is the least, or `None` where none has a key.

@@ -17,8 +17,8 @@ loop-index-preserved c =
     let whole : some (i + 1) ≡ some i ++ one = map-range_with_len_more (cell_name name) 0 i i (omega arith) in
     let here : c.loop-index.left.now ≡ drop (length (some i)) items = c.loop-index.invariant.1 ∙ ap (λ (n : ℕ). drop n items) (sym (length-map-range_with_len (cell_name name) 0 i)) in
     let label : c.as_slice.result.now ≡ cell_name name i = c.as_slice.ensures.value ∙ c.in_ok-label.ensures in
-    let put = c.in_ok-left.ensures.rows ∙ ap (λ (n : List ℕ). c.loop-index.out.items ++ item_rows h (n ∷ []) c.loop-index.left.now) label in (
-      rows_more (some i) one (some (i + 1)) items c.loop-index.left.now whole here h c.args.out.now.items c.loop-index.out.items c.put_next.new.out.items c.loop-index.invariant.0 put,
+    let put = c.in_ok-left.ensures.rows ∙ ap (λ (n : List ℕ). c.loop-index.out ++ item_rows h (n ∷ []) c.loop-index.left.now) label in (
+      rows_more (some i) one (some (i + 1)) items c.loop-index.left.now whole here h c.args.out.now c.loop-index.out c.put_next.new.out c.loop-index.invariant.0 put,
       items_left_more (some i) one (some (i + 1)) items c.loop-index.left.now whole here c.in_ok-left.left.now c.in_ok-left.ensures.left
           ∙ ap (λ (n : ℕ). drop n items) (length-map-range_with_len (cell_name name) 0 (i + 1)),
     )

@@ -6,5 +6,5 @@ use Rattle.tally_report.proofs.report.put_cells.Given as goal
 
 abbrev pub invariant-loop-index : goal.invariant-loop-index
 invariant-loop-index l =
-    (l.out.items ≡ l.initial.out.items ++ item_rows (heading_of l.head) (map (cell_name l.name) (range_with_len 0 l.index)) l.items)
+    (l.out ≡ l.initial.out ++ item_rows (heading_of l.head) (map (cell_name l.name) (range_with_len 0 l.index)) l.items)
     × (l.left ≡ drop l.index l.items)

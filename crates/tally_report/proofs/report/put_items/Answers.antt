@@ -21,8 +21,8 @@ loop-watch-preserved c =
     let w = get_or ws i first in
     let some : ℕ → List (List ℕ) = λ n. flat_map (names_watched g) (map watched_of (take n ws)) in
     let whole : some (i + 1) ≡ some i ++ names_watched g (watched_of w) = names_more g watched_of ws i w within (get_or_default ws i first w within) in
-    let put = c.in_ok-left.ensures.rows ∙ ap (λ (xs : List Watch). c.loop-watch.out.items ++ item_rows h (names_watched g (watched_of (get_or xs i first))) c.loop-watch.left.now) c.as_slice-watch-items.ensures in
+    let put = c.in_ok-left.ensures.rows ∙ ap (λ (xs : List Watch). c.loop-watch.out ++ item_rows h (names_watched g (watched_of (get_or xs i first))) c.loop-watch.left.now) c.as_slice-watch-items.ensures in
     let rest = c.in_ok-left.ensures.left ∙ ap (λ (xs : List Watch). drop (length (names_watched g (watched_of (get_or xs i first)))) c.loop-watch.left.now) c.as_slice-watch-items.ensures in (
-      rows_more (some i) (names_watched g (watched_of w)) (some (i + 1)) items c.loop-watch.left.now whole c.loop-watch.invariant.1 h c.args.out.now.items c.loop-watch.out.items c.put_watched.new.out.items c.loop-watch.invariant.0 put,
+      rows_more (some i) (names_watched g (watched_of w)) (some (i + 1)) items c.loop-watch.left.now whole c.loop-watch.invariant.1 h c.args.out.now c.loop-watch.out c.put_watched.new.out c.loop-watch.invariant.0 put,
       items_left_more (some i) (names_watched g (watched_of w)) (some (i + 1)) items c.loop-watch.left.now whole c.loop-watch.invariant.1 c.in_ok-left.left.now rest,
     )

@@ -7,5 +7,5 @@ use Rattle.tally_report.proofs.report.put_items.Given as goal
 
 abbrev pub invariant-loop-watch : goal.invariant-loop-watch
 invariant-loop-watch l =
-    (l.out.items ≡ l.initial.out.items ++ item_rows (heading_of l.head) (flat_map (names_watched (graph_of l.model)) (map watched_of (take l.watch-index l.model.watch))) l.items)
+    (l.out ≡ l.initial.out ++ item_rows (heading_of l.head) (flat_map (names_watched (graph_of l.model)) (map watched_of (take l.watch-index l.model.watch))) l.items)
     × (l.left ≡ drop (length (flat_map (names_watched (graph_of l.model)) (map watched_of (take l.watch-index l.model.watch)))) l.items)
