@@ -13,7 +13,7 @@ use Rattle.model_core.specs.Code.Views.{edge_of}
 use Rattle.model_core.specs.Rules.MarkedPlaces.{is_among}
 use Rattle.model_core.specs.Rules.Uses.{edge_reads}
 use Rattle.use_analysis.specs.UseNumbers.{changed_where, raised_at, lowered_at, CanLower}
-use Rattle.merge_rules.specs.Inner.EdgesRead.{reads_it, reads_one_of, counted, uncounted, told_by_counts}
+use Rattle.merge_rules.specs.Inner.ReadingEdges.{reads_it, reads_one_of, counted, uncounted, told_by_counts}
 
 -- ---- one number
 

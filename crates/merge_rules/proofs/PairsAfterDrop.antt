@@ -18,7 +18,7 @@ use Rattle.mark_laws.proofs.Marks.{Marked, rank-apart, marked-placed}
 use Rattle.static_laws.proofs.StaticTwins.DeclaredNames.{every_item}
 use Rattle.run_laws.proofs.MappedVertices.{WatchedTold}
 use Rattle.merge_rules.specs.PairStanding.{target_at_once, pair_fits}
-use Rattle.merge_rules.specs.KeptPairs.{edges_leading, edges_to, is_led_to, TellsFit, IsPair, ArePairs, no_pair}
+use Rattle.merge_rules.specs.KeptPairs.{edges_leading, edges_to, has_incoming, TellsFit, IsPair, ArePairs, no_pair}
 use Rattle.merge_rules.specs.Inner.PairMoves.{with_fewer, edges_taken, moved_up}
 use Rattle.merge_rules.specs.declared.kept_pairs.KeptPair.{KeptPair}
 use Rattle.merge_rules.proofs.SingleUrgent.{edges_keep}
@@ -49,7 +49,7 @@ none-lead-at [] gone k none = refl
 none-lead-at (v ∷ vs) gone zero none = (either_false (list_any (leads_to gone) v.edges) (leads_there vs gone) none).0
 none-lead-at (v ∷ vs) gone (suc k) none = none-lead-at vs gone k (either_false (list_any (leads_to gone) v.edges) (leads_there vs gone) none).1
 
-module _ (g : EventGraph) (keeps : KeepsParts g) (gone : ℕ) (there : gone < length g.vertices) (unled : is_led_to g gone ≡ false) (unwatched : is_watched_vertex g gone ≡ false) where
+module _ (g : EventGraph) (keeps : KeepsParts g) (gone : ℕ) (there : gone < length g.vertices) (unled : has_incoming g gone ≡ false) (unwatched : is_watched_vertex g gone ≡ false) where
   abbrev n : ℕ
   n = length g.vertices
 

@@ -10,7 +10,7 @@ use Rattle.model_core.specs.Rules.PlacedEdges.{with_place}
 use Rattle.model_core.proofs.Images.{at-map}
 use Rattle.model_core.proofs.PlacesChanged.{set-with_place, length_placed}
 use Rattle.merge_rules.specs.PairStanding.{pair_fits}
-use Rattle.merge_rules.specs.KeptPairs.{edges_to, is_led_to, TellsFit, IsPair, ArePairs, no_pair}
+use Rattle.merge_rules.specs.KeptPairs.{edges_to, has_incoming, TellsFit, IsPair, ArePairs, no_pair}
 use Rattle.merge_rules.specs.Inner.PairMoves.{unasked, with_more, all_edges_added}
 use Rattle.merge_rules.specs.declared.kept_pairs.KeptPair.{KeptPair}
 use Rattle.merge_rules.specs.declared.kept_pairs.Standing.{Standing}
@@ -64,7 +64,7 @@ module _ (g : EventGraph) (pairs : List KeptPair) (are : ArePairs g pairs) (k : 
     are-asked = subst (ArePairs g) (sym (set-with_place (λ p. y) pairs k x y within at refl)) (record { long = length_placed (λ p. y) k pairs ∙ are.long; each = each })
 
   -- whether an edge leads there
-  pub led-told : nat_lt 0 x.incoming ≡ is_led_to g k
+  pub led-told : nat_lt 0 x.incoming ≡ has_incoming g k
   led-told = by (some_or_none x.incoming) where
     some_or_none : (n : ℕ) → (0 < n) ⊎ (n ≡ 0)
     some_or_none zero = inr refl
@@ -76,7 +76,7 @@ module _ (g : EventGraph) (pairs : List KeptPair) (are : ArePairs g pairs) (k : 
     is_none : (n : ℕ) → n ≡ 0 → nat_lt 0 n ≡ false
     is_none n none = grind (arith, nat_tests)
 
-    by : (0 < x.incoming) ⊎ (x.incoming ≡ 0) → nat_lt 0 x.incoming ≡ is_led_to g k
+    by : (0 < x.incoming) ⊎ (x.incoming ≡ 0) → nat_lt 0 x.incoming ≡ has_incoming g k
     by (inl some) = is_some x.incoming some ∙ sym (some-lead g.vertices k (subst (λ n. 0 < n) pair-at.incoming some))
     by (inr none) = is_none x.incoming none ∙ sym (none-lead g.vertices k (sym pair-at.incoming ∙ none))
 

@@ -5,7 +5,7 @@ use Rattle.model_core.specs.EventGraph.{EventGraph, EventEdge}
 use Rattle.model_core.specs.Rules.BoundsOfParts.{quiet_edge}
 use Rattle.model_core.specs.Rules.Uses.{has_drawn_delay}
 use Rattle.model_core.specs.Rules.Merge.{reads_none_of}
-use Rattle.merge_rules.specs.Inner.EdgesRead.{reads_one_of, is_calm}
+use Rattle.merge_rules.specs.Inner.ReadingEdges.{reads_one_of, is_calm}
 
 abbrev aside : EventGraph → List ℕ → EventEdge → Bool
 aside g writes e = quiet_edge g e && reads_none_of writes e && not (has_drawn_delay e)

@@ -1,3 +1,3 @@
 -- The code of this crate, restated for its proofs. Nobody has to believe these.
 pub mod PairMoves
-pub mod EdgesRead
+pub mod ReadingEdges

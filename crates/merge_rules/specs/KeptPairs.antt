@@ -22,8 +22,8 @@ edges_to [] k = 0
 edges_to (v ∷ vs) k = edges_leading v.edges k + edges_to vs k
 
 -- whether some edge of the graph does
-abbrev pub is_led_to : EventGraph → ℕ → Bool
-is_led_to g k = list_any (λ (v : EventVertex). list_any (leads_to k) v.edges) g.vertices
+abbrev pub has_incoming : EventGraph → ℕ → Bool
+has_incoming g k = list_any (λ (v : EventVertex). list_any (leads_to k) v.edges) g.vertices
 
 -- ---- what is right of a graph
 

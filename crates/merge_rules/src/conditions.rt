@@ -12,7 +12,7 @@ ghost use Rattle.model_core.specs.Rules.Uses.{vertex_writes, has_drawn_delay};
 ghost use Rattle.model_core.specs.Rules.UrgentEdges.{plain_urgent_edge, single_urgent};
 ghost use Rattle.model_core.specs.Rules.Merge.{set_parameters, leads_to, is_watched_vertex, reads_none_of, is_unwatched, happens_unseen, values_at_once, other_edges, merge_conditions};
 ghost use Rattle.model_core.specs.Code.Views.{graph_of, expression_of, change_of, edge_of, vertex_of, watched_of};
-ghost use Rattle.merge_rules.specs.Inner.EdgesRead.{is_calm};
+ghost use Rattle.merge_rules.specs.Inner.ReadingEdges.{is_calm};
 
 use crate::at_once::edge_at_once;
 use crate::other_edges::other_edges;

@@ -13,7 +13,7 @@ ghost use Rattle.model_core.specs.Code.Views.{graph_of, edge_of, vertex_of};
 ghost use Rattle.merge_rules.specs.Known.{IsKnown};
 ghost use Rattle.merge_rules.specs.NothingCounted.{NothingCounted};
 ghost use Rattle.merge_rules.specs.PairStanding.{target_at_once, pair_fits};
-ghost use Rattle.merge_rules.specs.KeptPairs.{is_led_to, TellsFit, ArePairs};
+ghost use Rattle.merge_rules.specs.KeptPairs.{has_incoming, TellsFit, ArePairs};
 
 use crate::conditions::failed_before_limits;
 use crate::kept_pairs::{
@@ -144,7 +144,7 @@ impl KeptPairs {
     pub fn is_led_to(&self, model: &Model, vertex: usize) -> bool
         requires kept { ArePairs (graph_of model.now) self.now }
         requires there { vertex < length model.now.vertices }
-        ensures { result ≡ is_led_to (graph_of model.now) vertex }
+        ensures { result ≡ has_incoming (graph_of model.now) vertex }
     {
         self.pairs[vertex].incoming > 0
     }
@@ -244,7 +244,7 @@ impl KeptPairs {
         requires kept { ArePairs (graph_of model.now) self.old }
         requires valid { IsValid (graph_of model.now) }
         requires there { gone < length model.now.vertices }
-        requires unled { is_led_to (graph_of model.now) gone ≡ false }
+        requires unled { has_incoming (graph_of model.now) gone ≡ false }
         requires unwatched { is_watched_vertex (graph_of model.now) gone ≡ false }
         ensures { ArePairs (dropped (graph_of model.now) (gone ∷ [])) self.new }
     {

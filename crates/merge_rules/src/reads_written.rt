@@ -6,7 +6,7 @@ ghost use Rattle.std.specs.List.{list_any};
 ghost use Rattle.model_core.specs.Rules.Uses.{vertex_writes};
 ghost use Rattle.model_core.specs.Code.Views.{edge_of, vertex_of};
 ghost use Rattle.merge_rules.specs.NothingCounted.{NothingCounted};
-ghost use Rattle.merge_rules.specs.Inner.EdgesRead.{reads_it, reads_one_of, counted, uncounted, told_by_counts};
+ghost use Rattle.merge_rules.specs.Inner.ReadingEdges.{reads_it, reads_one_of, counted, uncounted, told_by_counts};
 
 use crate::written::{VariableTest, one_written_passes};
 use model_core::{Edge, Model, Vertex};

@@ -1,3 +1,4 @@
+-- The code of this crate, restated for its proofs. No public clause cites these, and nobody has to believe them.
 pub mod Overlaid
 pub mod RangeTests
 pub mod GrownBy

@@ -9,37 +9,13 @@ ghost use Rattle.range_infer.specs.Inner.PartReads.{set_reads, carried_reads, pa
 use model_core::{Change, Edge, Expr, Model, Vertex};
 use sig_base::{List, NoMemory};
 use std::alloc::Global;
+use use_analysis::add_variables;
 
 /// The variables that the changes and the edges of a vertex read, one list for each.
 #[derive(Drop)]
 pub(crate) struct VertexReads {
     pub(crate) sets: List<List<usize>>,
     pub(crate) carried: List<List<usize>>,
-}
-
-/// Adds the variables that stand in an expression.
-fn add_variables(out: &mut Vec<usize>, expr: &Expr) -> Result<(), NoMemory>
-    ensures { OnOk result (out.new.items ≡ out.old.items ++ variables_in (expression_of expr.now)) }
-{
-    match expr {
-        Expr::Int(_) | Expr::Truth(_) | Expr::Clk => {}
-        Expr::Scalar(v) => out.push(*v)?,
-        Expr::Cell(v, index) => {
-            out.push(*v)?;
-            add_variables(out, index)?;
-        }
-        Expr::Neg(a) | Expr::Not(a) => add_variables(out, a)?,
-        Expr::Binary(_, left, right) => {
-            add_variables(out, left)?;
-            add_variables(out, right)?;
-        }
-        Expr::If(test, yes, no) => {
-            add_variables(out, test)?;
-            add_variables(out, yes)?;
-            add_variables(out, no)?;
-        }
-    }
-    Ok(())
 }
 
 /// Adds the variables that stand in expressions.

@@ -6,15 +6,15 @@ use Rattle.model_core.specs.Text.Written.{WrittenSigned}
 use Rattle.model_core.specs.Text.Numbering as numbering
 use Rattle.model_core.specs.Text.SnapshotGrammar.{WrittenStream}
 use Rattle.model_core.specs.Saved.GoodSnapshots.{CheckedPart, first_bad_part, number_or_zero, stream_parts, with_taken, signed_values}
-use Rattle.snapshot_text.specs.Inner.Judging.{kept, stream_good, stream_taken, fits, fitting}
+use Rattle.snapshot_text.specs.Inner.Judging.{if_good, stream_good, stream_taken, fits_between, fitting}
 
-pub kept-some : {X : Type 0} (b : Bool) (x y : X) → Some y ≡ kept b x → (b ≡ true) × (y ≡ x)
-kept-some true x y e = (refl, cc)
-kept-some false x y e = absurd cc
+pub if_good-some : {X : Type 0} (b : Bool) (x y : X) → Some y ≡ if_good b x → (b ≡ true) × (y ≡ x)
+if_good-some true x y e = (refl, cc)
+if_good-some false x y e = absurd cc
 
-pub kept-none : {X : Type 0} (b : Bool) (x : X) → None ≡ kept b x → b ≡ false
-kept-none true x e = absurd cc
-kept-none false x e = refl
+pub if_good-none : {X : Type 0} (b : Bool) (x : X) → None ≡ if_good b x → b ≡ false
+if_good-none true x e = absurd cc
+if_good-none false x e = refl
 
 pub passed : (p : CheckedPart) (parts : List CheckedPart) → p.good ≡ true → first_bad_part (p ∷ parts) ≡ first_bad_part parts
 passed p parts e = ap (λ b. cond b (first_bad_part parts) (Some p.at)) e
@@ -30,11 +30,11 @@ stream_passed least next s later total good is so_far =
 pub stream_told : (least : ℕ) (s : WrittenStream) (later : List WrittenStream) (total : Option ℕ) → stream_good least s ≡ false → first_bad_part (stream_parts least (s ∷ later)) ≡ total → total ≡ Some s.at
 stream_told least s later total bad so_far = sym so_far ∙ told (record { good = stream_good least s; at = s.at }) (stream_parts (suc (number_or_zero s.stream)) later) bad
 
-pub one_stream_more : (least number words : ℕ) (s : WrittenStream) (later : List WrittenStream) (taken : List ℕ) (first : Option ℕ) (all : List ℕ) → Some (number, words) ≡ kept (stream_good least s) (stream_taken s) → number < 64
+pub one_stream_more : (least number words : ℕ) (s : WrittenStream) (later : List WrittenStream) (taken : List ℕ) (first : Option ℕ) (all : List ℕ) → Some (number, words) ≡ if_good (stream_good least s) (stream_taken s) → number < 64
     → first_bad_part (stream_parts least (s ∷ later)) ≡ first → with_taken (s ∷ later) taken ≡ all → length taken ≡ 64
     → (first_bad_part (stream_parts (number + 1) later) ≡ first) × (with_taken later (slice_set taken number words) ≡ all) × (length (slice_set taken number words) ≡ 64) × (number + 1 ≤ 64)
 one_stream_more least number words s later taken first all is near so_far filled long =
-    let k = kept-some (stream_good least s) (stream_taken s) (number, words) is in
+    let k = if_good-some (stream_good least s) (stream_taken s) (number, words) is in
     let n : number ≡ number_or_zero s.stream = ap (λ (p : ℕ × ℕ). p.0) k.1 in
     let m : words ≡ number_or_zero s.words = ap (λ (p : ℕ × ℕ). p.1) k.1 in
     let next : number + 1 ≡ suc (number_or_zero s.stream) = omega (arith, n) in (
@@ -46,16 +46,16 @@ one_stream_more least number words s later taken first all is near so_far filled
 
 -- ---- values
 
-pub one_fits : (lo hi : ℤ) (s : WrittenSigned) (later : List WrittenSigned) (x : ℤ) (out : List ℤ) (total : Bool) (all : List ℤ) → Some x ≡ fitting lo hi s → list_all (fits lo hi) (s ∷ later) ≡ total → out ++ signed_values (s ∷ later) ≡ all
-    → (list_all (fits lo hi) later ≡ total) × ((out ++ x ∷ []) ++ signed_values later ≡ all)
+pub one_fits : (lo hi : ℤ) (s : WrittenSigned) (later : List WrittenSigned) (x : ℤ) (out : List ℤ) (total : Bool) (all : List ℤ) → Some x ≡ fitting lo hi s → list_all (fits_between lo hi) (s ∷ later) ≡ total → out ++ signed_values (s ∷ later) ≡ all
+    → (list_all (fits_between lo hi) later ≡ total) × ((out ++ x ∷ []) ++ signed_values later ≡ all)
 one_fits lo hi s later x out total all is so_far added =
-    let k = kept-some (fits lo hi s) (unwrap_or (numbering.signed s) (pos 0)) x is in (
-      ap (λ b. b && list_all (fits lo hi) later) (sym k.0) ∙ so_far,
+    let k = if_good-some (fits_between lo hi s) (unwrap_or (numbering.signed s) (pos 0)) x is in (
+      ap (λ b. b && list_all (fits_between lo hi) later) (sym k.0) ∙ so_far,
       append_assoc out (x ∷ []) (signed_values later) ∙ ap (λ y. out ++ y ∷ signed_values later) k.1 ∙ added,
     )
 
-pub none_fits : (lo hi : ℤ) (s : WrittenSigned) (later : List WrittenSigned) (total : Bool) → None ≡ fitting lo hi s → list_all (fits lo hi) (s ∷ later) ≡ total → false ≡ total
-none_fits lo hi s later total is so_far = ap (λ b. b && list_all (fits lo hi) later) (sym (kept-none (fits lo hi s) (unwrap_or (numbering.signed s) (pos 0)) is)) ∙ so_far
+pub none_fits : (lo hi : ℤ) (s : WrittenSigned) (later : List WrittenSigned) (total : Bool) → None ≡ fitting lo hi s → list_all (fits_between lo hi) (s ∷ later) ≡ total → false ≡ total
+none_fits lo hi s later total is so_far = ap (λ b. b && list_all (fits_between lo hi) later) (sym (if_good-none (fits_between lo hi s) (unwrap_or (numbering.signed s) (pos 0)) is)) ∙ so_far
 
 -- ---- parts, and others behind them
 

@@ -91,9 +91,9 @@ noted-signed vs all (Some values) inside = ranges-signed (cell_variables vs) val
 
 -- ---- the whole
 
-module _ (g : EventGraph) (kept : KeepsStaticRules g) (spellable : IsSpellable g) where
+module _ (g : EventGraph) (if_good : KeepsStaticRules g) (spellable : IsSpellable g) where
   named : Named g (names_of g)
-  named = named-by g spellable (record { declared_once = kept.parts.declared_once; begins = begins_as_written g.variables kept.parts.variables })
+  named = named-by g spellable (record { declared_once = if_good.parts.declared_once; begins = begins_as_written g.variables if_good.parts.variables })
 
   tellable : (clock : ℕ) (e : Entry) → IsGoodEntry g clock e → IsTellable g clock e
   tellable clock e good = record {

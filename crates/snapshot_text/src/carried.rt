@@ -3,7 +3,7 @@
 ghost use Rattle.std.specs.Prelude.{◌≡◌, ◌^◌, ◌≤◌, suc, nat_lt, IfSome};
 ghost use Rattle.model_core.specs.Text.Lexing.{digits_value};
 ghost use Rattle.model_core.specs.Saved.GoodSnapshots.{carried_of, is_wide};
-ghost use Rattle.snapshot_text.specs.Inner.Judging.{kept};
+ghost use Rattle.snapshot_text.specs.Inner.Judging.{if_good};
 ghost use Rattle.snapshot_text.specs.Inner.RawParts.{written_carried};
 
 use crate::parts::RawCarried;
@@ -13,7 +13,7 @@ const LEAST_SIZE: u64 = 9_223_372_036_854_775_808;
 
 /// The number that the digits write, if it is at most 2^63.
 fn size_of(digits: &[u8]) -> Option<u64>
-    ensures is { result ≡ kept (nat_lt (digits_value digits.now) (suc (2 ^ 63))) (digits_value digits.now) }
+    ensures is { result ≡ if_good (nat_lt (digits_value digits.now) (suc (2 ^ 63))) (digits_value digits.now) }
     ensures within { IfSome result (λ n. n ≤ 2 ^ 63) }
 {
     let mut value: u64 = 0;
@@ -31,7 +31,7 @@ fn size_of(digits: &[u8]) -> Option<u64>
 
 /// The value, if it is a number of 64 bits.
 pub(crate) fn carried_value(carried: RawCarried<'_>) -> Option<i64>
-    ensures { result ≡ kept (is_wide (written_carried carried.entry)) (carried_of (written_carried carried.entry)) }
+    ensures { result ≡ if_good (is_wide (written_carried carried.entry)) (carried_of (written_carried carried.entry)) }
 {
     let size = size_of(carried.digits.bytes)?;
     if size == LEAST_SIZE {

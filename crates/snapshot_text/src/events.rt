@@ -10,7 +10,7 @@ ghost use Rattle.model_core.specs.Code.Views.{graph_of};
 ghost use Rattle.model_core.specs.Text.SnapshotGrammar.{or_none};
 ghost use Rattle.model_core.specs.Saved.GoodSnapshots.{carried_of, is_wide, pending_part, saved_entry};
 ghost use Rattle.name_places.specs.NamesPlaced.{HasPlaces, names_of_vertices};
-ghost use Rattle.snapshot_text.specs.Inner.Judging.{kept, Judged};
+ghost use Rattle.snapshot_text.specs.Inner.Judging.{if_good, Judged};
 ghost use Rattle.snapshot_text.specs.Inner.RawParts.{written_carried, written_pending};
 
 use crate::carried::carried_value;
@@ -78,7 +78,7 @@ fn entry_of(model: &Model, places: &Places, clock: u64, raw: &RawPending<'_>) ->
     requires few { AllByRecursion (λ (v : EventVertex). length v.parameters ≤ PARAMETERS_MAX) (graph_of model.now).vertices }
     requires placed { HasPlaces (names_of_vertices (graph_of model.now).vertices) places.now }
     requires early { clock ≤ 2 ^ 48 }
-    ensures { result ≡ kept (pending_part (graph_of model.now) (written_pending raw.now)).good (saved_entry (graph_of model.now) clock (written_pending raw.now)) }
+    ensures { result ≡ if_good (pending_part (graph_of model.now) (written_pending raw.now)).good (saved_entry (graph_of model.now) clock (written_pending raw.now)) }
 {
     let ticks = at_most(raw.ticks, TICKS_MAX)?;
     let priority = at_most(raw.priority, PRIORITY_MAX)?;

@@ -4,7 +4,7 @@ ghost use Rattle.std.specs.Prelude.{◌≡◌, ◌≤◌, ◌<◌, IfSome};
 ghost use Rattle.model_core.specs.Code.WrittenViews.{written_number};
 ghost use Rattle.model_core.specs.Text.Numbering.{natural};
 ghost use Rattle.model_core.specs.Saved.GoodSnapshots.{number_or_zero, is_at_most, from_one_to};
-ghost use Rattle.snapshot_text.specs.Inner.Judging.{kept, seed_kept};
+ghost use Rattle.snapshot_text.specs.Inner.Judging.{if_good, seed_kept};
 
 use model_core::RawNumber;
 
@@ -23,7 +23,7 @@ fn natural(number: RawNumber) -> Option<u64>
 
 /// The number, if it is at most this.
 pub(crate) fn at_most(number: RawNumber, most: u64) -> Option<u64>
-    ensures is { result ≡ kept (is_at_most most (written_number number)) (number_or_zero (written_number number)) }
+    ensures is { result ≡ if_good (is_at_most most (written_number number)) (number_or_zero (written_number number)) }
     ensures within { IfSome result (λ n. n ≤ most) }
 {
     let value = natural(number)?;
@@ -32,7 +32,7 @@ pub(crate) fn at_most(number: RawNumber, most: u64) -> Option<u64>
 
 /// The number, if it is from 1 to this.
 pub(crate) fn from_one_to(number: RawNumber, most: u64) -> Option<u64>
-    ensures is { result ≡ kept (from_one_to most (written_number number)) (number_or_zero (written_number number)) }
+    ensures is { result ≡ if_good (from_one_to most (written_number number)) (number_or_zero (written_number number)) }
     ensures within { IfSome result (λ n. n ≤ most) }
 {
     let value = natural(number)?;

@@ -2,7 +2,7 @@
 
 ghost use Rattle.std.specs.Prelude.{◌≡◌, ◌<◌, map, replicate, IfSome};
 ghost use Rattle.model_core.specs.Saved.GoodSnapshots.{stream_parts, with_taken};
-ghost use Rattle.snapshot_text.specs.Inner.Judging.{kept, Judged, stream_good, stream_taken};
+ghost use Rattle.snapshot_text.specs.Inner.Judging.{if_good, Judged, stream_good, stream_taken};
 ghost use Rattle.snapshot_text.specs.Inner.RawParts.{written_stream};
 
 use crate::numbers::{at_most, from_one_to};
@@ -16,7 +16,7 @@ const WORDS_MAX: u64 = 4_503_599_627_370_496;
 
 /// The number of the stream and how many words it gave, if it is good behind the streams below `least`.
 fn stream_of(stream: RawStream, least: u64) -> Option<(u64, u64)>
-    ensures is { result ≡ kept (stream_good least (written_stream stream)) (stream_taken (written_stream stream)) }
+    ensures is { result ≡ if_good (stream_good least (written_stream stream)) (stream_taken (written_stream stream)) }
     ensures within { IfSome result (λ s. s.0 < 64) }
 {
     let number = at_most(stream.stream, 63)?;

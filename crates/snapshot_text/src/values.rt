@@ -8,7 +8,7 @@ ghost use Rattle.model_core.specs.Code.WrittenViews.{written_signed};
 ghost use Rattle.model_core.specs.Text.SnapshotGrammar.{WrittenValue};
 ghost use Rattle.model_core.specs.Saved.Cells.{cell_variables, variables_watched};
 ghost use Rattle.model_core.specs.Saved.GoodSnapshots.{signed_values, fit_variables, value_parts};
-ghost use Rattle.snapshot_text.specs.Inner.Judging.{kept, Judged, fits, fitting, value_good, cells_good, watched_good, watched_cells};
+ghost use Rattle.snapshot_text.specs.Inner.Judging.{if_good, Judged, fits_between, fitting, value_good, cells_good, watched_good, watched_cells};
 ghost use Rattle.snapshot_text.specs.Inner.RawParts.{written_value};
 
 use crate::parts::RawValue;
@@ -47,7 +47,7 @@ pub(crate) fn add_fitting(
     limits: &Limits,
     values: &[RawSigned],
 ) -> Result<bool, NoMemory>
-    ensures all { IfOk result (λ good. good ≡ list_all (fits limits.now.lo limits.now.hi) (map written_signed values.now)) }
+    ensures all { IfOk result (λ good. good ≡ list_all (fits_between limits.now.lo limits.now.hi) (map written_signed values.now)) }
     ensures added { IfOk result (λ good. good ≡ true → out.new.items ≡ out.old.items ++ signed_values (map written_signed values.now)) }
 {
     for signed in values {
@@ -124,7 +124,7 @@ fn add_cells(
     from: usize,
 ) -> Result<Option<usize>, NoMemory>
     requires { from ≤ length values.now }
-    ensures next { IfOk result (λ next. next ≡ kept (cells_good (variable_at (graph_of model.now) var) (map written_signed (drop from values.now))) (from + cell_count (variable_at (graph_of model.now) var))) }
+    ensures next { IfOk result (λ next. next ≡ if_good (cells_good (variable_at (graph_of model.now) var) (map written_signed (drop from values.now))) (from + cell_count (variable_at (graph_of model.now) var))) }
     ensures within { IfOk result (λ next. IfSome next (λ n. n ≤ length values.now)) }
     ensures added { IfOk result (λ next. IfSome next (λ n. out.new.items ≡ out.old.items ++ signed_values (map written_signed (take (cell_count (variable_at (graph_of model.now) var)) (drop from values.now))))) }
 {
@@ -150,7 +150,7 @@ fn add_watched(
     from: usize,
 ) -> Result<Option<usize>, NoMemory>
     requires { from ≤ length values.now }
-    ensures next { IfOk result (λ next. next ≡ kept (watched_good (graph_of model.now) (watched_of watch) (map written_signed (drop from values.now))) (from + watched_cells (graph_of model.now) (watched_of watch))) }
+    ensures next { IfOk result (λ next. next ≡ if_good (watched_good (graph_of model.now) (watched_of watch) (map written_signed (drop from values.now))) (from + watched_cells (graph_of model.now) (watched_of watch))) }
     ensures within { IfOk result (λ next. IfSome next (λ n. n ≤ length values.now)) }
     ensures added { IfOk result (λ next. IfSome next (λ n. out.new.items ≡ out.old.items ++ signed_values (map written_signed (take (watched_cells (graph_of model.now) (watched_of watch)) (drop from values.now))))) }
 {
@@ -166,7 +166,7 @@ pub(crate) fn watched_values_of(
     model: &Model,
     values: &[RawSigned],
 ) -> Result<Option<List<i64>>, NoMemory>
-    ensures { IfOk result (λ found. found ≡ kept (fit_variables (cell_variables (variables_watched (graph_of model.now) (graph_of model.now).watch)) (map written_signed values.now)) (signed_values (map written_signed values.now))) }
+    ensures { IfOk result (λ found. found ≡ if_good (fit_variables (cell_variables (variables_watched (graph_of model.now) (graph_of model.now).watch)) (map written_signed values.now)) (signed_values (map written_signed values.now))) }
 {
     let mut all = Vec::new(alloc);
     let mut from = 0;

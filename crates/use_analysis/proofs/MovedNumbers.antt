@@ -13,12 +13,12 @@ use Rattle.use_analysis.specs.declared.moving.Way.{Way}
 use Rattle.use_analysis.specs.declared.moving.Way.TheVariants as ways
 use Rattle.use_analysis.specs.declared.moving.Part.{Part}
 use Rattle.use_analysis.specs.UseNumbers.{UseNumbers, changed_where, raised_at, lowered_at, CanRaise}
-use Rattle.use_analysis.specs.Inner.Moving.{shifted, moved, moved_at, numbers_of, StampedTo, StampedBelow, nothing_stamped, wiped}
+use Rattle.use_analysis.specs.Inner.Moving.{shifted, moved_number, moved_at, numbers_of, StampedTo, StampedBelow, nothing_stamped, wiped}
 
 -- the variables of two parts of a part are walked one after the other
 pub moved_together : (part : Part) (first second : List ℕ) (numbers : List Stamped) → moved_at part (first ++ second) numbers ≡ moved_at part second (moved_at part first numbers)
 moved_together part [] second numbers = refl
-moved_together part (v ∷ first) second numbers = moved_together part first second (with_place (moved part) v numbers)
+moved_together part (v ∷ first) second numbers = moved_together part first second (with_place (moved_number part) v numbers)
 
 -- ---- each number by itself, where so many stand before the first
 
@@ -56,31 +56,31 @@ placed_each f (suc v) t a (x ∷ xs) is =
 
 -- ---- a part moves a number once
 
-moved_new : (part : Part) (x : Stamped) → (x.stamp == part.stamp) ≡ false → moved part x ≡ record { number = shifted part.way x.number; stamp = part.stamp }
+moved_new : (part : Part) (x : Stamped) → (x.stamp == part.stamp) ≡ false → moved_number part x ≡ record { number = shifted part.way x.number; stamp = part.stamp }
 moved_new part x is = ap (λ b. cond b x (record { number = shifted part.way x.number; stamp = part.stamp })) is
 
-moved_once : (part : Part) (x : Stamped) → moved part (moved part x) ≡ moved part x
+moved_once : (part : Part) (x : Stamped) → moved_number part (moved_number part x) ≡ moved_number part x
 moved_once part x = by_stamp (x.stamp == part.stamp) refl where
-  by_stamp : (b : Bool) → (x.stamp == part.stamp) ≡ b → moved part (moved part x) ≡ moved part x
-  by_stamp true is = ap (moved part) (ap (λ b. cond b x (record { number = shifted part.way x.number; stamp = part.stamp })) is)
+  by_stamp : (b : Bool) → (x.stamp == part.stamp) ≡ b → moved_number part (moved_number part x) ≡ moved_number part x
+  by_stamp true is = ap (moved_number part) (ap (λ b. cond b x (record { number = shifted part.way x.number; stamp = part.stamp })) is)
   by_stamp false is =
       let y : Stamped = record { number = shifted part.way x.number; stamp = part.stamp } in
-      ap (moved part) (moved_new part x is)
+      ap (moved_number part) (moved_new part x is)
       ∙ ap (λ b. cond b y (record { number = shifted part.way y.number; stamp = part.stamp })) (same_number part.stamp part.stamp refl)
       ∙ sym (moved_new part x is)
 
 -- so a number moves where its place is among those of the variables
 abbrev moved_if_among : Part → List ℕ → ℕ → Stamped → Stamped
-moved_if_among part vs j x = cond (is_among vs j) (moved part x) x
+moved_if_among part vs j x = cond (is_among vs j) (moved_number part x) x
 
 moved_each : (part : Part) (vs : List ℕ) (xs : List Stamped) → moved_at part vs xs ≡ each_number (moved_if_among part vs) 0 xs
 moved_each part [] xs = each_stays 0 xs
 moved_each part (v ∷ vs) xs =
-    moved_each part vs (with_place (moved part) v xs)
-    ∙ ap (each_number (moved_if_among part vs) 0) (placed_each (moved part) v v 0 xs (omega arith))
-    ∙ each_twice (moved_if_among part vs) (λ j x. cond (v == j) (moved part x) x) 0 xs
-    ∙ each_alike (λ j x. moved_if_among part vs j (cond (v == j) (moved part x) x)) (moved_if_among part (v ∷ vs)) 0 xs (λ j x from. both (v == j) (is_among vs j) x) where
-      both : (here later : Bool) (x : Stamped) → cond later (moved part (cond here (moved part x) x)) (cond here (moved part x) x) ≡ cond (here || later) (moved part x) x
+    moved_each part vs (with_place (moved_number part) v xs)
+    ∙ ap (each_number (moved_if_among part vs) 0) (placed_each (moved_number part) v v 0 xs (omega arith))
+    ∙ each_twice (moved_if_among part vs) (λ j x. cond (v == j) (moved_number part x) x) 0 xs
+    ∙ each_alike (λ j x. moved_if_among part vs j (cond (v == j) (moved_number part x) x)) (moved_if_among part (v ∷ vs)) 0 xs (λ j x from. both (v == j) (is_among vs j) x) where
+      both : (here later : Bool) (x : Stamped) → cond later (moved_number part (cond here (moved_number part x) x)) (cond here (moved_number part x) x) ≡ cond (here || later) (moved_number part x) x
       both true true x = moved_once part x
       both true false x = refl
       both false true x = refl
@@ -88,20 +88,20 @@ moved_each part (v ∷ vs) xs =
 
 -- ---- the numbers after a part whose stamp is new
 
-each_numbered_new : (part : Part) (test : ℕ → Bool) (a : ℕ) (xs : List Stamped) → StampedBelow part.stamp xs → numbers_of (each_number (λ j x. cond (test j) (moved part x) x) a xs) ≡ changed_where test (shifted part.way) a (numbers_of xs)
+each_numbered_new : (part : Part) (test : ℕ → Bool) (a : ℕ) (xs : List Stamped) → StampedBelow part.stamp xs → numbers_of (each_number (λ j x. cond (test j) (moved_number part x) x) a xs) ≡ changed_where test (shifted part.way) a (numbers_of xs)
 unfolding each_number
 each_numbered_new part test a [] all = refl
 each_numbered_new part test a (x ∷ xs) (below, all) =
     ap₂ (λ n ns. n ∷ ns) (one (test a)) (each_numbered_new part test (a + 1) xs all) where
-      one : (b : Bool) → (cond b (moved part x) x).number ≡ cond b (shifted part.way x.number) x.number
+      one : (b : Bool) → (cond b (moved_number part x) x).number ≡ cond b (shifted part.way x.number) x.number
       one true = ap (λ (y : Stamped). y.number) (moved_new part x (different x.stamp part.stamp below))
       one false = refl
 
-each_stamped : (part : Part) (test : ℕ → Bool) (a : ℕ) (xs : List Stamped) → StampedBelow part.stamp xs → StampedTo part.stamp (each_number (λ j x. cond (test j) (moved part x) x) a xs)
+each_stamped : (part : Part) (test : ℕ → Bool) (a : ℕ) (xs : List Stamped) → StampedBelow part.stamp xs → StampedTo part.stamp (each_number (λ j x. cond (test j) (moved_number part x) x) a xs)
 unfolding each_number
 each_stamped part test a [] all = tt
 each_stamped part test a (x ∷ xs) (below, all) = (one (test a), each_stamped part test (a + 1) xs all) where
-  one : (b : Bool) → (cond b (moved part x) x).stamp ≤ part.stamp
+  one : (b : Bool) → (cond b (moved_number part x) x).stamp ≤ part.stamp
   one true = let same = ap (λ (y : Stamped). y.stamp) (moved_new part x (different x.stamp part.stamp below)) in omega (arith, same)
   one false = omega (arith, below)
 

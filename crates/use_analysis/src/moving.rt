@@ -8,7 +8,7 @@ ghost use Rattle.model_core.specs.EventGraph.{Location};
 ghost use Rattle.model_core.specs.Rules.PlacedEdges.{with_place};
 ghost use Rattle.model_core.specs.Rules.Uses.{variables_in, location_reads, change_reads, change_writes, delay_reads, timing_reads, edge_reads};
 ghost use Rattle.model_core.specs.Code.Views.{expression_of, location_of, change_of, edge_delay_of, edge_kind_of, edge_of};
-ghost use Rattle.use_analysis.specs.Inner.Moving.{shifted, moved, moved_at};
+ghost use Rattle.use_analysis.specs.Inner.Moving.{shifted, moved_number, moved_at};
 
 use model_core::{Change, Delay, Edge, EdgeForm, Expr, Target};
 
@@ -44,7 +44,7 @@ fn shifted(way: Way, number: u64) -> u64
 
 /// Moves a number, unless the part moved it already.
 fn move_one(number: &mut Stamped, part: Part)
-    ensures { number.new ≡ moved part number.old }
+    ensures { number.new ≡ moved_number part number.old }
 {
     if number.stamp != part.stamp {
         number.number = shifted(part.way, number.number);
@@ -54,7 +54,7 @@ fn move_one(number: &mut Stamped, part: Part)
 
 /// Moves the number of this variable, if there is one.
 fn move_at(numbers: &mut [Stamped], part: Part, var: usize)
-    ensures { numbers.new ≡ with_place (moved part) var numbers.old }
+    ensures { numbers.new ≡ with_place (moved_number part) var numbers.old }
 {
     if var < numbers.len() {
         move_one(&mut numbers[var], part);

@@ -5,7 +5,7 @@ use Rattle.model_core.specs.Rules.Reached.{unreached}
 use Rattle.model_core.specs.Rules.Merge.{is_watched_vertex}
 use Rattle.merge_rules.specs.Known.{IsKnown}
 use Rattle.merge_rules.specs.NothingCounted.{NothingCounted}
-use Rattle.merge_rules.specs.KeptPairs.{is_led_to, ArePairs}
+use Rattle.merge_rules.specs.KeptPairs.{has_incoming, ArePairs}
 use Rattle.reducer.specs.declared.progress.Progress.{Progress}
 use Rattle.reducer.specs.declared.progress.Unreached.{Unreached}
 use Rattle.reducer.specs.declared.progress.Unreached.TheVariants as known
@@ -14,7 +14,7 @@ use Rattle.reducer.specs.declared.progress.Unreached.TheVariants as known
 pub record OneAlone (g : EventGraph) (gone : ℕ) : Type 0 where
   pub alone : unreached g ≡ gone ∷ []
   pub there : gone < length g.vertices
-  pub unled : is_led_to g gone ≡ false
+  pub unled : has_incoming g gone ≡ false
   pub unwatched : is_watched_vertex g gone ≡ false
 
 -- what is known of the vertices that can't be reached is right

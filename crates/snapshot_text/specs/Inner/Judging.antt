@@ -14,8 +14,8 @@ use Rattle.snapshot_text.specs.declared.snapshot_error.SnapshotError.{SnapshotEr
 use Rattle.snapshot_text.specs.declared.snapshot_error.SnapshotError.TheVariants as errors
 
 -- a value, where it is good
-abbrev pub kept : {X : Type 0} → Bool → X → Option X
-kept good x = if good then Some x else None
+abbrev pub if_good : {X : Type 0} → Bool → X → Option X
+if_good good x = if good then Some x else None
 
 -- What a call made of parts is so, and they are good; or it told the first that isn't.
 abbrev pub Judged : {X : Type 0} → Result X SnapshotError → List CheckedPart → (X → Type 0) → Type 0
@@ -25,7 +25,7 @@ Judged (Err errors.NoMemory) parts P = Unit {0}
 
 -- the seed of its two parts
 abbrev pub seed_kept : WrittenNumber → WrittenNumber → Option ℕ
-seed_kept high low = kept (is_at_most (2 ^ 32 - 1) high && is_at_most (2 ^ 32 - 1) low) (number_or_zero high * 2 ^ 32 + number_or_zero low)
+seed_kept high low = if_good (is_at_most (2 ^ 32 - 1) high && is_at_most (2 ^ 32 - 1) low) (number_or_zero high * 2 ^ 32 + number_or_zero low)
 
 -- ---- streams
 
@@ -40,11 +40,11 @@ stream_taken s = (number_or_zero s.stream, number_or_zero s.words)
 -- ---- values
 
 -- a value that is known and from lo to hi
-abbrev pub fits : ℤ → ℤ → WrittenSigned → Bool
-fits lo hi s = is_some (numbering.signed s) && within lo hi (unwrap_or (numbering.signed s) (pos 0))
+abbrev pub fits_between : ℤ → ℤ → WrittenSigned → Bool
+fits_between lo hi s = is_some (numbering.signed s) && within lo hi (unwrap_or (numbering.signed s) (pos 0))
 
 abbrev pub fitting : ℤ → ℤ → WrittenSigned → Option ℤ
-fitting lo hi s = kept (fits lo hi s) (unwrap_or (numbering.signed s) (pos 0))
+fitting lo hi s = if_good (fits_between lo hi s) (unwrap_or (numbering.signed s) (pos 0))
 
 -- what a snapshot says of a variable is good
 abbrev pub value_good : Variable → WrittenValue → Bool
@@ -52,7 +52,7 @@ value_good v w = same_bytes w.variable.name v.name && fit_variables (replicate (
 
 -- there are values for the cells of a variable, and the first of them fit
 abbrev pub cells_good : Variable → List WrittenSigned → Bool
-cells_good v ws = not (nat_lt (length ws) (cell_count v)) && list_all (fits v.lo v.hi) (take (cell_count v) ws)
+cells_good v ws = not (nat_lt (length ws) (cell_count v)) && list_all (fits_between v.lo v.hi) (take (cell_count v) ws)
 
 -- so it is of what is watched; a vertex has no cells
 abbrev pub watched_good : EventGraph → Watched → List WrittenSigned → Bool

@@ -12,13 +12,13 @@ shifted ways.Up n = min (n + 1) (2 ^ 64 - 1)
 shifted ways.Down n = n - 1
 
 -- a number after the part, where it has a variable of the part: it moves unless it has the part's stamp
-abbrev pub moved : Part → Stamped → Stamped
-moved part s = cond (s.stamp == part.stamp) s (record { number = shifted part.way s.number; stamp = part.stamp })
+abbrev pub moved_number : Part → Stamped → Stamped
+moved_number part s = cond (s.stamp == part.stamp) s (record { number = shifted part.way s.number; stamp = part.stamp })
 
 -- the numbers, moved at these variables one by one
 abbrev pub moved_at : Part → List ℕ → List Stamped → List Stamped
 moved_at part [] numbers = numbers
-moved_at part (v ∷ vs) numbers = moved_at part vs (with_place (moved part) v numbers)
+moved_at part (v ∷ vs) numbers = moved_at part vs (with_place (moved_number part) v numbers)
 
 abbrev pub numbers_of : List Stamped → List ℕ
 numbers_of numbers = map (λ (s : Stamped). s.number) numbers

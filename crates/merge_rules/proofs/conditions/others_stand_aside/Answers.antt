@@ -5,7 +5,7 @@ use Rattle.std.proofs.lemmas.List.{map-append}
 use Rattle.model_core.specs.Rules.Uses.{vertex_writes}
 use Rattle.model_core.specs.Rules.Merge.{other_edges}
 use Rattle.model_core.specs.Code.Views.{graph_of, edge_of, vertex_of}
-use Rattle.merge_rules.specs.Inner.EdgesRead.{is_calm, reads_one_of}
+use Rattle.merge_rules.specs.Inner.ReadingEdges.{is_calm, reads_one_of}
 use Rattle.merge_rules.proofs.StandAside.{first_not_calm, second_not_calm, both_calm}
 use Rattle.merge_rules.proofs.conditions.others_stand_aside.Goals as goal
 

@@ -1,7 +1,7 @@
 use Rattle.std.proofs.Common.{◌≡◌, ℕ, ◌+◌, ◌≤◌, map, drop}
 use Rattle.std.specs.Prelude.{slice_index}
 use Rattle.model_core.specs.Code.Views.{edge_of}
-use Rattle.merge_rules.specs.Inner.EdgesRead.{counted}
+use Rattle.merge_rules.specs.Inner.ReadingEdges.{counted}
 use Rattle.merge_rules.proofs.reads_written.add_edges.Given as goal
 
 abbrev pub invariant-loop-edge : goal.invariant-loop-edge

@@ -1,7 +1,7 @@
 use Rattle.std.proofs.Common.{◌≡◌, ℕ, ◌<◌, ◌≤◌, map, length, drop}
 use Rattle.std.specs.Prelude.{count_by, slice_index}
 use Rattle.model_core.specs.Code.Views.{edge_of}
-use Rattle.merge_rules.specs.Inner.EdgesRead.{reads_it, uncounted}
+use Rattle.merge_rules.specs.Inner.ReadingEdges.{reads_it, uncounted}
 use Rattle.merge_rules.proofs.reads_written.take_edges.Given as goal
 
 abbrev pub invariant-loop-edge : goal.invariant-loop-edge

@@ -8,7 +8,7 @@ use Rattle.model_core.specs.declared.raw.RawSigned.{RawSigned}
 use Rattle.model_core.specs.Code.WrittenViews.{written_signed}
 use Rattle.model_core.specs.Text.Written.{WrittenSigned}
 use Rattle.model_core.specs.Saved.GoodSnapshots.{signed_values}
-use Rattle.snapshot_text.specs.Inner.Judging.{fits}
+use Rattle.snapshot_text.specs.Inner.Judging.{fits_between}
 use Rattle.snapshot_text.proofs.JudgedParts.{one_fits}
 use Rattle.snapshot_text.proofs.values.add_fitting.Goals as goal
 
@@ -26,7 +26,7 @@ loop-signed-preserved c =
     let is = rw (to_z-of_z w64 lo (search rules), to_z-of_z w64 hi (search rules)) at c.in-Some.ensures in
     rw (c.in_ok-push.ensures.items, to_z-of_z w64 c.in-Some.value (search rules))
     (one_fits lo hi (written_signed (get_or values i blank)) (map written_signed (drop (i + 1) values)) c.in-Some.value out _ _ is
-    (ap (λ (l : List WrittenSigned). list_all (fits lo hi) l) more ∙ c.loop-signed.invariant.0)
+    (ap (λ (l : List WrittenSigned). list_all (fits_between lo hi) l) more ∙ c.loop-signed.invariant.0)
     (ap (λ (l : List WrittenSigned). out ++ signed_values l) more ∙ c.loop-signed.invariant.1))
 
 pub returns-clause-all : goal.returns-clause-all
@@ -34,4 +34,4 @@ returns-clause-all c =
     let values = c.args.values.now in
     let i = c.loop-signed.signed-index in
     let none = drop_of_length-le values {i = i} (omega (arith, c.loop-signed-test.false)) in
-    sym (ap (λ (l : List RawSigned). list_all (fits c.args.limits.now.lo c.args.limits.now.hi) (map written_signed l)) none) ∙ c.loop-signed.invariant.0
+    sym (ap (λ (l : List RawSigned). list_all (fits_between c.args.limits.now.lo c.args.limits.now.hi) (map written_signed l)) none) ∙ c.loop-signed.invariant.0

@@ -8,7 +8,7 @@ use Rattle.model_core.specs.Code.Views.{graph_of, watched_of}
 use Rattle.model_core.specs.Code.WrittenViews.{written_signed}
 use Rattle.model_core.specs.Saved.Cells.{cell_variables, variables_watched}
 use Rattle.model_core.specs.Saved.GoodSnapshots.{fit_variables, signed_values}
-use Rattle.snapshot_text.specs.Inner.Judging.{kept}
+use Rattle.snapshot_text.specs.Inner.Judging.{if_good}
 use Rattle.snapshot_text.proofs.FittingValues.{one_watched_more, watched_bad}
 use Rattle.snapshot_text.proofs.values.watched_values_of.Goals as goal
 
@@ -30,7 +30,7 @@ returns-in_default c =
     let first = first_watched i items shown c.as_slice-watch-items.ensures c.loop-watch-test.true in
     let fit = ap (λ (l : List Watched). fit_variables (cell_variables (variables_watched g l)) here) first ∙ c.loop-watch.invariant.0 in
     let bad = watched_bad g values c.loop-watch.from 0 [] [] (map watched_of (drop (i + 1) shown)) _ [] (watched_of (get_or items i blank)) (sym c.in_default.is ∙ c.in_ok-next.ensures.next) fit in
-    ap (λ b. kept b (signed_values (map written_signed values))) (sym bad)
+    ap (λ b. if_good b (signed_values (map written_signed values))) (sym bad)
 
 pub loop-watch-preserved : goal.loop-watch-preserved
 loop-watch-preserved c =
