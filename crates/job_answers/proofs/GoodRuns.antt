@@ -15,17 +15,17 @@ use Rattle.model_core.specs.Text.Numbering as numbering
 use Rattle.model_core.specs.Text.SnapshotGrammar.{WrittenStream, WrittenValue, WrittenNoted, WrittenCarried, WrittenPending, WrittenSnapshot}
 use Rattle.model_core.specs.Saved.Cells.{cell_variables, variables_watched}
 use Rattle.model_core.specs.Saved.SavedRun.{SavedRun, IsWide, IsGoodEntry, IsGood}
-use Rattle.model_core.specs.Saved.GoodSnapshots.{number_or_zero, known_and, is_at_most, from_one_to, signed_values, all_known, fit_variables, carried_of, is_wide, CheckedPart, stream_parts, value_parts, noted_parts, has_parameters, pending_part, snapshot_parts, first_bad_part, bad_at, with_taken, saved_entry, saved_run}
+use Rattle.model_core.specs.Saved.GoodSnapshots.{number_or_zero, known_and, is_at_most, from_one_to, signed_values, all_known, fit_variables, carried_of, is_wide, JudgedPart, stream_parts, value_parts, noted_parts, has_parameters, pending_part, snapshot_parts, first_bad_part, bad_at, with_taken, saved_entry, saved_run}
 use Rattle.model_core.proofs.BothTrue.{and_first, and_second}
 use Rattle.bound_laws.proofs.Soundness.Ends.{le_of}
 use Rattle.job_answers.specs.SavedReading.{ReadsSaved}
 
 -- ---- parts
 
-abbrev AllGood : List CheckedPart → Type 0
-AllGood parts = AllByRecursion (λ (p : CheckedPart). p.good ≡ true) parts
+abbrev AllGood : List JudgedPart → Type 0
+AllGood parts = AllByRecursion (λ (p : JudgedPart). p.good ≡ true) parts
 
-none_bad : (parts : List CheckedPart) → first_bad_part parts ≡ None → AllGood parts
+none_bad : (parts : List JudgedPart) → first_bad_part parts ≡ None → AllGood parts
 none_bad [] none = tt
 none_bad (p ∷ parts) none = by p.good refl (none_bad parts) none
   where
@@ -33,7 +33,7 @@ none_bad (p ∷ parts) none = by p.good refl (none_bad parts) none
     by true good rest none = (good, rest none)
     by false bad rest none = absurd cc
 
-in_two : (xs ys : List CheckedPart) → AllGood (xs ++ ys) → AllGood xs × AllGood ys
+in_two : (xs ys : List JudgedPart) → AllGood (xs ++ ys) → AllGood xs × AllGood ys
 in_two [] ys all = (tt, all)
 in_two (x ∷ xs) ys all = let rest = in_two xs ys all.1 in ((all.0, rest.0), rest.1)
 
@@ -157,7 +157,7 @@ good_run g w none =
     let values = value_parts g.variables w.values in
     let noted = noted_parts g w.noted in
     let pending = map (pending_part g) w.pending in
-    let last : List CheckedPart = record { good = not (nat_lt (length w.values) (length g.variables)); at = w.end_at } ∷ [] in
+    let last : List JudgedPart = record { good = not (nat_lt (length w.values) (length g.variables)); at = w.end_at } ∷ [] in
     let all_pending = in_two (streams ++ values ++ noted ++ pending) last parts.1.1.1 in
     let all_noted = in_two (streams ++ values ++ noted) pending all_pending.0 in
     let all_valued = in_two (streams ++ values) noted all_noted.0 in

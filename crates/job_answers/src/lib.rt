@@ -1,5 +1,5 @@
 //! What is answered to a text, job by job: the answers, what there is to complain of, how a call may end, and how an answer
-//! gets to the output. Reading a model and the top call stand above it.
+//! gets to the output. The top call stands above it.
 #![tactic(auto)]
 
 mod acceptance;
@@ -16,6 +16,7 @@ mod document_law;
 mod document_reading;
 mod history_telling;
 mod job_laws;
+mod model_reading;
 mod notes_dropped;
 mod reading_error;
 mod reduction;
@@ -42,9 +43,9 @@ pub use complaint_law::{readable_models_are_reduced, texts_have_one_complaint};
 pub use delivering::{Said, deliver};
 pub use document_law::{documents_have_one_complaint, saved_documents_have_one_complaint};
 pub use job_laws::answers_keep_their_laws;
+pub use model_reading::model_of;
 pub use reading_error::ReadingError;
 pub use reduction_law::written_models_mean_the_same;
 pub use rewriting_law::{fused_models_mean_the_same, narrower_models_mean_the_same};
 pub use saved_law::saved_runs_are_resumed;
 pub use status::{End, Failure, Refusal, Status};
-pub use written_reading::read_as_written;

@@ -15,7 +15,7 @@ use sig_types::check;
 use std::alloc::Global;
 
 /// The model that the tokens read as.
-pub fn read_as_written(alloc: Global, tokens: &Tokens<'_>) -> Result<Model, ReadingError>
+pub(crate) fn read_as_written(alloc: Global, tokens: &Tokens<'_>) -> Result<Model, ReadingError>
     requires { length tokens.now.text.now ≤ TEXT_MAX }
     ensures ok { IfOk result (λ model. Reads tokens.now.text.now (graph_of model)) }
     ensures complaint { (what : Complained) (at : ℕ) → result ≡ Err (ReadingError.At what at) → IsComplaint tokens.now.text.now what at }

@@ -143,12 +143,12 @@ module _ (g : EventGraph) (seed second : ℕ) (v : EventVertex) (before after : 
         let then_second : occur g seed b off d.state d.taken ≡ (receive g b.parameters values d.state >>= λ t. in_turn (make_change g seed clk) b.changes (record { state = t; taken = d.taken }) >>= merged_end) =
         bind_same (receive g b.parameters values d.state) _ _ (λ t received.
         bind_same (in_turn (make_change g seed clk) b.changes (record { state = t; taken = d.taken })) _ _ (λ d2 changed.
-        let T2 : EventEdge → Planned → OrFault Planned = treat g seed d2.state clk in
+        let treat_behind : EventEdge → Planned → OrFault Planned = treat g seed d2.state clk in
         let mid : Planned = record { pending = p; taken = d2.taken } in
-        let rest_same : in_turn T2 (before ++ after) mid ≡ Ok (record { pending = both.without_it.pending; taken = d2.taken }) =
+        let rest_same : in_turn treat_behind (before ++ after) mid ≡ Ok (record { pending = both.without_it.pending; taken = d2.taken }) =
         sym (same-edges g seed d.state d2.state clk (before ++ after) (unread values t d2 received changed) mid) ∙ edges-undrawn g seed d.state clk (before ++ after) undrawn start both.without_it both.to_without d2.taken in
-        let edges_same : in_turn T2 ((before ++ after) ++ b.edges) mid ≡ in_turn T2 b.edges (record { pending = both.without_it.pending; taken = d2.taken }) =
-        in_turn-append T2 (before ++ after) b.edges mid ∙ ap (λ (r : OrFault Planned). r >>= in_turn T2 b.edges) rest_same in
+        let edges_same : in_turn treat_behind ((before ++ after) ++ b.edges) mid ≡ in_turn treat_behind b.edges (record { pending = both.without_it.pending; taken = d2.taken }) =
+        in_turn-append treat_behind (before ++ after) b.edges mid ∙ ap (λ (r : OrFault Planned). r >>= in_turn treat_behind b.edges) rest_same in
         ap (λ (r : OrFault Planned). r >>= at_end d2.state) (sym edges_same))) in
         let kept : d.taken ≡ both.with_it.taken = words-kept g seed d.state clk (before ++ after) undrawn start both.without_it both.to_without ∙ both.same_taken in
         let to_with : ending (before ++ urgent_edge second rights ∷ after) p d ≡ Ok (record { clock = clk; state = d.state; taken = d.taken; pending = both.with_it.pending }) =

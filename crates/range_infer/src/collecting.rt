@@ -111,16 +111,6 @@ pub(crate) fn add_change(
     }
 }
 
-/// The parameters of the vertex at this place.
-pub(crate) fn parameters_at(model: &Model, vertex: usize) -> &[usize]
-    ensures { result.now ≡ (vertex_at (graph_of model.now) vertex).parameters }
-{
-    match model.vertices.as_slice().get(vertex) {
-        Some(vertex) => vertex.params.as_slice(),
-        None => &[],
-    }
-}
-
 fn can_schedule(form: &EdgeForm) -> bool
     ensures { result ≡ can_schedule (edge_kind_of form.now) }
 {
@@ -148,7 +138,7 @@ fn add_carried(
 {
     let before = left.len();
     refine(model, ranges, left, &edge.condition, true)?;
-    let params = parameters_at(model, edge.target);
+    let params = model.parameters_at(edge.target);
     add_parameters(out, model, ranges, left, params, edge.values.as_slice())?;
     left.truncate(before);
     Ok(())

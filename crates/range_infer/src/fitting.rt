@@ -8,7 +8,6 @@ ghost use Rattle.model_core.specs.Rules.BoundsOfParts.{is_truth_kind};
 ghost use Rattle.model_core.specs.Ranges.Inductive.{is_fixed, Fitting};
 ghost use Rattle.range_infer.specs.Inner.RangeTests.{range_fits};
 
-use crate::collecting::parameters_at;
 use crate::keeping::declared_range;
 use model_core::{Kind, Model, Var, VarRange};
 
@@ -36,7 +35,7 @@ fn holds_truths(model: &Model, var: usize) -> bool
 pub(crate) fn is_fixed(model: &Model, var: usize) -> bool
     ensures { result ≡ is_fixed (graph_of model.now) var }
 {
-    holds_truths(model, var) || stands_in(parameters_at(model, 0), var)
+    holds_truths(model, var) || stands_in(model.parameters_at(0), var)
 }
 
 /// Whether a variable whose declared range may change or not may have this range.

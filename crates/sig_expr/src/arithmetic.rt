@@ -7,31 +7,22 @@ ghost use Rattle.model_core.specs.Code.Views.{operator_of};
 use model_core::Op;
 use sig_base::FaultKind;
 
-// A sum is compared with its bounds before it is made: by `checked_add` a step of the bank takes 2 of 635 instructions more.
 fn sum(a: i64, b: i64) -> Result<i64, FaultKind>
     ensures { result ≡ exact (a +ℤ b) }
 {
-    if b >= 0 {
-        if a > i64::MAX - b {
-            return Err(FaultKind::Overflow);
-        }
-    } else if a < i64::MIN - b {
-        return Err(FaultKind::Overflow);
+    match a.checked_add(b) {
+        Some(n) => Ok(n),
+        None => Err(FaultKind::Overflow),
     }
-    Ok(a + b)
 }
 
 fn difference(a: i64, b: i64) -> Result<i64, FaultKind>
     ensures { result ≡ exact (a -ℤ b) }
 {
-    if b >= 0 {
-        if a < i64::MIN + b {
-            return Err(FaultKind::Overflow);
-        }
-    } else if a > i64::MAX + b {
-        return Err(FaultKind::Overflow);
+    match a.checked_sub(b) {
+        Some(n) => Ok(n),
+        None => Err(FaultKind::Overflow),
     }
-    Ok(a - b)
 }
 
 fn product(a: i64, b: i64) -> Result<i64, FaultKind>

@@ -29,12 +29,11 @@ ghost use Rattle.job_answers.specs.Statuses.{status_of_answer, bytes_of_answer};
 ghost use Rattle.sigma_top.specs.StatusTable.{text_of, Told, Ends};
 ghost use Rattle.sigma_top.specs.Inner.Frame.{Performs, Serves};
 
-use crate::model_reading::model_of;
 use crate::text_taking::{Taken, take_text};
 use command_words::{ModelJob, Reading, WordsError, jobs_keep_their_limits};
 use job_answers::{
     Failure, ReadingError, Said, Status, answer_alone, answer_document, answer_model, answer_saved,
-    answers_keep_their_laws, complaint_answer, deliver, fused_models_mean_the_same,
+    answers_keep_their_laws, complaint_answer, deliver, fused_models_mean_the_same, model_of,
     narrower_models_mean_the_same, readable_models_are_reduced, saved_runs_are_resumed,
     sound_documents_mean_the_same, too_long_answer, written_models_mean_the_same,
 };

@@ -2,7 +2,6 @@
 #![tactic(auto)]
 
 mod frame;
-mod model_reading;
 mod text_taking;
 
 pub use command_words::{Job, WordsError, words};

@@ -5,7 +5,7 @@ use Rattle.std.proofs.lemmas.List.{length-set}
 use Rattle.model_core.specs.Text.Written.{WrittenSigned}
 use Rattle.model_core.specs.Text.Numbering as numbering
 use Rattle.model_core.specs.Text.SnapshotGrammar.{WrittenStream}
-use Rattle.model_core.specs.Saved.GoodSnapshots.{CheckedPart, first_bad_part, number_or_zero, stream_parts, with_taken, signed_values}
+use Rattle.model_core.specs.Saved.GoodSnapshots.{JudgedPart, first_bad_part, number_or_zero, stream_parts, with_taken, signed_values}
 use Rattle.snapshot_text.specs.Inner.Judging.{if_good, stream_good, stream_taken, fits_between, fitting}
 
 pub if_good-some : {X : Type 0} (b : Bool) (x y : X) → Some y ≡ if_good b x → (b ≡ true) × (y ≡ x)
@@ -16,10 +16,10 @@ pub if_good-none : {X : Type 0} (b : Bool) (x : X) → None ≡ if_good b x → 
 if_good-none true x e = absurd cc
 if_good-none false x e = refl
 
-pub passed : (p : CheckedPart) (parts : List CheckedPart) → p.good ≡ true → first_bad_part (p ∷ parts) ≡ first_bad_part parts
+pub passed : (p : JudgedPart) (parts : List JudgedPart) → p.good ≡ true → first_bad_part (p ∷ parts) ≡ first_bad_part parts
 passed p parts e = ap (λ b. cond b (first_bad_part parts) (Some p.at)) e
 
-pub told : (p : CheckedPart) (parts : List CheckedPart) → p.good ≡ false → first_bad_part (p ∷ parts) ≡ Some p.at
+pub told : (p : JudgedPart) (parts : List JudgedPart) → p.good ≡ false → first_bad_part (p ∷ parts) ≡ Some p.at
 told p parts e = ap (λ b. cond b (first_bad_part parts) (Some p.at)) e
 
 pub stream_passed : (least next : ℕ) (s : WrittenStream) (later : List WrittenStream) (total : Option ℕ) → stream_good least s ≡ true → next ≡ suc (number_or_zero s.stream)
@@ -63,7 +63,7 @@ one_before : (good : Bool) (first : Option ℕ) (at : ℕ) → cond good first (
 one_before true first at h = (refl, h)
 one_before false first at h = absurd cc
 
-pub good_before : (a b : List CheckedPart) → first_bad_part a ≡ None → first_bad_part (a ++ b) ≡ first_bad_part b
+pub good_before : (a b : List JudgedPart) → first_bad_part a ≡ None → first_bad_part (a ++ b) ≡ first_bad_part b
 good_before [] b h = refl
 good_before (p ∷ a) b h =
     let k = one_before p.good (first_bad_part a) p.at h in
@@ -73,6 +73,6 @@ told_before : (good : Bool) (first all : Option ℕ) (at place : ℕ) → cond g
 told_before true first all at place h k = k h
 told_before false first all at place h k = h
 
-pub bad_before : (a b : List CheckedPart) (at : ℕ) → first_bad_part a ≡ Some at → first_bad_part (a ++ b) ≡ Some at
+pub bad_before : (a b : List JudgedPart) (at : ℕ) → first_bad_part a ≡ Some at → first_bad_part (a ++ b) ≡ Some at
 bad_before [] b at h = absurd cc
 bad_before (p ∷ a) b at h = told_before p.good (first_bad_part a) (first_bad_part (a ++ b)) p.at at h (λ e. bad_before a b at e)

@@ -20,7 +20,7 @@ use Rattle.round_trip.proofs.ListText.{Pairs}
 use Rattle.model_core.specs.Saved.Cells.{cell_variables, variables_watched}
 use Rattle.model_core.specs.Saved.SavedRun.{SavedRun, IsWide, IsGoodEntry, IsGood}
 use Rattle.model_core.specs.Text.SnapshotGrammar.{WrittenStream, WrittenValue, WrittenNoted, WrittenCarried, WrittenPending, WrittenSnapshot}
-use Rattle.model_core.specs.Saved.GoodSnapshots.{number_or_zero, known_and, is_at_most, from_one_to, signed_values, carried_of, is_wide, CheckedPart, stream_parts, value_parts, noted_parts, has_parameters, pending_part, snapshot_parts, first_bad_part, bad_at, with_taken, saved_entry, saved_run}
+use Rattle.model_core.specs.Saved.GoodSnapshots.{number_or_zero, known_and, is_at_most, from_one_to, signed_values, carried_of, is_wide, JudgedPart, stream_parts, value_parts, noted_parts, has_parameters, pending_part, snapshot_parts, first_bad_part, bad_at, with_taken, saved_entry, saved_run}
 use Rattle.snapshot_text.proofs.SnapshotLines.{IsNumber, AreStreams, no_streams, silent, spoken, AreValues, MaybeNoted, PendingIs}
 use Rattle.snapshot_text.proofs.SnapshotWrites.{SnapshotIs}
 
@@ -37,14 +37,14 @@ is-at_most n most w e few = ap (λ v. known_and (λ k. nat_lt k (suc most)) (v >
 
 -- ---- parts that are good
 
-abbrev AllGood : List CheckedPart → Type 0
-AllGood parts = AllByRecursion (λ (p : CheckedPart). p.good ≡ true) parts
+abbrev AllGood : List JudgedPart → Type 0
+AllGood parts = AllByRecursion (λ (p : JudgedPart). p.good ≡ true) parts
 
-good-append : (a b : List CheckedPart) → AllGood a → AllGood b → AllGood (a ++ b)
+good-append : (a b : List JudgedPart) → AllGood a → AllGood b → AllGood (a ++ b)
 good-append [] b h k = k
 good-append (p ∷ a) b (here, h) k = (here, good-append a b h k)
 
-none-bad : (parts : List CheckedPart) → AllGood parts → first_bad_part parts ≡ None
+none-bad : (parts : List JudgedPart) → AllGood parts → first_bad_part parts ≡ None
 none-bad [] h = refl
 none-bad (p ∷ parts) (here, h) = ap (λ b. cond b (first_bad_part parts) (Some p.at)) here ∙ none-bad parts h
 

@@ -7,14 +7,14 @@ use Rattle.model_core.specs.EventGraph.{EventGraph}
 use Rattle.model_core.specs.Run.Pending.{Entry}
 use Rattle.model_core.specs.Text.SnapshotGrammar.{WrittenSnapshot, WrittenValue, WrittenNoted}
 use Rattle.model_core.specs.Saved.SavedRun.{SavedRun}
-use Rattle.model_core.specs.Saved.GoodSnapshots.{CheckedPart, first_bad_part, stream_parts, value_parts, noted_parts, pending_part, with_taken, signed_values, saved_entry}
+use Rattle.model_core.specs.Saved.GoodSnapshots.{JudgedPart, first_bad_part, stream_parts, value_parts, noted_parts, pending_part, with_taken, signed_values, saved_entry}
 use Rattle.snapshot_text.specs.Inner.Judging.{later_parts, later_saved}
 use Rattle.snapshot_text.proofs.JudgedParts.{good_before}
 
 module _ (g : EventGraph) (w : WrittenSnapshot) (streams : first_bad_part (stream_parts 0 w.streams) ≡ None) (values : first_bad_part (value_parts g.variables w.values) ≡ None) (noted : first_bad_part (noted_parts g w.noted) ≡ None) (pending : first_bad_part (map (pending_part g) w.pending) ≡ None) where
   end_decides : (good : Bool) → nat_lt (length w.values) (length g.variables) ≡ good → first_bad_part (later_parts g w) ≡ cond (not good) None (Some w.end_at)
   end_decides good e =
-      let last : List CheckedPart = record { good = not (nat_lt (length w.values) (length g.variables)); at = w.end_at } ∷ [] in
+      let last : List JudgedPart = record { good = not (nat_lt (length w.values) (length g.variables)); at = w.end_at } ∷ [] in
       let first = stream_parts 0 w.streams in
       let second = value_parts g.variables w.values in
       let third = noted_parts g w.noted in

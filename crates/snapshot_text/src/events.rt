@@ -54,23 +54,13 @@ fn add_carried(values: &mut Carried, written: &[RawCarried<'_>]) -> bool
     true
 }
 
-/// How many parameters the vertex at a place has, and none where there is none.
-fn count_parameters(model: &Model, vertex: usize) -> usize
-    ensures { result ≡ length (vertex_at (graph_of model.now) vertex).parameters }
-{
-    match model.vertices.as_slice().get(vertex) {
-        Some(found) => found.params.len(),
-        None => 0,
-    }
-}
-
-/// The same where each vertex has few.
-fn parameters_of(model: &Model, vertex: usize) -> usize
+/// How many parameters the vertex at a place has, where each vertex has few.
+fn parameter_count(model: &Model, vertex: usize) -> usize
     requires { AllByRecursion (λ (v : EventVertex). length v.parameters ≤ PARAMETERS_MAX) (graph_of model.now).vertices }
     ensures is { result ≡ length (vertex_at (graph_of model.now) vertex).parameters }
     ensures few { result ≤ PARAMETERS_MAX }
 {
-    count_parameters(model, vertex)
+    model.parameters_at(vertex).len()
 }
 
 /// The event, if it is good for the model at this clock.
@@ -84,7 +74,7 @@ fn entry_of(model: &Model, places: &Places, clock: u64, raw: &RawPending<'_>) ->
     let priority = at_most(raw.priority, PRIORITY_MAX)?;
     let vertex = places.find(raw.vertex.bytes)?;
     let values = written_values(&raw.values);
-    if values.len() != parameters_of(model, vertex) {
+    if values.len() != parameter_count(model, vertex) {
         return None;
     }
     let mut carried = Carried::new();

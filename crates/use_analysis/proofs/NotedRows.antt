@@ -94,11 +94,11 @@ pub noted_vertices-mapped : (vs : List EventVertex) (k : ℕ) (R W : ℕ → Lis
 noted_vertices-mapped [] k R W M n before_r before_w =
     same_on_range (row R W M) (row (with_users vertex_reads k [] R) (with_users vertex_writes k [] W) M) 0 n (λ j from. ap₂ (λ rs ws. row (λ j. rs) (λ j. ws) M j) (sym (append-nil (R j))) (sym (append-nil (W j))))
 noted_vertices-mapped (v ∷ vs) k R W M n before_r before_w =
-    let R2 = with_user (vertex_reads v) k R in
-    let W2 = with_user (vertex_writes v) k W in
-    ap (noted_vertices (k + 1) vs) (ap (noted_all (kinds.Written k) (vertex_writes v)) (reader-added (vertex_reads v) k R W M n before_r) ∙ writer-added (vertex_writes v) k R2 W M n before_w)
-    ∙ noted_vertices-mapped vs (k + 1) R2 W2 M n (before-more (vertex_reads v) k R before_r) (before-more (vertex_writes v) k W before_w)
-    ∙ same_on_range (row (with_users vertex_reads (k + 1) vs R2) (with_users vertex_writes (k + 1) vs W2) M) (row (with_users vertex_reads k (v ∷ vs) R) (with_users vertex_writes k (v ∷ vs) W) M) 0 n
+    let reads_noted = with_user (vertex_reads v) k R in
+    let writes_noted = with_user (vertex_writes v) k W in
+    ap (noted_vertices (k + 1) vs) (ap (noted_all (kinds.Written k) (vertex_writes v)) (reader-added (vertex_reads v) k R W M n before_r) ∙ writer-added (vertex_writes v) k reads_noted W M n before_w)
+    ∙ noted_vertices-mapped vs (k + 1) reads_noted writes_noted M n (before-more (vertex_reads v) k R before_r) (before-more (vertex_writes v) k W before_w)
+    ∙ same_on_range (row (with_users vertex_reads (k + 1) vs reads_noted) (with_users vertex_writes (k + 1) vs writes_noted) M) (row (with_users vertex_reads k (v ∷ vs) R) (with_users vertex_writes k (v ∷ vs) W) M) 0 n
     (λ j from. ap₂ (λ rs ws. row (λ j. rs) (λ j. ws) M j)
     (append_assoc (R j) (cond (is_among (vertex_reads v) j) (k ∷ []) []) (places_where (λ (w : EventVertex). is_among (vertex_reads w) j) (k + 1) vs))
     (append_assoc (W j) (cond (is_among (vertex_writes v) j) (k ∷ []) []) (places_where (λ (w : EventVertex). is_among (vertex_writes w) j) (k + 1) vs)))

@@ -8,7 +8,6 @@ ghost use Rattle.model_core.specs.Rules.Slice.{expression_renumbered, location_r
 ghost use Rattle.model_core.specs.Code.Views.{graph_of, vertex_of, edge_of, expression_of, location_of, edge_delay_of, edge_kind_of, change_of};
 ghost use Rattle.var_slicing.specs.Inner.Beside.{keeps_beside};
 
-use crate::needs::parameters_at;
 use marked_walks::Staying;
 use model_core::{Change, Delay, Edge, EdgeForm, Expr, Model, Target, Vertex, copy_name};
 use sig_base::{List, NoMemory};
@@ -228,7 +227,7 @@ fn changes_left(
 fn edge_left(alloc: Global, staying: &Staying, model: &Model, edge: &Edge) -> Result<Edge, NoMemory>
     ensures { IfOk result (λ left. edge_of left ≡ edge_left (graph_of model.now) staying.now (edge_of edge.now)) }
 {
-    let params = parameters_at(model, edge.target);
+    let params = model.parameters_at(edge.target);
     Ok(Edge {
         target: edge.target,
         values: values_left(alloc, staying, params, edge.values.as_slice())?,

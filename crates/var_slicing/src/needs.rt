@@ -3,7 +3,6 @@
 ghost use Rattle.std.specs.Prelude.{◌≡◌, ℕ, ◌++◌, [], map, zip, OnOk, IfOk};
 ghost use Rattle.std.specs.List.{flat_map};
 ghost use Rattle.model_core.specs.EventGraph.{Location, Expression, scalar_location};
-ghost use Rattle.model_core.specs.Run.Step.{vertex_at};
 ghost use Rattle.model_core.specs.Rules.Uses.{variables_in, location_reads};
 ghost use Rattle.model_core.specs.Rules.Needed.{watched_variables, compared_parameters, faulting_target, faulting_parameters, each_beside, needed_by_parameters, is_scheduling, compares_values};
 ghost use Rattle.model_core.specs.Code.Views.{graph_of, vertex_of, change_of, edge_of, edge_kind_of, location_of, expression_of, watched_of};
@@ -37,16 +36,6 @@ pub(crate) fn add_watched(out: &mut Vec<usize>, watch: &[Watch]) -> Result<(), N
         }
     }
     Ok(())
-}
-
-/// The parameters of the vertex at this place.
-pub(crate) fn parameters_at(model: &Model, vertex: usize) -> &[usize]
-    ensures { result.now ≡ (vertex_at (graph_of model.now) vertex).parameters }
-{
-    match model.vertices.as_slice().get(vertex) {
-        Some(vertex) => vertex.params.as_slice(),
-        None => &[],
-    }
 }
 
 /// Adds a place beside each of these.
@@ -203,7 +192,7 @@ fn add_compared(out: &mut Vec<usize>, model: &Model, edge: &Edge) -> Result<(), 
     ensures { OnOk result (out.new.items ≡ out.old.items ++ compared_parameters (graph_of model.now) (edge_of edge.now)) }
 {
     if compares_values(&edge.form) {
-        add_places(out, parameters_at(model, edge.target))
+        add_places(out, model.parameters_at(edge.target))
     } else {
         Ok(())
     }
@@ -264,7 +253,7 @@ fn add_faulting_parameters(out: &mut Vec<usize>, model: &Model, edge: &Edge) -> 
         add_faulting_values(
             out,
             model,
-            parameters_at(model, edge.target),
+            model.parameters_at(edge.target),
             edge.values.as_slice(),
         )
     } else {
@@ -329,7 +318,7 @@ fn add_parameter_needs(
     add_all_value_needs(
         alloc,
         pairs,
-        parameters_at(model, edge.target),
+        model.parameters_at(edge.target),
         edge.values.as_slice(),
     )
 }
@@ -455,7 +444,7 @@ impl Needs {
     {
         let mut needs = Needs::begin(alloc);
         add_watched(&mut needs.first, model.watch.as_slice())?;
-        add_places(&mut needs.first, parameters_at(model, 0))?;
+        add_places(&mut needs.first, model.parameters_at(0))?;
         needs.add_all_changes(alloc, model, model.vertices.as_slice())?;
         needs.add_all_edges(alloc, model, model.vertices.as_slice())?;
         add_drawn_from(

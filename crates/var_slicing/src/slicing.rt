@@ -9,24 +9,9 @@ ghost use Rattle.model_core.specs.Code.Views.{graph_of, variable_of, watched_of}
 use crate::leaving::vertices_left;
 use crate::marking::needed;
 use marked_walks::{Staying, unmarked};
-use model_core::{Model, RuleError, Var, Watch, copy_name};
+use model_core::{Model, RuleError, Var, Watch, copy_var};
 use sig_base::{List, NoMemory};
 use std::alloc::Global;
-
-/// A copy of a declaration.
-fn var_left(alloc: Global, var: &Var) -> Result<Var, NoMemory>
-    ensures { IfOk result (λ left. variable_of left ≡ variable_of var.now) }
-{
-    Ok(Var {
-        name: copy_name(alloc, &var.name)?,
-        size: var.size,
-        kind: var.kind,
-        lo: var.lo,
-        hi: var.hi,
-        clip: var.clip,
-        initial: var.initial,
-    })
-}
 
 /// The declarations of the variables that stay.
 fn vars_left(alloc: Global, staying: &Staying, vars: &[Var]) -> Result<List<Var>, NoMemory>
@@ -35,7 +20,7 @@ fn vars_left(alloc: Global, staying: &Staying, vars: &[Var]) -> Result<List<Var>
     let mut left = Vec::new(alloc);
     for (place, var) in vars.iter().enumerate() {
         if staying.keeps(place) {
-            left.push(var_left(alloc, var)?)?;
+            left.push(copy_var(alloc, var)?)?;
         }
     }
     Ok(List::from_vec(left))

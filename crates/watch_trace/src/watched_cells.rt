@@ -101,7 +101,7 @@ fn add_values(values: &mut Vec<i64>, others: &[i64])
     ensures capacity { vec_capacity values.old ≤ vec_capacity values.new }
 {
     for value in others {
-        values.push(*value).unwrap();
+        values.push_reserved(*value);
     }
 }
 

@@ -55,25 +55,25 @@ is_wide c = within (neg_ℤ (pos (2 ^ 63))) (pos (2 ^ 63 - 1)) (carried_of c)
 
 -- ---- parts in order, each with its place and whether it is good
 
-pub record CheckedPart : Type 0 where
+pub record JudgedPart : Type 0 where
   pub good : Bool
   pub at : ℕ
 
 -- streams rise, from this one on
-abbrev pub stream_parts : ℕ → List WrittenStream → List CheckedPart
+abbrev pub stream_parts : ℕ → List WrittenStream → List JudgedPart
 stream_parts least [] = []
 stream_parts least (s ∷ streams) =
     record { good = (is_at_most 63 s.stream && not (nat_lt (number_or_zero s.stream) least)) && from_one_to (2 ^ 52) s.words; at = s.at }
     ∷ stream_parts (suc (number_or_zero s.stream)) streams
 
 -- there is one for each variable, in order
-abbrev pub value_parts : List Variable → List WrittenValue → List CheckedPart
+abbrev pub value_parts : List Variable → List WrittenValue → List JudgedPart
 value_parts variables [] = []
 value_parts [] (w ∷ values) = record { good = false; at = w.at } ∷ value_parts [] values
 value_parts (v ∷ variables) (w ∷ values) =
     record { good = same_bytes w.variable.name v.name && fit_variables (replicate (cell_count v) v) w.values; at = w.at } ∷ value_parts variables values
 
-abbrev pub noted_parts : EventGraph → Option WrittenNoted → List CheckedPart
+abbrev pub noted_parts : EventGraph → Option WrittenNoted → List JudgedPart
 noted_parts g None = []
 noted_parts g (Some w) = record { good = fit_variables (cell_variables (variables_watched g g.watch)) w.values; at = w.at } ∷ []
 
@@ -82,13 +82,13 @@ abbrev pub has_parameters : EventGraph → ℕ → Option ℕ → Bool
 has_parameters g count None = false
 has_parameters g count (Some vertex) = count == length (vertex_at g vertex).parameters
 
-abbrev pub pending_part : EventGraph → WrittenPending → CheckedPart
+abbrev pub pending_part : EventGraph → WrittenPending → JudgedPart
 pending_part g w = record {
   good = (is_at_most (2 ^ 63 - 1) w.ticks && is_at_most 255 w.priority) && (has_parameters g (length w.values) (place_of_vertex w.vertex.name g.vertices) && list_all is_wide w.values);
   at = w.at;
 }
 
-abbrev pub snapshot_parts : EventGraph → WrittenSnapshot → List CheckedPart
+abbrev pub snapshot_parts : EventGraph → WrittenSnapshot → List JudgedPart
 snapshot_parts g w =
     record { good = is_at_most (2 ^ 32 - 1) w.seed && is_at_most (2 ^ 32 - 1) w.seed_rest; at = w.seed_at }
     ∷ record { good = is_at_most (2 ^ 48) w.clock; at = w.clock_at }
@@ -96,7 +96,7 @@ snapshot_parts g w =
     ∷ (stream_parts 0 w.streams ++ value_parts g.variables w.values ++ noted_parts g w.noted ++ map (pending_part g) w.pending
     ++ record { good = not (nat_lt (length w.values) (length g.variables)); at = w.end_at } ∷ [])
 
-abbrev pub first_bad_part : List CheckedPart → Option ℕ
+abbrev pub first_bad_part : List JudgedPart → Option ℕ
 first_bad_part [] = None
 first_bad_part (p ∷ parts) = cond p.good (first_bad_part parts) (Some p.at)
 

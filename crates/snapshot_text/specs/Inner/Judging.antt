@@ -9,7 +9,7 @@ use Rattle.model_core.specs.Text.Written.{WrittenNumber, WrittenSigned}
 use Rattle.model_core.specs.Text.Numbering as numbering
 use Rattle.model_core.specs.Text.SnapshotGrammar.{WrittenStream, WrittenValue, WrittenSnapshot}
 use Rattle.model_core.specs.Saved.SavedRun.{SavedRun}
-use Rattle.model_core.specs.Saved.GoodSnapshots.{CheckedPart, stream_parts, value_parts, noted_parts, pending_part, saved_entry, saved_run, first_bad_part, number_or_zero, is_at_most, from_one_to, fit_variables}
+use Rattle.model_core.specs.Saved.GoodSnapshots.{JudgedPart, stream_parts, value_parts, noted_parts, pending_part, saved_entry, saved_run, first_bad_part, number_or_zero, is_at_most, from_one_to, fit_variables}
 use Rattle.snapshot_text.specs.declared.snapshot_error.SnapshotError.{SnapshotError}
 use Rattle.snapshot_text.specs.declared.snapshot_error.SnapshotError.TheVariants as errors
 
@@ -18,7 +18,7 @@ abbrev pub if_good : {X : Type 0} → Bool → X → Option X
 if_good good x = if good then Some x else None
 
 -- What a call made of parts is so, and they are good; or it told the first that isn't.
-abbrev pub Judged : {X : Type 0} → Result X SnapshotError → List CheckedPart → (X → Type 0) → Type 0
+abbrev pub Judged : {X : Type 0} → Result X SnapshotError → List JudgedPart → (X → Type 0) → Type 0
 Judged (Ok x) parts P = (first_bad_part parts ≡ None) × P x
 Judged (Err (errors.Bad at)) parts P = first_bad_part parts ≡ Some at
 Judged (Err errors.NoMemory) parts P = Unit {0}
@@ -66,7 +66,7 @@ watched_cells g (WatchedVertex v) = 0
 -- ---- the whole
 
 -- the parts behind the seed, the clock and the number of events
-abbrev pub later_parts : EventGraph → WrittenSnapshot → List CheckedPart
+abbrev pub later_parts : EventGraph → WrittenSnapshot → List JudgedPart
 later_parts g w =
     stream_parts 0 w.streams ++ value_parts g.variables w.values ++ noted_parts g w.noted ++ map (pending_part g) w.pending
     ++ record { good = not (nat_lt (length w.values) (length g.variables)); at = w.end_at } ∷ []

@@ -7,7 +7,7 @@ use Rattle.model_core.specs.contracts.token.Word.{the_type as word_type}
 use Rattle.model_core.specs.contracts.token.Symbol.{the_type as symbol_type}
 use Rattle.model_core.specs.Text.Lexing.{Lexeme, LexemeKind, NameOf, Reserved, NumberOf, Mark, same_bytes}
 use Rattle.model_core.specs.Text.Format.{TokenSort, AName, ASpelled, ANumber, AWord, ASymbol, sort_as, single}
-use Rattle.text_laws.specs.FirstTokens.{same_sort, among, meets, meets_some, begins_as, begins_among, apart, subset}
+use Rattle.text_laws.specs.FirstTokens.{same_sort, among, can_be_both, can_be_among, begins_as, begins_among, apart, subset}
 use Rattle.text_laws.specs.FormatReader.{Parse, Parser, took, stuck, and_next, single_at}
 
 -- ---- tests
@@ -89,7 +89,7 @@ stops-both xs ys tokens e = neither (begins_among xs tokens) (begins_among ys to
 same-spelling : (a b c : List ℕ) → same_bytes a b ≡ true → same_bytes a c ≡ true → same_bytes b c ≡ true
 same-spelling a b c e h = subst (λ (z : List ℕ). same_bytes z c ≡ true) ((bytes_decides a b).0 e) h
 
-both-meet : (k : LexemeKind) (x y : TokenSort) → same_sort (sort_as x k) x ≡ true → same_sort (sort_as y k) y ≡ true → meets x y ≡ true
+both-meet : (k : LexemeKind) (x y : TokenSort) → same_sort (sort_as x k) x ≡ true → same_sort (sort_as y k) y ≡ true → can_be_both x y ≡ true
 both-meet (NameOf a) AName AName e h = refl
 both-meet (NameOf a) AName (ASpelled c) e h = refl
 both-meet (NameOf a) (ASpelled b) AName e h = refl
@@ -102,23 +102,23 @@ both-meet (NumberOf n m) x y e h = absurd cc
 both-meet (Mark m) (ASymbol u) (ASymbol v) e h = subst (λ (z : TokenSort). same_sort z (ASymbol v) ≡ true) (same_sort-true (ASymbol m) (ASymbol u) e) h
 both-meet (Mark m) x y e h = absurd cc
 
-met : (x : TokenSort) (ys : List TokenSort) (t : Lexeme) (tokens : List Lexeme) → same_sort (sort_as x t.kind) x ≡ true → begins_among ys (t ∷ tokens) ≡ true → meets_some x ys ≡ true
+met : (x : TokenSort) (ys : List TokenSort) (t : Lexeme) (tokens : List Lexeme) → same_sort (sort_as x t.kind) x ≡ true → begins_among ys (t ∷ tokens) ≡ true → can_be_among x ys ≡ true
 met x [] t tokens e h = absurd cc
 met x (y ∷ ys) t tokens e h = pick (same_sort (sort_as y t.kind) y) refl h (λ g. met x ys t tokens e g)
   where
-    pick : (c : Bool) → same_sort (sort_as y t.kind) y ≡ c → (c || begins_among ys (t ∷ tokens)) ≡ true → (begins_among ys (t ∷ tokens) ≡ true → meets_some x ys ≡ true) → (meets x y || meets_some x ys) ≡ true
-    pick true f g later = ap (λ b. b || meets_some x ys) (both-meet t.kind x y e f)
-    pick false f g later = or-true (meets x y) (meets_some x ys) (later g)
+    pick : (c : Bool) → same_sort (sort_as y t.kind) y ≡ c → (c || begins_among ys (t ∷ tokens)) ≡ true → (begins_among ys (t ∷ tokens) ≡ true → can_be_among x ys ≡ true) → (can_be_both x y || can_be_among x ys) ≡ true
+    pick true f g later = ap (λ b. b || can_be_among x ys) (both-meet t.kind x y e f)
+    pick false f g later = or-true (can_be_both x y) (can_be_among x ys) (later g)
 
 pub begins-apart : (xs ys : List TokenSort) (tokens : List Lexeme) → apart xs ys ≡ true → begins_among ys tokens ≡ true → begins_among xs tokens ≡ false
 begins-apart xs ys [] a e = begins-none xs
 begins-apart [] ys (t ∷ tokens) a e = refl
 begins-apart (x ∷ xs) ys (t ∷ tokens) a e =
-    let b = both (not (meets_some x ys)) (apart xs ys) a in
-    pick (same_sort (sort_as x t.kind) x) refl (begins-apart xs ys (t ∷ tokens) b.1 e) (not_true (meets_some x ys) b.0)
+    let b = both (not (can_be_among x ys)) (apart xs ys) a in
+    pick (same_sort (sort_as x t.kind) x) refl (begins-apart xs ys (t ∷ tokens) b.1 e) (not_true (can_be_among x ys) b.0)
   where
-    pick : (c : Bool) → same_sort (sort_as x t.kind) x ≡ c → begins_among xs (t ∷ tokens) ≡ false → meets_some x ys ≡ false → (c || begins_among xs (t ∷ tokens)) ≡ false
-    pick true f g h = absurd (let i : meets_some x ys ≡ true = met x ys t tokens f e in cc)
+    pick : (c : Bool) → same_sort (sort_as x t.kind) x ≡ c → begins_among xs (t ∷ tokens) ≡ false → can_be_among x ys ≡ false → (c || begins_among xs (t ∷ tokens)) ≡ false
+    pick true f g h = absurd (let i : can_be_among x ys ≡ true = met x ys t tokens f e in cc)
     pick false f g h = g
 
 begins-listed : (x : TokenSort) (ys : List TokenSort) (t : Lexeme) (tokens : List Lexeme) → among x ys ≡ true → same_sort (sort_as x t.kind) x ≡ true → begins_among ys (t ∷ tokens) ≡ true

@@ -7,7 +7,7 @@ use Rattle.model_core.specs.Code.Views.{variable_of}
 use Rattle.var_slicing.proofs.SideBySide.{drop-viewed, drop-beyond}
 use Rattle.var_slicing.proofs.LeftLists.{left-step, marked-more, marked-none}
 use Rattle.var_slicing.proofs.slicing.vars_left.Goals as goal
-use Rattle.var_slicing.proofs.slicing.vars_left.Goals.{then-keeps+in_ok-var_left+in_ok-push, else-keeps}
+use Rattle.var_slicing.proofs.slicing.vars_left.Goals.{then-keeps+in_ok-copy_var+in_ok-push, else-keeps}
 
 pub loop-place-preserved : goal.loop-place-preserved
 loop-place-preserved c =
@@ -20,8 +20,8 @@ loop-place-preserved c =
     let splits = marked-more marks xs i x (drop-viewed variable_of c.args.vars.now i var c.loop-place-test.true c.index-vars-place.is) in
     rw add-one
     (elim c.if-keeps.branch [
-      | then-keeps+in_ok-var_left+in_ok-push w ↦ left-step x left _ _ _ _ (is_marked marks i) true splits (sym c.keeps.ensures ∙ w.if-keeps.true)
-          (ap (λ v. map variable_of v.items) w.left-is ∙ ap (map variable_of) w.in_ok-push.ensures.items ∙ map-append variable_of c.loop-place.left.items (w.in_ok-var_left.field-0 ∷ []) ∙ ap (λ (v : Variable). left ++ v ∷ []) w.in_ok-var_left.ensures) c.loop-place.invariant
+      | then-keeps+in_ok-copy_var+in_ok-push w ↦ left-step x left _ _ _ _ (is_marked marks i) true splits (sym c.keeps.ensures ∙ w.if-keeps.true)
+          (ap (λ v. map variable_of v.items) w.left-is ∙ ap (map variable_of) w.in_ok-push.ensures.items ∙ map-append variable_of c.loop-place.left.items (w.in_ok-copy_var.field-0 ∷ []) ∙ ap (λ (v : Variable). left ++ v ∷ []) w.in_ok-copy_var.ensures) c.loop-place.invariant
       | else-keeps w ↦ left-step x left _ _ _ _ (is_marked marks i) false splits (sym c.keeps.ensures ∙ w.if-keeps.false)
           (ap (λ v. map variable_of v.items) w.left-is ∙ sym (append-nil left)) c.loop-place.invariant
     ])

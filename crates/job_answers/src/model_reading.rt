@@ -6,7 +6,8 @@ ghost use Rattle.model_core.specs.Code.Views.{graph_of};
 ghost use Rattle.job_answers.specs.declared.complaint.Complaint.{Complaint as Complained};
 ghost use Rattle.job_answers.specs.Complaints.{IsComplaint};
 
-use job_answers::{ReadingError, read_as_written};
+use crate::reading_error::ReadingError;
+use crate::written_reading::read_as_written;
 use model_core::Model;
 use model_lex::tokens;
 use one_pass::{NotRead, read_model};
