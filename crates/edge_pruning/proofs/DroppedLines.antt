@@ -14,7 +14,7 @@ use Rattle.model_core.specs.Rules.Conditions.{first_failed}
 use Rattle.model_core.specs.Rules.MarkedPlaces.{rank, marked_of, is_marked, unmarked_places}
 use Rattle.model_core.specs.Rules.Reached.{reached_marks, unreached}
 use Rattle.model_core.specs.Rules.Drop.{edge_renumbered, vertex_renumbered, watched_renumbered, drop_conditions, only_marked, dropped}
-use Rattle.mark_laws.proofs.Marks.{Marked}
+use Rattle.mark_laws.proofs.Marks.{Marked, get-marked}
 use Rattle.mark_laws.proofs.MarksBelow.{marked-among}
 use Rattle.mark_laws.proofs.ReachedLong.{reached_marks-long}
 use Rattle.model_core.proofs.Among.{Among}
@@ -24,7 +24,7 @@ use Rattle.round_trip.proofs.VersionsKept.{needed-kept}
 use Rattle.edge_pruning.proofs.DropMarks.{marked_of-map}
 use Rattle.edge_pruning.proofs.DropResult.{lists_unreached, without_unreached}
 use Rattle.edge_pruning.proofs.ReachedMarks.{watched-begins, HoldReached, reached_marks-hold}
-use Rattle.edge_pruning.proofs.ValidDropped.{get-marked, map-alike, flat_map-alike}
+use Rattle.edge_pruning.proofs.ValidDropped.{map-alike, flat_map-alike}
 
 -- ---- marked and unmarked elements
 

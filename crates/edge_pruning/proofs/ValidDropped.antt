@@ -12,7 +12,7 @@ use Rattle.model_core.specs.Text.Spellable.{HasOne, Extent, extent, SpellableEdg
 use Rattle.model_core.specs.Static.OwnRules.{parameters_of, KeepsStaticRules}
 use Rattle.model_core.specs.Rules.MarkedPlaces.{rank, marked_of}
 use Rattle.model_core.specs.Rules.Drop.{edge_renumbered, vertex_renumbered, watched_renumbered, only_marked}
-use Rattle.mark_laws.proofs.Marks.{Marked, rank-apart}
+use Rattle.mark_laws.proofs.Marks.{Marked, rank-apart, rank-within, get-marked}
 use Rattle.round_trip.proofs.FewerVertices.{Stay, kept-spellable, kept-parts}
 use Rattle.round_trip.proofs.VersionsKept.{needed-kept, declared-shorter}
 use Rattle.model_core.proofs.Among.{Among, of-among, each-among}
@@ -25,22 +25,6 @@ use Rattle.edge_pruning.proofs.ReachedMarks.{watched-begins, HoldReached}
 use Rattle.edge_pruning.proofs.DropSame.{NamesVertices}
 
 -- ---- marked elements
-
-rank-within : {A : Type 0} (marks : List Bool) (xs : List A) (k : ℕ) → Marked marks k → k < length xs → rank marks k < length (marked_of marks xs)
-rank-within [] xs k marked below = cc
-rank-within (b ∷ bs) [] k marked below = absurd (omega arith)
-rank-within (true ∷ bs) (x ∷ xs) zero marked below = omega arith
-rank-within (false ∷ bs) (x ∷ xs) zero marked below = cc
-rank-within (true ∷ bs) (x ∷ xs) (suc k) marked below = omega (arith, rank-within bs xs k marked (omega arith))
-rank-within (false ∷ bs) (x ∷ xs) (suc k) marked below = rank-within bs xs k marked (omega arith)
-
-pub get-marked : {A : Type 0} (marks : List Bool) (xs : List A) (k : ℕ) → Marked marks k → slice_get (marked_of marks xs) (rank marks k) ≡ slice_get xs k
-get-marked [] xs k marked = cc
-get-marked (b ∷ bs) [] k marked = refl
-get-marked (true ∷ bs) (x ∷ xs) zero marked = refl
-get-marked (false ∷ bs) (x ∷ xs) zero marked = cc
-get-marked (true ∷ bs) (x ∷ xs) (suc k) marked = get-marked bs xs k marked
-get-marked (false ∷ bs) (x ∷ xs) (suc k) marked = get-marked bs xs k marked
 
 lines-marked : {A : Type 0} (old new : A → List ℕ) (marks : List Bool) (xs : List A) → ((x : A) → Among x (marked_of marks xs) → new x ≡ old x) → NoLonger (flat_map new (marked_of marks xs)) (flat_map old xs)
 lines-marked old new [] xs same = record { at_most = omega arith }

@@ -1,32 +1,14 @@
 -- What stands beside marked variables: parameters, targets and values that stay.
-use Rattle.std.proofs.Common.{◌≡◌, ℕ, zero, suc, ◌<◌, Bool, true, false, cond, List, [], ◌∷◌, map, zip, length, slice_get, refl, ap, arith}
+use Rattle.std.proofs.Common.{◌≡◌, ℕ, Bool, true, false, cond, List, [], ◌∷◌, map, zip, refl, ap}
 use Rattle.std.specs.List.{AllByRecursion, AllZip}
 use Rattle.model_core.specs.declared.model.Kind.{Kind}
 use Rattle.model_core.specs.EventGraph.{EventGraph, Expression, Location}
-use Rattle.model_core.specs.Rules.MarkedPlaces.{rank, marked_of, is_marked}
+use Rattle.model_core.specs.Rules.MarkedPlaces.{rank, is_marked}
 use Rattle.model_core.specs.Rules.Slice.{location_renumbered, kept_beside, parameters_left, targets_left}
 use Rattle.mark_laws.proofs.Marks.{Marked}
 use Rattle.var_slicing.proofs.ValuesLeft.{ReadsMarked}
 use Rattle.var_slicing.proofs.ChangesLeft.{IndexReadsMarked}
 use Rattle.var_slicing.proofs.NeedsClosed.{SetNeeds, ParameterNeeds}
-
--- ---- marked elements
-
-pub get-marked_of : {A : Type 0} (marks : List Bool) (xs : List A) (k : ℕ) → Marked marks k → slice_get (marked_of marks xs) (rank marks k) ≡ slice_get xs k
-get-marked_of [] xs k marked = cc
-get-marked_of (b ∷ bs) [] k marked = refl
-get-marked_of (true ∷ bs) (x ∷ xs) zero marked = refl
-get-marked_of (false ∷ bs) (x ∷ xs) zero marked = cc
-get-marked_of (true ∷ bs) (x ∷ xs) (suc k) marked = get-marked_of bs xs k marked
-get-marked_of (false ∷ bs) (x ∷ xs) (suc k) marked = get-marked_of bs xs k marked
-
-pub rank-inside : {A : Type 0} (marks : List Bool) (xs : List A) (k : ℕ) → Marked marks k → k < length xs → rank marks k < length (marked_of marks xs)
-rank-inside [] xs k marked below = cc
-rank-inside (b ∷ bs) [] k marked below = absurd (omega arith)
-rank-inside (true ∷ bs) (x ∷ xs) zero marked below = omega arith
-rank-inside (false ∷ bs) (x ∷ xs) zero marked below = cc
-rank-inside (true ∷ bs) (x ∷ xs) (suc k) marked below = omega (arith, rank-inside bs xs k marked (omega arith))
-rank-inside (false ∷ bs) (x ∷ xs) (suc k) marked below = rank-inside bs xs k marked (omega arith)
 
 -- ---- targets and parameters
 

@@ -12,7 +12,7 @@ use Rattle.model_core.specs.Static.OwnRules.{TakesKind, KeepsSource, KeepsDelay}
 use Rattle.model_core.specs.Rules.MarkedPlaces.{rank}
 use Rattle.model_core.specs.Rules.Uses.{variables_in}
 use Rattle.model_core.specs.Rules.Slice.{expression_renumbered, delay_renumbered, location_renumbered, kept_beside, values_left, parameters_left, targets_left, of_marked_variables}
-use Rattle.mark_laws.proofs.Marks.{Marked}
+use Rattle.mark_laws.proofs.Marks.{Marked, rank-within, get-marked}
 use Rattle.model_core.proofs.EachOne.{every-map}
 use Rattle.var_slicing.proofs.HeldByAll.{held-both}
 use Rattle.var_slicing.proofs.ValuesLeft.{ReadsMarked}
@@ -21,7 +21,7 @@ use Rattle.var_slicing.proofs.EdgesLeft.{DelayReadsMarked}
 use Rattle.var_slicing.proofs.NeedsClosed.{variables-below}
 use Rattle.model_core.proofs.SomeOfAList.{SomeOf, some-kept_beside, some-map, some-hold, some-few, some-openings}
 use Rattle.var_slicing.proofs.RenumberedTexts.{openings-renumbered, index_openings-renumbered, spellable-renumbered, IsDeclared, variable-declared, kind-renumbered, name-renumbered, text-renumbered, index_text-renumbered}
-use Rattle.var_slicing.proofs.KeptBeside.{get-marked_of, rank-inside, variables_of, targets-kept, TargetMarked, TargetsRead, ValuesRead, targets-marked, values-marked, parameters-kept, parameters-marked, zip-kept, zip-mapped}
+use Rattle.var_slicing.proofs.KeptBeside.{variables_of, targets-kept, TargetMarked, TargetsRead, ValuesRead, targets-marked, values-marked, parameters-kept, parameters-marked, zip-kept, zip-mapped}
 
 pub mapped-alike : {A B C : Type 0} (P : A → Type 0) (f : A → B) (p : B → C) (q : A → C) → ((x : A) → P x → p (f x) ≡ q x) → (xs : List A) → AllByRecursion P xs → map p (map f xs) ≡ map q xs
 mapped-alike P f p q same [] all = refl
@@ -51,13 +51,13 @@ module _ (g : EventGraph) (marks : List Bool) where
   -- ---- variables
 
   pub declared-left : (v : ℕ) → Marked marks v → IsDeclared g h f v
-  declared-left v marked = get-marked_of marks g.variables v marked
+  declared-left v marked = get-marked marks g.variables v marked
 
   pub all-declared : (vs : List ℕ) → AllByRecursion (Marked marks) vs → AllByRecursion (IsDeclared g h f) vs
   all-declared vs all = every-map (Marked marks) (IsDeclared g h f) declared-left vs all
 
   pub rank-below_left : (v : ℕ) → Marked marks v → v < count → f v < left_count
-  rank-below_left v marked below = rank-inside marks g.variables v marked below
+  rank-below_left v marked below = rank-within marks g.variables v marked below
 
   all-below_left : (vs : List ℕ) → AllByRecursion (Marked marks) vs → AllByRecursion (λ v. v < count) vs → AllByRecursion (λ v. f v < left_count) vs
   all-below_left vs all below = every-map (λ v. Marked marks v × (v < count)) (λ v. f v < left_count) (λ v both. rank-below_left v both.0 both.1) vs (held-both (Marked marks) (λ v. v < count) vs all below)
