@@ -19,7 +19,7 @@ use Rattle.edge_pruning.proofs.ListsChanged.{all_remove, any_remove, length-remo
 use Rattle.model_core.proofs.NoLongerTexts.{NoLonger, no_longer-behind, no_longer-before, no_longer-nothing, no_longer-same}
 use Rattle.edge_pruning.proofs.Shorter.{lines_remove, lines_with_place}
 use Rattle.edge_pruning.proofs.OneVertexChanged.{Lessens}
-use Rattle.round_trip.proofs.VersionsKept.{any-placed}
+use Rattle.round_trip.proofs.VersionsKept.{any-replaced}
 
 -- ---- one edge fewer
 
@@ -62,7 +62,7 @@ settle_lessens edge = record {
   no_more_edges = λ es. same_at_least _ _ (length_placed unconditional edge es);
   keeps_rules = λ variables tables takes es keep. all_with_place (KeepsEdge variables tables takes) unconditional (keeps_unconditional variables tables takes) edge es keep;
   spellable = λ x es s. all_with_place (SpellableEdge x) unconditional (spellable_unconditional x) edge es s;
-  drawn = any-placed has_drawn_delay unconditional (λ e h. h) edge;
+  drawn = any-replaced has_drawn_delay unconditional (λ e h. h) edge;
   lines = λ g es. lines_with_place (edge_line g) (edge_line g) unconditional (unconditional_shorter g) (λ e. no_longer-same _ _ refl) edge es;
 }
 

@@ -24,19 +24,19 @@ any-some test nothing e = e
 any-some test (with_it x {xs = xs} {ys = ys} some) e = either_kept (test x) (list_any test xs) (test x) (list_any test ys) (λ h. h) (any-some test some) e
 any-some test (without y {ys = ys} some) e = second_true (test y) (list_any test ys) (any-some test some e)
 
-pub any-mapped : {A B : Type 0} (old : A → Bool) (new : B → Bool) (f : A → B) → ((x : A) → new (f x) ≡ true → old x ≡ true) → (xs : List A) → list_any new (map f xs) ≡ true → list_any old xs ≡ true
-any-mapped old new f each [] e = e
-any-mapped old new f each (x ∷ xs) e = either_kept (new (f x)) (list_any new (map f xs)) (old x) (list_any old xs) (each x) (any-mapped old new f each xs) e
+pub any-image : {A B : Type 0} (old : A → Bool) (new : B → Bool) (f : A → B) → ((x : A) → new (f x) ≡ true → old x ≡ true) → (xs : List A) → list_any new (map f xs) ≡ true → list_any old xs ≡ true
+any-image old new f each [] e = e
+any-image old new f each (x ∷ xs) e = either_kept (new (f x)) (list_any new (map f xs)) (old x) (list_any old xs) (each x) (any-image old new f each xs) e
 
 pub any-left : {A B : Type 0} (old : A → Bool) (new : B → Bool) (left : A → List B) → ((x : A) → list_any new (left x) ≡ true → old x ≡ true) → (xs : List A) → list_any new (flat_map left xs) ≡ true → list_any old xs ≡ true
 any-left old new left each [] e = e
 any-left old new left each (x ∷ xs) e =
     either_kept (list_any new (left x)) (list_any new (flat_map left xs)) (old x) (list_any old xs) (each x) (any-left old new left each xs) (sym (list_any-append new (left x) (flat_map left xs)) ∙ e)
 
-pub any-placed : {A : Type 0} (test : A → Bool) (f : A → A) → ((x : A) → test (f x) ≡ true → test x ≡ true) → (k : ℕ) (xs : List A) → list_any test (with_place f k xs) ≡ true → list_any test xs ≡ true
-any-placed test f each k [] e = e
-any-placed test f each zero (x ∷ xs) e = either_kept (test (f x)) (list_any test xs) (test x) (list_any test xs) (each x) (λ h. h) e
-any-placed test f each (suc k) (x ∷ xs) e = either_kept (test x) (list_any test (with_place f k xs)) (test x) (list_any test xs) (λ h. h) (any-placed test f each k xs) e
+pub any-replaced : {A : Type 0} (test : A → Bool) (f : A → A) → ((x : A) → test (f x) ≡ true → test x ≡ true) → (k : ℕ) (xs : List A) → list_any test (with_place f k xs) ≡ true → list_any test xs ≡ true
+any-replaced test f each k [] e = e
+any-replaced test f each zero (x ∷ xs) e = either_kept (test (f x)) (list_any test xs) (test x) (list_any test xs) (each x) (λ h. h) e
+any-replaced test f each (suc k) (x ∷ xs) e = either_kept (test x) (list_any test (with_place f k xs)) (test x) (list_any test xs) (λ h. h) (any-replaced test f each k xs) e
 
 -- ---- what is needed
 
@@ -58,12 +58,12 @@ pub needed-placed : (g : EventGraph) (change : List EventEdge → List EventEdge
     → NeedsNoMore (record g { vertices = with_place (λ (v : EventVertex). record v { edges = change v.edges }) k g.vertices }) g
 needed-placed g change drawn k =
     let f : EventVertex → EventVertex = λ v. record v { edges = change v.edges } in
-    needed-by (record g { vertices = with_place f k g.vertices }) g (λ h. h) (any-placed has_later_parts f (λ v e. late_edges v (change v.edges) (drawn v.edges) e) k g.vertices)
+    needed-by (record g { vertices = with_place f k g.vertices }) g (λ h. h) (any-replaced has_later_parts f (λ v e. late_edges v (change v.edges) (drawn v.edges) e) k g.vertices)
 
 -- where some of the vertices stay
 pub needed-kept : (g : EventGraph) (kept : List EventVertex) (f : ℕ → ℕ) (watch : List Watched) → SomeOf kept g.vertices → NeedsNoMore (record g { watch = watch; vertices = map (vertex_renumbered f) kept }) g
 needed-kept g kept f watch some =
-    needed-by (record g { watch = watch; vertices = map (vertex_renumbered f) kept }) g (λ h. h) (λ e. any-some has_later_parts some (any-mapped has_later_parts has_later_parts (vertex_renumbered f) (λ v h. late_edges v (map (edge_renumbered f) v.edges) (any-mapped has_drawn_delay has_drawn_delay (edge_renumbered f) (λ e h. h) v.edges) h) kept e))
+    needed-by (record g { watch = watch; vertices = map (vertex_renumbered f) kept }) g (λ h. h) (λ e. any-some has_later_parts some (any-image has_later_parts has_later_parts (vertex_renumbered f) (λ v h. late_edges v (map (edge_renumbered f) v.edges) (any-image has_drawn_delay has_drawn_delay (edge_renumbered f) (λ e h. h) v.edges) h) kept e))
 
 -- ---- the first lines
 

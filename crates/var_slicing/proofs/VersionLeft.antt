@@ -11,7 +11,7 @@ use Rattle.model_core.specs.Rules.MarkedPlaces.{rank, is_marked}
 use Rattle.model_core.specs.Rules.Uses.{is_drawn, timing_is_drawn, has_drawn_delay}
 use Rattle.model_core.specs.Rules.Slice.{location_renumbered, values_left, parameters_left, targets_left, set_or_nothing, change_left, delay_renumbered, kind_left, edge_left, vertex_left, of_marked_variables}
 use Rattle.model_core.proofs.SomeOfAList.{SomeOf, nothing, with_it, without, some-marked_of, some-kept_beside, some-few}
-use Rattle.round_trip.proofs.VersionsKept.{NeedsNoMore, either_kept, needed-by, any-some, any-mapped, any-left}
+use Rattle.round_trip.proofs.VersionsKept.{NeedsNoMore, either_kept, needed-by, any-some, any-image, any-left}
 use Rattle.var_slicing.proofs.KeptBeside.{variables_of, parameters-kept, targets-kept}
 
 more_than : (limit a b : ℕ) → a ≤ b → nat_lt limit a ≡ true → nat_lt limit b ≡ true
@@ -66,11 +66,11 @@ vertex-needs g marks v e =
     (either_kept (nat_lt PARAMETERS_MAX_VERSION_1 (length left.parameters)) (list_any has_many_targets left.changes) (nat_lt PARAMETERS_MAX_VERSION_1 (length v.parameters)) (list_any has_many_targets v.changes)
     (more_than PARAMETERS_MAX_VERSION_1 (length left.parameters) (length v.parameters) (parameters-few marks v.parameters))
     (any-left has_many_targets has_many_targets (change_left marks) (change-needs marks) v.changes))
-    (any-mapped has_drawn_delay has_drawn_delay (edge_left g marks) (edge-needs g marks) v.edges) e
+    (any-image has_drawn_delay has_drawn_delay (edge_left g marks) (edge-needs g marks) v.edges) e
 
 pub needed-left : (g : EventGraph) (marks : List Bool) → NeedsNoMore (of_marked_variables g marks) g
 needed-left g marks =
-    needed-by (of_marked_variables g marks) g (any-some is_large_array (some-marked_of marks g.variables)) (any-mapped has_later_parts has_later_parts (vertex_left g marks) (vertex-needs g marks) g.vertices)
+    needed-by (of_marked_variables g marks) g (any-some is_large_array (some-marked_of marks g.variables)) (any-image has_later_parts has_later_parts (vertex_left g marks) (vertex-needs g marks) g.vertices)
 
 pub some-cells : {xs ys : List Variable} → SomeOf xs ys → sum_by (λ (v : Variable). v.size) xs ≤ sum_by (λ (v : Variable). v.size) ys
 some-cells nothing = omega arith
