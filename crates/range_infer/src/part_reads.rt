@@ -1,31 +1,19 @@
 //! The variables that each change and each edge of a model reads where it gives something to variables.
 
-ghost use Rattle.std.specs.Prelude.{◌≡◌, ◌++◌, map, OnOk, IfOk};
-ghost use Rattle.std.specs.List.{flat_map};
-ghost use Rattle.model_core.specs.Rules.Uses.{variables_in};
-ghost use Rattle.model_core.specs.Code.Views.{expression_of, change_of, edge_of, vertex_of};
+ghost use Rattle.std.specs.Prelude.{◌≡◌, map, IfOk};
+ghost use Rattle.model_core.specs.Code.Views.{change_of, edge_of, vertex_of};
 ghost use Rattle.range_infer.specs.Inner.PartReads.{set_reads, carried_reads, parts_read};
 
-use model_core::{Change, Edge, Expr, Model, Vertex};
+use model_core::{Change, Edge, Model, Vertex};
 use sig_base::{List, NoMemory};
 use std::alloc::Global;
-use use_analysis::add_variables;
+use use_analysis::{add_all_variables, add_variables};
 
 /// The variables that the changes and the edges of a vertex read, one list for each.
 #[derive(Drop)]
 pub(crate) struct VertexReads {
     pub(crate) sets: List<List<usize>>,
     pub(crate) carried: List<List<usize>>,
-}
-
-/// Adds the variables that stand in expressions.
-fn add_all_variables(out: &mut Vec<usize>, exprs: &[Expr]) -> Result<(), NoMemory>
-    ensures { OnOk result (out.new.items ≡ out.old.items ++ flat_map variables_in (map expression_of exprs.now)) }
-{
-    for expr in exprs {
-        add_variables(out, expr)?;
-    }
-    Ok(())
 }
 
 /// The variables in the values that a change sets.

@@ -36,7 +36,7 @@ pub fn add_variables(out: &mut Vec<usize>, expr: &Expr) -> Result<(), NoMemory>
 }
 
 /// Adds the variables that stand in expressions.
-fn add_all_variables(out: &mut Vec<usize>, exprs: &[Expr]) -> Result<(), NoMemory>
+pub fn add_all_variables(out: &mut Vec<usize>, exprs: &[Expr]) -> Result<(), NoMemory>
     ensures { OnOk result (out.new.items ≡ out.old.items ++ flat_map variables_in (map expression_of exprs.now)) }
 {
     for expr in exprs {

@@ -11,7 +11,8 @@ mod table;
 mod use_lines;
 
 pub use collecting::{
-    add_deciding_reads, add_index_reads, add_places, add_target_vars, add_variables,
+    add_all_variables, add_deciding_reads, add_index_reads, add_places, add_target_vars,
+    add_variables,
 };
 pub use counts::UseCounts;
 pub use drawing::{draws_of_change, draws_of_edge, draws_of_vertex};
