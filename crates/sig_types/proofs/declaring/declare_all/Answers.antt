@@ -1,4 +1,5 @@
-use Rattle.std.proofs.Common.{ap}
+use Rattle.std.proofs.Common.{ap, arith}
+use Rattle.std.proofs.lemmas.List.{take_all}
 use Rattle.model_core.specs.Text.Written.{WrittenName}
 use Rattle.sig_types.specs.Seen.{meaning_seen}
 use Rattle.sig_types.proofs.MeaningsSoFar.{means_turn, told_turn}
@@ -15,3 +16,9 @@ loop-place-preserved g c =
       told = told_turn g.T.Declares.declaration g.T.Declares.written c.args.names.now l.names c.add.new.self _ _ _ c.args.parts.now l.place x c.in_ok-added.added c.name-name.result.now.name (meaning_seen c.meaning-meaning.result)
           c.loop-place-test.true c.index-parts-place.is (ap (λ (m : WrittenName). m.name) n) c.meaning-meaning.ensures l.invariant.means c.in_ok-added.ensures.new _ (ap (λ (m : WrittenName). m.at) n) l.invariant.told c.note.ensures;
     }
+
+pub returns-clause-means : goal.returns-clause-means
+returns-clause-means g c = rw (← take_all c.loop-place.place c.args.parts.now (omega (arith, c.loop-place-test.false))) c.loop-place.invariant.means
+
+pub returns-clause-told : goal.returns-clause-told
+returns-clause-told g c = rw (← take_all c.loop-place.place c.args.parts.now (omega (arith, c.loop-place-test.false))) c.loop-place.invariant.told

@@ -1,6 +1,6 @@
-use Rattle.std.proofs.Common.{map, take, rules}
+use Rattle.std.proofs.Common.{map, take, rules, arith}
 use Rattle.std.specs.Int.{w128}
-use Rattle.std.proofs.lemmas.List.{map_push, map_more}
+use Rattle.std.proofs.lemmas.List.{map_push, map_more, take_all}
 use Rattle.std.proofs.lemmas.Int.{to_z-of_z}
 use Rattle.model_core.specs.Code.Views.{weighted_of}
 use Rattle.model_core.specs.Code.WrittenViews.{written_row}
@@ -19,3 +19,6 @@ loop-raw-preserved c =
       low = low_turn l.raw-index _ _ l.invariant.low c.with_weight-sum.ensures.least;
       high = high_turn l.raw-index _ _ l.invariant.high c.with_weight-sum.ensures.most;
     })
+
+pub returns : goal.returns
+returns c = rw (c.from_vec.ensures, ← take_all c.loop-raw.raw-index c.args.raws.now (omega (arith, c.loop-raw-test.false))) c.loop-raw.invariant.checked
