@@ -1,12 +1,13 @@
 -- Parts one after the other: each good one is passed, and the first that isn't is told.
-use Rattle.std.proofs.Common.{◌≡◌, ℕ, suc, ◌+◌, ◌<◌, ◌≤◌, ◌∷◌, List, length, slice_set, Bool, true, false, cond, ◌&&◌, [], ◌++◌, ℤ, pos, Option, Some, None, unwrap_or, refl, ap, ap₂, sym, ◌∙◌, arith, append_assoc}
-use Rattle.std.specs.List.{list_all}
-use Rattle.std.proofs.lemmas.List.{length-set}
+use Rattle.std.proofs.Common.{◌≡◌, ℕ, suc, ◌+◌, ◌<◌, ◌≤◌, ◌∷◌, List, length, map, drop, get_or, slice_set, Bool, true, false, cond, ◌&&◌, [], ◌++◌, ℤ, pos, Option, Some, None, unwrap_or, refl, ap, ap₂, sym, ◌∙◌, arith, append_assoc}
+use Rattle.std.specs.List.{flat_map, list_all}
+use Rattle.std.proofs.lemmas.List.{length-set, drop_more}
 use Rattle.model_core.specs.Text.Written.{WrittenSigned}
 use Rattle.model_core.specs.Text.Numbering as numbering
-use Rattle.model_core.specs.Text.SnapshotGrammar.{WrittenStream}
-use Rattle.model_core.specs.Saved.GoodSnapshots.{JudgedPart, first_bad_part, number_or_zero, stream_parts, with_taken, signed_values}
-use Rattle.snapshot_text.specs.Inner.Judging.{if_good, stream_good, stream_taken, fits_between, fitting}
+use Rattle.model_core.specs.EventGraph.{Variable}
+use Rattle.model_core.specs.Text.SnapshotGrammar.{WrittenStream, WrittenValue}
+use Rattle.model_core.specs.Saved.GoodSnapshots.{JudgedPart, first_bad_part, number_or_zero, stream_parts, value_parts, with_taken, signed_values}
+use Rattle.snapshot_text.specs.Inner.Judging.{if_good, stream_good, stream_taken, value_good, fits_between, fitting}
 
 pub if_good-some : {X : Type 0} (b : Bool) (x y : X) → Some y ≡ if_good b x → (b ≡ true) × (y ≡ x)
 if_good-some true x y e = (refl, cc)
@@ -21,6 +22,24 @@ passed p parts e = ap (λ b. cond b (first_bad_part parts) (Some p.at)) e
 
 pub told : (p : JudgedPart) (parts : List JudgedPart) → p.good ≡ false → first_bad_part (p ∷ parts) ≡ Some p.at
 told p parts e = ap (λ b. cond b (first_bad_part parts) (Some p.at)) e
+
+pub one_left : {A : Type 0} (xs : List A) (i : ℕ) (x : A) → i < length xs → x ≡ get_or xs i x → drop i xs ≡ x ∷ drop (i + 1) xs
+one_left xs i x below is = drop_more xs i x below ∙ ap (λ y. y ∷ drop (i + 1) xs) (sym is)
+
+-- ---- parts of one kind
+
+pub one_part_more : {A B : Type 0} (part : A → JudgedPart) (value : A → B) (x : A) (later : List A) (y : B) (out : List B) (first : Option ℕ) (all : List B) → Some y ≡ if_good (part x).good (value x)
+    → first_bad_part (map part (x ∷ later)) ≡ first → out ++ map value (x ∷ later) ≡ all → (first_bad_part (map part later) ≡ first) × ((out ++ y ∷ []) ++ map value later ≡ all)
+one_part_more part value x later y out first all is so_far made =
+    let k = if_good-some (part x).good (value x) y is in (
+      sym (passed (part x) (map part later) k.0) ∙ so_far,
+      append_assoc out (y ∷ []) (map value later) ∙ ap (λ z. out ++ z ∷ map value later) k.1 ∙ made,
+    )
+
+pub one_part_told : {A B : Type 0} (part : A → JudgedPart) (value : A → B) (x : A) (later : List A) (first : Option ℕ) → None ≡ if_good (part x).good (value x) → first_bad_part (map part (x ∷ later)) ≡ first → first ≡ Some (part x).at
+one_part_told part value x later first is so_far = sym so_far ∙ told (part x) (map part later) (if_good-none (part x).good (value x) is)
+
+-- ---- streams
 
 pub stream_passed : (least next : ℕ) (s : WrittenStream) (later : List WrittenStream) (total : Option ℕ) → stream_good least s ≡ true → next ≡ suc (number_or_zero s.stream)
     → first_bad_part (stream_parts least (s ∷ later)) ≡ total → first_bad_part (stream_parts next later) ≡ total
@@ -56,6 +75,19 @@ one_fits lo hi s later x out total all is so_far added =
 
 pub none_fits : (lo hi : ℤ) (s : WrittenSigned) (later : List WrittenSigned) (total : Bool) → None ≡ fitting lo hi s → list_all (fits_between lo hi) (s ∷ later) ≡ total → false ≡ total
 none_fits lo hi s later total is so_far = ap (λ b. b && list_all (fits_between lo hi) later) (sym (if_good-none (fits_between lo hi s) (unwrap_or (numbering.signed s) (pos 0)) is)) ∙ so_far
+
+pub one_value_more : (v : Variable) (variables : List Variable) (w : WrittenValue) (later : List WrittenValue) (out added : List ℤ) (first : Option ℕ) (all : List ℤ) → value_good v w ≡ true → added ≡ out ++ signed_values w.values
+    → first_bad_part (value_parts (v ∷ variables) (w ∷ later)) ≡ first → out ++ flat_map (λ (x : WrittenValue). signed_values x.values) (w ∷ later) ≡ all
+    → (first_bad_part (value_parts variables later) ≡ first) × (added ++ flat_map (λ (x : WrittenValue). signed_values x.values) later ≡ all)
+one_value_more v variables w later out added first all good is so_far made = (
+  sym (passed (record { good = value_good v w; at = w.at }) (value_parts variables later) good) ∙ so_far,
+  ap (λ ns. ns ++ flat_map (λ (x : WrittenValue). signed_values x.values) later) is
+      ∙ append_assoc out (signed_values w.values) (flat_map (λ (x : WrittenValue). signed_values x.values) later)
+      ∙ made,
+)
+
+pub one_value_told : (v : Variable) (variables : List Variable) (w : WrittenValue) (later : List WrittenValue) (first : Option ℕ) → false ≡ value_good v w → first_bad_part (value_parts (v ∷ variables) (w ∷ later)) ≡ first → first ≡ Some w.at
+one_value_told v variables w later first bad so_far = sym so_far ∙ told (record { good = value_good v w; at = w.at }) (value_parts variables later) (sym bad)
 
 -- ---- parts, and others behind them
 

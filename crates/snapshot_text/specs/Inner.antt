@@ -3,4 +3,5 @@ pub mod Skimming
 pub mod SomeParts
 pub mod Lines
 pub mod RawParts
+pub mod SnapshotHead
 pub mod Judging

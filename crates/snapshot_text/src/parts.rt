@@ -44,6 +44,18 @@ pub(crate) struct RawPending<'t> {
     pub values: Option<List<RawCarried<'t>>>,
 }
 
+/// What a snapshot says before its streams.
+#[derive(Clone, Copy)]
+pub(crate) struct RawHead {
+    pub seed_at: usize,
+    pub seed: RawNumber,
+    pub seed_rest: RawNumber,
+    pub clock_at: usize,
+    pub clock: RawNumber,
+    pub events_at: usize,
+    pub events: RawNumber,
+}
+
 /// A snapshot.
 #[derive(Drop)]
 pub(crate) struct RawSnapshot<'t> {

@@ -11,9 +11,10 @@ ghost use Rattle.text_laws.specs.FormatReader.{and_next, with_front, whole_read}
 ghost use Rattle.text_laws.specs.LanguageReader.{language_reader};
 ghost use Rattle.model_lex.specs.Lexemes.{lexemes};
 ghost use Rattle.model_read.specs.ReadCalls.{Returned};
+ghost use Rattle.snapshot_text.specs.Inner.SnapshotHead.{with_parts, head_format};
 ghost use Rattle.snapshot_text.specs.Inner.RawParts.{written_stream, written_value, written_noted, written_carried, written_pending, written_snapshot};
 
-use crate::parts::{RawCarried, RawNoted, RawPending, RawSnapshot, RawStream, RawValue};
+use crate::parts::{RawCarried, RawHead, RawNoted, RawPending, RawSnapshot, RawStream, RawValue};
 use crate::skimming::tokens_from;
 use model_core::{RawSigned, Symbol, Word};
 use model_lex::{Tokens, tokens_stand_in_order};
@@ -195,10 +196,10 @@ fn all_pending<'t>(alloc: Global, cursor: &mut Cursor<'t>) -> Result<List<RawPen
     Ok(all)
 }
 
-/// Reads a snapshot.
-#[tactic(auto, unfolding(model_core::specs::Text::SnapshotGrammar::snapshot_format))]
-fn snapshot<'t>(alloc: Global, cursor: &mut Cursor<'t>) -> Result<RawSnapshot<'t>, Stop>
-    ensures { Returned written_snapshot result cursor.new (language_reader snapshot_format cursor.old) }
+/// Reads what a snapshot says before its streams.
+#[tactic(auto, unfolding(crate::specs::Inner::SnapshotHead::head_format))]
+fn head(cursor: &mut Cursor<'_>) -> Result<RawHead, Stop>
+    ensures { Returned with_parts result cursor.new (language_reader head_format cursor.old) }
 {
     cursor.this_name(b"snapshot")?;
     let seed_at = cursor.this_name(b"seed")?;
@@ -208,12 +209,7 @@ fn snapshot<'t>(alloc: Global, cursor: &mut Cursor<'t>) -> Result<RawSnapshot<'t
     let clock = cursor.number()?;
     let events_at = cursor.this_name(b"events")?;
     let events = cursor.number()?;
-    let streams = streams(alloc, cursor)?;
-    let values = values(alloc, cursor)?;
-    let noted = noted(alloc, cursor)?;
-    let pending = all_pending(alloc, cursor)?;
-    let end_at = cursor.word(Word::End)?;
-    Ok(RawSnapshot {
+    Ok(RawHead {
         seed_at,
         seed,
         seed_rest,
@@ -221,6 +217,28 @@ fn snapshot<'t>(alloc: Global, cursor: &mut Cursor<'t>) -> Result<RawSnapshot<'t
         clock,
         events_at,
         events,
+    })
+}
+
+/// Reads a snapshot.
+#[tactic(auto, unfolding(model_core::specs::Text::SnapshotGrammar::snapshot_format, crate::specs::Inner::SnapshotHead::head_format))]
+fn snapshot<'t>(alloc: Global, cursor: &mut Cursor<'t>) -> Result<RawSnapshot<'t>, Stop>
+    ensures { Returned written_snapshot result cursor.new (language_reader snapshot_format cursor.old) }
+{
+    let head = head(cursor)?;
+    let streams = streams(alloc, cursor)?;
+    let values = values(alloc, cursor)?;
+    let noted = noted(alloc, cursor)?;
+    let pending = all_pending(alloc, cursor)?;
+    let end_at = cursor.word(Word::End)?;
+    Ok(RawSnapshot {
+        seed_at: head.seed_at,
+        seed: head.seed,
+        seed_rest: head.seed_rest,
+        clock_at: head.clock_at,
+        clock: head.clock,
+        events_at: head.events_at,
+        events: head.events,
         streams,
         values,
         noted,
