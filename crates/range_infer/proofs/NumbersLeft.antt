@@ -3,7 +3,7 @@ use Rattle.std.proofs.Common.{◌≡◌, ℕ, ◌-◌, ◌^◌, ℤ, pos, neg_�
 use Rattle.std.specs.Ordering.{int_eq}
 use Rattle.std.proofs.lemmas.Int.{ints, clamps}
 use Rattle.sig_base.specs.declared.fault.FaultKind.TheVariants as faults
-use Rattle.model_core.specs.EventGraph.{EventGraph, Expression, Number, Negative, Operator, Equal, NotEqual, Below, AtMost, Above, AtLeast}
+use Rattle.model_core.specs.EventGraph.{EventGraph, Expression, Number, Negative, Operator, Add, Subtract, Multiply, Divide, Remainder, Least, Greatest, Equal, NotEqual, Below, AtMost, Above, AtLeast, And, Or}
 use Rattle.model_core.specs.Run.State.{State, within}
 use Rattle.model_core.specs.Run.Value.{number_of, exact, operate, value_of}
 use Rattle.model_core.specs.Rules.Exclusive.{number_literal, literal_number}
@@ -52,6 +52,52 @@ equal_left n x r i e = let same : x ≡ n = eq_of x n e in record { low = omega 
 
 not_equal_left : (n x : ℤ) (r : VarRange) → LiesIn r x → int_eq x n ≡ false → LiesIn (numbers_left NotEqual n r) x
 not_equal_left n x r i e = record { low = moved_low _ n r.lo x refl e i.low; high = moved_high _ n r.hi x refl e i.high }
+
+-- what is left lies in the range
+up_by : (b : Bool) (lo : ℤ) → lo ≤ℤ cond b (lo +ℤ pos 1) lo
+up_by true lo = omega (arith, ints)
+up_by false lo = omega (arith, ints)
+
+down_by : (b : Bool) (hi : ℤ) → cond b (hi -ℤ pos 1) hi ≤ℤ hi
+down_by true hi = omega (arith, ints)
+down_by false hi = omega (arith, ints)
+
+same : (x : ℤ) → x ≤ℤ x
+same x = omega (arith, ints)
+
+pub low_left : (op : Operator) (n : ℤ) (r : VarRange) → r.lo ≤ℤ (numbers_left op n r).lo
+low_left Below n r = same r.lo
+low_left AtMost n r = same r.lo
+low_left Above n r = omega (arith, ints, clamps)
+low_left AtLeast n r = omega (arith, ints, clamps)
+low_left Equal n r = omega (arith, ints, clamps)
+low_left NotEqual n r = up_by (int_eq r.lo n) r.lo
+low_left Add n r = same r.lo
+low_left Subtract n r = same r.lo
+low_left Multiply n r = same r.lo
+low_left Divide n r = same r.lo
+low_left Remainder n r = same r.lo
+low_left Least n r = same r.lo
+low_left Greatest n r = same r.lo
+low_left And n r = same r.lo
+low_left Or n r = same r.lo
+
+pub high_left : (op : Operator) (n : ℤ) (r : VarRange) → (numbers_left op n r).hi ≤ℤ r.hi
+high_left Below n r = omega (arith, ints, clamps)
+high_left AtMost n r = omega (arith, ints, clamps)
+high_left Above n r = same r.hi
+high_left AtLeast n r = same r.hi
+high_left Equal n r = omega (arith, ints, clamps)
+high_left NotEqual n r = down_by (int_eq r.hi n) r.hi
+high_left Add n r = same r.hi
+high_left Subtract n r = same r.hi
+high_left Multiply n r = same r.hi
+high_left Divide n r = same r.hi
+high_left Remainder n r = same r.hi
+high_left Least n r = same r.hi
+high_left Greatest n r = same r.hi
+high_left And n r = same r.hi
+high_left Or n r = same r.hi
 
 -- above and at least are told with their operands the other way round
 lt_swapped : (x n : ℤ) (b : Bool) → int_lt n x ≡ b → int_le x n ≡ not b

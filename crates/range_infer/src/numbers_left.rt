@@ -31,13 +31,11 @@ fn high_without(hi: i128, n: i128) -> i128
     if hi == n { hi - 1 } else { hi }
 }
 
-/// The numbers of a range that compare so with `n`: none where the lower end is above the upper one.
-fn numbers_left(op: Op, n: i128, range: VarRange) -> Ends
+/// The ends of what is left of a range.
+fn ends_left(op: Op, n: i128, range: VarRange) -> Ends
     requires { IsNear n }
     ensures lo { result.lo ≡ (numbers_left (operator_of op) n range).lo }
     ensures hi { result.hi ≡ (numbers_left (operator_of op) n range).hi }
-    ensures low { range.lo ≤ℤ result.lo }
-    ensures high { result.hi ≤ℤ range.hi }
 {
     let lo = range.lo as i128;
     let hi = range.hi as i128;
@@ -63,6 +61,17 @@ fn numbers_left(op: Op, n: i128, range: VarRange) -> Ends
         Op::Add | Op::Sub | Op::Mul | Op::Div | Op::Rem => Ends { lo, hi },
         Op::Min | Op::Max | Op::And | Op::Or => Ends { lo, hi },
     }
+}
+
+/// The numbers of a range that compare so with `n`: none where the lower end is above the upper one.
+fn numbers_left(op: Op, n: i128, range: VarRange) -> Ends
+    requires { IsNear n }
+    ensures lo { result.lo ≡ (numbers_left (operator_of op) n range).lo }
+    ensures hi { result.hi ≡ (numbers_left (operator_of op) n range).hi }
+    ensures low { range.lo ≤ℤ result.lo }
+    ensures high { result.hi ≤ℤ range.hi }
+{
+    ends_left(op, n, range)
 }
 
 fn is_number_scalar(var: &Var) -> bool

@@ -38,17 +38,16 @@ fn expr_left(alloc: Global, staying: &Staying, expr: &Expr) -> Result<Expr, NoMe
         )),
         Expr::Neg(number) => Ok(Expr::Neg(boxed_left(alloc, staying, number)?)),
         Expr::Not(truth) => Ok(Expr::Not(boxed_left(alloc, staying, truth)?)),
-        Expr::Binary(op, left, right) => {
-            let left = expr_left(alloc, staying, left)?;
-            let right = expr_left(alloc, staying, right)?;
-            Expr::binary(alloc, *op, left, right)
-        }
-        Expr::If(test, yes, no) => {
-            let test = expr_left(alloc, staying, test)?;
-            let yes = expr_left(alloc, staying, yes)?;
-            let no = expr_left(alloc, staying, no)?;
-            Expr::conditional(alloc, test, yes, no)
-        }
+        Expr::Binary(op, left, right) => Ok(Expr::Binary(
+            *op,
+            boxed_left(alloc, staying, left)?,
+            boxed_left(alloc, staying, right)?,
+        )),
+        Expr::If(test, yes, no) => Ok(Expr::If(
+            boxed_left(alloc, staying, test)?,
+            boxed_left(alloc, staying, yes)?,
+            boxed_left(alloc, staying, no)?,
+        )),
     }
 }
 
