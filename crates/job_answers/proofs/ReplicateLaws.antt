@@ -35,7 +35,7 @@ use Rattle.job_answers.specs.Inner.WritingSteps.{InPieces, Closed}
 use Rattle.job_answers.proofs.GivenAnswers.{given_is_no_refusal, some_bytes}
 use Rattle.job_answers.proofs.PiecesWritten.{all_left, further, broken_further, broken_answer}
 use Rattle.job_answers.proofs.StartLaws.{taken_start}
-use Rattle.job_answers.proofs.Streaming.{closed, closed_in_memory}
+use Rattle.job_answers.proofs.Streaming.{closed}
 
 -- ---- the report
 

@@ -1,5 +1,5 @@
 -- The answer that is the text of what a model becomes means the same where what it becomes does.
-use Rattle.std.proofs.Common.{◌≡◌, inl, inr, ℕ, List, refl, sym, ap, subst}
+use Rattle.std.proofs.Common.{inl, inr, ℕ, List, sym, subst}
 use Rattle.command_words.specs.declared.reading.ModelJob.{ModelJob}
 use Rattle.command_words.specs.declared.reading.Reading.TheVariants.{Model}
 use Rattle.model_core.specs.EventGraph.{EventGraph}

@@ -2,9 +2,8 @@
 use Rattle.std.proofs.Common.{◌≡◌, ◌⊎◌, inl, inr, ℕ, zero, suc, ◌+◌, ◌<◌, Bool, true, false, cond, List, [], ◌∷◌, ◌++◌, length, drop, replicate, slice_set, Contains, refl, sym, ap, subst, arith, add-one, ◌∙◌}
 use Rattle.std.proofs.lemmas.List.{length-append, length-set, length-replicate}
 use Rattle.model_core.specs.Rules.Entailed.{Entailed, from_first, over_pair, entailed_marks}
-use Rattle.model_core.specs.Rules.Needed.{each_beside}
 use Rattle.mark_laws.proofs.Marks.{Marked}
-use Rattle.model_core.proofs.Among.{Among, among-contained, contained-among, among-map, among-of_map, among-front, among-back, among-either}
+use Rattle.model_core.proofs.Among.{Among, among-contained, contained-among, among-front, among-back, among-either}
 use Rattle.mark_laws.proofs.MarksBelow.{marked-within}
 use Rattle.mark_laws.proofs.EntailedMarks.{closed-entailed_marks}
 use Rattle.mark_laws.specs.PlacePairs.{places_behind, pairs_from}

@@ -1,11 +1,11 @@
 -- A look has few notes: at most two a step, and one at the end.
-use Rattle.std.proofs.Common.{◌≡◌, ℕ, ℤ, zero, suc, ◌+◌, ◌*◌, ◌≤◌, Bool, true, false, cond, nat_lt, List, [], ◌∷◌, ◌++◌, length, length-append, Option, Some, None, Result, Ok, Err, arith}
+use Rattle.std.proofs.Common.{ℕ, ℤ, zero, suc, ◌+◌, ◌*◌, ◌≤◌, Bool, true, false, cond, nat_lt, List, [], ◌∷◌, length, length-append, Option, Some, None, Result, Ok, Err, arith}
 use Rattle.std.specs.Prelude.{option_map, option_to_list, position}
 use lib.Pointwise.{pointwise}
 use Rattle.model_core.specs.EventGraph.{EventGraph}
 use Rattle.model_core.specs.Run.Pending.{TakenOff, next_entry, same_values}
 use Rattle.model_core.specs.Run.Step.{Configuration, Fault, step}
-use Rattle.model_core.specs.Run.Machine.{Note, At, On, Stopped, Look, Move, Rests, Fails, Goes, before, after, look_of}
+use Rattle.model_core.specs.Run.Machine.{At, On, Stopped, Move, Rests, Fails, Goes, before, after, look_of}
 use Rattle.model_core.specs.Run.History.{Moment, Noting, watched_values, watches, at_note, leave, leave_for, completed, stepped, comes, next_move, look_from}
 
 -- how many notes a move has at most

@@ -1,9 +1,9 @@
 -- What is told of a run that was followed from its beginning.
-use Rattle.std.proofs.Common.{◌≡◌, ℕ, ◌+◌, ◌-◌, ◌*◌, ◌^◌, ◌≤◌, List, [], ◌++◌, length, min, Option, Some, None, refl, sym, ap, ap₂, ◌∙◌, subst, append-nil, arith}
+use Rattle.std.proofs.Common.{◌≡◌, ℕ, ◌+◌, ◌-◌, ◌^◌, ◌≤◌, List, [], ◌++◌, length, Option, None, refl, sym, ap, ap₂, ◌∙◌, subst, append-nil, arith}
 use Rattle.model_core.specs.declared.model.Model.{Model}
 use Rattle.model_core.specs.Run.Step.{Configuration}
-use Rattle.model_core.specs.Run.Machine.{Note, Look}
-use Rattle.model_core.specs.Run.History.{Moment, start, next_move, look, look_from, reached_from}
+use Rattle.model_core.specs.Run.Machine.{Note}
+use Rattle.model_core.specs.Run.History.{Moment, start, next_move, look_from}
 use Rattle.model_core.specs.Code.Views.{graph_of}
 use Rattle.run_control.specs.Beginning.{BegunRun}
 use Rattle.run_control.specs.Running.{Running}
@@ -11,7 +11,7 @@ use Rattle.watch_trace.specs.declared.outcome.Outcome.{Outcome}
 use Rattle.watch_trace.specs.declared.outcome.Outcome.TheVariants as outcomes
 use Rattle.watch_trace.specs.Tracing.{Tracing, moment_of}
 use Rattle.watch_trace.specs.Following.{outcome_of, seen_from, Completes, Stands, FollowKeeps}
-use Rattle.trial_report.specs.StepsMade.{steps_made, events_occurred}
+use Rattle.trial_report.specs.StepsMade.{steps_made}
 use Rattle.trial_report.specs.Inner.Counted.{CountsNotes}
 use Rattle.trial_report.specs.Inner.ToldByMeasures.{occurred_in, Tells}
 use Rattle.trial_report.proofs.StepsCounted.{from_there, none_at_rest, none_at_fault}

@@ -1,5 +1,5 @@
 -- How many of the moves go on that are made from a moment: those that led to another one, and those from there.
-use Rattle.std.proofs.Common.{◌≡◌, ℕ, zero, suc, ◌+◌, ◌-◌, ◌≤◌, List, [], Option, Some, None, refl, ap, ◌∙◌, arith}
+use Rattle.std.proofs.Common.{◌≡◌, ℕ, zero, suc, ◌+◌, ◌-◌, ◌≤◌, List, [], Option, Some, None, refl, ap, arith}
 use Rattle.std.specs.Prelude.{option_map}
 use Rattle.model_core.specs.Run.Machine.{Note, Standing, Move, Rests, Fails, Goes, Reached, reached_behind, onward, reached}
 use Rattle.trial_report.specs.StepsMade.{steps_behind, steps_made}

@@ -1,5 +1,5 @@
 -- The line of a measure is that of the run of which it tells.
-use Rattle.std.proofs.Common.{◌≡◌, ℕ, ◌+◌, ◌-◌, List, [], ◌∷◌, ◌++◌, length, length-append, map, take, codes, decimal, refl, sym, ap, ◌∙◌, append_assoc, arith}
+use Rattle.std.proofs.Common.{◌≡◌, ℕ, ◌+◌, ◌-◌, List, [], ◌∷◌, ◌++◌, length, length-append, map, take, codes, decimal, refl, sym, ap, ◌∙◌, arith}
 use Rattle.std.proofs.Math.Seq.{take-append_seam}
 use Rattle.model_core.specs.EventGraph.{EventGraph}
 use Rattle.model_core.specs.Run.Machine.{Standing, Ended, Stopped, Faulted, Going}
@@ -7,7 +7,7 @@ use Rattle.model_core.specs.Run.State.{variable_at}
 use Rattle.model_core.specs.Run.Step.{vertex_at}
 use Rattle.model_core.specs.Run.History.{look}
 use Rattle.model_core.specs.Run.Same.{Same, parameter}
-use Rattle.model_core.specs.Text.HistoryText.{fault_word, end_line}
+use Rattle.model_core.specs.Text.HistoryText.{end_line}
 use Rattle.watch_trace.specs.Following.{outcome_of}
 use Rattle.trial_report.specs.declared.run_measure.RunMeasure.{RunMeasure}
 use Rattle.std.specs.List.{range_with_len}

@@ -1,7 +1,7 @@
 -- How many steps a run makes.
 use Rattle.std.specs.Prelude.{ℕ, zero, suc, ℤ, List}
 use Rattle.model_core.specs.EventGraph.{EventGraph}
-use Rattle.model_core.specs.Run.Machine.{Move, Rests, Fails, Goes}
+use Rattle.model_core.specs.Run.Machine.{Move, Goes}
 use Rattle.model_core.specs.Run.History.{next_move, start}
 
 -- one more where a move goes on

@@ -3,7 +3,6 @@
 use Rattle.std.specs.Prelude.{◌≡◌, ℕ, ◌-◌, List, [], ◌++◌, length, take, codes, decimal}
 use Rattle.std.specs.List.{sum_by}
 use Rattle.model_core.specs.EventGraph.{EventGraph, EventVertex}
-use Rattle.model_core.specs.Run.Machine.{Look}
 use Rattle.model_core.specs.Run.History.{look}
 use Rattle.model_core.specs.Text.HistoryText.{end_line}
 use Rattle.model_core.specs.Rules.Reduction.{RuleApplication, Strategy}

@@ -1,4 +1,4 @@
-use Rattle.std.proofs.Common.{ℕ, List, Result, Ok, Err, sym, subst}
+use Rattle.std.proofs.Common.{ℕ, List, Result, sym, subst}
 use Rattle.model_core.specs.Code.Views.{graph_of}
 use Rattle.run_control.specs.Beginning.{RefusesStart}
 use Rattle.run_control.specs.declared.begin_error.BeginError.{BeginError}

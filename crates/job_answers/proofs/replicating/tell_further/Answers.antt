@@ -1,4 +1,4 @@
-use Rattle.std.proofs.Common.{ℕ, ◌+◌, ◌-◌, List, Result, Ok, Err, sym, ap, ◌∙◌, subst, arith}
+use Rattle.std.proofs.Common.{ℕ, ◌+◌, ◌-◌, List, Result, sym, ap, ◌∙◌, subst, arith}
 use Rattle.model_core.specs.Code.Views.{graph_of}
 use Rattle.tally_report.specs.ReportText.{run_rows, total_rows}
 use Rattle.job_answers.specs.declared.status.Failure.{Failure}

@@ -1,4 +1,4 @@
-use Rattle.std.proofs.Common.{◌^◌, ◌-◌, List, length, map, min, ap, ◌∙◌, arith}
+use Rattle.std.proofs.Common.{◌^◌, ◌-◌, length, map, min, ap, ◌∙◌, arith}
 use Rattle.std.specs.List.{sum_by}
 use Rattle.model_core.specs.EventGraph.{EventVertex}
 use Rattle.model_core.specs.Code.Views.{graph_of, vertex_of}

@@ -4,8 +4,7 @@ use Rattle.model_core.specs.EventGraph.{EventGraph}
 use Rattle.model_core.specs.Run.Step.{vertex_at}
 use Rattle.model_core.specs.Rules.Reduction.{Strategy}
 use Rattle.model_core.specs.Code.Views.{graph_of, application_of}
-use Rattle.model_gen.specs.Generated.{generated}
-use Rattle.trial_report.specs.TrialText.{size_line, reduction_lines, summary, Summarises}
+use Rattle.trial_report.specs.TrialText.{size_line, reduction_lines, summary}
 use Rattle.trial_report.proofs.SummaryLines.{plain_kept, plain_made}
 use Rattle.trial_report.proofs.trial.trial_text.Goals as goal
 
