@@ -3,7 +3,7 @@ use Rattle.std.proofs.Common.{◌≡◌, ◌⊎◌, inl, inr, ℕ, suc, ◌<◌,
 use Rattle.std.proofs.lemmas.Bool.Decides.{nat_tests}
 use Rattle.model_core.specs.Run.Pending.{Entry}
 use Rattle.std.specs.List.{AllByRecursion}
-use Rattle.merge_rules.specs.BetweenSteps.{urgent_count, AtMostOneUrgent}
+use Rattle.model_core.specs.Rules.BetweenSteps.{urgent_count, AtMostOneUrgent}
 use Rattle.merge_rules.proofs.UrgentEvents.{NotUrgent, UrgentNow, OneUrgent}
 
 zero-is : (p : ℕ) → (p == 0) ≡ true → p ≡ 0

@@ -11,7 +11,7 @@ use Rattle.run_laws.proofs.InRange.{in_range-kept}
 use Rattle.run_laws.proofs.Keeping.{received, changed, occur-keeps, faulted-ok}
 use Rattle.run_laws.proofs.OnTime.{starts-on_time, occur-on_time}
 use Rattle.bound_laws.proofs.BeginsInRange.{kept_models_begin_in_range}
-use Rattle.merge_rules.specs.BetweenSteps.{IsSettled}
+use Rattle.model_core.specs.Rules.BetweenSteps.{IsSettled}
 use Rattle.merge_rules.proofs.UrgentEvents.{starts-one_urgent, occur-one_urgent}
 use Rattle.merge_rules.proofs.AtMostOneUrgent.{one_urgent-of, of-one_urgent}
 use Rattle.merge_rules.proofs.SingleUrgent.{NeverBoth, priorities_above_zero, exclusive_vertices}

@@ -1,4 +1,3 @@
-pub mod BetweenSteps
 pub mod KeptPairs
 pub mod Inner
 pub mod PairStanding

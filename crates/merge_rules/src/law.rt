@@ -12,7 +12,7 @@ ghost use Rattle.model_core.specs.Rules.Prune.{first_prune};
 ghost use Rattle.model_core.specs.Rules.Settle.{first_settle};
 ghost use Rattle.model_core.specs.Rules.UrgentEdges.{single_urgent};
 ghost use Rattle.model_core.specs.Rules.Merge.{merge_conditions, merged};
-ghost use Rattle.merge_rules.specs.BetweenSteps.{IsSettled};
+ghost use Rattle.model_core.specs.Rules.BetweenSteps.{IsSettled};
 ghost use Rattle.merge_rules.specs.UrgentVertices.{plain_count};
 
 use range_bounds::{exclusive_conditions_are_never_both_true, quiet_parts_have_no_fault};

@@ -16,7 +16,7 @@ use Rattle.model_core.specs.Text.SnapshotGrammar.{WrittenStream, WrittenValue, W
 
 -- ---- numbers
 
--- what a written number is; one above 2^63 - 1, which has no value, is none
+-- what a written number is; one above 2^63 - 1, which has no value, counts as 0
 abbrev pub number_or_zero : WrittenNumber → ℕ
 number_or_zero n = unwrap_or (numbering.natural n) 0
 
