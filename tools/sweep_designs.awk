@@ -15,7 +15,8 @@ function read_values(i, text,   ends, x) {
 function filled(line,   text, held, held_count, i, word) {
     held_count = split(substr(line, RSTART + 8, RLENGTH - 10), held, /, */)
     line = substr(line, RSTART + RLENGTH)
-    for (i = 1; i <= held_count; i++) if (!(held[i] in worth_of)) refuse("the line with " held[1] " also needs a value of " held[i], 2)
+    for (i = 1; i <= held_count; i++)
+        if (!(held[i] in worth_of)) refuse("the line with " held[1] " also needs a value of " held[i], 2)
     for (; match(line, /[A-Za-z_][A-Za-z0-9_]*/); line = substr(line, RSTART + RLENGTH)) {
         word = substr(line, RSTART, RLENGTH)
         for (i = 1; i <= held_count; i++) if (held[i] == word) { is_used[word]; word = worth_of[word]; break }
@@ -66,7 +67,8 @@ END {
         print choose(d - 1) >(room "/designs")
         start = is_started ? " --start=" : ""
         for (i = 1; i <= places && is_started; i++) start = start (i > 1 ? "," : "") worth_of[starting[i]]
-        print "--seed", (apart && d > 1 ? seed_behind(first, (d - 1) * wanted) : first), "--runs", wanted words start >(room "/" d ".words")
+        first_seed = apart && d > 1 ? seed_behind(first, (d - 1) * wanted) : first
+        print "--seed " first_seed " --runs " wanted words start >(room "/" d ".words")
         for (i = 1; i <= lines; i++) print (is_swept(text[i]) ? filled(text[i]) : text[i]) >(room "/" d ".model")
         close(room "/" d ".words")
         close(room "/" d ".model")
