@@ -14,18 +14,19 @@ function stop(line, text, status) {
 }
 
 # Reads measured times, one a line, in rising order, and hands them to `cell`. They are as wide as the way to their neighbours.
-function data(line, file, ticks,   quoted, time, times, count, i, before, after) {
+function data(line, file, ticks,   quoted, sorted, time, times, count, i, before, after) {
     quoted = file == "-" ? input : file
     gsub(/'/, "'\\''", quoted)
     if (system("test -r '" quoted "' && ! test -d '" quoted "'")) refuse(line, "can't read " file)
-    while (("sort -n <'" quoted "'" | getline time) > 0) {
+    sorted = "sort -n <'" quoted "'"
+    while ((sorted | getline time) > 0) {
         if (time !~ /^[ \t]*[0-9]+(\.[0-9]+)?[ \t\r]*$/) refuse(line, file " has a line that is no time: " time)
         time *= ticks
         if (time > 1e12) refuse(line, file " has a time above 1000000000000 ticks")
         if (!count || time != times[count]) times[++count] = time
         often[count]++
     }
-    close("sort -n <'" quoted "'")
+    close(sorted)
     if (!count) refuse(line, file " has no time")
     for (i = 1; i <= count; i++) {
         before = i > 1 ? times[i] - times[i - 1] : 0
