@@ -159,7 +159,7 @@ joined_reports() {
 # make_room: sets `room` to a folder that is gone when the tool ends.
 make_room() {
     room=$(mktemp -d) || exit 1
-    trap 'rm -rf "$room"; [ -z "${watcher-}" ] || kill "$watcher" 2>/dev/null' EXIT
+    trap '[ -z "${watcher-}" ] || { kill "$watcher" && wait "$watcher"; } 2>/dev/null; rm -rf "$room"' EXIT
     trap 'exit 1' HUP INT TERM
 }
 
@@ -167,7 +167,7 @@ make_room() {
 # `progress` is yes.
 watched() {
     [ "${progress-}" = yes ] || [ -t 2 ] || return 0
-    (while sleep 1; do echo "$name: $("$1")"; done) >&2 &
+    (while sleep 1; do echo "$name: $("$1" 2>/dev/null)"; done) >&2 &
     watcher=$!
 }
 

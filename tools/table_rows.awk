@@ -30,9 +30,9 @@ function moments_of_cells() {
 
 function positive(x) { return x > 0 ? x : 0 }
 
-# Makes rows of the cells, a row for each bin: each cell is one where there are so few of them, but that no bin is less than `least`
-# of all. Else the bins' ends lie as is best for the deviation: as many in an interval as the cube root of the density says (Panter
-# and Dite 1951).
+# Makes rows of the cells, a row for each bin: each cell is one where there are so few of them, but that no bin is less than
+# `least` of all. Else the bins' ends lie as is best for the deviation: as many in an interval as the cube root of the density
+# says (Panter and Dite 1951).
 function make_rows(most, total, least,   i) {
     bins(0, least)
     if (rows > most) bins(most, least)

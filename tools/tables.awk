@@ -1,4 +1,4 @@
-# What `tables` does: reads lines of a model text, makes the table that each placeholder asks for, and puts it into its place. With
+# What `tables` does: reads a model text, makes the table that each placeholder asks for, and puts it into its place. With
 # `alone` it writes the tables and no other line. Nothing is written where something is refused.
 
 function refuse(line, text) { stop(line, text, 1) }
@@ -14,18 +14,19 @@ function stop(line, text, status) {
 }
 
 # Reads measured times, one a line, in rising order, and hands them to `cell`. They are as wide as the way to their neighbours.
-function data(line, file, ticks,   path, quoted, time, times, count, i, before, after) {
-    quoted = path = file == "-" ? input : file
+function data(line, file, ticks,   quoted, sorted, time, times, count, i, before, after) {
+    quoted = file == "-" ? input : file
     gsub(/'/, "'\\''", quoted)
     if (system("test -r '" quoted "' && ! test -d '" quoted "'")) refuse(line, "can't read " file)
-    while (("sort -n <'" quoted "'" | getline time) > 0) {
+    sorted = "sort -n <'" quoted "'"
+    while ((sorted | getline time) > 0) {
         if (time !~ /^[ \t]*[0-9]+(\.[0-9]+)?[ \t\r]*$/) refuse(line, file " has a line that is no time: " time)
         time *= ticks
         if (time > 1e12) refuse(line, file " has a time above 1000000000000 ticks")
         if (!count || time != times[count]) times[++count] = time
         often[count]++
     }
-    close("sort -n <'" quoted "'")
+    close(sorted)
     if (!count) refuse(line, file " has no time")
     for (i = 1; i <= count; i++) {
         before = i > 1 ? times[i] - times[i - 1] : 0
@@ -35,21 +36,17 @@ function data(line, file, ticks,   path, quoted, time, times, count, i, before, 
     }
 }
 
-function near(got, asked, part) { return got - asked <= part * asked && asked - got <= part * asked }
-
 # Why the table isn't what was asked for, or nothing: the mean may be off by a thousandth, the deviation by five.
-function flaw(   finer) {
+function flaw(   is) {
     if (cut && !is_near(mean_of_cells, deviation_of_cells))
         return sprintf("%.3g per cent of it lies below 0, and cut there it has mean %.3f and deviation %.3f: ", \
             100 * cut / (cut + whole), mean_of_cells, deviation_of_cells) "a gamma or a lognormal has no such times"
     if (is_near(got_mean, got_deviation)) return ""
-    finer = int(4.2 / asked_deviation) + 1
-    if (cells < 2 || asked_deviation < 3 || got_deviation > asked_deviation)
-        return sprintf("whole ticks make its deviation %.3f for %.3f: ", got_deviation, asked_deviation) \
-            "take a tick that is " (finer > 2 ? finer : 2) " times as fine"
-    return sprintf("%d rows make its mean %.3f for %.3f and its deviation %.3f for %.3f: ", rows, \
-        got_mean, asked_mean, got_deviation, asked_deviation) \
-        (most < 1000 ? "try --rows 1000" : "too much of it lies in times that are rare and long")
+    is = sprintf("its mean is %.3f for %.3f and its deviation %.3f for %.3f: ", \
+        got_mean, asked_mean, got_deviation, asked_deviation)
+    if (asked_deviation < 4.2 || got_deviation > asked_deviation)
+        return "in whole ticks " is "take a finer tick, of which the deviation has 5"
+    return "in " rows " rows " is (most < 1000 ? "try --rows 1000" : "too much of it lies in times that are rare and long")
 }
 
 function is_near(mean, deviation) {
