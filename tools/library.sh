@@ -36,6 +36,11 @@ needs() {
     command -v "$1" >/dev/null || no_answer "it needs $1, which isn't there"
 }
 
+# filled MODEL: a model text, with its tables filled in where it has placeholders.
+filled() {
+    if grep -q '^# table ' "$1"; then "$tools/tables" --fill "$1" 2>/dev/null; else cat "$1"; fi
+}
+
 # gathered [NAME=]REPORT..: texts one behind the other, each behind a line `design NAME`, and with line feeds alone. `-` is the
 # standard input. What has no name is called as the file, without folder and `.csv`.
 gathered() {
