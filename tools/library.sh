@@ -106,6 +106,22 @@ seeds() {
     '
 }
 
+# parts_of COUNT: a line for each of so many parts of the runs of `seed` and `runs`: the part's first seed, and how many runs it
+# makes. No part is empty, but for that of no run at all, which the program refuses.
+parts_of() {
+    awk -v parts="$1" -v first="$seed" -v wanted="$runs" "$(cat "$tools/library.awk")"'
+        BEGIN {
+            if (parts > wanted + 0) parts = wanted
+            if (parts < 1) parts = 1
+            for (part = 0; part < parts; part++) {
+                size = int(wanted / parts) + (part < wanted % parts)
+                print (part ? seed_behind(first, before) : first), size
+                before += size
+            }
+        }
+    '
+}
+
 # histories MODEL: the histories of the runs of `seed`, `runs` and `others`, each behind a line `seed SEED`. Where `run` fails, its
 # status stands behind the word failed at the end; where it can't write, its reader has ended and says why.
 histories() {
