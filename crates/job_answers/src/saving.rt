@@ -52,7 +52,6 @@ fn saved_part<'m, P: Pending + Drop, L: Ledger>(
     requires soon { until ≤ 2 ^ 48 }
     requires budget { events ≤ 2 ^ 40 }
     requires fresh { IsFresh model.now run }
-    requires seeded { run.seed ≡ seed }
     ensures { (starts : List ℤ) (room : ℕ) → BegunRun model.now seed starts room run.entry
         → IfOk result (SavedOrFinished (graph_of model.now) until seed events starts) }
 {
