@@ -9,7 +9,7 @@ use Rattle.job_answers.specs.declared.status.Failure.{Failure}
 use Rattle.job_answers.specs.Inner.RunSteps.{StreamsRun}
 use Rattle.job_answers.proofs.RunLaws.{run_failed, run_told}
 use Rattle.job_answers.proofs.StartLaws.{start_refused}
-use Rattle.job_answers.proofs.running.run_over.Goals as goal
+use Rattle.job_answers.proofs.running.run_model.Goals as goal
 
 pub returns-in-Err : goal.returns-in-Err
 returns-in-Err g c =
