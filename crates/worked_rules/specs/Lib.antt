@@ -1,0 +1,2 @@
+pub mod MeetingModels
+pub mod PerformedEvents

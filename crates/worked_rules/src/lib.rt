@@ -1,0 +1,11 @@
+//! The definitions of the rules, of conflicts, of uses and of needed ranges, held half by half.
+#![tactic(auto)]
+
+mod meeting_vertices;
+mod performing;
+
+pub use meeting_vertices::{
+    reasons_are_told_together, some_cancel_the_other, some_draw_from_a_stream, some_meet,
+    some_touch_a_variable,
+};
+pub use performing::{entries_are_counted, events_have_places, faults_are_of_both};
