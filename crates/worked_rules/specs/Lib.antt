@@ -1,2 +1,3 @@
 pub mod MeetingModels
+pub mod UsingModels
 pub mod PerformedEvents

@@ -1,11 +1,18 @@
 //! The definitions of the rules, of conflicts, of uses and of needed ranges, held half by half.
 #![tactic(auto)]
 
+mod counting;
 mod meeting_vertices;
 mod performing;
+mod using;
 
+pub use counting::{one_change_counts, one_edge_counts};
 pub use meeting_vertices::{
     reasons_are_told_together, some_cancel_the_other, some_draw_from_a_stream, some_meet,
     some_touch_a_variable,
 };
 pub use performing::{entries_are_counted, events_have_places, faults_are_of_both};
+pub use using::{
+    numbers_are_moved, numbers_have_room, streams_are_drawn_from, variables_are_used_in_each_way,
+    variables_stand_in_expressions,
+};
