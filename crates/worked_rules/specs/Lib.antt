@@ -1,3 +1,6 @@
 pub mod MeetingModels
 pub mod UsingModels
+pub mod PartsAlike
+pub mod TwinHalves
+pub mod Halves
 pub mod PerformedEvents

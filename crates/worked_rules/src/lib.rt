@@ -4,6 +4,8 @@
 mod counting;
 mod meeting_vertices;
 mod performing;
+mod twin_parts;
+mod twins;
 mod using;
 
 pub use counting::{one_change_counts, one_edge_counts};
@@ -12,6 +14,11 @@ pub use meeting_vertices::{
     some_touch_a_variable,
 };
 pub use performing::{entries_are_counted, events_have_places, faults_are_of_both};
+pub use twin_parts::parts_are_equal_to_themselves;
+pub use twins::{
+    each_half_of_fuse_fails_alone, fused_models_have_texts, fusing_goes_on, lists_are_the_same,
+    the_first_pair_is_taken, two_become_one,
+};
 pub use using::{
     numbers_are_moved, numbers_have_room, streams_are_drawn_from, variables_are_used_in_each_way,
     variables_stand_in_expressions,
