@@ -3,4 +3,5 @@ pub mod UsingModels
 pub mod PartsAlike
 pub mod TwinHalves
 pub mod Halves
+pub mod RangedModels
 pub mod PerformedEvents
