@@ -4,4 +4,5 @@ pub mod PartsAlike
 pub mod TwinHalves
 pub mod Halves
 pub mod RangedModels
+pub mod BoundedParts
 pub mod PerformedEvents

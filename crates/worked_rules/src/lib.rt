@@ -7,6 +7,7 @@ mod guards;
 mod meeting_vertices;
 mod needed_rounds;
 mod performing;
+mod rows_of_bounds;
 mod taken_values;
 mod twin_parts;
 mod twins;
@@ -27,6 +28,12 @@ pub use meeting_vertices::{
 };
 pub use needed_rounds::{ranges_are_found, ranges_grow, rounds_end, some_ranges_stay};
 pub use performing::{entries_are_counted, events_have_places, faults_are_of_both};
+pub use rows_of_bounds::{
+    all_four_pairs_of_ends_count, both_operands_are_quiet, branches_are_taken,
+    comparisons_turn_at_ends, draws_have_bounds, each_end_counts, operands_may_not_be_looked_at,
+    parts_of_changes_are_quiet, parts_of_edges_are_quiet, quiet_conditions_are_decided,
+    truths_are_put_together,
+};
 pub use taken_values::{variables_keep_some, variables_take_values};
 pub use twin_parts::parts_are_equal_to_themselves;
 pub use twins::{
