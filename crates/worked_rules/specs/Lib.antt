@@ -5,4 +5,7 @@ pub mod TwinHalves
 pub mod Halves
 pub mod RangedModels
 pub mod BoundedParts
+pub mod UrgentModels
+pub mod NeedHalves
+pub mod EdgeModels
 pub mod PerformedEvents
