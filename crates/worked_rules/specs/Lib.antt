@@ -9,3 +9,4 @@ pub mod UrgentModels
 pub mod NeedHalves
 pub mod EdgeModels
 pub mod PerformedEvents
+pub mod GraphsApart

@@ -48,15 +48,17 @@ pub use need_halves::{
     slices_list_all, some_are_needed_at_once, streams_are_needed_one_by_one,
 };
 pub use needed_rounds::{ranges_are_found, ranges_grow, rounds_end, some_ranges_stay};
-pub use performing::{entries_are_counted, events_have_places, faults_are_of_both};
+pub use performing::{
+    entries_are_counted, events_have_places, faults_are_of_both, orders_may_differ,
+};
 pub use rows_of_bounds::{
     all_four_pairs_of_ends_count, both_operands_are_quiet, branches_are_taken,
     comparisons_turn_at_ends, draws_have_bounds, each_end_counts, operands_may_not_be_looked_at,
     parts_of_changes_are_quiet, parts_of_edges_are_quiet, quiet_conditions_are_decided,
     truths_are_put_together,
 };
-pub use taken_values::{variables_keep_some, variables_take_values};
-pub use twin_parts::parts_are_equal_to_themselves;
+pub use taken_values::{values_are_taken_side_by_side, variables_keep_some, variables_take_values};
+pub use twin_parts::{graphs_are_equal_in_all_parts, parts_are_equal_to_themselves};
 pub use twins::{
     each_half_of_fuse_fails_alone, fused_models_have_texts, fusing_goes_on, lists_are_the_same,
     the_first_pair_is_taken, two_become_one,

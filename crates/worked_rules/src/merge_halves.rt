@@ -10,9 +10,11 @@ ghost use Rattle.worked_runs.specs.MergingModels.{giving};
 ghost use Rattle.worked_rules.specs.UrgentModels.{followed, first_event, both_events, in_four, run_then, sets_z, with_many_edges};
 
 /// Changes come in turn: those of the first, a `set` of what it gives, and those of the second; and edges: the others of the
-/// first, then those of the second. The first keeps its name and its parameters, and the second stays.
+/// first, then those of the second. The first keeps its name and its parameters, and the second stays. Without a plain
+/// urgent edge nothing changes.
 pub fn merged_parts_come_in_turn()
-    ensures { merged (in_four first_event) 1 2 ≡ in_four both_events }
+    ensures both { merged (in_four first_event) 1 2 ≡ in_four both_events }
+    ensures without_an_edge { merged (in_four first_event) 0 1 ≡ in_four first_event }
 {}
 
 /// The first four conditions, and the fifth.

@@ -1,11 +1,11 @@
 //! Which variables are needed, half by half, and what a slice leaves of each part.
 #![tactic(auto, unfolding(model_core::specs::Rules::BoundsTable::exact_bounds))]
 
-ghost use Rattle.std.specs.Prelude.{◌≡◌, ◌∷◌, [], map, pos, Some, None};
+ghost use Rattle.std.specs.Prelude.{◌≡◌, ◌∷◌, [], true, false, map, pos, Some, None};
 ghost use Rattle.model_core.specs.EventGraph.{Scalar, Set, Draw, Uniform, Urgent, CancelNext, CancelEqual, CancelAll, Fixed, Drawn, Schedule, WatchedVariable, WatchedVertex};
 ghost use Rattle.model_core.specs.Rules.Conditions.{first_failed};
 ghost use Rattle.model_core.specs.Rules.Needed.{unneeded};
-ghost use Rattle.model_core.specs.Rules.Slice.{slice_conditions, sliced};
+ghost use Rattle.model_core.specs.Rules.Slice.{slice_conditions, change_left, sliced};
 ghost use Rattle.worked_runs.specs.Building.{whole, at_variable, at_cell, set, only_if, positive, plain_edge, schedule, one_over_zero, x_watched};
 ghost use Rattle.worked_rules.specs.NeedHalves.{four_clipped, taken_over, drawn_of, giving_edge, one_strict, before_slice, behind_slice};
 
@@ -79,5 +79,7 @@ pub fn slices_list_all()
 // numbered anew; values that edges carry, of each kind; a delay and a condition, of each form of expression; a drawn delay
 // and a table, which stay.
 pub fn parts_are_sliced()
-    ensures { sliced before_slice (1 ∷ []) ≡ behind_slice }
+    ensures whole { sliced before_slice (1 ∷ []) ≡ behind_slice }
+    ensures more_sides { change_left (true ∷ false ∷ []) (Set (at_variable 1 ∷ []) (whole 1 ∷ whole 2 ∷ [])) ≡ Set [] (whole 2 ∷ []) ∷ [] }
+    ensures fewer_sides { change_left (true ∷ false ∷ []) (Set (at_variable 1 ∷ at_variable 0 ∷ []) (whole 1 ∷ [])) ≡ Set (at_variable 0 ∷ []) [] ∷ [] }
 {}

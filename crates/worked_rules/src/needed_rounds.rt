@@ -5,7 +5,7 @@ ghost use Rattle.std.specs.Prelude.{◌≡◌, ◌<◌, ◌∷◌, [], pos, neg_
 ghost use Rattle.model_core.specs.declared.var_range.VarRange.{VarRange};
 ghost use Rattle.model_core.specs.EventGraph.{EventGraph};
 ghost use Rattle.model_core.specs.Ranges.Inductive.{is_fixed};
-ghost use Rattle.model_core.specs.Ranges.Inference.{hull, grown_range, ends_moved, first_range, after_rounds, round, IsInferred};
+ghost use Rattle.model_core.specs.Ranges.Inference.{hull, grown_range, ends_moved, first_range, next_range, after_rounds, round, IsInferred};
 ghost use Rattle.worked_runs.specs.NarrowModel.{range};
 ghost use Rattle.worked_rules.specs.RangedModels.{span, fed, takes_in, needing_all, ranges_of_all};
 
@@ -26,6 +26,7 @@ pub fn ranges_grow()
 pub fn some_ranges_stay()
     ensures fixed { map (is_fixed needing_all) (0 ∷ 1 ∷ 2 ∷ 3 ∷ 4 ∷ 5 ∷ 6 ∷ []) ≡ true ∷ true ∷ true ∷ false ∷ false ∷ false ∷ false ∷ [] }
     ensures begun { map (first_range needing_all) (0 ∷ 1 ∷ 2 ∷ 3 ∷ 4 ∷ 5 ∷ 6 ∷ []) ≡ span 0 50 ∷ span 0 1 ∷ span 0 1 ∷ span 4 4 ∷ span 0 0 ∷ span 2 2 ∷ span 0 0 ∷ [] }
+    ensures stays { next_range needing_all false (takes_in 1 (pos 0) (pos 0) ∷ []) (span 0 50 ∷ span 1 1 ∷ []) 1 ≡ span 1 1 }
 {}
 
 /// Each variable of a model gets the range that it needs: an array too, by what is known where an `or` is false, by what is

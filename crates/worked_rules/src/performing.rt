@@ -1,10 +1,11 @@
 //! Events that are performed out of turn: which is taken, and where the other one then is; and how often entries are held.
 
-ghost use Rattle.std.specs.Prelude.{◌≡◌, ◌∷◌, [], map, pos, Some, None, Err};
+ghost use Rattle.std.specs.Prelude.{◌≡◌, ◌∷◌, [], map, pos, Some, None, Ok, Err};
 ghost use Rattle.sig_base.specs.declared.fault.FaultKind.TheVariants as faults;
+ghost use Rattle.model_core.specs.Run.Step.{Fault};
 ghost use Rattle.model_core.specs.Conflicts.Perform.{taken_at, events_ahead, place_behind, place_then, performed_both};
-ghost use Rattle.model_core.specs.Conflicts.Orders.{times_held};
-ghost use Rattle.worked_runs.specs.TwoEvents.{soon, waiting};
+ghost use Rattle.model_core.specs.Conflicts.Orders.{times_held, SameButForOrder, Commute};
+ghost use Rattle.worked_runs.specs.TwoEvents.{soon, waiting, at_5, words_of_54};
 ghost use Rattle.worked_rules.specs.PerformedEvents.{four_soon, dividing, entries_apart};
 
 /// The event at a place is taken with all others left, and another one is found by how many of its vertex are ahead of it.
@@ -36,4 +37,14 @@ pub fn entries_are_counted()
     ensures once { map (λ e. times_held e entries_apart) entries_apart ≡ 1 ∷ 1 ∷ 1 ∷ 1 ∷ 1 ∷ 1 ∷ [] }
     ensures twice { times_held (soon 1) four_soon ≡ 2 }
     ensures never { times_held (soon 3) four_soon ≡ 0 }
+{}
+
+/// What two orders give is the same where clock, state, words taken and what is held are; a fault isn't the same as none.
+pub fn orders_may_differ()
+    ensures clocks { SameButForOrder (at_5 [] [] []) (waiting [] [] []) → ⊥ }
+    ensures states { SameButForOrder (at_5 ((pos 0 ∷ []) ∷ []) [] []) (at_5 ((pos 1 ∷ []) ∷ []) [] []) → ⊥ }
+    ensures words { SameButForOrder (at_5 [] (words_of_54 1) []) (at_5 [] (words_of_54 2) []) → ⊥ }
+    ensures held { SameButForOrder (at_5 [] [] (soon 1 ∷ soon 1 ∷ [])) (at_5 [] [] (soon 1 ∷ [])) → ⊥ }
+    ensures one_fault { (fault : Fault) → Commute (Some (Err fault)) (Some (Ok (at_5 [] [] []))) → ⊥ }
+    ensures one_none { (fault : Fault) → Commute (Some (Err fault)) None → ⊥ }
 {}

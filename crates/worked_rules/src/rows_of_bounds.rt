@@ -2,7 +2,7 @@
 #![tactic(auto, unfolding(model_core::specs::Rules::BoundsTable::exact_bounds, model_core::specs::Rules::BoundsTable::least_of, model_core::specs::Rules::BoundsTable::greatest_of))]
 
 ghost use Rattle.std.specs.Prelude.{◌≡◌, ◌∷◌, [], pos, neg_ℤ, true, false, map};
-ghost use Rattle.model_core.specs.EventGraph.{Truth, Negative, Not, Binary, If, Subtract, Multiply, Divide, Remainder, Least, Greatest, Equal, NotEqual, Below, AtMost, Above, AtLeast, And, Or, Uniform, ByTable, Set, Draw, Urgent, CancelNext, CancelEqual, CancelAll};
+ghost use Rattle.model_core.specs.EventGraph.{Truth, Cell, Negative, Not, Binary, If, Add, Subtract, Multiply, Divide, Remainder, Least, Greatest, Equal, NotEqual, Below, AtMost, Above, AtLeast, And, Or, Uniform, ByTable, Set, Draw, Urgent, CancelNext, CancelEqual, CancelAll};
 ghost use Rattle.model_core.specs.Run.State.{variable_at};
 ghost use Rattle.model_core.specs.Rules.BoundsOf.{refuted, proved};
 ghost use Rattle.model_core.specs.Rules.BoundsOfParts.{rows_bounds, choice_bounds, quiet_store, quiet_change, quiet_edge};
@@ -27,6 +27,11 @@ pub fn each_end_counts()
     ensures by_zero_at_the_upper_end { seen_bounds (Binary Divide (whole 5) (Negative x)) ≡ perhaps_in (neg_ℤ (pos 5)) (pos 5) }
     ensures by_no_zero { seen_bounds (Binary Divide (whole 5) (Binary Greatest x (whole 1))) ≡ numbers_in (pos 1) (pos 5) }
     ensures lower_end_further { seen_bounds (Binary Divide (Negative y) x) ≡ perhaps_in (neg_ℤ (pos 7)) (pos 7) }
+    ensures upper_end_fits { seen_bounds (Binary Add (whole 9223372036854775806) (whole 1)) ≡ numbers_in (pos 9223372036854775807) (pos 9223372036854775807) }
+    ensures upper_end_moved { seen_bounds (Binary Add (whole 9223372036854775806) (Binary Greatest x (whole 1))) ≡ perhaps_in (pos 9223372036854775807) (pos 9223372036854775807) }
+    ensures by_no_zero_below { seen_bounds (Binary Divide (whole 5) (Negative (Binary Greatest x (whole 1)))) ≡ numbers_in (neg_ℤ (pos 5)) (neg_ℤ (pos 1)) }
+    ensures rest_from_minus_1 { seen_bounds (Binary Remainder (Cell 4 (whole 0)) (whole 4)) ≡ numbers_in (neg_ℤ (pos 1)) (pos 3) }
+    ensures rest_to_1 { seen_bounds (Binary Remainder (Binary Subtract (whole 1) x) (whole 4)) ≡ numbers_in (neg_ℤ (pos 2)) (pos 1) }
     ensures rest_below { seen_bounds (Binary Remainder (Negative x) (whole 9)) ≡ numbers_in (neg_ℤ (pos 3)) (pos 0) }
     ensures rest_by_a_negative { seen_bounds (Binary Remainder y (minus 4)) ≡ numbers_in (neg_ℤ (pos 3)) (pos 3) }
     ensures rest_by_many { seen_bounds (Binary Remainder y (whole 8)) ≡ numbers_in (neg_ℤ (pos 5)) (pos 7) }

@@ -2,11 +2,11 @@
 #![tactic(auto, unfolding(model_core::specs::Rules::BoundsTable::exact_bounds, model_core::specs::Rules::BoundsTable::least_of, model_core::specs::Rules::BoundsTable::greatest_of))]
 
 ghost use Rattle.std.specs.Prelude.{◌≡◌, ◌∷◌, [], pos, neg_ℤ, true, map, take, Some, None};
-ghost use Rattle.model_core.specs.Ranges.Incoming.{incoming, kept_range};
-ghost use Rattle.worked_runs.specs.Building.{clipped};
+ghost use Rattle.model_core.specs.Ranges.Incoming.{assigned, incoming, kept_range};
+ghost use Rattle.worked_runs.specs.Building.{clipped, whole};
 ghost use Rattle.worked_runs.specs.BoundedModel.{bounded_by};
 ghost use Rattle.worked_runs.specs.NarrowModel.{range};
-ghost use Rattle.worked_rules.specs.RangedModels.{span, fed, takes_in, bounds_between};
+ghost use Rattle.worked_rules.specs.RangedModels.{span, five_kinds, fed, takes_in, bounds_between};
 
 /// All that is set, drawn and carried into variables.
 // In turn: both targets of a `set`, each by its own right side; an `if` under what its condition leaves; an array, by a
@@ -45,4 +45,11 @@ pub fn variables_keep_some()
         ≡ Some (span 3 5) ∷ Some (span 0 4) ∷ Some (span 0 0) ∷ Some (span 0 0) ∷ Some (span 4 9) ∷ Some (span 9 9) ∷ Some (span 9 9) ∷ Some (span 0 9) ∷ [] }
     ensures keeps { map (kept_range (bounded_by [] (pos 0) (pos 9))) bounds_between
         ≡ Some (span 3 5) ∷ Some (span 0 4) ∷ Some (span 0 0) ∷ None ∷ Some (span 4 9) ∷ Some (span 9 9) ∷ None ∷ Some (span 0 9) ∷ [] }
+{}
+
+/// Where there are fewer values than variables, or more, those are taken that stand side by side.
+pub fn values_are_taken_side_by_side()
+    ensures fewer { assigned five_kinds (0 ∷ 1 ∷ []) (whole 3 ∷ []) ≡ takes_in 0 (pos 3) (pos 3) ∷ [] }
+    ensures more { assigned five_kinds (0 ∷ []) (whole 3 ∷ whole 4 ∷ []) ≡ takes_in 0 (pos 3) (pos 3) ∷ [] }
+    ensures both { assigned five_kinds (0 ∷ 1 ∷ []) (whole 3 ∷ whole 4 ∷ []) ≡ takes_in 0 (pos 3) (pos 3) ∷ takes_in 1 (pos 4) (pos 4) ∷ [] }
 {}

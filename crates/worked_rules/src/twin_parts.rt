@@ -3,8 +3,9 @@
 ghost use Rattle.std.specs.Prelude.{◌≡◌, ◌∷◌, [], map};
 ghost use Rattle.std.specs.List.{range_with_len};
 ghost use Rattle.model_core.specs.Rules.Exclusive.{same_operator, same_expression};
-ghost use Rattle.model_core.specs.Rules.SameGraph.{same_state_change, same_event_edge};
+ghost use Rattle.model_core.specs.Rules.SameGraph.{same_state_change, same_event_edge, same_graph};
 ghost use Rattle.worked_rules.specs.PartsAlike.{operators, expressions_apart, changes_apart, edges_apart};
+ghost use Rattle.worked_rules.specs.GraphsApart.{graphs_apart};
 ghost use Rattle.worked_rules.specs.Halves.{equal_at};
 
 /// Each of these parts is equal to itself, and to no other of them.
@@ -18,4 +19,13 @@ pub fn parts_are_equal_to_themselves()
     ensures expressions { map (λ e. equal_at same_expression e expressions_apart) expressions_apart ≡ map (λ k. k ∷ []) (range_with_len 0 23) }
     ensures changes { map (λ c. equal_at same_state_change c changes_apart) changes_apart ≡ map (λ k. k ∷ []) (range_with_len 0 15) }
     ensures edges { map (λ e. equal_at same_event_edge e edges_apart) edges_apart ≡ map (λ k. k ∷ []) (range_with_len 0 14) }
+{}
+
+/// Models are equal in all their parts: each of these is equal to itself alone.
+// In turn: the name, its bytes and their number; of a variable the name, the size, the kind, both ends, `clip` and the
+// initial value, and how many there are; of a table the name, a value, a weight, how many rows, and how many tables; of the
+// watch list a vertex for a variable, the place of each, and how many; of a vertex the name, the parameters, a change, an
+// edge, and how many.
+pub fn graphs_are_equal_in_all_parts()
+    ensures { map (λ g. equal_at same_graph g graphs_apart) graphs_apart ≡ map (λ k. k ∷ []) (range_with_len 0 25) }
 {}
