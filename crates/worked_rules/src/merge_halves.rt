@@ -18,12 +18,13 @@ pub fn merged_parts_come_in_turn()
 {}
 
 /// The first four conditions, and the fifth.
-// 1: an edge to itself, and one to no vertex; 2: two urgent edges of the second aren't plain; 3: two of any vertex must be
-// exclusive; 4: of the watched, the first may be; 5: each kind of cancelling edge of the first, also where it isn't the last
-// edge; one of another vertex may, and one of the first to another.
+// 1: an edge to itself, and one to no vertex; 2: the second has one, of which two urgent edges are none; 3: two of any
+// vertex must be exclusive; 4: of the watched, the first may be; 5: each kind of cancelling edge of the first, also where it
+// isn't the last edge; one of another vertex may, and one of the first to another.
 pub fn each_half_of_meeting_at_once_fails_alone()
     ensures itself { first_failed (merge_conditions (followed [] (event [] [] (urgent 0 ∷ []) ∷ [])) 0 0) ≡ Some 1 }
     ensures no_vertex { first_failed (merge_conditions (followed [] (event [] [] (urgent 1 ∷ []) ∷ [])) 0 1) ≡ Some 1 }
+    ensures goes_on { first_failed (merge_conditions (run_then [] [] (event [] [] (urgent 2 ∷ []))) 0 1) ≡ Some 2 }
     ensures two_urgent { first_failed (merge_conditions (run_then [] [] (event [] [] (only_if (positive 0) (urgent 2) ∷ []))) 0 1) ≡ None }
     ensures of_another_vertex { first_failed (merge_conditions (run_then [] [] (event [] [] (urgent 2 ∷ urgent 2 ∷ []))) 0 1) ≡ Some 3 }
     ensures next_watched { first_failed (merge_conditions (run_then (WatchedVertex 2 ∷ WatchedVertex 1 ∷ []) [] sets_z) 0 1) ≡ Some 4 }
@@ -52,6 +53,7 @@ pub fn each_other_edge_reads_nothing_written()
 // may, the second of two; what is given may; each is none of it where the first isn't watched.
 pub fn watched_ones_are_followed_unseen()
     ensures writes { map (λ watch. first_failed (merge_conditions (run_then watch [] sets_z) 0 1)) ((WatchedVertex 0 ∷ WatchedVariable 1 ∷ []) ∷ (WatchedVertex 0 ∷ WatchedVariable 0 ∷ []) ∷ (WatchedVariable 1 ∷ []) ∷ []) ≡ Some 7 ∷ None ∷ None ∷ [] }
+    ensures at_the_place_of_a_vertex { first_failed (merge_conditions (run_then (WatchedVertex 0 ∷ []) [] (event [] (set 0 (whole 1) ∷ []) [])) 0 1) ≡ None }
     ensures edges { map (λ watch. first_failed (merge_conditions (run_then watch [] (event [] [] (schedule 2 (Scalar 0) ∷ schedule 2 one_over_zero ∷ []))) 0 1)) ((WatchedVertex 0 ∷ []) ∷ [] ∷ []) ≡ Some 7 ∷ None ∷ [] }
     ensures changes { map (λ watch. first_failed (merge_conditions (run_then watch [] (event [] (set 0 (whole 9) ∷ set 0 (whole 10) ∷ []) [])) 0 1)) ((WatchedVertex 0 ∷ []) ∷ [] ∷ []) ≡ Some 7 ∷ None ∷ [] }
     ensures gives { map (λ watch. first_failed (merge_conditions (giving one_over_zero watch []) 0 1)) ((WatchedVertex 0 ∷ []) ∷ [] ∷ []) ≡ Some 7 ∷ None ∷ [] }

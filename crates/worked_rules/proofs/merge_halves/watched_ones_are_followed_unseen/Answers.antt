@@ -8,6 +8,10 @@ pub returns-clause-writes : goal.returns-clause-writes
 unfolding digits exact_bounds
 returns-clause-writes c = refl
 
+pub returns-clause-at_the_place_of_a_vertex : goal.returns-clause-at_the_place_of_a_vertex
+unfolding digits exact_bounds
+returns-clause-at_the_place_of_a_vertex c = refl
+
 pub returns-clause-edges : goal.returns-clause-edges
 unfolding digits exact_bounds
 returns-clause-edges c = refl
