@@ -1,12 +1,13 @@
 //! Prune, settle and drop, half by half: the first edge, what may fault, and how far vertices are reached.
 #![tactic(auto, unfolding(model_core::specs::Rules::BoundsTable::exact_bounds))]
 
-ghost use Rattle.std.specs.Prelude.{◌≡◌, ◌∷◌, [], true, false, map, Some, None};
+ghost use Rattle.std.specs.Prelude.{◌≡◌, ◌+◌, ◌∷◌, [], true, false, map, Some, None};
+ghost use Rattle.model_core.specs.EventGraph.{WatchedVariable, WatchedVertex};
 ghost use Rattle.model_core.specs.Rules.Conditions.{first_failed};
 ghost use Rattle.model_core.specs.Rules.Prune.{first_prune, prune_conditions, pruned};
 ghost use Rattle.model_core.specs.Rules.Settle.{settle_conditions, settled, first_settle};
 ghost use Rattle.model_core.specs.Rules.Reached.{reached_marks, unreached};
-ghost use Rattle.model_core.specs.Rules.Drop.{drop_conditions, dropped};
+ghost use Rattle.model_core.specs.Rules.Drop.{drop_conditions, dropped, watched_renumbered};
 ghost use Rattle.worked_rules.specs.EdgeModels.{at_several_places, one_pruned, one_settled, led, led_alone, over_x, literally};
 
 /// The first edge that may be pruned, and the first that may be settled, by vertex and then by edge.
@@ -51,4 +52,5 @@ pub fn drops_list_all()
     ensures turned { first_failed (drop_conditions led (8 ∷ 1 ∷ [])) ≡ Some 2 }
     ensures none { first_failed (drop_conditions led_alone []) ≡ Some 1 }
     ensures result { dropped led (1 ∷ 8 ∷ []) ≡ led_alone }
+    ensures watched_items { map (watched_renumbered (λ place. place + 7)) (WatchedVariable 2 ∷ WatchedVertex 2 ∷ []) ≡ WatchedVariable 2 ∷ WatchedVertex 9 ∷ [] }
 {}
