@@ -29,3 +29,4 @@ pub mod WrittenSnapshots
 pub mod HarbourRuns
 pub mod SnapshotTexts
 pub mod SpelledSnapshots
+pub mod LargeTexts

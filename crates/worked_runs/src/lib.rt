@@ -186,6 +186,7 @@ pub use values::values_are_exact;
 pub use values::values_are_lazy;
 pub use versions::cells_together_have_a_limit;
 pub use versions::texts_say_a_version_where_they_need_it;
+pub use versions::version_1_has_limits_everywhere;
 pub use versions::versions_are_known;
 pub use versions::versions_have_their_limits;
 pub use whole_texts::texts_are_printed;
