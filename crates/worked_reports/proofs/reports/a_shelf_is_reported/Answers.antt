@@ -1,7 +1,7 @@
 use Rattle.std.proofs.Common.{refl}
 use Rattle.std.specs.Fmt.{digits}
 use Rattle.csv.specs.Writing.{fields_text, is_blank}
-use Rattle.tally_report.proofs.worked_report.a_shelf_is_reported.Goals as goal
+use Rattle.worked_reports.proofs.reports.a_shelf_is_reported.Goals as goal
 
 pub returns-clause-header : goal.returns-clause-header
 unfolding fields_text is_blank
