@@ -3,13 +3,13 @@ use Rattle.std.proofs.Common.{◌≡◌, ◌&&◌, ◌^◌, ◌-◌, ◌≤◌, 
 use Rattle.std.specs.Prelude.{IfSome}
 use Rattle.std.proofs.lemmas.Bool.{and_parts}
 use Rattle.std.proofs.lemmas.Bool.Decides.{nat_tests}
-use Rattle.sig_base.specs.declared.limits.TheConstants.{STOP_MAX, EVENTS_MAX}
+use Rattle.sig_base.specs.declared.limits.TheConstants.{STOP_MAX, EVENTS_MAX, RUNS_MAX}
 use Rattle.command_words.specs.declared.command.Command.{Command}
 use Rattle.command_words.specs.declared.command.Command.TheVariants as commands
 use Rattle.command_words.specs.declared.job.Job.{Job}
 use Rattle.command_words.specs.Arguments.{arguments_of, values_of}
 use Rattle.command_words.specs.ArgumentValues.{is_digits, number_written, number_within, needed, besides}
-use Rattle.command_words.specs.Jobs.{Values, greatest_room, usual_room, most_runs, most_made, run_with, replicate_with, save_with, resume_with, trial_with, job_with, job_of}
+use Rattle.command_words.specs.Jobs.{Values, greatest_room, usual_room, most_made, run_with, replicate_with, save_with, resume_with, trial_with, job_with, job_of}
 use Rattle.command_words.specs.Readings.{reading_of, KeepsLimits}
 use Rattle.command_words.proofs.JobOptions.{asks}
 
@@ -52,7 +52,7 @@ run_keeps (Some until) (Some seed) None starts room soon few = tt
 run_keeps (Some until) (Some seed) (Some events) None room soon few = tt
 run_keeps (Some until) (Some seed) (Some events) (Some starts) None soon few = tt
 
-replicate_keeps : (until seed events runs : Option ℕ) (starts : Option (List ℤ)) → Lies 0 STOP_MAX until → Lies 1 EVENTS_MAX events → Lies 1 most_runs runs → Keeps (replicate_with until seed events runs starts)
+replicate_keeps : (until seed events runs : Option ℕ) (starts : Option (List ℤ)) → Lies 0 STOP_MAX until → Lies 1 EVENTS_MAX events → Lies 1 RUNS_MAX runs → Keeps (replicate_with until seed events runs starts)
 replicate_keeps (Some until) (Some seed) (Some events) (Some runs) (Some starts) soon few many = (soon.1, few.1, many.0, many.1)
 replicate_keeps None seed events runs starts soon few many = tt
 replicate_keeps (Some until) None events runs starts soon few many = tt
@@ -89,7 +89,7 @@ few values = needed_lies 1 EVENTS_MAX (values (codes "events"))
 
 job_keeps : (command : Command) (values : Values) → Keeps (job_with command values)
 job_keeps commands.Run values = run_keeps _ _ _ _ _ (soon values) (few values)
-job_keeps commands.Replicate values = replicate_keeps _ _ _ _ _ (soon values) (few values) (needed_lies 1 most_runs (values (codes "runs")))
+job_keeps commands.Replicate values = replicate_keeps _ _ _ _ _ (soon values) (few values) (needed_lies 1 RUNS_MAX (values (codes "runs")))
 job_keeps commands.Save values = save_keeps _ _ _ _ (soon values) (needed_lies 0 (2 ^ 64 - 1) (values (codes "seed"))) (few values)
 job_keeps commands.Resume values = resume_keeps _ _ _ (soon values) (few values) (besides_lies usual_room greatest_room (values (codes "room")) (omega arith))
 job_keeps commands.Trial values = trial_keeps _ _ _ _ (needed_lies 1 most_made (values (codes "vertices"))) (soon values) (few values)

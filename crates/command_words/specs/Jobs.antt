@@ -1,7 +1,7 @@
 -- The jobs: which one the words of the command line ask for.
 use Rattle.std.specs.Prelude.{ℕ, ◌-◌, ◌^◌, ℤ, nat_eq, if◌then◌else◌, List, [], ◌∷◌, codes, Option, Some, None}
 use lib.Pointwise.{pointwise}
-use Rattle.sig_base.specs.declared.limits.TheConstants.{STOP_MAX, EVENTS_MAX}
+use Rattle.sig_base.specs.declared.limits.TheConstants.{STOP_MAX, EVENTS_MAX, RUNS_MAX}
 use Rattle.command_words.specs.declared.command.Command.{Command}
 use Rattle.command_words.specs.declared.command.Command.TheVariants as commands
 use Rattle.command_words.specs.declared.job.Job.{Job}
@@ -79,17 +79,13 @@ abbrev pub replicate_with : Option ℕ → Option ℕ → Option ℕ → Option 
 replicate_with (Some until) (Some seed) (Some events) (Some runs) (Some starts) = Some (jobs.Replicate until seed events runs starts)
 replicate_with until seed events runs starts = None
 
--- the most runs that can be asked for
-abbrev pub most_runs : ℕ
-most_runs = 65536
-
 -- `replicate` needs its stop time, seed, event budget and how many runs there are, and may have starting values
 abbrev pub replicate_of : Values → Option Job
 replicate_of values = replicate_with
     (needed (number_within 0 STOP_MAX) (values (codes "until")))
     (needed (number_within 0 (2 ^ 64 - 1)) (values (codes "seed")))
     (needed (number_within 1 EVENTS_MAX) (values (codes "events")))
-    (needed (number_within 1 most_runs) (values (codes "runs")))
+    (needed (number_within 1 RUNS_MAX) (values (codes "runs")))
     (besides [] starting_values (values (codes "start")))
 
 -- the job of a run that is saved, where each of these is there

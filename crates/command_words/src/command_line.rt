@@ -16,12 +16,11 @@ use crate::argument_values::{number_within, starting_values};
 use crate::clap_matches::{matched, option_names, text_of, with_program};
 use crate::command::Command;
 use crate::job::Job;
-use crate::replicate_options::RUNS_MAX;
 use crate::run_options::{ROOM_MAX, ROOM_USUAL};
 use crate::trial_options::VERTICES_MADE_MAX;
 use crate::words_error::WordsError;
 use clap::ArgMatches;
-use sig_base::{EVENTS_MAX, List, STOP_MAX};
+use sig_base::{EVENTS_MAX, List, RUNS_MAX, STOP_MAX};
 use std::alloc::Global;
 
 /// Whether the word begins with one `-` and no more.

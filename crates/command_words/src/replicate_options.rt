@@ -2,9 +2,6 @@
 
 use sig_base::List;
 
-/// The most runs that can be asked for.
-pub const RUNS_MAX: u64 = 65_536;
-
 /// What replications are asked for.
 #[derive(Drop)]
 pub struct ReplicateOptions {

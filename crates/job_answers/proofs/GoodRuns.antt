@@ -22,10 +22,10 @@ use Rattle.job_answers.specs.SavedReading.{ReadsSaved}
 
 -- ---- parts
 
-abbrev AllGood : List JudgedPart → Type 0
+abbrev pub AllGood : List JudgedPart → Type 0
 AllGood parts = AllByRecursion (λ (p : JudgedPart). p.good ≡ true) parts
 
-none_bad : (parts : List JudgedPart) → first_bad_part parts ≡ None → AllGood parts
+pub none_bad : (parts : List JudgedPart) → first_bad_part parts ≡ None → AllGood parts
 none_bad [] none = tt
 none_bad (p ∷ parts) none = by p.good refl (none_bad parts) none
   where
@@ -33,7 +33,7 @@ none_bad (p ∷ parts) none = by p.good refl (none_bad parts) none
     by true good rest none = (good, rest none)
     by false bad rest none = absurd cc
 
-in_two : (xs ys : List JudgedPart) → AllGood (xs ++ ys) → AllGood xs × AllGood ys
+pub in_two : (xs ys : List JudgedPart) → AllGood (xs ++ ys) → AllGood xs × AllGood ys
 in_two [] ys all = (tt, all)
 in_two (x ∷ xs) ys all = let rest = in_two xs ys all.1 in ((all.0, rest.0), rest.1)
 
@@ -143,14 +143,14 @@ entries_good g clock (w ∷ pending) good = (entry_good g clock w good.0, entrie
 
 -- ---- the snapshot
 
-all_values : (n m : ℕ) → not (nat_lt n m) ≡ true → m ≤ n
+pub all_values : (n m : ℕ) → not (nat_lt n m) ≡ true → m ≤ n
 all_values n m e = by (nat_lt n m) refl e
   where
     by : (b : Bool) → nat_lt n m ≡ b → not b ≡ true → m ≤ n
     by false f e = grind (arith, nat_tests, f)
     by true f e = absurd cc
 
-good_run : (g : EventGraph) (w : WrittenSnapshot) → bad_at g w ≡ None → IsGood g (saved_run g w)
+pub good_run : (g : EventGraph) (w : WrittenSnapshot) → bad_at g w ≡ None → IsGood g (saved_run g w)
 good_run g w none =
     let parts = none_bad (snapshot_parts g w) none in
     let streams = stream_parts 0 w.streams in

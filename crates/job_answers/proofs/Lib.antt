@@ -25,6 +25,9 @@ mod SaveLaws
 mod SavedGoOn
 mod SavedModels
 mod SavedOutcome
+mod Showing
+mod SnapshotKinds
+mod SnapshotShown
 mod ToldErrors
 mod TrialLaws
 mod UsesLaws

@@ -23,6 +23,7 @@ pub mod Answers
 pub mod Statuses
 pub mod AnswerLaws
 pub mod SavedAndResumed
+pub mod PlainKinds
 pub mod FrontWritten
 pub mod Delivery
 pub mod Inner

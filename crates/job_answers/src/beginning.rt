@@ -1,6 +1,6 @@
 //! Beginning a run of a model, or why it can't begin.
 
-ghost use Rattle.std.specs.Prelude.{◌≡◌, ◌++◌, [], length, IfOk, IfErr, OnOk};
+ghost use Rattle.std.specs.Prelude.{◌≡◌, ◌++◌, IfOk, IfErr, OnOk};
 ghost use Rattle.std.specs.Fmt.{signed_decimal};
 ghost use Rattle.model_core.specs.Static.Reading.{IsValid};
 ghost use Rattle.model_core.specs.Code.Views.{graph_of};
@@ -10,11 +10,11 @@ ghost use Rattle.job_answers.specs.Inner.StartSteps.{RefusalLine, RefusesRun};
 
 use crate::delivering::Said;
 use crate::status::{Failure, Refusal};
-use event_list::Pending;
+use event_heap::HeapPending;
 use itoa::Buffer;
 use model_core::Model;
 use round_trip::validity_is_by_parts;
-use run_control::{BeginError, Run, kept_models_can_be_run};
+use run_control::{BeginError, Run, check_starts, kept_models_can_be_run};
 use sig_base::{List, NoMemory, Text, put_bytes, put_number};
 use std::alloc::Global;
 
@@ -63,24 +63,22 @@ fn refusal_line(alloc: Global, error: BeginError) -> Result<Text, NoMemory>
     }
 }
 
-/// The run of a valid model as it begins, over an empty pending list.
-pub fn begin<'m, P: Pending + Drop>(
+/// The run of a valid model as it begins, over heaps, which are made once the starting values are judged.
+pub fn begin<'m>(
     alloc: Global,
     model: &'m Model,
-    pending: P,
     seed: u64,
     starts: &List<i64>,
     room: usize,
-) -> Result<Run<'m, P>, BeginError>
-    requires valid { IsValid (graph_of model.now) }
-    requires empty { P.entries pending ≡ [] }
-    requires fresh { P.numbered pending ≡ 0 }
-    requires made_for { P.vertices pending ≡ length model.now.vertices }
+) -> Result<Run<'m, HeapPending>, BeginError>
+    requires { IsValid (graph_of model.now) }
     ensures ok { IfOk result (BegunRun model.now seed starts.now room) }
     ensures err { IfErr result (RefusesStart (graph_of model.now) starts.now) }
 {
     validity_is_by_parts();
     kept_models_can_be_run();
+    check_starts(model, starts.as_slice())?;
+    let pending = HeapPending::begin(alloc, model.vertices.len())?;
     Run::begin(alloc, model, pending, seed, starts, room)
 }
 

@@ -47,5 +47,5 @@ pub use model_reading::model_of;
 pub use reading_error::ReadingError;
 pub use reduction_law::written_models_mean_the_same;
 pub use rewriting_law::{fused_models_mean_the_same, narrower_models_mean_the_same};
-pub use saved_law::saved_runs_are_resumed;
+pub use saved_law::{good_snapshots_are_printed_again, saved_runs_are_resumed};
 pub use status::{End, Failure, Refusal, Status};

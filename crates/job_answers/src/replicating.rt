@@ -1,6 +1,7 @@
 //! `replicate`: the report of many runs of a model, written run by run, or why they can't begin.
 
 ghost use Rattle.std.specs.Prelude.{◌≡◌, ◌-◌, ◌≤◌, ◌<◌, ◌^◌, All, IfOk, IfErr, IsTrue};
+ghost use Rattle.sig_base.specs.declared.limits.TheConstants.{RUNS_MAX};
 ghost use Rattle.model_core.specs.Static.Reading.{IsValid};
 ghost use Rattle.model_core.specs.Run.History.{allowed};
 ghost use Rattle.model_core.specs.Code.Views.{graph_of};
@@ -81,7 +82,7 @@ fn tell_run<K: Sink>(
     totals: &mut Totals,
     output: &mut K,
 ) -> Result<(), Failure>
-    requires few { totals.old.runs < 65536 }
+    requires few { totals.old.runs < RUNS_MAX }
     requires small { All (IsOfRuns 1) tally.now.items }
     ensures written { InPieces (run_rows (graph_of model.now) number seed tally.now) result (K.seen output.old) (K.seen output.new) }
     ensures added { IfOk result (λ done. totals.new ≡ with_run totals.old tally.now) }
@@ -104,7 +105,7 @@ fn tell_further<K: Sink>(
     requires soon { options.now.until ≤ 2 ^ 48 }
     requires budget { options.now.events ≤ 2 ^ 40 }
     requires some { 0 < options.now.runs }
-    requires few { options.now.runs ≤ 65536 }
+    requires few { options.now.runs ≤ RUNS_MAX }
     requires one { totals.runs ≡ 1 }
     ensures { InPieces (left_from (graph_of model.now) options.now totals 2 (options.now.runs - 1)) result (K.seen output.old) (K.seen output.new) }
 {
@@ -133,7 +134,7 @@ fn tell_report<K: Sink>(
     requires soon { options.now.until ≤ 2 ^ 48 }
     requires budget { options.now.events ≤ 2 ^ 40 }
     requires some { 0 < options.now.runs }
-    requires few { options.now.runs ≤ 65536 }
+    requires few { options.now.runs ≤ RUNS_MAX }
     requires told { first.now ≡ tally_numbered (graph_of model.now) options.now 1 }
     requires small { All (IsOfRuns 1) first.now.items }
     ensures { InPieces (report (graph_of model.now) options.now) result (K.seen output.old) (K.seen output.new) }
@@ -156,7 +157,7 @@ pub fn replicate<K: Sink>(
     requires soon { options.now.until ≤ 2 ^ 48 }
     requires budget { options.now.events ≤ 2 ^ 40 }
     requires some { 0 < options.now.runs }
-    requires few { options.now.runs ≤ 65536 }
+    requires few { options.now.runs ≤ RUNS_MAX }
     ensures { DeliversSome K.seen (λ a. a ≡ replicate_answer (graph_of model.now) options.now) (Unit {0}) result output.old output.new }
 {
     let first = match tally_numbered(alloc, model, options, 1) {

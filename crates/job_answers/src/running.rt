@@ -1,6 +1,6 @@
 //! `run`: the history of a run of a model, written as it happens, or why the run can't begin.
 
-ghost use Rattle.std.specs.Prelude.{◌≡◌, ◌≤◌, ◌<◌, ◌^◌, ℕ, ℤ, List, [], length};
+ghost use Rattle.std.specs.Prelude.{◌≡◌, ◌≤◌, ◌<◌, ◌^◌, ℕ, ℤ, List};
 ghost use Rattle.model_core.specs.Static.Reading.{IsValid};
 ghost use Rattle.model_core.specs.Code.Views.{graph_of};
 ghost use Rattle.run_control.specs.Beginning.{BegunRun};
@@ -53,50 +53,6 @@ fn tell_history<'m, P: Pending + Drop, K: Sink, L: Ledger>(
     tell_from::<P, K, L>(run, tracer, until, events, output, blank)
 }
 
-/// Runs the model over an empty pending list.
-fn run_over<P: Pending + Drop, K: Sink>(
-    alloc: Global,
-    model: &Model,
-    pending: P,
-    options: &RunOptions,
-    output: &mut K,
-) -> Result<Said, Failure>
-    requires valid { IsValid (graph_of model.now) }
-    requires empty { P.entries pending ≡ [] }
-    requires fresh { P.numbered pending ≡ 0 }
-    requires made_for { P.vertices pending ≡ length model.now.vertices }
-    requires soon { options.now.until ≤ 2 ^ 48 }
-    requires budget { options.now.events ≤ 2 ^ 40 }
-    ensures { DeliversSome K.seen (λ a. a ≡ run_answer (graph_of model.now) options.now.until options.now.seed options.now.events options.now.starts)
-        (ExceedsRoom (graph_of model.now) options.now.until options.now.seed options.now.events options.now.starts options.now.room)
-        result output.old output.new }
-{
-    let run = match begin(
-        alloc,
-        model,
-        pending,
-        options.seed,
-        &options.starts,
-        options.room,
-    ) {
-        Ok(run) => run,
-        Err(error) => return refuse_start(alloc, error),
-    };
-    let blank = Blank::new(1);
-    match tell_history::<P, K, Brand>(
-        alloc,
-        run,
-        model,
-        options.until,
-        options.events,
-        output,
-        blank,
-    ) {
-        Ok(end) => close(output, end),
-        Err(failure) => Err(failure),
-    }
-}
-
 /// Runs the model, and writes the history as it happens.
 pub fn run_model<K: Sink>(
     alloc: Global,
@@ -111,8 +67,21 @@ pub fn run_model<K: Sink>(
         (ExceedsRoom (graph_of model.now) options.now.until options.now.seed options.now.events options.now.starts options.now.room)
         result output.old output.new }
 {
-    match HeapPending::begin(alloc, model.vertices.len()) {
-        Ok(pending) => run_over(alloc, model, pending, options, output),
-        Err(_) => Err(Failure::NoMemory),
+    let run = match begin(alloc, model, options.seed, &options.starts, options.room) {
+        Ok(run) => run,
+        Err(error) => return refuse_start(alloc, error),
+    };
+    let blank = Blank::new(1);
+    match tell_history::<HeapPending, K, Brand>(
+        alloc,
+        run,
+        model,
+        options.until,
+        options.events,
+        output,
+        blank,
+    ) {
+        Ok(end) => close(output, end),
+        Err(failure) => Err(failure),
     }
 }

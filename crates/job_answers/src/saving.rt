@@ -19,7 +19,6 @@ use crate::delivering::{Said, deliver};
 use crate::notes_dropped::NotesDropped;
 use crate::status::{End, Failure, Refusal};
 use command_words::SaveOptions;
-use event_heap::HeapPending;
 use event_list::Pending;
 use model_core::Model;
 use model_print::print;
@@ -52,7 +51,6 @@ fn saved_part<'m, P: Pending + Drop, L: Ledger>(
     requires soon { until ≤ 2 ^ 48 }
     requires budget { events ≤ 2 ^ 40 }
     requires fresh { IsFresh model.now run }
-    requires seeded { run.seed ≡ seed }
     ensures { (starts : List ℤ) (room : ℕ) → BegunRun model.now seed starts room run.entry
         → IfOk result (SavedOrFinished (graph_of model.now) until seed events starts) }
 {
@@ -159,11 +157,7 @@ pub fn save_run<K: Sink>(
     requires budget { options.now.events ≤ 2 ^ 40 }
     ensures { DeliversSome K.seen (λ a. a ≡ save_answer (graph_of model.now) options.now) ⊥ result output.old output.new }
 {
-    let pending = match HeapPending::begin(alloc, model.vertices.len()) {
-        Ok(pending) => pending,
-        Err(_) => return Err(Failure::NoMemory),
-    };
-    let run = match begin(alloc, model, pending, options.seed, &options.starts, ROOM) {
+    let run = match begin(alloc, model, options.seed, &options.starts, ROOM) {
         Ok(run) => run,
         Err(error) => return refuse_start(alloc, error),
     };

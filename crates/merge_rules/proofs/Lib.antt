@@ -20,11 +20,13 @@ pub mod PlacedElement
 pub mod ValidMerged
 pub mod VersionMerged
 pub mod MergedLength
+pub mod GrownTexts
 pub mod LimitsTold
 pub mod PairsFound
 pub mod RulesOfMergedEdges
 pub mod OneUrgentLess
 pub mod PairsMoved
+pub mod GrowthMoved
 pub mod LedPlaces
 pub mod PairsAfterMerge
 pub mod OneGone

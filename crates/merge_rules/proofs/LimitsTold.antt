@@ -1,5 +1,5 @@
--- What the first seven conditions of a merge say of the code's two vertices, and how long its result is.
-use Rattle.std.proofs.Common.{◌≡◌, ◌∙◌, ◌==◌, ℕ, zero, suc, ◌+◌, ◌<◌, nat_lt, nat_le, Bool, true, ◌&&◌, not, List, [], ◌∷◌, ◌++◌, map, take, length, min, get_or, slice_get, Some, None, is_some, IsSome, sym, ap, ap₂, arith, length-append}
+-- What the first seven conditions of a merge say of the code's two vertices, and by how much the merge makes the text longer.
+use Rattle.std.proofs.Common.{◌≡◌, ◌∙◌, ◌==◌, ℕ, zero, suc, ◌+◌, ◌<◌, ◌≤◌, nat_lt, nat_le, Bool, true, ◌&&◌, not, List, [], ◌∷◌, map, take, length, min, get_or, slice_get, Some, None, is_some, IsSome, sym, ap, ap₂, arith, length-append}
 use Rattle.std.specs.List.{flat_map, remove}
 use Rattle.std.specs.Option.{option_map_or}
 use Rattle.std.proofs.lemmas.Bool.Decides.{nat_tests}
@@ -15,14 +15,15 @@ use Rattle.model_core.specs.Rules.Conditions.{first_failed}
 use Rattle.model_core.specs.Rules.Prune.{pruned}
 use Rattle.model_core.specs.Rules.UrgentEdges.{plain_urgent}
 use Rattle.model_core.specs.Rules.Merge.{set_parameters, merged_vertex, merged_with, merged, values_at_once, has_few_parts, merge_conditions}
-use Rattle.model_core.specs.Code.Views.{graph_of, vertex_of, edge_of, change_of, expression_of}
+use Rattle.model_core.specs.Code.Views.{graph_of, vertex_of, edge_of, expression_of}
 use Rattle.model_core.proofs.BothTrue.{and_first, and_second}
 use Rattle.merge_rules.proofs.MergedModels.{place-here}
 use Rattle.model_core.proofs.AllHold.{every-holds}
 use Rattle.merge_rules.proofs.MergeHolds.{read_at, is_below}
 use Rattle.merge_rules.proofs.PlainEdges.{PlainEdge, plain_edge_of, plain_within}
 use Rattle.merge_rules.proofs.EdgesAside.{urgent_edge}
-use Rattle.merge_rules.proofs.MergedLength.{rest_length, merged_length, added_together}
+use Rattle.merge_rules.specs.Growth.{body_lines, bytes_added, bytes_gone}
+use Rattle.merge_rules.proofs.GrownTexts.{gone-is, added-is, shorter, grown}
 
 -- ---- the first condition
 
@@ -31,7 +32,7 @@ pub record Leads (g : EventGraph) (first second : ℕ) : Type 0 where
   pub target_exists : nat_lt second (length g.vertices) ≡ true
   pub edge : PlainEdge (vertex_at g first) second
 
-seven_hold : (g : EventGraph) (first second : ℕ) → first_failed (take 7 (merge_conditions g first second)) ≡ None → Leads g first second
+pub seven_hold : (g : EventGraph) (first second : ℕ) → first_failed (take 7 (merge_conditions g first second)) ≡ None → Leads g first second
 seven_hold g first second none =
     let all = every-holds (take 7 (merge_conditions g first second)) none in
     let two = and_first (nat_lt first (length g.vertices) && nat_lt second (length g.vertices) && not (first == second)) _ all.0 in
@@ -55,6 +56,19 @@ seen_at view (y ∷ xs) (suc k) x below is = seen_at view xs k x (omega (arith, 
 -- the element that the code reads at a place that the graph has
 seen_there : {A B : Type 0} (view : A → B) (xs seen : List A) (k : ℕ) (x : A) → nat_lt k (length (map view xs)) ≡ true → x ≡ get_or seen k x → seen ≡ xs → slice_get (map view xs) k ≡ Some (view x)
 seen_there view xs seen k x exists is same = seen_at view xs k x (place_below view xs k exists) (is ∙ ap (λ ys. get_or ys k x) same)
+
+-- ---- by how much a merge makes the text longer
+
+module _ (g : EventGraph) (first second : ℕ) (none : first_failed (take 7 (merge_conditions g first second)) ≡ None) where
+  leads : Leads g first second
+  leads = seven_hold g first second none
+
+  -- it is longer by what is added, and shorter by what goes, which was a part of it
+  pub text_grown : length (canonical (merged g first second)) + bytes_gone g first ≡ length (canonical g) + bytes_added g first
+  text_grown = grown g first second leads.edge (is_below first (length g.vertices) leads.exists)
+
+  pub gone_within : bytes_gone g first ≤ length (canonical g)
+  gone_within = let whole = shorter g first second leads.edge (is_below first (length g.vertices) leads.exists) in omega (arith, whole)
 
 -- ---- how many changes and edges
 
@@ -98,26 +112,20 @@ module _ (g : EventGraph) (first second : ℕ) (h : Leads g first second) where
       let found : Some e ≡ Some (urgent_edge second p.values) = sym is ∙ ap (λ (v : EventVertex). slice_get v.edges place) (sym here) ∙ ap (slice_get (vertex_at g first).edges) one ∙ p.there in
       cc
 
-  -- the text without the edge and the edge's line are the whole text
-  edge_is_part : (a : EventVertex) (place : ℕ) (e : EventEdge) → slice_get g.vertices first ≡ Some a → plain_urgent a ≡ Some place → slice_get a.edges place ≡ Some e → length (canonical (pruned g first place)) + length (edge_line g e) ≡ length (canonical g)
-  edge_is_part a place e there at is =
-      ap (λ n. length (canonical (pruned g first n)) + length (edge_line g e)) (place_found a place there at)
-      ∙ ap (λ e. length (canonical (pruned g first p.place)) + length (edge_line g e)) (edge_found a place e there at is)
-      ∙ rest_length g first second p a there
+  -- the lines that go and that are added, as the code reads them
+  edge_gone : (a : EventVertex) (place : ℕ) (e : EventEdge) → slice_get g.vertices first ≡ Some a → plain_urgent a ≡ Some place → slice_get a.edges place ≡ Some e → bytes_gone g first ≡ length (edge_line g e)
+  edge_gone a place e there at is = gone-is g first second p ∙ ap (λ (e : EventEdge). length (edge_line g e)) (sym (edge_found a place e there at is))
 
-  -- the result has the lines of the second in place of the edge
-  result_is_sum : (a b : EventVertex) (place : ℕ) (e : EventEdge) → slice_get g.vertices first ≡ Some a → slice_get g.vertices second ≡ Some b → plain_urgent a ≡ Some place → slice_get a.edges place ≡ Some e
-      → length (canonical (merged g first second)) ≡ length (canonical (pruned g first place)) + length (flat_map (change_line g) (set_parameters b.parameters e.values) ++ flat_map (change_line g) b.changes ++ flat_map (edge_line g) b.edges)
-  result_is_sum a b place e there target at is =
+  lines_added : (a b : EventVertex) (place : ℕ) (e : EventEdge) → slice_get g.vertices first ≡ Some a → slice_get g.vertices second ≡ Some b → plain_urgent a ≡ Some place → slice_get a.edges place ≡ Some e
+      → bytes_added g first ≡ length (flat_map (change_line g) (set_parameters b.parameters e.values)) + length (body_lines g (vertex_at g second))
+  lines_added a b place e there target at is =
       let values : e.values ≡ p.values = ap (λ (e : EventEdge). e.values) (edge_found a place e there at is) in
       let second_is : vertex_at g second ≡ b = read_at g.vertices second no_vertex b target in
-      let more = ap (λ (v : EventVertex). length (flat_map (change_line g) (set_parameters v.parameters p.values) ++ flat_map (change_line g) v.changes ++ flat_map (edge_line g) v.edges)) second_is in
-      let same = ap (λ values. length (flat_map (change_line g) (set_parameters b.parameters values) ++ flat_map (change_line g) b.changes ++ flat_map (edge_line g) b.edges)) values in
-      let together = added_together g first second p in
-      let whole = merged_length g first second p a there in
-      let part = rest_length g first second p a there in
-      let rest = ap (λ n. length (canonical (pruned g first n))) (place_found a place there at) in
-      omega (arith, more, same, together, whole, part, rest)
+      added-is g first second p ∙ ap₂ (λ (v : EventVertex) values. length (flat_map (change_line g) (set_parameters v.parameters values)) + length (body_lines g (vertex_at g second))) second_is (sym values)
+
+  -- the text without the edge
+  without_edge : (a : EventVertex) (place : ℕ) → slice_get g.vertices first ≡ Some a → plain_urgent a ≡ Some place → length (canonical (pruned g first place)) + bytes_gone g first ≡ length (canonical g)
+  without_edge a place there at = ap (λ n. length (canonical (pruned g first n)) + bytes_gone g first) (place_found a place there at) ∙ shorter g first second p (is_below first (length g.vertices) h.exists)
 
   -- whether the result's vertex has few parts
   few_told : (a b : EventVertex) (r : Bool) → slice_get g.vertices first ≡ Some a → slice_get g.vertices second ≡ Some b → ((place : ℕ) → plain_urgent a ≡ Some place → r ≡ has_few_parts (merged_with b a)) → r ≡ has_few_parts (vertex_at (merged g first second) first)
@@ -161,14 +169,16 @@ module _ (m : Model) (first second : ℕ) (none : first_failed (take 7 (merge_co
   pub few_here : (a b : Vertex) (r : Bool) → a ≡ get_or seen first a → b ≡ get_or seen second b → ((place : ℕ) → plain_urgent (vertex_of a) ≡ Some place → r ≡ has_few_parts (merged_with (vertex_of b) (vertex_of a))) → r ≡ has_few_parts (vertex_at (merged (graph_of m) first second) first)
   few_here a b r is_a is_b told = few_told (graph_of m) first second holds (vertex_of a) (vertex_of b) r (first_there a is_a) (second_there b is_b) told
 
+  pub without_here : (a : Vertex) → a ≡ get_or seen first a → (place : ℕ) → plain_urgent (vertex_of a) ≡ Some place → length (canonical (pruned (graph_of m) first place)) + bytes_gone (graph_of m) first ≡ length (canonical (graph_of m))
+  without_here a is place at = without_edge (graph_of m) first second holds (vertex_of a) place (first_there a is) at
+
   -- the edge that it reads at the place of the plain urgent one
   module _ (a : Vertex) (is_a : a ≡ get_or seen first a) (place : ℕ) (at : plain_urgent (vertex_of a) ≡ Some place) (within : place < length a.edges) (edges : List Edge) (same_edges : edges ≡ a.edges) (e : Edge) (is_e : e ≡ get_or edges place e) where
     edge_there : slice_get (map edge_of a.edges) place ≡ Some (edge_of e)
     edge_there = seen_at edge_of a.edges place e within (is_e ∙ ap (λ es. get_or es place e) same_edges)
 
-    pub part_here : length (canonical (pruned (graph_of m) first place)) + length (edge_line (graph_of m) (edge_of e)) ≡ length (canonical (graph_of m))
-    part_here = edge_is_part (graph_of m) first second holds (vertex_of a) place (edge_of e) (first_there a is_a) at edge_there
+    pub gone_here : bytes_gone (graph_of m) first ≡ length (edge_line (graph_of m) (edge_of e))
+    gone_here = edge_gone (graph_of m) first second holds (vertex_of a) place (edge_of e) (first_there a is_a) at edge_there
 
-    pub sum_here : (b : Vertex) → b ≡ get_or seen second b → length (canonical (merged (graph_of m) first second)) ≡ length (canonical (pruned (graph_of m) first place))
-        + length (flat_map (change_line (graph_of m)) (set_parameters b.params (map expression_of e.values)) ++ flat_map (change_line (graph_of m)) (map change_of b.changes) ++ flat_map (edge_line (graph_of m)) (map edge_of b.edges))
-    sum_here b is_b = result_is_sum (graph_of m) first second holds (vertex_of a) (vertex_of b) place (edge_of e) (first_there a is_a) (second_there b is_b) at edge_there
+    pub added_here : (b : Vertex) → b ≡ get_or seen second b → bytes_added (graph_of m) first ≡ length (flat_map (change_line (graph_of m)) (set_parameters b.params (map expression_of e.values))) + length (body_lines (graph_of m) (vertex_at (graph_of m) second))
+    added_here b is_b = lines_added (graph_of m) first second holds (vertex_of a) (vertex_of b) place (edge_of e) (first_there a is_a) (second_there b is_b) at edge_there

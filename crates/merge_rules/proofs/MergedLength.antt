@@ -132,9 +132,3 @@ module _ (g : EventGraph) (first second : ℕ) (p : PlainEdge (vertex_at g first
       let changed = changed_length g (merged_with b) (name_stays b) first (needed-merged g first second) v there in
       let here = ap (λ v. length (vertex_lines g v)) (joined_is a b second p) in
       omega (arith, changed, here, joined_length)
-
-  -- what is added, in one text
-  pub added_together : length (flat_map (change_line g) (set_parameters b.parameters p.values) ++ flat_map (change_line g) b.changes ++ flat_map (edge_line g) b.edges) ≡ added
-  added_together =
-      length-append (flat_map (change_line g) (set_parameters b.parameters p.values) ++ flat_map (change_line g) b.changes) (flat_map (edge_line g) b.edges)
-      ∙ ap (λ n. n + total (edge_line g) b.edges) (length-append (flat_map (change_line g) (set_parameters b.parameters p.values)) (flat_map (change_line g) b.changes))

@@ -1,7 +1,7 @@
 -- What is kept of the vertices is right after one is dropped to which nothing leads, once it is told.
 use Rattle.std.proofs.Common.{◌≡◌, ℕ, zero, suc, ◌+◌, ◌-◌, ◌<◌, ◌==◌, nat_lt, Bool, true, false, cond, List, [], ◌∷◌, map, length, slice_get, slice_index_or, Option, Some, None, refl, sym, ◌∙◌, ap, ap₂, subst, arith}
 use Rattle.std.specs.List.{AllByRecursion, remove, list_any}
-use Rattle.std.specs.Option.{option_map, option_and_then}
+use Rattle.std.specs.Option.{option_map, option_map_or, option_and_then}
 use Rattle.std.proofs.lemmas.List.{length-map}
 use Rattle.std.proofs.lemmas.Bool.Decides.{nat_tests}
 use Rattle.model_core.specs.EventGraph.{EventGraph, EventVertex, EventEdge, Watched, WatchedVariable, WatchedVertex}
@@ -17,12 +17,16 @@ use Rattle.model_core.proofs.Images.{at-map}
 use Rattle.mark_laws.proofs.Marks.{Marked, rank-apart, marked-placed}
 use Rattle.static_laws.proofs.StaticTwins.DeclaredNames.{every_item}
 use Rattle.run_laws.proofs.MappedVertices.{WatchedTold}
+use Rattle.model_core.specs.Text.Canonical.{vertex_name}
 use Rattle.merge_rules.specs.PairStanding.{target_at_once, pair_fits}
-use Rattle.merge_rules.specs.KeptPairs.{edges_leading, edges_to, has_incoming, TellsFit, IsPair, ArePairs, no_pair}
+use Rattle.merge_rules.specs.Growth.{body_lines, growth, pair_growth}
+use Rattle.merge_rules.specs.declared.growth.Growth.{Growth}
+use Rattle.merge_rules.specs.KeptPairs.{edges_leading, edges_to, has_incoming, TellsFit, TellsLength, IsPair, ArePairs, no_pair}
 use Rattle.merge_rules.specs.Inner.PairMoves.{with_fewer, edges_taken, moved_up}
 use Rattle.merge_rules.specs.declared.kept_pairs.KeptPair.{KeptPair}
 use Rattle.merge_rules.proofs.SingleUrgent.{edges_keep}
 use Rattle.merge_rules.proofs.PairsMoved.{target-alike, fits-moved}
+use Rattle.merge_rules.proofs.GrowthMoved.{body-alike, growth-moved}
 use Rattle.merge_rules.proofs.LedPlaces.{leads_there, mapped-there, taken-long, taken-at, to-without}
 use Rattle.merge_rules.proofs.OneGone.{all_but, staying-but, marked-but, rank-but, old_place, left-but, rank-below, left-long}
 
@@ -42,6 +46,12 @@ at-once P v t all is = by (plain_urgent v) is where
     found : (o : Option EventEdge) → slice_get v.edges k ≡ o → option_map (λ (e : EventEdge). e.target) o ≡ Some t → P t
     found None at e = cc
     found (Some x) at e = subst P (let same : x.target ≡ t = cc in same) (every_item (λ (e : EventEdge). P e.target) v.edges k x all at)
+
+-- the name of the vertex at a place
+name-at : (vs : List EventVertex) (k : ℕ) → option_map_or (λ (v : EventVertex). v.name) (slice_get vs k) [] ≡ (slice_index_or vs k no_vertex).name
+name-at [] k = refl
+name-at (v ∷ vs) zero = refl
+name-at (v ∷ vs) (suc k) = name-at vs k
 
 -- edges of which none leads to a place
 none-lead-at : (vs : List EventVertex) (gone k : ℕ) → leads_there vs gone ≡ false → list_any (leads_to gone) (slice_index_or vs k no_vertex).edges ≡ false
@@ -113,6 +123,22 @@ module _ (g : EventGraph) (keeps : KeepsParts g) (gone : ℕ) (there : gone < le
       let target_there = at-once (λ t. t < n) (vertex_at g k) t (targets-there k) is in
       (target_live, both-below (f t) (length h.vertices) t n (within t target_live target_there) target_there, placed t target_live))
 
+  -- ---- lines
+
+  names-after : (k : ℕ) → Live k → vertex_name h (f k) ≡ vertex_name g k
+  names-after k live = name-at h.vertices (f k) ∙ ap (λ (v : EventVertex). v.name) (placed k live) ∙ sym (name-at g.vertices k)
+
+  body-after : (k : ℕ) → Live k → body_lines h (vertex_at h (f k)) ≡ body_lines g (vertex_at g k)
+  body-after k live = ap (body_lines h) (placed k live) ∙ body-alike g f h.vertices Live names-after (vertex_at g k) (targets-live k)
+
+  growth-after : (k : ℕ) → Live k → growth h (f k) ≡ growth g k
+  growth-after k live =
+      growth-moved g f h.vertices Live names-after k (placed k live)
+      (λ t is. let target_live = at-once Live (vertex_at g k) t (targets-live k) is in (target_live, placed t target_live, targets-live t))
+
+  pair-growth-after : (k : ℕ) → Live k → k < n → pair_growth h (f k) ≡ pair_growth g k
+  pair-growth-after k live below = ap₂ (λ fits (grows : Growth). cond fits (Some grows) None) (fits-after k live below) (growth-after k live)
+
   -- ---- counts
 
   leading-after : (es : List EventEdge) (k : ℕ) → Live k → AllByRecursion (λ (e : EventEdge). Live e.target) es → edges_leading (map (edge_renumbered f) es) (f k) ≡ edges_leading es k
@@ -172,7 +198,8 @@ module _ (g : EventGraph) (keeps : KeepsParts g) (gone : ℕ) (there : gone < le
               ap (option_map (place_without gone)) was.target
               ∙ new_target (target_at_once (vertex_at g k)) (λ t is. at-once (λ t. t < n) (vertex_at g k) t (targets-there k) is)
               ∙ sym (target-alike f (vertex_at g k)) ∙ sym (ap target_at_once (placed k live));
-          standing = subst (TellsFit p.standing) (sym (fits-after k live below)) was.standing;
+          standing = subst (TellsFit p.standing) (sym (pair-growth-after k live below)) was.standing;
+          body = subst (TellsLength p.body) (sym (body-after k live)) was.body;
           incoming = ap (λ m. m - edges_leading (vertex_at g gone).edges k) was.incoming ∙ sym (edges-counted k live);
         })
 

@@ -1,5 +1,5 @@
 -- What is kept of the vertices is right after a merge, once it is told.
-use Rattle.std.proofs.Common.{◌≡◌, ℕ, ◌+◌, ◌-◌, ◌<◌, ◌==◌, nat_lt, Bool, true, false, cond, List, [], ◌∷◌, ◌++◌, map, length, slice_get, slice_index_or, Option, Some, None, is_some, is_none, refl, sym, ◌∙◌, ap, subst, arith}
+use Rattle.std.proofs.Common.{◌≡◌, ℕ, ◌+◌, ◌-◌, ◌<◌, ◌==◌, nat_lt, Bool, true, false, cond, List, [], ◌∷◌, ◌++◌, map, length, slice_get, slice_index_or, Option, Some, None, is_some, is_none, refl, sym, ◌∙◌, ap, ap₂, subst, arith}
 use Rattle.std.specs.List.{AllByRecursion, remove}
 use Rattle.std.specs.Option.{option_map, option_map_or, option_and_then}
 use Rattle.std.proofs.lemmas.List.{length-map}
@@ -11,10 +11,13 @@ use Rattle.model_core.specs.Rules.Drop.{edge_renumbered, vertex_renumbered, watc
 use Rattle.model_core.specs.Rules.PlacedEdges.{with_place}
 use Rattle.model_core.specs.Rules.UrgentEdges.{plain_urgent}
 use Rattle.model_core.specs.Rules.Merge.{merge_conditions, merged_with, merged}
-use Rattle.model_core.proofs.PlacesChanged.{length_placed}
+use Rattle.model_core.proofs.PlacesChanged.{length_placed, shown_placed}
 use Rattle.run_laws.proofs.MappedVertices.{WatchedTold}
+use Rattle.model_core.specs.Text.Canonical.{vertex_name}
 use Rattle.merge_rules.specs.PairStanding.{target_at_once, pair_conditions, pair_fits}
-use Rattle.merge_rules.specs.KeptPairs.{edges_leading, edges_to, TellsFit, IsPair, ArePairs, no_pair}
+use Rattle.merge_rules.specs.Growth.{body_lines, growth, pair_growth}
+use Rattle.merge_rules.specs.declared.growth.Growth.{Growth}
+use Rattle.merge_rules.specs.KeptPairs.{edges_leading, edges_to, TellsFit, TellsLength, IsPair, ArePairs, no_pair}
 use Rattle.merge_rules.specs.Inner.PairMoves.{with_more, with_fewer, edges_added, asked_again, led_nowhere, pairs_merged}
 use Rattle.merge_rules.specs.declared.kept_pairs.KeptPair.{KeptPair}
 use Rattle.merge_rules.specs.declared.kept_pairs.Standing.TheVariants as standings
@@ -24,6 +27,8 @@ use Rattle.merge_rules.proofs.MergeResult.{joined_is}
 use Rattle.merge_rules.proofs.EdgesAside.{urgent_edge}
 use Rattle.merge_rules.proofs.OneUrgentLess.{plain_gone}
 use Rattle.merge_rules.proofs.PairsMoved.{fits-moved}
+use Rattle.merge_rules.proofs.GrowthMoved.{body-alike, growth-moved}
+use Rattle.merge_rules.proofs.ValidMerged.{name_stays}
 use Rattle.merge_rules.proofs.LedPlaces.{placed-elsewhere, placed-there, mapped-there, added-long, added-at, one_fewer-at, leading-joined, leading-without, to-placed}
 
 -- ---- names that stay
@@ -84,12 +89,29 @@ module _ (g : EventGraph) (first second : ℕ) (none : first_failed (merge_condi
   long = length_placed (merged_with b) first g.vertices
 
   -- two that aren't the one that has changed can be merged as before
-  pub fits-elsewhere : (k : ℕ) → (k == first) ≡ false → ((t : ℕ) → target_at_once (vertex_at g k) ≡ Some t → (t == first) ≡ false) → pair_fits h k ≡ pair_fits g k
+  fits-elsewhere : (k : ℕ) → (k == first) ≡ false → ((t : ℕ) → target_at_once (vertex_at g k) ≡ Some t → (t == first) ≡ false) → pair_fits h k ≡ pair_fits g k
   fits-elsewhere k apart target_apart =
       ap (λ (watch : List Watched). pair_fits (let g : EventGraph = record h { watch = watch } in g) k) (sym (watch-same g.watch))
       ∙ fits-moved g (λ k. k) h.vertices (λ k. Unit {0}) (λ x y live too. refl) (all-told g.watch) k tt (all-live (vertex_at g k).edges)
       (ap (nat_lt k) long) (elsewhere k apart ∙ sym (vertex-same (vertex_at g k)))
       (λ t is. (tt, ap (nat_lt t) long, elsewhere t (target_apart t is) ∙ sym (vertex-same (vertex_at g t))))
+
+  -- what they do has the lines that it had, and the text becomes as much longer
+  names-stay : (k : ℕ) → Unit {0} → vertex_name h k ≡ vertex_name g k
+  names-stay k live = sym (shown_placed (λ (v : EventVertex). v.name) (merged_with b) [] (name_stays b) first g.vertices k)
+
+  body-elsewhere : (k : ℕ) → (k == first) ≡ false → body_lines h (vertex_at h k) ≡ body_lines g (vertex_at g k)
+  body-elsewhere k apart =
+      ap (body_lines h) (elsewhere k apart ∙ sym (vertex-same (vertex_at g k)))
+      ∙ body-alike g (λ k. k) h.vertices (λ k. Unit {0}) names-stay (vertex_at g k) (all-live (vertex_at g k).edges)
+
+  growth-elsewhere : (k : ℕ) → (k == first) ≡ false → ((t : ℕ) → target_at_once (vertex_at g k) ≡ Some t → (t == first) ≡ false) → growth h k ≡ growth g k
+  growth-elsewhere k apart target_apart =
+      growth-moved g (λ k. k) h.vertices (λ k. Unit {0}) names-stay k (elsewhere k apart ∙ sym (vertex-same (vertex_at g k)))
+      (λ t is. (tt, elsewhere t (target_apart t is) ∙ sym (vertex-same (vertex_at g t)), all-live (vertex_at g t).edges))
+
+  pair-growth-elsewhere : (k : ℕ) → (k == first) ≡ false → ((t : ℕ) → target_at_once (vertex_at g k) ≡ Some t → (t == first) ≡ false) → pair_growth h k ≡ pair_growth g k
+  pair-growth-elsewhere k apart target_apart = ap₂ (λ fits (grows : Growth). cond fits (Some grows) None) (fits-elsewhere k apart target_apart) (growth-elsewhere k apart target_apart)
 
   -- the edge to the second vertex is gone, and its own are added
   edges-counted : (k : ℕ) → edges_to h.vertices k ≡ edges_to g.vertices k + edges_leading b.edges k - cond (second == k) 1 0
@@ -126,16 +148,16 @@ module _ (g : EventGraph) (first second : ℕ) (none : first_failed (merge_condi
     asked-at k below = mapped-there (asked_again first) counted k no_pair (omega (arith, below, counted-long)) ∙ ap (asked_again first) (counted-at k below)
 
     -- what is known of the other stays known, but where its plain urgent edge leads to the one that has changed
-    still-tells : (k : ℕ) → (k == first) ≡ false → (p : KeptPair) → p.target ≡ target_at_once (vertex_at g k) → TellsFit p.standing (pair_fits g k) → TellsFit (asked_again first p).standing (pair_fits h k)
+    still-tells : (k : ℕ) → (k == first) ≡ false → (p : KeptPair) → p.target ≡ target_at_once (vertex_at g k) → TellsFit p.standing (pair_growth g k) → TellsFit (asked_again first p).standing (pair_growth h k)
     still-tells k apart p target tells = by p.target refl where
-      by : (o : Option ℕ) → p.target ≡ o → TellsFit (cond (option_map_or (λ target. target == first) o false) standings.Unknown p.standing) (pair_fits h k)
-      by None is = subst (TellsFit p.standing) (sym (fits-elsewhere k apart (λ t leads. let no : None ≡ Some t = sym is ∙ target ∙ leads in cc))) tells
+      by : (o : Option ℕ) → p.target ≡ o → TellsFit (cond (option_map_or (λ target. target == first) o false) standings.Unknown p.standing) (pair_growth h k)
+      by None is = subst (TellsFit p.standing) (sym (pair-growth-elsewhere k apart (λ t leads. let no : None ≡ Some t = sym is ∙ target ∙ leads in cc))) tells
       by (Some t) is = chosen (t == first) refl where
-        chosen : (c : Bool) → (t == first) ≡ c → TellsFit (cond c standings.Unknown p.standing) (pair_fits h k)
+        chosen : (c : Bool) → (t == first) ≡ c → TellsFit (cond c standings.Unknown p.standing) (pair_growth h k)
         chosen true same = tt
         chosen false other =
             subst (TellsFit p.standing)
-            (sym (fits-elsewhere k apart (λ u leads. let both : Some t ≡ Some u = sym is ∙ target ∙ leads in let e : t ≡ u = cc in subst (λ v. (v == first) ≡ false) e other))) tells
+            (sym (pair-growth-elsewhere k apart (λ u leads. let both : Some t ≡ Some u = sym is ∙ target ∙ leads in let e : t ≡ u = cc in subst (λ v. (v == first) ≡ false) e other))) tells
 
     pair-elsewhere : (k : ℕ) → k < length g.vertices → (k == first) ≡ false → IsPair h k (slice_index_or after k no_pair)
     pair-elsewhere k below apart =
@@ -145,6 +167,7 @@ module _ (g : EventGraph) (first second : ℕ) (none : first_failed (merge_condi
         subst (IsPair h k) (sym (placed-elsewhere led_nowhere first k (map (asked_again first) counted) no_pair apart ∙ asked-at k within)) (record {
           target = was.target ∙ sym (ap target_at_once (elsewhere k apart));
           standing = still-tells k apart (with_fewer (cond (second == k) 1 0) (with_more (edges_leading b.edges k) p)) was.target was.standing;
+          body = subst (TellsLength p.body) (sym (body-elsewhere k apart)) was.body;
           incoming = ap (λ n. n + edges_leading b.edges k - cond (second == k) 1 0) was.incoming ∙ sym (edges-counted k);
         })
 
@@ -157,7 +180,8 @@ module _ (g : EventGraph) (first second : ℕ) (none : first_failed (merge_condi
         (sym (placed-there led_nowhere first (map (asked_again first) counted) no_pair (omega (arith, within, length-map counted (asked_again first), counted-long)) ∙ ap led_nowhere (asked-at first within)))
         (record {
           target = sym leads;
-          standing = ap (λ (o : Option ℕ). option_map_or (λ second. is_none (first_failed (pair_conditions h first second))) o false) leads;
+          standing = ap (λ (o : Option ℕ). cond (option_map_or (λ second. is_none (first_failed (pair_conditions h first second))) o false) (Some (growth h first)) None) leads;
+          body = tt;
           incoming = ap (λ n. n + edges_leading b.edges first - cond (second == first) 1 0) was.incoming ∙ sym (edges-counted first);
         })
 

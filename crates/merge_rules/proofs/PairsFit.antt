@@ -14,6 +14,8 @@ use Rattle.model_core.specs.Rules.UrgentEdges.{plain_urgent, plain_urgent_edge, 
 use Rattle.model_core.specs.Rules.Merge.{leads_to, cancels, is_watched_vertex, reads_none_of, happens_unseen, values_at_once, other_edges, has_few_parts, merged_with, merged, merge_conditions, merge_at, first_merge}
 use Rattle.model_core.proofs.PlacesChanged.{same_number}
 use Rattle.merge_rules.specs.PairStanding.{target_at_once, pair_conditions, pair_fits}
+use Rattle.merge_rules.specs.Growth.{growth, pair_growth}
+use Rattle.merge_rules.specs.declared.growth.Growth.{Growth}
 use Rattle.merge_rules.proofs.LedPlaces.{placed-there}
 
 -- ---- conditions that all hold
@@ -117,14 +119,30 @@ module _ (g : EventGraph) (first second : ℕ) (single : single_urgent g ≡ tru
         ap (λ t. cond {A = Option (ℕ × ℕ)} (is_none (first_failed (merge_conditions g first t))) (Some (first, t)) None) (let same : e.target ≡ second = cc in same)
         ∙ ap (λ c. cond {A = Option (ℕ × ℕ)} c (Some (first, second)) None) whole
 
-  pub found-short : (fits is_short : Bool) → fits ≡ pair_fits g first → fits ≡ true → is_short ≡ short → is_short ≡ true → Some (first, second) ≡ merge_at g first
-  found-short fits is_short f fit s is_so = sym (merge-is ∙ ap₂ (λ x y. cond {A = Option (ℕ × ℕ)} (x && y) (Some (first, second)) None) (sym f ∙ fit) (sym s ∙ is_so))
+  pub found-short : (is_short : Bool) → pair_fits g first ≡ true → is_short ≡ short → is_short ≡ true → Some (first, second) ≡ merge_at g first
+  found-short is_short fit s is_so = sym (merge-is ∙ ap₂ (λ x y. cond {A = Option (ℕ × ℕ)} (x && y) (Some (first, second)) None) fit (sym s ∙ is_so))
 
-  pub refused-long : (fits is_short : Bool) → fits ≡ pair_fits g first → fits ≡ true → is_short ≡ short → is_short ≡ false → None ≡ merge_at g first
-  refused-long fits is_short f fit s long = sym (merge-is ∙ ap₂ (λ x y. cond {A = Option (ℕ × ℕ)} (x && y) (Some (first, second)) None) (sym f ∙ fit) (sym s ∙ long))
+  pub refused-long : (is_short : Bool) → pair_fits g first ≡ true → is_short ≡ short → is_short ≡ false → None ≡ merge_at g first
+  refused-long is_short fit s long = sym (merge-is ∙ ap₂ (λ x y. cond {A = Option (ℕ × ℕ)} (x && y) (Some (first, second)) None) fit (sym s ∙ long))
 
-  pub refused-unfit : (fits : Bool) → fits ≡ pair_fits g first → fits ≡ false → None ≡ merge_at g first
-  refused-unfit fits f unfit = sym (merge-is ∙ ap (λ x. cond {A = Option (ℕ × ℕ)} (x && short) (Some (first, second)) None) (sym f ∙ unfit))
+  pub refused-unfit : pair_fits g first ≡ false → None ≡ merge_at g first
+  refused-unfit unfit = sym (merge-is ∙ ap (λ x. cond {A = Option (ℕ × ℕ)} (x && short) (Some (first, second)) None) unfit)
+
+-- ---- what is kept of the two, and what it tells
+
+chosen : {X : Type 0} (b : Bool) (x y : X) → Some y ≡ cond b (Some x) None → (b ≡ true) × (y ≡ x)
+chosen true x y e = (refl, let same : y ≡ x = cc in same)
+chosen false x y e = cc
+
+unchosen : {X : Type 0} (b : Bool) (x : X) → None ≡ cond b (Some x) None → b ≡ false
+unchosen true x e = cc
+unchosen false x e = refl
+
+pub fits-told : (g : EventGraph) (first : ℕ) (grows : Growth) → Some grows ≡ pair_growth g first → (pair_fits g first ≡ true) × (grows ≡ growth g first)
+fits-told g first grows is = chosen (pair_fits g first) (growth g first) grows is
+
+pub unfit-told : (g : EventGraph) (first : ℕ) → None ≡ pair_growth g first → pair_fits g first ≡ false
+unfit-told g first is = unchosen (pair_fits g first) (growth g first) is
 
 -- ---- none
 

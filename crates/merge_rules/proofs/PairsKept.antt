@@ -1,5 +1,5 @@
 -- What is kept of the vertices is right when nobody has looked at them, and stays right where one is looked at.
-use Rattle.std.proofs.Common.{◌≡◌, ◌⊎◌, inl, inr, ℕ, zero, suc, ◌<◌, ◌==◌, nat_lt, Bool, true, false, List, [], ◌∷◌, map, length, slice_index_or, slice_set, get_or, refl, sym, ◌∙◌, ap, subst, arith}
+use Rattle.std.proofs.Common.{◌≡◌, ◌⊎◌, inl, inr, ℕ, zero, suc, ◌<◌, ◌==◌, nat_lt, Bool, true, false, List, [], ◌∷◌, map, length, slice_index_or, slice_set, get_or, Some, refl, sym, ◌∙◌, ap, subst, arith}
 use Rattle.std.proofs.lemmas.Bool.Decides.{nat_tests}
 use Rattle.std.proofs.lemmas.List.{length-map}
 use Rattle.model_core.specs.declared.vertex.Vertex.{Vertex}
@@ -9,7 +9,7 @@ use Rattle.model_core.specs.Code.Views.{vertex_of}
 use Rattle.model_core.specs.Rules.PlacedEdges.{with_place}
 use Rattle.model_core.proofs.Images.{at-map}
 use Rattle.model_core.proofs.PlacesChanged.{set-with_place, length_placed}
-use Rattle.merge_rules.specs.PairStanding.{pair_fits}
+use Rattle.merge_rules.specs.Growth.{body_lines, capped, pair_growth}
 use Rattle.merge_rules.specs.KeptPairs.{edges_to, has_incoming, TellsFit, IsPair, ArePairs, no_pair}
 use Rattle.merge_rules.specs.Inner.PairMoves.{unasked, with_more, all_edges_added}
 use Rattle.merge_rules.specs.declared.kept_pairs.KeptPair.{KeptPair}
@@ -24,7 +24,7 @@ are-unasked g = record {
   each = λ k below.
       subst (IsPair g k)
       (sym (all_added-at g.vertices (map unasked g.vertices) k (omega (arith, below, length-map g.vertices unasked)) ∙ ap (with_more (edges_to g.vertices k)) (at-map unasked g.vertices k no_vertex)))
-      (let p : IsPair g k (with_more (edges_to g.vertices k) (unasked (vertex_at g k))) = record { target = refl; standing = tt; incoming = omega arith } in p);
+      (let p : IsPair g k (with_more (edges_to g.vertices k) (unasked (vertex_at g k))) = record { target = refl; standing = tt; body = tt; incoming = omega arith } in p);
 }
 
 -- ---- one of them
@@ -44,14 +44,8 @@ module _ (g : EventGraph) (pairs : List KeptPair) (are : ArePairs g pairs) (k : 
   pub pair-at : IsPair g k x
   pair-at = subst (IsPair g k) (at-is pairs k x no_pair within at) (are.each k below)
 
-  -- its standing is known now
-  module _ (s : Standing) (tells : TellsFit s (pair_fits g k)) where
-    abbrev y : KeptPair
-    y = record x { standing = s }
-
-    here : IsPair g k y
-    here = let was = pair-at in record { target = was.target; standing = tells; incoming = was.incoming }
-
+  -- something else is kept of it that is right
+  module _ (y : KeptPair) (here : IsPair g k y) where
     each : (j : ℕ) → j < length g.vertices → IsPair g j (slice_index_or (with_place (λ p. y) k pairs) j no_pair)
     each j below = by (j == k) refl where
       by : (c : Bool) → (j == k) ≡ c → IsPair g j (slice_index_or (with_place (λ p. y) k pairs) j no_pair)
@@ -60,8 +54,15 @@ module _ (g : EventGraph) (pairs : List KeptPair) (are : ArePairs g pairs) (k : 
           (subst (IsPair g k) (sym (placed-there (λ p. y) k pairs no_pair within)) here)
       by false apart = subst (IsPair g j) (sym (placed-elsewhere (λ p. y) k j pairs no_pair apart)) (are.each j below)
 
-    pub are-asked : ArePairs g (slice_set pairs k y)
-    are-asked = subst (ArePairs g) (sym (set-with_place (λ p. y) pairs k x y within at refl)) (record { long = length_placed (λ p. y) k pairs ∙ are.long; each = each })
+    still-are : ArePairs g (slice_set pairs k y)
+    still-are = subst (ArePairs g) (sym (set-with_place (λ p. y) pairs k x y within at refl)) (record { long = length_placed (λ p. y) k pairs ∙ are.long; each = each })
+
+  -- its standing is known now, or the length of what the vertex does
+  pub are-asked : (s : Standing) → TellsFit s (pair_growth g k) → ArePairs g (slice_set pairs k (let y : KeptPair = record x { standing = s } in y))
+  are-asked s tells = let was = pair-at in still-are (record x { standing = s }) (record { target = was.target; standing = tells; body = was.body; incoming = was.incoming })
+
+  pub are-measured : (bytes : ℕ) → bytes ≡ capped (length (body_lines g (vertex_at g k))) → ArePairs g (slice_set pairs k (let y : KeptPair = record x { body = Some bytes } in y))
+  are-measured bytes is = let was = pair-at in still-are (record x { body = Some bytes }) (record { target = was.target; standing = was.standing; body = is; incoming = was.incoming })
 
   -- whether an edge leads there
   pub led-told : nat_lt 0 x.incoming ≡ has_incoming g k

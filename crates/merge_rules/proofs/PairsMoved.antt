@@ -57,7 +57,7 @@ module _ (f : ℕ → ℕ) where
   plain-alike : (v : EventVertex) → plain_urgent (vertex_renumbered f v) ≡ plain_urgent v
   plain-alike v = ap₂ (λ n o. cond (n == 1) o None) (count-alike v.edges) (found-alike 0 v.edges)
 
-  edge-alike : (v : EventVertex) → plain_urgent_edge (vertex_renumbered f v) ≡ option_map (edge_renumbered f) (plain_urgent_edge v)
+  pub edge-alike : (v : EventVertex) → plain_urgent_edge (vertex_renumbered f v) ≡ option_map (edge_renumbered f) (plain_urgent_edge v)
   edge-alike v = ap (option_and_then (slice_get (map (edge_renumbered f) v.edges))) (plain-alike v) ∙ at (plain_urgent v) where
     at : (o : Option ℕ) → option_and_then (slice_get (map (edge_renumbered f) v.edges)) o ≡ option_map (edge_renumbered f) (option_and_then (slice_get v.edges) o)
     at None = refl

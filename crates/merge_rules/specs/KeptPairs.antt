@@ -1,10 +1,12 @@
 -- What is kept of each vertex, as the first of two that may be merged, and what that has to say of a graph.
-use Rattle.std.specs.Prelude.{◌≡◌, ℕ, ◌+◌, ◌<◌, ◌==◌, Bool, true, false, cond, List, [], ◌∷◌, length, None, slice_index_or}
+use Rattle.std.specs.Prelude.{◌≡◌, ℕ, ◌+◌, ◌<◌, ◌==◌, Bool, cond, List, [], ◌∷◌, length, Option, Some, None, slice_index_or}
 use Rattle.std.specs.List.{list_any}
 use Rattle.model_core.specs.EventGraph.{EventGraph, EventVertex, EventEdge}
 use Rattle.model_core.specs.Run.Step.{vertex_at}
 use Rattle.model_core.specs.Rules.Merge.{leads_to}
-use Rattle.merge_rules.specs.PairStanding.{target_at_once, pair_fits}
+use Rattle.merge_rules.specs.PairStanding.{target_at_once}
+use Rattle.merge_rules.specs.Growth.{body_lines, capped, pair_growth}
+use Rattle.merge_rules.specs.declared.growth.Growth.{Growth}
 use Rattle.merge_rules.specs.declared.kept_pairs.KeptPair.{KeptPair}
 use Rattle.merge_rules.specs.declared.kept_pairs.Standing.{Standing}
 use Rattle.merge_rules.specs.declared.kept_pairs.Standing.TheVariants as standings
@@ -27,21 +29,27 @@ has_incoming g k = list_any (λ (v : EventVertex). list_any (leads_to k) v.edges
 
 -- ---- what is right of a graph
 
--- a standing that is known tells whether the two fit
-abbrev pub TellsFit : Standing → Bool → Type 0
-TellsFit standings.Unknown fits = Unit {0}
-TellsFit standings.Refused fits = fits ≡ false
-TellsFit standings.Fits fits = fits ≡ true
+-- a standing that is known tells whether the two fit, and where they do by how much their merge makes the text longer
+abbrev pub TellsFit : Standing → Option Growth → Type 0
+TellsFit standings.Unknown growth = Unit {0}
+TellsFit standings.Refused growth = growth ≡ None
+TellsFit (standings.Fits kept) growth = growth ≡ Some kept
+
+-- the number of bytes, where there is one, is that of these lines
+abbrev pub TellsLength : Option ℕ → List ℕ → Type 0
+TellsLength (Some bytes) lines = bytes ≡ capped (length lines)
+TellsLength None lines = Unit {0}
 
 -- what is kept of the vertex at this place is right
 pub record IsPair (g : EventGraph) (k : ℕ) (p : KeptPair) : Type 0 where
   pub target : p.target ≡ target_at_once (vertex_at g k)
-  pub standing : TellsFit p.standing (pair_fits g k)
+  pub standing : TellsFit p.standing (pair_growth g k)
+  pub body : TellsLength p.body (body_lines g (vertex_at g k))
   pub incoming : p.incoming ≡ edges_to g.vertices k
 
 -- what a place that isn't there has
 abbrev pub no_pair : KeptPair
-no_pair = record { target = None; standing = standings.Unknown; incoming = 0 }
+no_pair = record { target = None; standing = standings.Unknown; body = None; incoming = 0 }
 
 -- what is kept of each vertex is right
 pub record ArePairs (g : EventGraph) (pairs : List KeptPair) : Type 0 where

@@ -1,6 +1,7 @@
 pub mod KeptPairs
 pub mod Inner
 pub mod PairStanding
+pub mod Growth
 pub mod Known
 pub mod NothingCounted
 pub mod UrgentVertices

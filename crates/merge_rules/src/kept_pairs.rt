@@ -1,5 +1,6 @@
 //! What is known of each vertex, as the first of two that may be merged: where its plain urgent edge leads, whether the two
-//! fit, and how many edges lead to it.
+//! fit and by how much their merge makes the text longer; as the second, how long the lines of what it does are; and how many
+//! edges lead to it.
 
 ghost use Rattle.std.specs.Prelude.{◌≡◌, map, OnOk, IfOk};
 ghost use Rattle.model_core.specs.Rules.PlacedEdges.{with_place};
@@ -7,6 +8,7 @@ ghost use Rattle.model_core.specs.Code.Views.{edge_of, vertex_of};
 ghost use Rattle.merge_rules.specs.Inner.PairMoves.{unasked, with_more, with_fewer, edges_added, all_edges_added, edges_taken, asked_again, led_nowhere, pairs_merged, moved_up};
 
 use crate::first_pair::target_at_once;
+use crate::growth::Growth;
 use model_core::{Edge, Vertex};
 use sig_base::NoMemory;
 use std::alloc::Global;
@@ -18,8 +20,8 @@ pub(crate) enum Standing {
     Unknown,
     /// They can't.
     Refused,
-    /// Only the model as a whole may speak against it.
-    Fits,
+    /// Only the model as a whole may speak against it, whose text becomes so much longer.
+    Fits(Growth),
 }
 
 /// What is known of one vertex.
@@ -28,6 +30,8 @@ pub(crate) struct KeptPair {
     /// Where its plain urgent edge leads, if it has one.
     pub(crate) target: Option<usize>,
     pub(crate) standing: Standing,
+    /// How many bytes the lines of its changes and edges have, if they were counted: 2^64 - 1 where they have more.
+    pub(crate) body: Option<u64>,
     /// How many edges lead to the vertex.
     pub(crate) incoming: u64,
 }
@@ -39,6 +43,7 @@ fn unasked(vertex: &Vertex) -> KeptPair
     KeptPair {
         target: target_at_once(vertex),
         standing: Standing::Unknown,
+        body: None,
         incoming: 0,
     }
 }
@@ -132,7 +137,7 @@ fn ask_again(pairs: &mut Vec<KeptPair>, first: usize)
     }
 }
 
-/// Makes the plain urgent edge of a vertex lead nowhere, since it is gone.
+/// Makes the plain urgent edge of a vertex lead nowhere, since it is gone, and the vertex does something else.
 fn lead_nowhere(pairs: &mut Vec<KeptPair>, first: usize)
     ensures { pairs.new.items ≡ with_place led_nowhere first pairs.old.items }
 {
@@ -140,6 +145,7 @@ fn lead_nowhere(pairs: &mut Vec<KeptPair>, first: usize)
         pairs[first] = KeptPair {
             target: None,
             standing: Standing::Refused,
+            body: None,
             incoming: pairs[first].incoming,
         };
     }

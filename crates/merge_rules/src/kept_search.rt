@@ -1,8 +1,7 @@
 //! The first two vertices that may be merged, found again and again: after a merge, or the drop behind it, only what can have
 //! changed is looked at again.
 
-ghost use Rattle.std.specs.Prelude.{◌≡◌, ◌<◌, [], ◌∷◌, Bool, true, false, None, Some, map, length, slice_index_or, take, IfOk, OnOk};
-ghost use Rattle.std.specs.Option.{option_map_or};
+ghost use Rattle.std.specs.Prelude.{◌≡◌, ◌<◌, [], ◌∷◌, true, false, None, Some, map, length, slice_index_or, IfOk, OnOk};
 ghost use Rattle.model_core.specs.Run.Step.{no_vertex, vertex_at};
 ghost use Rattle.model_core.specs.Static.Reading.{IsValid};
 ghost use Rattle.model_core.specs.Rules.Conditions.{first_failed};
@@ -13,9 +12,11 @@ ghost use Rattle.model_core.specs.Code.Views.{graph_of, edge_of, vertex_of};
 ghost use Rattle.merge_rules.specs.Known.{IsKnown};
 ghost use Rattle.merge_rules.specs.NothingCounted.{NothingCounted};
 ghost use Rattle.merge_rules.specs.PairStanding.{target_at_once, pair_fits};
+ghost use Rattle.merge_rules.specs.Growth.{body_lines, capped, pair_growth};
 ghost use Rattle.merge_rules.specs.KeptPairs.{has_incoming, TellsFit, ArePairs};
 
 use crate::conditions::failed_before_limits;
+use crate::growth::{Growth, body_at, grows_by};
 use crate::kept_pairs::{
     KeptPair, Standing, add_all_edges, all_unasked, move_up, take_edges, take_over_pairs,
 };
@@ -68,61 +69,38 @@ fn pair_fits(model: &Model, counts: &mut UseCounts, first: usize, second: usize)
     }
 }
 
-/// The same, asked only where it isn't known.
-fn known_to_fit(
-    model: &Model,
-    counts: &mut UseCounts,
-    standing: Standing,
-    first: usize,
-    second: usize,
-) -> bool
-    requires counts { NothingCounted (length model.now.vars) counts.old }
-    requires single { single_urgent (graph_of model.now) ≡ true }
-    requires target { target_at_once (vertex_at (graph_of model.now) first) ≡ Some second }
-    requires there { first < length model.now.vertices }
-    requires standing { TellsFit standing (pair_fits (graph_of model.now) first) }
-    ensures fits { result ≡ pair_fits (graph_of model.now) first }
-    ensures counts { counts.new ≡ counts.old }
+/// What is known of two once it was asked whether they fit, and by how much their merge makes the text longer.
+fn standing(growth: Option<Growth>) -> Standing
+    ensures { TellsFit result growth }
 {
-    match standing {
-        Standing::Unknown => pair_fits(model, counts, first, second),
-        Standing::Refused => false,
-        Standing::Fits => true,
+    match growth {
+        Some(growth) => Standing::Fits(growth),
+        None => Standing::Refused,
     }
 }
 
-/// What is known of two once it was asked whether they fit.
-fn standing(fits: bool) -> Standing
-    ensures { TellsFit result fits }
-{
-    if fits {
-        Standing::Fits
-    } else {
-        Standing::Refused
-    }
-}
-
-/// The two, where they fit and the text of the result isn't too long. How long the text of the model is, is then known.
+/// The two, where they fit, and the text of the result, which is so much longer, isn't too long. How long the text of the
+/// model is, is then known.
 fn short_merge(
     model: &Model,
     known: &mut Known,
-    fits: bool,
+    growth: Option<Growth>,
     first: usize,
     second: usize,
 ) -> Option<(usize, usize)>
     requires single { single_urgent (graph_of model.now) ≡ true }
     requires target { target_at_once (vertex_at (graph_of model.now) first) ≡ Some second }
     requires there { first < length model.now.vertices }
-    requires fits { fits ≡ pair_fits (graph_of model.now) first }
+    requires growth { growth ≡ pair_growth (graph_of model.now) first }
     requires known { IsKnown (graph_of model.now) known.old }
     ensures found { result ≡ merge_at (graph_of model.now) first }
     ensures known { IsKnown (graph_of model.now) known.new }
 {
-    if !fits {
+    let Some(grows) = growth else {
         return None;
-    }
+    };
     let bytes = known.find_bytes(model);
-    if has_short_text(model, bytes, first, second) {
+    if has_short_text(model, bytes, first, second, grows) {
         Some((first, second))
     } else {
         None
@@ -149,6 +127,91 @@ impl KeptPairs {
         self.pairs[vertex].incoming > 0
     }
 
+    /// How many bytes the lines of the changes and edges of the vertex at this place have, which is then known, or 2^64 - 1
+    /// where they have more.
+    fn find_body(&mut self, model: &Model, vertex: usize) -> u64
+        requires kept { ArePairs (graph_of model.now) self.old }
+        requires there { vertex < length model.now.vertices }
+        ensures is { result ≡ capped (length (body_lines (graph_of model.now) (vertex_at (graph_of model.now) vertex))) }
+        ensures kept { ArePairs (graph_of model.now) self.new }
+    {
+        let pair = self.pairs[vertex];
+        if let Some(bytes) = pair.body {
+            return bytes;
+        }
+        let bytes = body_at(model, vertex);
+        self.pairs[vertex] = KeptPair {
+            body: Some(bytes),
+            ..pair
+        };
+        bytes
+    }
+
+    /// By how much a merge of the two makes the text longer, where they fit.
+    fn ask(
+        &mut self,
+        model: &Model,
+        counts: &mut UseCounts,
+        first: usize,
+        second: usize,
+    ) -> Option<Growth>
+        requires kept { ArePairs (graph_of model.now) self.old }
+        requires counts { NothingCounted (length model.now.vars) counts.old }
+        requires single { single_urgent (graph_of model.now) ≡ true }
+        requires target { target_at_once (vertex_at (graph_of model.now) first) ≡ Some second }
+        requires there { first < length model.now.vertices }
+        ensures growth { result ≡ pair_growth (graph_of model.now) first }
+        ensures kept { ArePairs (graph_of model.now) self.new }
+        ensures counts { counts.new ≡ counts.old }
+    {
+        if !pair_fits(model, counts, first, second) {
+            return None;
+        }
+        let body = self.find_body(model, second);
+        Some(grows_by(model, first, second, body))
+    }
+
+    /// The same, asked only where it isn't known.
+    fn pair_growth(
+        &mut self,
+        model: &Model,
+        counts: &mut UseCounts,
+        standing: Standing,
+        first: usize,
+        second: usize,
+    ) -> Option<Growth>
+        requires kept { ArePairs (graph_of model.now) self.old }
+        requires counts { NothingCounted (length model.now.vars) counts.old }
+        requires single { single_urgent (graph_of model.now) ≡ true }
+        requires target { target_at_once (vertex_at (graph_of model.now) first) ≡ Some second }
+        requires there { first < length model.now.vertices }
+        requires standing { TellsFit standing (pair_growth (graph_of model.now) first) }
+        ensures growth { result ≡ pair_growth (graph_of model.now) first }
+        ensures kept { ArePairs (graph_of model.now) self.new }
+        ensures counts { counts.new ≡ counts.old }
+    {
+        match standing {
+            Standing::Unknown => self.ask(model, counts, first, second),
+            Standing::Refused => None,
+            Standing::Fits(growth) => Some(growth),
+        }
+    }
+
+    /// Keeps whether the vertex at this place and the target of its plain urgent edge fit, and by how much their merge makes
+    /// the text longer.
+    fn tell_standing(&mut self, model: &Model, first: usize, growth: Option<Growth>)
+        requires kept { ArePairs (graph_of model.now) self.old }
+        requires there { first < length model.now.vertices }
+        requires growth { growth ≡ pair_growth (graph_of model.now) first }
+        ensures { ArePairs (graph_of model.now) self.new }
+    {
+        let pair = self.pairs[first];
+        self.pairs[first] = KeptPair {
+            standing: standing(growth),
+            ..pair
+        };
+    }
+
     /// The vertex at this place with the one to which its plain urgent edge leads, where they may be merged.
     fn merge_at(
         &mut self,
@@ -171,12 +234,9 @@ impl KeptPairs {
         match pair.target {
             None => None,
             Some(second) => {
-                let fits = known_to_fit(model, counts, pair.standing, first, second);
-                self.pairs[first] = KeptPair {
-                    standing: standing(fits),
-                    ..pair
-                };
-                short_merge(model, known, fits, first, second)
+                let growth = self.pair_growth(model, counts, pair.standing, first, second);
+                self.tell_standing(model, first, growth);
+                short_merge(model, known, growth, first, second)
             }
         }
     }

@@ -1,18 +1,20 @@
 //! The laws of merge. The functions do nothing: what they ensure holds of all models.
 
-ghost use Rattle.std.specs.Prelude.{◌≡◌, ℕ, suc, ◌≤◌, ◌^◌, ℤ, true, List, length, Some, None, Ok};
+ghost use Rattle.std.specs.Prelude.{◌≡◌, ℕ, suc, ◌+◌, ◌≤◌, ◌^◌, ℤ, true, List, length, take, Some, None, Ok};
 ghost use Rattle.model_core.specs.EventGraph.{EventGraph};
 ghost use Rattle.model_core.specs.Run.Pending.{TakenOff, next_entry};
 ghost use Rattle.model_core.specs.Run.Step.{Configuration, step};
 ghost use Rattle.model_core.specs.Run.History.{start};
 ghost use Rattle.model_core.specs.Run.Same.{Same};
 ghost use Rattle.model_core.specs.Static.Reading.{IsValid};
+ghost use Rattle.model_core.specs.Text.Canonical.{canonical};
 ghost use Rattle.model_core.specs.Rules.Conditions.{first_failed};
 ghost use Rattle.model_core.specs.Rules.Prune.{first_prune};
 ghost use Rattle.model_core.specs.Rules.Settle.{first_settle};
 ghost use Rattle.model_core.specs.Rules.UrgentEdges.{single_urgent};
 ghost use Rattle.model_core.specs.Rules.Merge.{merge_conditions, merged};
 ghost use Rattle.model_core.specs.Rules.BetweenSteps.{IsSettled};
+ghost use Rattle.merge_rules.specs.Growth.{bytes_added, bytes_gone};
 ghost use Rattle.merge_rules.specs.UrgentVertices.{plain_count};
 
 use range_bounds::{exclusive_conditions_are_never_both_true, quiet_parts_have_no_fault};
@@ -57,4 +59,11 @@ pub fn merging_takes_an_urgent_edge()
     ensures { (g : EventGraph) (first second : ℕ) → first_failed (merge_conditions g first second) ≡ None
         → (length (merged g first second).vertices ≡ length g.vertices)
         × (suc (plain_count (merged g first second).vertices) ≡ plain_count g.vertices) }
+{}
+
+/// A merge makes the canonical text longer by the lines that the first vertex gets, and shorter by the line of its plain urgent
+/// edge, which goes: so the length is what it was and the pair's growth.
+pub fn merging_adds_the_growth()
+    ensures { (g : EventGraph) (first second : ℕ) → first_failed (take 7 (merge_conditions g first second)) ≡ None
+        → length (canonical (merged g first second)) + bytes_gone g first ≡ length (canonical g) + bytes_added g first }
 {}

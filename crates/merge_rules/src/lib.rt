@@ -4,6 +4,7 @@
 mod at_once;
 mod conditions;
 mod first_pair;
+mod growth;
 mod kept_pairs;
 mod kept_search;
 mod known;
@@ -19,7 +20,7 @@ pub use first_pair::first_merge;
 pub use kept_search::KeptPairs;
 pub use known::Known;
 pub use law::{
-    at_most_one_event_is_urgent, merging_brings_no_rule_of_edges, merging_keeps_the_meaning,
-    merging_takes_an_urgent_edge,
+    at_most_one_event_is_urgent, merging_adds_the_growth, merging_brings_no_rule_of_edges,
+    merging_keeps_the_meaning, merging_takes_an_urgent_edge,
 };
 pub use merging::{merge, merge_measured};

@@ -9,6 +9,7 @@ ghost use Rattle.merge_rules.specs.Known.{IsKnown};
 ghost use Rattle.merge_rules.specs.NothingCounted.{NothingCounted};
 
 use crate::conditions::failed_before_limits;
+use crate::growth::growth_of;
 use crate::known::Known;
 use crate::reads_written::ReadsWritten;
 use crate::taking_over::put_together;
@@ -66,7 +67,8 @@ pub fn merge_measured(
     if let Some(condition) = failed_merge(model, known, counts, vertex, target) {
         return Err(RuleError::Refused { condition });
     }
-    let bytes = merged_length(model, known.bytes, vertex, target);
+    let growth = growth_of(model, vertex, target);
+    let bytes = merged_length(model, known.bytes, vertex, target, growth);
     let place = urgent_place(&model.vertices.as_slice()[vertex]);
     put_together(alloc, model, vertex, place, target)?;
     *known = Known {

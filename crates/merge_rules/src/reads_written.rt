@@ -61,6 +61,9 @@ impl ReadsWritten for UseCounts {
         behind: &[Edge],
         vertex: &Vertex,
     ) -> bool {
+        if before.is_empty() && behind.is_empty() {
+            return false;
+        }
         if before.len() > EDGES_MAX || behind.len() > EDGES_MAX {
             return walked(before, behind, vertex);
         }

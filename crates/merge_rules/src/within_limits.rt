@@ -1,20 +1,21 @@
 //! The last condition of merge: the result is within the limits on changes, on edges and on the canonical text. All is
 //! measured before anything is changed, and without memory.
 
-ghost use Rattle.std.specs.Prelude.{◌≡◌, ℕ, ◌+◌, ◌-◌, ◌^◌, ◌<◌, Some, None, IsSome, take, length, min, nat_le, List};
+ghost use Rattle.std.specs.Prelude.{◌≡◌, ℕ, ◌-◌, ◌^◌, ◌<◌, Some, None, IsSome, take, length, min, nat_le, List};
 ghost use Rattle.sig_base.specs.declared.limits.TheConstants.{TEXT_MAX};
 ghost use Rattle.model_core.specs.EventGraph.{Expression};
 ghost use Rattle.model_core.specs.Run.Step.{vertex_at};
-ghost use Rattle.model_core.specs.Text.Canonical.{canonical, edge_line};
+ghost use Rattle.model_core.specs.Text.Canonical.{canonical};
 ghost use Rattle.model_core.specs.Rules.Conditions.{first_failed};
-ghost use Rattle.model_core.specs.Rules.Prune.{pruned};
 ghost use Rattle.model_core.specs.Rules.UrgentEdges.{plain_urgent};
 ghost use Rattle.model_core.specs.Rules.Merge.{set_parameters, merged_with, merged, has_few_parts, is_within_limits, merge_conditions};
-ghost use Rattle.model_core.specs.Code.Views.{graph_of, edge_of, vertex_of};
+ghost use Rattle.model_core.specs.Code.Views.{graph_of, vertex_of};
 ghost use Rattle.merge_rules.specs.Known.{IsMeasured};
+ghost use Rattle.merge_rules.specs.Growth.{bytes_gone, capped, growth};
 
-use model_core::{Edge, Model, Vertex};
-use model_print::{edge_length, length_without_edge, taken_over_length};
+use crate::growth::{Growth, growth_of};
+use model_core::{Model, Vertex};
+use model_print::length_without_edge;
 use range_bounds::plain_urgent;
 use sig_base::{CHANGES_MAX, EDGES_MAX, TEXT_MAX};
 
@@ -65,34 +66,38 @@ pub(crate) fn urgent_place(first: &Vertex) -> usize
     plain_urgent(first).unwrap()
 }
 
-/// How many bytes the canonical text has without this edge, which stands at this place of the first vertex, or 2^64 - 1
-/// where it has more.
-fn length_without(model: &Model, bytes: Option<u64>, first: usize, place: usize, edge: &Edge) -> u64
+/// How many bytes the canonical text has without the plain urgent edge of the first vertex, whose line has so many, or
+/// 2^64 - 1 where it has more.
+fn length_without(model: &Model, bytes: Option<u64>, first: usize, second: usize, gone: u64) -> u64
     requires measured { IsMeasured (graph_of model.now) bytes }
-    requires part { length (canonical (pruned (graph_of model.now) first place)) + length (edge_line (graph_of model.now) (edge_of edge.now)) ≡ length (canonical (graph_of model.now)) }
-    ensures { result ≡ min (length (canonical (pruned (graph_of model.now) first place))) (2 ^ 64 - 1) }
+    requires holds { first_failed (take 7 (merge_conditions (graph_of model.now) first second)) ≡ None }
+    requires gone { gone ≡ capped (bytes_gone (graph_of model.now) first) }
+    ensures { result ≡ capped (length (canonical (graph_of model.now)) - bytes_gone (graph_of model.now) first) }
 {
     match bytes {
-        Some(bytes) => bytes - edge_length(edge, model),
-        None => length_without_edge(model, first, place),
+        Some(bytes) => bytes - gone,
+        None => length_without_edge(
+            model,
+            first,
+            urgent_place(&model.vertices.as_slice()[first]),
+        ),
     }
 }
 
-/// How many bytes the canonical text of the result has, or 2^64 - 1 where it has more.
-pub(crate) fn merged_length(model: &Model, bytes: Option<u64>, first: usize, second: usize) -> u64
+/// How many bytes the canonical text of the result has, or 2^64 - 1 where it has more, where the merge makes it so much longer.
+pub(crate) fn merged_length(
+    model: &Model,
+    bytes: Option<u64>,
+    first: usize,
+    second: usize,
+    grows: Growth,
+) -> u64
     requires measured { IsMeasured (graph_of model.now) bytes }
     requires holds { first_failed (take 7 (merge_conditions (graph_of model.now) first second)) ≡ None }
-    ensures { result ≡ min (length (canonical (merged (graph_of model.now) first second))) (2 ^ 64 - 1) }
+    requires grows { grows ≡ growth (graph_of model.now) first }
+    ensures { result ≡ capped (length (canonical (merged (graph_of model.now) first second))) }
 {
-    let vertices = model.vertices.as_slice();
-    let a = &vertices[first];
-    let place = urgent_place(a);
-    let edge = &a.edges.as_slice()[place];
-    length_without(model, bytes, first, place, edge).saturating_add(taken_over_length(
-        &vertices[second],
-        edge.values.as_slice(),
-        model,
-    ))
+    length_without(model, bytes, first, second, grows.gone).saturating_add(grows.added)
 }
 
 /// Whether the result's vertex keeps the limits on changes and edges.
@@ -104,13 +109,20 @@ pub(crate) fn keeps_few_parts(model: &Model, first: usize, second: usize) -> boo
     has_few_parts(&vertices[first], &vertices[second])
 }
 
-/// Whether the result's canonical text keeps its limit.
-pub(crate) fn has_short_text(model: &Model, bytes: Option<u64>, first: usize, second: usize) -> bool
+/// Whether the result's canonical text keeps its limit, where the merge makes it so much longer.
+pub(crate) fn has_short_text(
+    model: &Model,
+    bytes: Option<u64>,
+    first: usize,
+    second: usize,
+    grows: Growth,
+) -> bool
     requires measured { IsMeasured (graph_of model.now) bytes }
     requires holds { first_failed (take 7 (merge_conditions (graph_of model.now) first second)) ≡ None }
+    requires grows { grows ≡ growth (graph_of model.now) first }
     ensures { result ≡ nat_le (length (canonical (merged (graph_of model.now) first second))) TEXT_MAX }
 {
-    merged_length(model, bytes, first, second) <= TEXT_MAX as u64
+    merged_length(model, bytes, first, second, grows) <= TEXT_MAX as u64
 }
 
 /// Whether the result is within the limits.
@@ -124,5 +136,6 @@ pub(crate) fn is_within_limits(
     requires holds { first_failed (take 7 (merge_conditions (graph_of model.now) first second)) ≡ None }
     ensures { result ≡ is_within_limits (merged (graph_of model.now) first second) first }
 {
-    keeps_few_parts(model, first, second) && has_short_text(model, bytes, first, second)
+    keeps_few_parts(model, first, second)
+        && has_short_text(model, bytes, first, second, growth_of(model, first, second))
 }

@@ -12,7 +12,7 @@ use crate::expressions::put_expression;
 use crate::fused::put_model_fused;
 use crate::model::put_model;
 use crate::pen::Count;
-use crate::vertices::{put_change, put_edge, put_taken_over, put_vertex};
+use crate::vertices::{put_body, put_change, put_edge, put_set, put_vertex};
 use crate::without_edge::put_model_without;
 use model_core::{Change, Edge, Expr, Model, Vertex};
 
@@ -71,13 +71,22 @@ pub fn length_without_edge(model: &Model, vertex: usize, edge: usize) -> u64
     count.total()
 }
 
-/// How many bytes the lines take by which another vertex does what an event of this one does that carries these values: a
-/// `set` of its parameters to them, its changes and its edges. 2^64 - 1 where they take more.
-pub fn taken_over_length(vertex: &Vertex, values: &[Expr], model: &Model) -> u64
-    ensures { result ≡ min (length (flat_map (change_line (graph_of model.now)) (set_parameters vertex.now.params (map expression_of values.now)) ++ flat_map (change_line (graph_of model.now)) (map change_of vertex.now.changes) ++ flat_map (edge_line (graph_of model.now)) (map edge_of vertex.now.edges))) (2 ^ 64 - 1) }
+/// How many bytes the line has by which parameters of the model take these values, with its blanks and its line end: none
+/// where there are no parameters. 2^64 - 1 where it has more.
+pub fn set_length(params: &[usize], values: &[Expr], model: &Model) -> u64
+    ensures { result ≡ min (length (flat_map (change_line (graph_of model.now)) (set_parameters params.now (map expression_of values.now)))) (2 ^ 64 - 1) }
 {
     let mut count = Count { bytes: 0 };
-    put_taken_over(&mut count, model, vertex, values);
+    put_set(&mut count, model, params, values);
+    count.total()
+}
+
+/// How many bytes the lines of the changes and edges of a vertex of the model have, or 2^64 - 1 where they have more.
+pub fn body_length(vertex: &Vertex, model: &Model) -> u64
+    ensures { result ≡ min (length (flat_map (change_line (graph_of model.now)) (map change_of vertex.now.changes) ++ flat_map (edge_line (graph_of model.now)) (map edge_of vertex.now.edges))) (2 ^ 64 - 1) }
+{
+    let mut count = Count { bytes: 0 };
+    put_body(&mut count, model, vertex);
     count.total()
 }
 

@@ -16,7 +16,7 @@ mod without_edge;
 
 pub use fused::standing_for;
 pub use lengths::{
-    change_length, edge_length, expr_length, fused_length, length_without_edge, printed_length,
-    taken_over_length, vertex_length,
+    body_length, change_length, edge_length, expr_length, fused_length, length_without_edge,
+    printed_length, set_length, vertex_length,
 };
 pub use printed::{print, print_expr, put_expr};

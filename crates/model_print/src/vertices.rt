@@ -230,7 +230,7 @@ fn put_edges<P: Pen>(out: &mut P, model: &Model, edges: &[Edge])
 }
 
 /// Puts the line by which variables take values, or nothing where there are no variables.
-fn put_set<P: Pen>(out: &mut P, model: &Model, vars: &[usize], values: &[Expr])
+pub(crate) fn put_set<P: Pen>(out: &mut P, model: &Model, vars: &[usize], values: &[Expr])
     ensures { P.adds out.old out.new (flat_map (change_line (graph_of model.now)) (set_parameters vars.now (map expression_of values.now))) }
 {
     if vars.is_empty() {
@@ -243,11 +243,10 @@ fn put_set<P: Pen>(out: &mut P, model: &Model, vars: &[usize], values: &[Expr])
     out.put_bytes(b";\n");
 }
 
-/// Puts the lines by which another vertex does what an event of this one does that carries these values.
-pub(crate) fn put_taken_over<P: Pen>(out: &mut P, model: &Model, vertex: &Vertex, values: &[Expr])
-    ensures { P.adds out.old out.new (flat_map (change_line (graph_of model.now)) (set_parameters vertex.now.params (map expression_of values.now)) ++ flat_map (change_line (graph_of model.now)) (map change_of vertex.now.changes) ++ flat_map (edge_line (graph_of model.now)) (map edge_of vertex.now.edges)) }
+/// Puts the lines of a vertex's changes and edges.
+pub(crate) fn put_body<P: Pen>(out: &mut P, model: &Model, vertex: &Vertex)
+    ensures { P.adds out.old out.new (flat_map (change_line (graph_of model.now)) (map change_of vertex.now.changes) ++ flat_map (edge_line (graph_of model.now)) (map edge_of vertex.now.edges)) }
 {
-    put_set(out, model, vertex.params.as_slice(), values);
     put_changes(out, model, vertex.changes.as_slice());
     put_edges(out, model, vertex.edges.as_slice());
 }

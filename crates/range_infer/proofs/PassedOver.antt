@@ -1,27 +1,32 @@
 -- Where ranges hold what was taken, parts that give the same again may be passed over.
-use Rattle.std.proofs.Common.{◌≡◌, ℕ, ◌<◌, ◌==◌, ℤ, nat_le, Bool, true, false, cond, ◌≤ℤ◌, List, [], ◌∷◌, ◌++◌, length, Option, Some, None, refl, sym, ◌∙◌, ap, ap₂, subst, arith}
+use Rattle.std.proofs.Common.{◌≡◌, ℕ, ◌<◌, ◌==◌, ℤ, nat_le, Bool, true, false, ◌&&◌, cond, ◌≤ℤ◌, List, [], ◌∷◌, ◌++◌, map, length, Option, Some, None, refl, sym, ◌∙◌, ap, ap₂, subst, arith}
 use Rattle.std.specs.Prelude.{IfSome}
 use Rattle.std.specs.List.{AllByRecursion, fold, flat_map, list_any}
 use Rattle.std.proofs.lemmas.Int.{ints, clamps}
 use Rattle.std.proofs.lemmas.Bool.Decides.{nat_tests}
 use Rattle.std.proofs.lemmas.List.{ext_get_or}
 use Rattle.std.proofs.lemmas.List.Sums.{fold-append}
-use Rattle.model_core.specs.EventGraph.{EventGraph, EventVertex, EventEdge, StateChange, Variable}
+use Rattle.model_core.specs.EventGraph.{EventGraph, EventVertex, EventEdge, StateChange, Set, Draw, Variable, Expression, Location}
+use Rattle.model_core.specs.Run.Step.{vertex_at}
+use Rattle.model_core.specs.Rules.Uses.{variables_in}
+use Rattle.model_core.specs.Rules.BoundsOf.{bounds_under}
+use Rattle.model_core.specs.declared.bounds.Bounds.{Bounds}
+use Rattle.model_core.specs.Ranges.Refined.{refined}
 use Rattle.model_core.specs.Run.State.{variable_at}
 use Rattle.model_core.specs.declared.incoming.Incoming.{Incoming}
 use Rattle.model_core.specs.declared.var_range.VarRange.{VarRange}
 use Rattle.model_core.specs.Ranges.OtherRanges.{declared_range, with_range, with_ranges, no_range, range_at}
-use Rattle.model_core.specs.Ranges.Incoming.{kept_range, into_change, into_edge, into_vertex, incoming}
+use Rattle.model_core.specs.Ranges.Incoming.{kept_range, assigned, can_schedule, into_change, into_edge, into_vertex, incoming}
 use Rattle.model_core.specs.Ranges.Inductive.{is_fixed, Encloses}
 use Rattle.model_core.specs.Ranges.Inference.{hull, grown_range, ends_moved, each_variable, next_range, round}
-use Rattle.model_core.proofs.EachOne.{every-front, every-behind, every-flat_map, every-map, every-fails}
+use Rattle.model_core.proofs.EachOne.{either_false, every-front, every-behind, every-flat_map, every-map, every-fails}
 use Rattle.range_infer.specs.Inner.Moved.{is_moved, MarksMoved}
-use Rattle.range_infer.specs.Inner.PartReads.{set_reads, carried_reads}
-use Rattle.range_infer.specs.Inner.IncomingAgain.{change_again, edge_again, vertex_again, incoming_again, TakesAgain}
+use Rattle.range_infer.specs.Inner.PartReads.{each_reads}
+use Rattle.range_infer.specs.Inner.IncomingAgain.{assigned_again, change_again, values_again, edge_again, vertex_again, incoming_again, TakesAgain}
 use Rattle.range_infer.proofs.ModelWithRanges.{range_given, as_many_variables}
 use Rattle.range_infer.proofs.OneRound.{holds-itself, holds-trans, wider, Growing, all-holds, all-inside, all-taken, ends_moved-takes, ordered, round-growing, variable_given, variables_given}
 use Rattle.range_infer.proofs.NarrowModels.{fits_everywhere}
-use Rattle.range_infer.proofs.UnmovedParts.{StayElsewhere, change_stays, edge_stays}
+use Rattle.range_infer.proofs.UnmovedParts.{StayElsewhere, Unmoved, known, bounds_stay}
 
 hull-stays : (r : VarRange) (o : Option VarRange) → IfSome o (Encloses r) → hull r o ≡ r
 hull-stays r None h = refl
@@ -64,23 +69,78 @@ module _ (g : EventGraph) (v : ℕ) (in_order : (variable_at g v).lo ≤ℤ (var
   each_alike some all [] alike = λ x wide. refl
   each_alike some all (x ∷ xs) alike = joined_alike (some x) (all x) (flat_map some xs) (flat_map all xs) alike.0 (each_alike some all xs alike.1)
 
+  -- ---- the values beside variables
+
+  module _ (moved : List Bool) where
+    assigned_alike : (old new : List Variable) → StayElsewhere moved old new → (vs : List ℕ) (es : List Expression) → AllByRecursion IsHeld (assigned old vs es) → GrowAlike (assigned_again moved new vs es) (assigned new vs es)
+    assigned_alike old new stay [] es held = λ x wide. refl
+    assigned_alike old new stay (v ∷ vs) [] held = λ x wide. refl
+    assigned_alike old new stay (v ∷ vs) (e ∷ es) held =
+        let one : List Variable → List Incoming = λ ranges. record { variable = v; bounds = bounds_under refined ranges e } ∷ [] in
+        joined_alike (cond (list_any (is_moved moved) (variables_in e)) (one new) []) (one new) (assigned_again moved new vs es) (assigned new vs es)
+        (part_alike (list_any (is_moved moved) (variables_in e)) (one old) (one new) (held.0, tt)
+        (λ none. ap (λ (b : Bounds). record { variable = v; bounds = b } ∷ []) (bounds_stay moved e old new stay (every-fails (is_moved moved) (variables_in e) none))))
+        (assigned_alike old new stay vs es held.1)
+
+    -- where no value reads one, none is looked at
+    nothing_again : (ranges : List Variable) (vs : List ℕ) (es : List Expression) → list_any (list_any (is_moved moved)) (each_reads es) ≡ false → assigned_again moved ranges vs es ≡ []
+    nothing_again ranges [] es none = refl
+    nothing_again ranges (v ∷ vs) [] none = refl
+    nothing_again ranges (v ∷ vs) (e ∷ es) none =
+        let (here, later) = either_false (list_any (is_moved moved) (variables_in e)) (list_any (list_any (is_moved moved)) (each_reads es)) none in
+        ap₂ (λ (b : Bool) (is : List Incoming). cond b (record { variable = v; bounds = bounds_under refined ranges e } ∷ []) [] ++ is) here (nothing_again ranges vs es later)
+
   -- ---- the parts of a model
 
   module _ (moved : List Bool) (old new : List Variable) (stay : StayElsewhere moved old new) where
-    change_alike : (c : StateChange) → AllByRecursion IsHeld (into_change g old c) → GrowAlike (change_again g new moved c) (into_change g new c)
-    change_alike c held =
-        part_alike (list_any (is_moved moved) (set_reads c)) (into_change g old c) (into_change g new c) held (λ none. change_stays moved g old new stay c (every-fails (is_moved moved) (set_reads c) none))
+    change_alike : (c : StateChange) → AllByRecursion IsHeld (into_change g old c) → GrowAlike (change_again new moved c) (into_change g new c)
+    change_alike (Set targets values) held = assigned_alike moved old new stay (map (λ (l : Location). l.variable) targets) values held
+    change_alike (Draw target stream choice) held =
+        part_alike false (into_change g old (Draw target stream choice)) (into_change g new (Draw target stream choice)) held (λ none. refl)
 
-    edge_alike : (e : EventEdge) → AllByRecursion IsHeld (into_edge g old e) → GrowAlike (edge_again g new moved e) (into_edge g new e)
-    edge_alike e held =
-        part_alike (list_any (is_moved moved) (carried_reads e)) (into_edge g old e) (into_edge g new e) held (λ none. edge_stays moved g old new stay e (every-fails (is_moved moved) (carried_reads e) none))
+    module _ (e : EventEdge) where
+      abbrev params : List ℕ
+      params = (vertex_at g e.target).parameters
+
+      abbrev known_old : List Variable
+      known_old = refined e.condition true old
+
+      abbrev known_new : List Variable
+      known_new = refined e.condition true new
+
+      abbrev gives : List Variable → Bool
+      gives ranges = can_schedule e.kind && (bounds_under refined ranges e.condition).can_true
+
+      abbrev rest : List Incoming
+      rest = cond (list_any (list_any (is_moved moved)) (each_reads e.values)) (values_again g new moved e) []
+
+      by_values : StayElsewhere moved known_old known_new → (t some : Bool) → (some ≡ false → assigned_again moved known_new params e.values ≡ []) → AllByRecursion IsHeld (cond t (assigned known_old params e.values) [])
+          → GrowAlike (cond some (cond t (assigned_again moved known_new params e.values) []) []) (cond t (assigned known_new params e.values) [])
+      by_values after false true nothing held = λ x wide. refl
+      by_values after false false nothing held = λ x wide. refl
+      by_values after true true nothing held = assigned_alike moved known_old known_new after params e.values held
+      by_values after true false nothing held = subst (λ (is : List Incoming). GrowAlike is (assigned known_new params e.values)) (nothing refl) (assigned_alike moved known_old known_new after params e.values held)
+
+      -- where the condition reads none the edge schedules where it did
+      unread : list_any (is_moved moved) (variables_in e.condition) ≡ false → AllByRecursion IsHeld (into_edge g old e) → GrowAlike rest (into_edge g new e)
+      unread none held =
+          let still : Unmoved moved (variables_in e.condition) = every-fails (is_moved moved) (variables_in e.condition) none in
+          let same : gives old ≡ gives new = ap (λ (b : Bounds). can_schedule e.kind && b.can_true) (bounds_stay moved e.condition old new stay still) in
+          by_values (known moved e.condition true old new stay still) (gives new) (list_any (list_any (is_moved moved)) (each_reads e.values)) (nothing_again moved known_new params e.values)
+          (subst (λ (t : Bool). AllByRecursion IsHeld (cond t (assigned known_old params e.values) [])) same held)
+
+      edge_alike : AllByRecursion IsHeld (into_edge g old e) → GrowAlike (edge_again g new moved e) (into_edge g new e)
+      edge_alike held = by (list_any (is_moved moved) (variables_in e.condition)) refl where
+        by : (b : Bool) → list_any (is_moved moved) (variables_in e.condition) ≡ b → GrowAlike (cond b (into_edge g new e) rest) (into_edge g new e)
+        by true is = λ x wide. refl
+        by false is = unread is held
 
     vertex_alike : (u : EventVertex) → AllByRecursion IsHeld (into_vertex g old u) → GrowAlike (vertex_again g new moved u) (into_vertex g new u)
     vertex_alike u held =
         let changes = flat_map (into_change g old) u.changes in
         let edges = flat_map (into_edge g old) u.edges in
-        joined_alike (flat_map (change_again g new moved) u.changes) (flat_map (into_change g new) u.changes) (flat_map (edge_again g new moved) u.edges) (flat_map (into_edge g new) u.edges)
-        (each_alike (change_again g new moved) (into_change g new) u.changes (every-map (λ (c : StateChange). AllByRecursion IsHeld (into_change g old c)) (λ (c : StateChange). GrowAlike (change_again g new moved c) (into_change g new c)) change_alike u.changes (every-flat_map IsHeld (into_change g old) u.changes (every-front IsHeld changes edges held))))
+        joined_alike (flat_map (change_again new moved) u.changes) (flat_map (into_change g new) u.changes) (flat_map (edge_again g new moved) u.edges) (flat_map (into_edge g new) u.edges)
+        (each_alike (change_again new moved) (into_change g new) u.changes (every-map (λ (c : StateChange). AllByRecursion IsHeld (into_change g old c)) (λ (c : StateChange). GrowAlike (change_again new moved c) (into_change g new c)) change_alike u.changes (every-flat_map IsHeld (into_change g old) u.changes (every-front IsHeld changes edges held))))
         (each_alike (edge_again g new moved) (into_edge g new) u.edges (every-map (λ (e : EventEdge). AllByRecursion IsHeld (into_edge g old e)) (λ (e : EventEdge). GrowAlike (edge_again g new moved e) (into_edge g new e)) edge_alike u.edges (every-flat_map IsHeld (into_edge g old) u.edges (every-behind IsHeld changes edges held))))
 
     pub vertices_alike : (us : List EventVertex) → AllByRecursion IsHeld (flat_map (into_vertex g old) us) → GrowAlike (flat_map (vertex_again g new moved) us) (flat_map (into_vertex g new) us)

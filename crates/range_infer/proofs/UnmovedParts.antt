@@ -1,22 +1,18 @@
 -- Parts that read no variable whose range moved: what variables take by them is what it was.
-use Rattle.std.proofs.Common.{◌≡◌, ◌≢◌, ◌<◌, ◌≤◌, ◌==◌, nat_lt, ℕ, Bool, true, false, not, ◌&&◌, cond, List, [], ◌∷◌, ◌++◌, length, slice_set, refl, sym, ◌∙◌, ap, ap₂, subst, arith}
-use Rattle.std.specs.List.{AllByRecursion, flat_map}
+use Rattle.std.proofs.Common.{◌≡◌, ◌≢◌, ◌<◌, ◌≤◌, ◌==◌, nat_lt, ℕ, Bool, true, false, not, cond, List, ◌++◌, length, slice_set, refl, sym, ◌∙◌, ap, ap₂, subst, arith}
+use Rattle.std.specs.List.{AllByRecursion}
 use Rattle.std.proofs.lemmas.Bool.Decides.{nat_tests}
 use Rattle.std.proofs.lemmas.List.{length-set, get_or-set_same, get_or-set_other, set_past}
 use Rattle.model_core.specs.declared.bounds.Bounds.{Bounds}
-use Rattle.model_core.specs.EventGraph.{EventGraph, EventEdge, StateChange, Set, Draw, Variable, Operator, And, Or, Expression, Number, Truth, Clock, Scalar, Cell, Negative, Not, Binary, If}
+use Rattle.model_core.specs.EventGraph.{Variable, Operator, And, Or, Expression, Number, Truth, Clock, Scalar, Cell, Negative, Not, Binary, If}
 use Rattle.model_core.specs.Run.State.{no_variable}
-use Rattle.model_core.specs.Run.Step.{vertex_at}
 use Rattle.model_core.specs.Rules.BoundsTable.{variable_bounds, quiet_index, negative_bounds, opposite, operator_bounds, chosen_bounds}
 use Rattle.model_core.specs.Rules.BoundsOf.{ranged_at, beside, bounds_under}
 use Rattle.model_core.specs.Rules.Exclusive.{literal_number}
 use Rattle.model_core.specs.Rules.Uses.{variables_in}
-use Rattle.model_core.specs.declared.incoming.Incoming.{Incoming}
 use Rattle.model_core.specs.Ranges.Refined.{opposite_comparison, where_holds, refined_by, tells_of_both, refined}
-use Rattle.model_core.specs.Ranges.Incoming.{assigned, into_change, can_schedule, into_edge}
 use Rattle.model_core.proofs.EachOne.{every-front, every-behind}
 use Rattle.range_infer.specs.Inner.Moved.{is_moved}
-use Rattle.range_infer.specs.Inner.PartReads.{set_reads, carried_reads}
 
 module _ (moved : List Bool) where
   -- the same ranges, but where they moved
@@ -107,24 +103,3 @@ module _ (moved : List Bool) where
       let no = bounds_stay b (refined c false old) (refined c false new) (known c false old new stay test) (every-behind (λ v. is_moved moved v ≡ false) (variables_in c ++ variables_in a) (variables_in b) still) in
       ap₂ (λ (x y : Bounds). chosen_bounds x y (bounds_under refined (refined c false old) b)) (bounds_stay c old new stay test) yes
       ∙ ap (chosen_bounds (bounds_under refined new c) (bounds_under refined (refined c true new) a)) no
-
-  -- ---- what is taken
-
-  assigned_stay : (vs : List ℕ) (es : List Expression) (old new : List Variable) → StayElsewhere old new → Unmoved (flat_map variables_in es) → assigned old vs es ≡ assigned new vs es
-  assigned_stay [] es old new stay still = refl
-  assigned_stay (v ∷ vs) [] old new stay still = refl
-  assigned_stay (v ∷ vs) (e ∷ es) old new stay still =
-      ap₂ (λ (b : Bounds) (is : List Incoming). record { variable = v; bounds = b } ∷ is) (bounds_stay e old new stay (every-front (λ v. is_moved moved v ≡ false) (variables_in e) (flat_map variables_in es) still))
-      (assigned_stay vs es old new stay (every-behind (λ v. is_moved moved v ≡ false) (variables_in e) (flat_map variables_in es) still))
-
-  module _ (g : EventGraph) (old new : List Variable) (stay : StayElsewhere old new) where
-    pub change_stays : (c : StateChange) → Unmoved (set_reads c) → into_change g old c ≡ into_change g new c
-    change_stays (Set targets values) still = assigned_stay _ values old new stay still
-    change_stays (Draw target stream choice) still = refl
-
-    pub edge_stays : (e : EventEdge) → Unmoved (carried_reads e) → into_edge g old e ≡ into_edge g new e
-    edge_stays e still =
-        let first = every-front (λ v. is_moved moved v ≡ false) (variables_in e.condition) (flat_map variables_in e.values) still in
-        let second = every-behind (λ v. is_moved moved v ≡ false) (variables_in e.condition) (flat_map variables_in e.values) still in
-        ap₂ (λ (b : Bounds) (is : List Incoming). cond (can_schedule e.kind && b.can_true) is []) (bounds_stay e.condition old new stay first)
-        (assigned_stay (vertex_at g e.target).parameters e.values (refined e.condition true old) (refined e.condition true new) (known e.condition true old new stay first) second)

@@ -66,8 +66,28 @@ fn quiet_index(model: &Model, var: usize, index: &Bounds) -> bool
     lies_inside(index, size_at(model, var))
 }
 
+/// The bounds of an operand, as `bounds_left` finds them.
+// Most operands are variables: their bounds are told without a call.
+#[cycle(bounds_left)]
+fn operand_left(
+    model: &Model,
+    ranges: &[VarRange],
+    left: &mut Vec<LeftRange>,
+    expr: &Expr,
+) -> Result<Bounds, NoMemory>
+    requires many { length ranges.now ≡ length model.now.vars }
+    ensures bounds { IfOk result (λ b. b ≡ bounds_under refined (ranges_left (graph_of model.now) ranges.now left.old.items) (expression_of expr.now)) }
+    ensures left { OnOk result (left.new.items ≡ left.old.items) }
+{
+    if let Expr::Scalar(var) = expr {
+        return Ok(variable_bounds(model, ranges, left.as_slice(), *var, true));
+    }
+    bounds_left(model, ranges, left, expr)
+}
+
 /// The bounds of an expression under the ranges that are left: those given, with what was added in place of some. What is
 /// added on the way is taken away again.
+#[cycle(bounds_left)]
 pub(crate) fn bounds_left(
     model: &Model,
     ranges: &[VarRange],
@@ -97,10 +117,10 @@ pub(crate) fn bounds_left(
             Ok(opposite(&bounds))
         }
         Expr::Binary(op, x, y) => {
-            let a = bounds_left(model, ranges, left, x)?;
+            let a = operand_left(model, ranges, left, x)?;
             let before = left.len();
             refine_beside(model, ranges, left, *op, x)?;
-            let b = bounds_left(model, ranges, left, y)?;
+            let b = operand_left(model, ranges, left, y)?;
             left.truncate(before);
             Ok(operator_bounds(*op, &a, &b))
         }

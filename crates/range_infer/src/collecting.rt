@@ -6,7 +6,6 @@ ghost use Rattle.model_core.specs.EventGraph.{Location};
 ghost use Rattle.model_core.specs.Run.Step.{vertex_at};
 ghost use Rattle.model_core.specs.Rules.BoundsOf.{bounds_under};
 ghost use Rattle.model_core.specs.Code.Views.{graph_of, expression_of, location_of, change_of, edge_kind_of, edge_of, vertex_of};
-ghost use Rattle.model_core.specs.Ranges.OtherRanges.{with_ranges};
 ghost use Rattle.model_core.specs.Ranges.Refined.{refined};
 ghost use Rattle.model_core.specs.Ranges.Incoming.{assigned, into_change, can_schedule, into_edge, into_vertex, incoming};
 ghost use Rattle.range_infer.specs.Inner.Overlaid.{ranges_left};
@@ -20,7 +19,7 @@ use sig_base::NoMemory;
 use std::alloc::Global;
 
 /// Adds what the variable takes of the value at this place, if there is one.
-fn add_value_at(
+pub(crate) fn add_value_at(
     out: &mut Vec<Incoming>,
     model: &Model,
     ranges: &[VarRange],
@@ -79,9 +78,7 @@ fn add_targets(
 }
 
 /// Adds what a change sets or draws.
-// Called for each change of a model in many rounds, from two places, as `add_edge` is for each edge.
-#[inline(always)]
-pub(crate) fn add_change(
+fn add_change(
     out: &mut Vec<Incoming>,
     model: &Model,
     ranges: &[VarRange],
@@ -111,7 +108,7 @@ pub(crate) fn add_change(
     }
 }
 
-fn can_schedule(form: &EdgeForm) -> bool
+pub(crate) fn can_schedule(form: &EdgeForm) -> bool
     ensures { result ≡ can_schedule (edge_kind_of form.now) }
 {
     match form {
@@ -145,7 +142,7 @@ fn add_carried(
 }
 
 /// Whether an expression can be true.
-fn can_be_true(
+pub(crate) fn can_be_true(
     model: &Model,
     ranges: &[VarRange],
     left: &mut Vec<LeftRange>,
@@ -160,6 +157,7 @@ fn can_be_true(
 }
 
 /// Adds what an edge carries, if it schedules where its condition can be true.
+// Called for each edge of a model in many rounds, from two places.
 #[inline(always)]
 pub(crate) fn add_edge(
     out: &mut Vec<Incoming>,

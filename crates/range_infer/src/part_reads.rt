@@ -1,43 +1,73 @@
-//! The variables that each change and each edge of a model reads where it gives something to variables.
+//! The variables that each value of a model reads that a change sets or an edge carries, and each condition of an edge.
 
 ghost use Rattle.std.specs.Prelude.{◌≡◌, map, IfOk};
-ghost use Rattle.model_core.specs.Code.Views.{change_of, edge_of, vertex_of};
-ghost use Rattle.range_infer.specs.Inner.PartReads.{set_reads, carried_reads, parts_read};
+ghost use Rattle.model_core.specs.Code.Views.{expression_of, change_of, edge_of, vertex_of};
+ghost use Rattle.model_core.specs.Rules.Uses.{variables_in};
+ghost use Rattle.range_infer.specs.Inner.PartReads.{each_reads, set_reads, carried_reads, parts_read};
 
-use model_core::{Change, Edge, Model, Vertex};
+use model_core::{Change, Edge, Expr, Model, Vertex};
 use sig_base::{List, NoMemory};
 use std::alloc::Global;
-use use_analysis::{add_all_variables, add_variables};
+use use_analysis::add_variables;
 
-/// The variables that the changes and the edges of a vertex read, one list for each.
+/// The variables that the condition of an edge reads, and those that each value reads which it carries.
+#[derive(Drop)]
+pub(crate) struct EdgeReads {
+    pub(crate) condition: List<usize>,
+    pub(crate) values: List<List<usize>>,
+}
+
+/// The variables that each value reads which a change of a vertex sets, a list of lists for each change, and those that its
+/// edges read.
 #[derive(Drop)]
 pub(crate) struct VertexReads {
-    pub(crate) sets: List<List<usize>>,
-    pub(crate) carried: List<List<usize>>,
+    pub(crate) sets: List<List<List<usize>>>,
+    pub(crate) carried: List<EdgeReads>,
 }
 
-/// The variables in the values that a change sets.
-fn set_reads(alloc: Global, change: &Change) -> Result<List<usize>, NoMemory>
+/// The variables in an expression.
+fn reads(alloc: Global, expr: &Expr) -> Result<List<usize>, NoMemory>
+    ensures { IfOk result (λ reads. reads ≡ variables_in (expression_of expr.now)) }
+{
+    let mut reads = Vec::new(alloc);
+    add_variables(&mut reads, expr)?;
+    Ok(List::from_vec(reads))
+}
+
+fn each_reads(alloc: Global, values: &[Expr]) -> Result<List<List<usize>>, NoMemory>
+    ensures { IfOk result (λ all. all ≡ each_reads (map expression_of values.now)) }
+{
+    let mut all = Vec::new(alloc);
+    for value in values {
+        all.push(reads(alloc, value)?)?;
+    }
+    Ok(List::from_vec(all))
+}
+
+/// The variables in each value that a change sets.
+fn set_reads(alloc: Global, change: &Change) -> Result<List<List<usize>>, NoMemory>
     ensures { IfOk result (λ reads. reads ≡ set_reads (change_of change.now)) }
 {
-    let mut reads = Vec::new(alloc);
-    if let Change::Set { targets: _, values } = change {
-        add_all_variables(&mut reads, values.as_slice())?;
+    match change {
+        Change::Set { targets: _, values } => each_reads(alloc, values.as_slice()),
+        Change::Draw {
+            target: _,
+            stream: _,
+            choice: _,
+        } => Ok(List::from_vec(Vec::new(alloc))),
     }
-    Ok(List::from_vec(reads))
 }
 
-/// The variables in the condition of an edge and in what it carries.
-fn carried_reads(alloc: Global, edge: &Edge) -> Result<List<usize>, NoMemory>
+/// The variables in the condition of an edge and in each value that it carries.
+fn carried_reads(alloc: Global, edge: &Edge) -> Result<EdgeReads, NoMemory>
     ensures { IfOk result (λ reads. reads ≡ carried_reads (edge_of edge.now)) }
 {
-    let mut reads = Vec::new(alloc);
-    add_variables(&mut reads, &edge.condition)?;
-    add_all_variables(&mut reads, edge.values.as_slice())?;
-    Ok(List::from_vec(reads))
+    let condition = reads(alloc, &edge.condition)?;
+    let values = each_reads(alloc, edge.values.as_slice())?;
+    Ok(EdgeReads { condition, values })
 }
 
-fn all_set_reads(alloc: Global, changes: &[Change]) -> Result<List<List<usize>>, NoMemory>
+fn all_set_reads(alloc: Global, changes: &[Change]) -> Result<List<List<List<usize>>>, NoMemory>
     ensures { IfOk result (λ all. all ≡ map set_reads (map change_of changes.now)) }
 {
     let mut all = Vec::new(alloc);
@@ -47,7 +77,7 @@ fn all_set_reads(alloc: Global, changes: &[Change]) -> Result<List<List<usize>>,
     Ok(List::from_vec(all))
 }
 
-fn all_carried_reads(alloc: Global, edges: &[Edge]) -> Result<List<List<usize>>, NoMemory>
+fn all_carried_reads(alloc: Global, edges: &[Edge]) -> Result<List<EdgeReads>, NoMemory>
     ensures { IfOk result (λ all. all ≡ map carried_reads (map edge_of edges.now)) }
 {
     let mut all = Vec::new(alloc);
@@ -65,7 +95,7 @@ fn parts_read(alloc: Global, vertex: &Vertex) -> Result<VertexReads, NoMemory>
     Ok(VertexReads { sets, carried })
 }
 
-/// The variables that each change and each edge of each vertex reads.
+/// The variables that the changes and the edges of each vertex read.
 pub(crate) fn all_parts_read(alloc: Global, model: &Model) -> Result<List<VertexReads>, NoMemory>
     ensures { IfOk result (λ all. all ≡ map parts_read (map vertex_of model.now.vertices)) }
 {

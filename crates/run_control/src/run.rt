@@ -60,6 +60,7 @@ impl<'m, P: Pending> Model for Run<'m, P> {
       seed = r.streams.seed;
       now = record { clock = r.clock; state = r.state; taken = r.streams.taken; pending = P.entries r.pending };
       spare = P.spare r.pending;
+      numbered = P.numbered r.pending;
       turns = r.turns;
       faulted = option_map (λ f. record { time = f.time; kind = f.kind }) r.fault;
     } };
@@ -78,9 +79,8 @@ fn vertex_at(model: &Graph, place: usize) -> &Vertex
 impl<'m, P: Pending> Run<'m, P> {
     ghost use Rattle.run_control.specs.Running.{told_next};
     ghost use Rattle.std.specs.Prelude.{ℕ};
-    ghost use Rattle.model_core.specs.Run.Changes.{taken_from};
     ghost use Rattle.run_control.specs.PossibleModel.{PossibleModel};
-    ghost use Rattle.run_control.specs.SoundRun.{Known};
+    ghost use Rattle.run_control.specs.SoundRun.{FewWords, FewScheduled, Known};
     ghost use Rattle.run_control.specs.Beginning.{BegunRun, RefusesStart};
     ghost use Rattle.run_control.specs.Turns.{Turns, ComesNext, StepKeeps, HasRoom, FitsRoom, IsDue};
 
@@ -140,8 +140,8 @@ impl<'m, P: Pending> Run<'m, P> {
     ) -> Run<'m, P>
         requires possible { PossibleModel (graph_of model.now) }
         requires inside { IsTrue (in_range (graph_of model.now) state) }
-        requires words { (stream : ℕ) → taken_from streams.taken stream < 2 ^ 60 }
-        requires countable { P.numbered pending < 2 ^ 61 }
+        requires words { FewWords streams.taken turns }
+        requires countable { FewScheduled (P.numbered pending) turns }
         requires made_for { P.vertices pending ≡ length model.now.vertices }
         requires known { Known (length model.now.vertices) (P.entries pending) }
         ensures { result ≡ record {
@@ -149,6 +149,7 @@ impl<'m, P: Pending> Run<'m, P> {
           seed = streams.seed;
           now = record { clock = clock; state = state; taken = streams.taken; pending = P.entries pending };
           spare = P.spare pending;
+          numbered = P.numbered pending;
           turns = turns;
           faulted = None;
         } }
@@ -166,12 +167,17 @@ impl<'m, P: Pending> Run<'m, P> {
         }
     }
 
-    /// The parts of the run.
+    /// The parts of the run, of which `from_parts` makes it again.
     pub fn into_parts(self) -> Parts<P>
         ensures now { record { clock = result.clock; state = result.state; taken = result.streams.taken; pending = P.entries result.pending } ≡ self.entry.now }
         ensures inside { IsTrue (in_range (graph_of self.entry.model) result.state) }
         ensures seed { result.streams.seed ≡ self.entry.seed }
+        ensures words { FewWords result.streams.taken result.turns }
         ensures spare { P.spare result.pending ≡ self.entry.spare }
+        ensures numbered { P.numbered result.pending ≡ self.entry.numbered }
+        ensures countable { FewScheduled (P.numbered result.pending) result.turns }
+        ensures made_for { P.vertices result.pending ≡ length self.entry.model.vertices }
+        ensures known { Known (length self.entry.model.vertices) (P.entries result.pending) }
         ensures turns { result.turns ≡ self.entry.turns }
     {
         Parts {
@@ -219,6 +225,10 @@ impl<'m, P: Pending> Run<'m, P> {
     pub fn pending(&self) -> &P
         ensures entries { P.entries result.now ≡ self.now.now.pending }
         ensures spare { P.spare result.now ≡ self.now.spare }
+        ensures numbered { P.numbered result.now ≡ self.now.numbered }
+        ensures countable { FewScheduled (P.numbered result.now) self.now.turns }
+        ensures made_for { P.vertices result.now ≡ length self.now.model.vertices }
+        ensures known { Known (length self.now.model.vertices) (P.entries result.now) }
     {
         &self.pending
     }

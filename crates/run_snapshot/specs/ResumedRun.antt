@@ -12,6 +12,7 @@ pub record ResumedRun (m : Model) (s : SavedRun) (room : ℕ) (r : Running) (t :
   pub traced : t.model ≡ m
   pub seeded : r.seed ≡ s.seed
   pub stands : moment_of r t ≡ saved_moment (graph_of m) s
+  pub numbered : r.numbered ≡ length s.pending
   pub turns : r.turns ≡ s.events
   pub goes_on : r.faulted ≡ None
   pub roomy : max room (length s.pending) ≤ r.spare + length r.now.pending

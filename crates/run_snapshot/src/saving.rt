@@ -73,7 +73,7 @@ fn all_due<P: Pending, L: Ledger>(
     Ok(List::from_vec(entries))
 }
 
-/// What is saved of a run: its parts, with its seed, how many steps it made, and the values that its tracer noted last.
+/// What is saved of a run: its parts, with this seed, how many steps it made, and the values that its tracer noted last.
 pub fn save<'m, P: Pending>(
     alloc: Global,
     model: &'m Model,
@@ -85,7 +85,6 @@ where
     P: Drop,
     requires one_model { run.model ≡ model.now }
     requires traced { tracer.now.model ≡ model.now }
-    requires one_seed { run.seed ≡ seed }
     requires goes_on { run.faulted ≡ None }
     ensures { IfOk result (λ snapshot. snapshot ≡ saved seed run.entry.turns (moment_of run.entry tracer.now)) }
 {

@@ -4,7 +4,7 @@ ghost use Rattle.std.specs.Prelude.{◌≡◌, ◌<◌, [], length};
 ghost use Rattle.model_core.specs.Code.Views.{graph_of};
 ghost use Rattle.run_control.specs.PossibleModel.{PossibleModel};
 
-use crate::small_models::{CLOCK, CUT, Refused, model_of};
+use crate::small_models::{CLOCK, CUT, DICE, Refused, model_of};
 use event_heap::HeapPending;
 use event_list::{Pending, PlainPending};
 use model_core::Model;
@@ -238,7 +238,7 @@ const KNOWN: [Known; 21] = [
         written: b"fault 0 delay\n",
     },
     Known {
-        text: b"version 2;model DICE;var N:0..9=0;watch N;vertex RUN{set N:=N+1;schedule RUN after draw from 54 in 1..6;}end",
+        text: DICE,
         starts: &[],
         until: 16,
         events: 1000,

@@ -10,6 +10,8 @@ mod draws;
 #[cfg(test)]
 mod histories;
 #[cfg(test)]
+mod parts;
+#[cfg(test)]
 mod runs;
 #[cfg(test)]
 mod saving;

@@ -101,3 +101,14 @@ vertex RUN {
 vertex B(X) { }
 end
 ";
+
+pub(crate) const DICE: &[u8] = b"version 2;
+model DICE;
+var N : 0..9 = 0;
+watch N;
+vertex RUN {
+  set N := N + 1;
+  schedule RUN after draw from 54 in 1..6;
+}
+end
+";

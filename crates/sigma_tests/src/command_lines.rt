@@ -9,7 +9,7 @@ use std::test::*;
 const TRIAL: &str = "trial --seed 42 --vertices 2 --until 20 --events 100";
 
 /// Words that ask for no trial, no replications, and no run that is saved or resumed, each for one reason.
-const NO_JOBS: [&str; 29] = [
+const NO_JOBS: [&str; 33] = [
     "trial --seed 42 --vertices 0 --until 20 --events 100",
     "trial --seed 42 --vertices 501 --until 20 --events 100",
     "trial --seed 42 --vertices 2 --until 20 --events 0",
@@ -39,6 +39,10 @@ const NO_JOBS: [&str; 29] = [
     "resume --events 2",
     "resume --until 12 --seed 1 --events 2",
     "resume --until 12 --events 2 --room 4194305",
+    "resume --until 12 --events 0",
+    "resume --until 281474976710657 --events 2",
+    "resume --until 12 --events 1099511627777",
+    "save --until 12 --seed 18446744073709551616 --events 2",
 ];
 
 /// What a run is asked for with.

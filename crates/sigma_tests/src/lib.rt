@@ -37,4 +37,4 @@ mod trials;
 #[cfg(test)]
 mod versions;
 
-pub use endings::{calls_end_so, calls_never_end_so};
+pub use endings::{calls_end_so, calls_never_end_so, no_status_ends_otherwise};

@@ -43,7 +43,7 @@ type Case = (
     &'static [u8],
 );
 
-const CASES: [Case; 15] = [
+const CASES: [Case; 17] = [
     (
         "save --until 12 --seed 42 --events 2",
         CLOCK,
@@ -85,6 +85,21 @@ const CASES: [Case; 15] = [
         Status::BadStart,
         b"",
         b"sigma: too many events\n",
+    ),
+    // of two refusals the stop time comes first
+    (
+        "resume --until 4 --events 1099511627776",
+        CLOCK_SAVED,
+        Status::BadStart,
+        b"",
+        b"sigma: stop time below clock 5\n",
+    ),
+    (
+        "resume --until 5 --events 1099511627774",
+        CLOCK_SAVED,
+        Status::Done,
+        b"at 5 N=2\nstopped 5\n",
+        b"",
     ),
     (
         "save --until 12 --seed 42 --events 9",

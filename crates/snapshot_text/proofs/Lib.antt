@@ -6,7 +6,6 @@ pub mod SnapshotWrites
 pub mod SnapshotStands
 pub mod SnapshotTold
 mod WholeSnapshots
-mod WorkedSnapshots
 mod DigitsRead
 mod FewParameters
 mod FittingValues

@@ -3,6 +3,5 @@ pub mod Tallying
 pub mod SmallAreas
 pub mod Totalling
 pub mod ReportText
-pub mod WorkedReport
 pub mod TallyRefusals
 pub mod Inner

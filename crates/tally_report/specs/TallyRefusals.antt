@@ -12,8 +12,8 @@ refusal_of (begins.StartCount needed given) = errors.StartCount needed given
 refusal_of (begins.StartOutside place value) = errors.StartOutside place value
 refusal_of begins.NoMemory = errors.NoMemory
 
--- the causes are those of a run that can't begin. Want of memory is free
+-- the causes are those of a run that can't begin: memory is asked for after the starting values
 abbrev pub RefusesTally : EventGraph → List ℤ → TallyError → Type 0
 RefusesTally g starts (errors.StartCount needed given) = RefusesStart g starts (begins.StartCount needed given)
 RefusesTally g starts (errors.StartOutside place value) = RefusesStart g starts (begins.StartOutside place value)
-RefusesTally g starts errors.NoMemory = Unit
+RefusesTally g starts errors.NoMemory = RefusesStart g starts begins.NoMemory

@@ -11,7 +11,6 @@ mod tally_taker;
 mod tallying;
 mod total_laws;
 mod totals;
-mod worked_report;
 mod written_rows;
 
 pub use item::{Item, Span};
@@ -21,4 +20,3 @@ pub use tally_error::TallyError;
 pub use tallying::tally_one;
 pub use total_laws::{areas_never_overflow, totals_are_added_up};
 pub use totals::Totals;
-pub use worked_report::a_shelf_is_reported;

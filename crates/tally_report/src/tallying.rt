@@ -15,7 +15,7 @@ use crate::tally_error::TallyError;
 use crate::tally_taker::TallyTaker;
 use event_heap::HeapPending;
 use model_core::Model;
-use run_control::Run;
+use run_control::{Run, check_starts};
 use sig_base::{List, NoMemory, Steps};
 use std::alloc::Global;
 use std::marker::Brand;
@@ -108,6 +108,7 @@ pub fn tally_one(
     ensures small { IfOk result (λ tally. All (IsOfRuns 1) tally.items) }
     ensures err { IfErr result (RefusesTally (graph_of model.now) starts.now) }
 {
+    check_starts(model, starts.as_slice())?;
     let pending = HeapPending::begin(alloc, model.vertices.len())?;
     let mut run = Run::begin(alloc, model, pending, seed, starts, ROOM)?;
     Ok(follow::<Brand>(alloc, model, &mut run, until, events, Blank::new(1))?)

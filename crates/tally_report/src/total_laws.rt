@@ -3,6 +3,7 @@
 ghost use Rattle.std.specs.Prelude.{◌≡◌, ◌++◌, ◌∷◌, [], ◌≤◌, ◌^◌, ℕ, ℤ, List, Option, All, length};
 ghost use Rattle.std.specs.Int.RustNames.{FitsSigned};
 ghost use mir.Syntax.{w128};
+ghost use Rattle.sig_base.specs.declared.limits.TheConstants.{RUNS_MAX};
 ghost use Rattle.model_core.specs.EventGraph.{EventGraph};
 ghost use Rattle.tally_report.specs.declared.item.Span.{Span};
 ghost use Rattle.tally_report.specs.declared.item.Item.TheVariants.{Cell as CellItem};
@@ -18,5 +19,5 @@ pub fn totals_are_added_up()
 /// No area overflows: what comes of so many runs is that small, and the area of 65,536 runs fits 128 bits.
 pub fn areas_never_overflow()
     ensures small { (g : EventGraph) (runs : List RunTally) → All (λ r. All (IsOfRuns 1) r.items) runs → All (IsOfRuns (length runs)) (totals_of g runs).items }
-    ensures fits { (runs : ℕ) (span : Option Span) (area : ℤ) → runs ≤ 65536 → IsOfRuns runs (CellItem span area) → FitsSigned w128 area }
+    ensures fits { (runs : ℕ) (span : Option Span) (area : ℤ) → runs ≤ RUNS_MAX → IsOfRuns runs (CellItem span area) → FitsSigned w128 area }
 {}

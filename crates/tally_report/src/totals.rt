@@ -1,6 +1,7 @@
 //! The totals of many runs of a model.
 
 ghost use Rattle.std.specs.Prelude.{◌≡◌, ◌<◌, ◌*◌, All, IfOk};
+ghost use Rattle.sig_base.specs.declared.limits.TheConstants.{RUNS_MAX};
 ghost use Rattle.model_core.specs.Code.Views.{graph_of};
 ghost use Rattle.tally_report.specs.SmallAreas.{IsOfRuns};
 ghost use Rattle.tally_report.specs.Totalling.{items_added, no_totals, with_run};
@@ -58,7 +59,7 @@ impl Totals {
 
     /// Adds a run of the same model.
     pub fn add(&mut self, run: &RunTally)
-        requires few { self.old.runs < 65536 }
+        requires few { self.old.runs < RUNS_MAX }
         requires small { All (IsOfRuns 1) run.now.items }
         ensures { self.new ≡ with_run self.old run.now }
     {

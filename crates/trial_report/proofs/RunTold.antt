@@ -1,5 +1,5 @@
 -- What is told of a run that was followed from its beginning.
-use Rattle.std.proofs.Common.{◌≡◌, ℕ, ◌+◌, ◌-◌, ◌^◌, ◌≤◌, List, [], ◌++◌, length, Option, None, refl, sym, ap, ap₂, ◌∙◌, subst, append-nil, arith}
+use Rattle.std.proofs.Common.{◌≡◌, ℕ, ◌+◌, ◌-◌, ◌^◌, ◌<◌, ◌≤◌, List, [], ◌++◌, length, Option, None, refl, sym, ap, ap₂, ◌∙◌, subst, append-nil, arith}
 use Rattle.model_core.specs.declared.model.Model.{Model}
 use Rattle.model_core.specs.Run.Step.{Configuration}
 use Rattle.model_core.specs.Run.Machine.{Note}
@@ -13,8 +13,8 @@ use Rattle.watch_trace.specs.Tracing.{Tracing, moment_of}
 use Rattle.watch_trace.specs.Following.{outcome_of, seen_from, Completes, Stands, FollowKeeps}
 use Rattle.trial_report.specs.StepsMade.{steps_made}
 use Rattle.trial_report.specs.Inner.Counted.{CountsNotes}
-use Rattle.trial_report.specs.Inner.ToldByMeasures.{occurred_in, Tells}
-use Rattle.trial_report.proofs.StepsCounted.{from_there, none_at_rest, none_at_fault}
+use Rattle.trial_report.specs.Inner.ToldByMeasures.{Tells}
+use Rattle.trial_report.proofs.StepsCounted.{from_there, none_at_rest, one_at_fault}
 use Rattle.trial_report.proofs.FewNotes.{few_notes}
 
 module _ (until events : ℕ) (r later : Running) (t after : Tracing) (from : r.turns ≡ 0) (keeps : FollowKeeps events r t later after) where
@@ -22,37 +22,38 @@ module _ (until events : ℕ) (r later : Running) (t after : Tracing) (from : r.
   abbrev Steps : ℕ → Moment → ℕ
   Steps = steps_made (next_move (graph_of r.model) r.seed until)
 
-  -- where none of the steps left goes on, those that led here are all
+  -- where none is made of the steps left, those that led here are all
   all-steps : (k n : ℕ) (here : Moment) → Steps events (moment_of r t) ≡ k + Steps n here → Steps n here ≡ 0 → Steps events (moment_of r t) ≡ k
   all-steps k n here e none = e ∙ ap (λ x. k + x) none ∙ omega arith
 
-  occurred : (outcome : Outcome) → (outcome ≡ outcomes.WriteFault → ⊥) → (outcome ≡ outcomes.NoMemory → ⊥) → Stands until events r t outcome later after → occurred_in later.turns outcome ≡ Steps events (moment_of r t)
-  occurred (outcomes.Ended time) well roomy p =
+  made : (outcome : Outcome) → (outcome ≡ outcomes.WriteFault → ⊥) → (outcome ≡ outcomes.NoMemory → ⊥) → Stands until events r t outcome later after → later.turns ≡ Steps events (moment_of r t)
+  made (outcomes.Ended time) well roomy p =
       let counts = p.stands.0.counts in
       let few : p.steps ≤ events = omega (arith, counts, from, keeps.counted) in
       let rests = none_at_rest (next_move (graph_of r.model) r.seed until) (events - p.steps) p.here.moment p.stands.1.notes _ p.stands.1.rests in
       let all = all-steps p.steps (events - p.steps) p.here.moment (from_there (next_move (graph_of r.model) r.seed until) p.steps events (moment_of r t) p.here p.lead few) rests in
       omega (arith, counts, from, all)
-  occurred outcomes.Stopped well roomy p =
+  made outcomes.Stopped well roomy p =
       let counts = p.stands.0.counts in
       let few : p.steps ≤ events = omega (arith, counts, from, keeps.counted) in
       let rests = none_at_rest (next_move (graph_of r.model) r.seed until) (events - p.steps) p.here.moment p.stands.1.notes _ p.stands.1.rests in
       let all = all-steps p.steps (events - p.steps) p.here.moment (from_there (next_move (graph_of r.model) r.seed until) p.steps events (moment_of r t) p.here p.lead few) rests in
       omega (arith, counts, from, all)
-  occurred (outcomes.Faulted time kind) well roomy p =
+  made (outcomes.Faulted time kind) well roomy p =
       let counts = p.stands.0.counts in
       let few : p.steps ≤ events = omega (arith, counts, from, keeps.counted) in
-      let fails = none_at_fault (next_move (graph_of r.model) r.seed until) (events - p.steps) p.here.moment p.stands.0.notes _ p.stands.0.fails in
-      let all = all-steps p.steps (events - p.steps) p.here.moment (from_there (next_move (graph_of r.model) r.seed until) p.steps events (moment_of r t) p.here p.lead few) fails in
-      omega (arith, counts, from, all)
-  occurred outcomes.Budget well roomy p =
+      let left : 0 < events - p.steps = omega (arith, counts, from, keeps.counted) in
+      let fails = one_at_fault (next_move (graph_of r.model) r.seed until) (events - p.steps) p.here.moment p.stands.0.notes _ left p.stands.0.fails in
+      let all = from_there (next_move (graph_of r.model) r.seed until) p.steps events (moment_of r t) p.here p.lead few in
+      omega (arith, counts, from, all, fails)
+  made outcomes.Budget well roomy p =
       let counts = p.stands.0.counts in
       let few : p.steps ≤ events = omega (arith, counts, from, keeps.counted) in
       let spent : events - p.steps ≡ 0 = let is = p.stands.1 in omega (arith, is) in
       let all = all-steps p.steps (events - p.steps) p.here.moment (from_there (next_move (graph_of r.model) r.seed until) p.steps events (moment_of r t) p.here p.lead few) (ap (λ n. Steps n p.here.moment) spent) in
       omega (arith, counts, from, all)
-  occurred outcomes.WriteFault well roomy p = absurd (well refl)
-  occurred outcomes.NoMemory well roomy p = absurd (roomy refl)
+  made outcomes.WriteFault well roomy p = absurd (well refl)
+  made outcomes.NoMemory well roomy p = absurd (roomy refl)
 
   completed-so : (outcome : Outcome) (rest : List Note) → (outcome ≡ outcomes.WriteFault → ⊥) → (outcome ≡ outcomes.NoMemory → ⊥) → Completes (seen_from until events r t) rest outcome
       → (outcome ≡ outcome_of (seen_from until events r t).standing) × (rest ≡ [])
@@ -73,7 +74,7 @@ pub tells : (m : Model) (room until events : ℕ) (r later : Running) (t after :
     → BegunRun m r.seed [] room r → t.noted ≡ None → events ≤ 2 ^ 40 → (outcome ≡ outcomes.WriteFault → ⊥) → (outcome ≡ outcomes.NoMemory → ⊥)
     → notes ++ rest ≡ (seen_from until events r t).history → Completes (seen_from until events r t) rest outcome → CountsNotes 0 count notes
     → Stands until events r t outcome later after → FollowKeeps events r t later after
-    → Tells (graph_of m) r.seed until events (record { outcome = outcome; events = occurred_in later.turns outcome; notes = count })
+    → Tells (graph_of m) r.seed until events (record { outcome = outcome; events = later.turns; notes = count })
 tells m room until events r later t after outcome count notes rest begun noted few well roomy splits completes counted stands keeps =
     let (is, none) = completed-so until events r later t after begun.turns keeps outcome rest well roomy completes in
     let whole : notes ≡ (seen_from until events r t).history = sym (append-nil notes) ∙ ap (λ (x : List Note). notes ++ x) (sym none) ∙ splits in
@@ -81,9 +82,9 @@ tells m room until events r later t after outcome count notes rest begun noted f
     let long : length notes ≡ length (seen_from until events r t).history = ap length whole in
     let number : count ≡ length (seen_from until events r t).history = omega (arith, counted, short, long, few) in
     let begins : moment_of r t ≡ start (graph_of r.model) [] = at-start m r.seed room r t begun noted in
-    subst (λ (x : Model). Tells (graph_of x) r.seed until events (record { outcome = outcome; events = occurred_in later.turns outcome; notes = count })) begun.model
+    subst (λ (x : Model). Tells (graph_of x) r.seed until events (record { outcome = outcome; events = later.turns; notes = count })) begun.model
     (record {
       outcome = is ∙ ap (λ (b : Moment). outcome_of (look_from (graph_of r.model) r.seed until events b).standing) begins;
-      occurred = occurred until events r later t after begun.turns keeps outcome well roomy stands ∙ ap (steps_made (next_move (graph_of r.model) r.seed until) events) begins;
+      made = made until events r later t after begun.turns keeps outcome well roomy stands ∙ ap (steps_made (next_move (graph_of r.model) r.seed until) events) begins;
       noted = number ∙ ap (λ (b : Moment). length (look_from (graph_of r.model) r.seed until events b).history) begins;
     })

@@ -1,5 +1,5 @@
--- How many of the moves go on that are made from a moment: those that led to another one, and those from there.
-use Rattle.std.proofs.Common.{◌≡◌, ℕ, zero, suc, ◌+◌, ◌-◌, ◌≤◌, List, [], Option, Some, None, refl, ap, arith}
+-- How many steps are made from a moment: those that led to another one, and those from there.
+use Rattle.std.proofs.Common.{◌≡◌, ℕ, zero, suc, ◌+◌, ◌-◌, ◌<◌, ◌≤◌, List, [], Option, Some, None, refl, ap, arith}
 use Rattle.std.specs.Prelude.{option_map}
 use Rattle.model_core.specs.Run.Machine.{Note, Standing, Move, Rests, Fails, Goes, Reached, reached_behind, onward, reached}
 use Rattle.trial_report.specs.StepsMade.{steps_behind, steps_made}
@@ -29,12 +29,12 @@ module _ {S : Type 0} (move : S → Move S) where
   from_there (suc k) zero s here e le = absurd (omega (arith, le))
   from_there (suc k) (suc j) s here e le = one-more k j here (λ t q there. from_there k j t q there (omega (arith, le))) (move s) e
 
-  -- none goes on from where the machine rests
+  -- none is made where the machine rests
   pub none_at_rest : (n : ℕ) (s : S) (notes : List Note) (end : Standing) → move s ≡ Rests notes end → steps_made move n s ≡ 0
   none_at_rest zero s notes end e = refl
   none_at_rest (suc n) s notes end e = ap (steps_behind (steps_made move n)) e
 
-  -- nor from where it fails
-  pub none_at_fault : (n : ℕ) (s : S) (notes : List Note) (end : Standing) → move s ≡ Fails notes end → steps_made move n s ≡ 0
-  none_at_fault zero s notes end e = refl
-  none_at_fault (suc n) s notes end e = ap (steps_behind (steps_made move n)) e
+  -- one is where it fails
+  pub one_at_fault : (n : ℕ) (s : S) (notes : List Note) (end : Standing) → 0 < n → move s ≡ Fails notes end → steps_made move n s ≡ 1
+  one_at_fault zero s notes end some e = absurd (omega (arith, some))
+  one_at_fault (suc n) s notes end some e = ap (steps_behind (steps_made move n)) e

@@ -1,5 +1,5 @@
 -- The line of a measure is that of the run of which it tells.
-use Rattle.std.proofs.Common.{◌≡◌, ℕ, ◌+◌, ◌-◌, List, [], ◌∷◌, ◌++◌, length, length-append, map, take, codes, decimal, refl, sym, ap, ◌∙◌, arith}
+use Rattle.std.proofs.Common.{◌≡◌, ℕ, ◌-◌, List, [], ◌∷◌, ◌++◌, length, length-append, map, take, codes, decimal, refl, sym, ap, ◌∙◌, arith}
 use Rattle.std.proofs.Math.Seq.{take-append_seam}
 use Rattle.model_core.specs.EventGraph.{EventGraph}
 use Rattle.model_core.specs.Run.Machine.{Standing, Ended, Stopped, Faulted, Going}
@@ -12,7 +12,7 @@ use Rattle.watch_trace.specs.Following.{outcome_of}
 use Rattle.trial_report.specs.declared.run_measure.RunMeasure.{RunMeasure}
 use Rattle.std.specs.List.{range_with_len}
 use Rattle.model_gen.specs.Generated.{generated, generated_vertex}
-use Rattle.trial_report.specs.StepsMade.{events_occurred}
+use Rattle.trial_report.specs.StepsMade.{steps_of_run}
 use Rattle.trial_report.specs.TrialText.{without_feed, run_line}
 use Rattle.trial_report.specs.Inner.ToldByMeasures.{standing_text, measure_line, Tells}
 
@@ -29,8 +29,8 @@ standing_line until events Going = feed-goes (standing_text until events (outcom
 
 pub told_line : (name : List ℕ) (g : EventGraph) (seed until events : ℕ) (m : RunMeasure) → Tells g seed until events m → measure_line name until events m ≡ run_line name g seed until events
 told_line name g seed until events m told =
-    (λ i. name ++ codes " " ++ standing_text until events (told.outcome i) ++ codes " events " ++ decimal (told.occurred i) ++ codes " notes " ++ decimal (told.noted i) ++ codes "\n")
-    ∙ ap (λ x. name ++ codes " " ++ x ++ codes " events " ++ decimal (events_occurred g seed [] until events) ++ codes " notes " ++ decimal (length (look g seed [] until events).history) ++ codes "\n")
+    (λ i. name ++ codes " " ++ standing_text until events (told.outcome i) ++ codes " events " ++ decimal (told.made i) ++ codes " notes " ++ decimal (told.noted i) ++ codes "\n")
+    ∙ ap (λ x. name ++ codes " " ++ x ++ codes " events " ++ decimal (steps_of_run g seed [] until events) ++ codes " notes " ++ decimal (length (look g seed [] until events).history) ++ codes "\n")
     (standing_line until events (look g seed [] until events).standing)
 
 -- the strategy keeps it that the first vertex has no parameters

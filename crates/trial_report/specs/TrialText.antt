@@ -7,7 +7,7 @@ use Rattle.model_core.specs.Run.History.{look}
 use Rattle.model_core.specs.Text.HistoryText.{end_line}
 use Rattle.model_core.specs.Rules.Reduction.{RuleApplication, Strategy}
 use Rattle.model_gen.specs.Generated.{generated}
-use Rattle.trial_report.specs.StepsMade.{events_occurred}
+use Rattle.trial_report.specs.StepsMade.{steps_of_run}
 
 -- how many edges a model has
 abbrev pub edges_in : EventGraph → ℕ
@@ -25,12 +25,12 @@ applications_line n = codes "applications " ++ decimal n ++ codes "\n"
 abbrev pub without_feed : List ℕ → List ℕ
 without_feed line = take (length line - 1) line
 
--- how a run without starting values stands after at most so many events, how many of them occurred, and how many notes its
+-- how a run without starting values stands after at most so many steps, how many of them it made, and how many notes its
 -- history has
 abbrev pub run_line : List ℕ → EventGraph → ℕ → ℕ → ℕ → List ℕ
 run_line name g seed until events =
     let seen = look g seed [] until events in
-    name ++ codes " " ++ without_feed (end_line until events seen.standing) ++ codes " events " ++ decimal (events_occurred g seed [] until events) ++ codes " notes " ++ decimal (length seen.history) ++ codes "\n"
+    name ++ codes " " ++ without_feed (end_line until events seen.standing) ++ codes " events " ++ decimal (steps_of_run g seed [] until events) ++ codes " notes " ++ decimal (length seen.history) ++ codes "\n"
 
 -- what there is to tell of a model that is reduced by so many applications, behind how large it is
 abbrev pub reduction_lines : EventGraph → EventGraph → ℕ → ℕ → ℕ → ℕ → List ℕ

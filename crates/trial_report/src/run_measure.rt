@@ -1,11 +1,11 @@
-//! How a run of a model goes: what it comes to, how many events occur, and how many notes its history has.
+//! How a run of a model goes: what it comes to, how many steps it makes, and how many notes its history has.
 
 ghost use Rattle.std.specs.Prelude.{◌≡◌, ◌≤◌, ◌<◌, ◌^◌, [], IfOk};
 ghost use Rattle.model_core.specs.Run.Step.{vertex_at};
 ghost use Rattle.model_core.specs.Static.Reading.{IsValid};
 ghost use Rattle.model_core.specs.Code.Views.{graph_of};
 ghost use Rattle.run_control.specs.Beginning.{BegunRun};
-ghost use Rattle.trial_report.specs.Inner.ToldByMeasures.{occurred_in, Tells};
+ghost use Rattle.trial_report.specs.Inner.ToldByMeasures.{Tells};
 
 use crate::note_count::NoteCount;
 use event_heap::HeapPending;
@@ -21,23 +21,12 @@ use watch_trace::{Outcome, Tracer, observe};
 /// The pending events for which a run has room from its beginning.
 const ROOM: usize = 4_096;
 
-/// How a run went.
+/// How a run went. Its events are the steps that it made: one that faults is among them.
 #[derive(Clone, Copy)]
 pub(crate) struct RunMeasure {
     pub outcome: Outcome,
     pub events: u64,
     pub notes: u64,
-}
-
-/// How many events occurred of a run that made so many turns and came to this outcome: in a turn that faults none does.
-fn occurred_in(turns: u64, outcome: Outcome) -> u64
-    ensures { result ≡ occurred_in turns outcome }
-{
-    match outcome {
-        Outcome::Faulted { .. } => turns.saturating_sub(1),
-        Outcome::Ended { .. } | Outcome::Stopped | Outcome::Budget => turns,
-        Outcome::WriteFault | Outcome::NoMemory => turns,
-    }
 }
 
 /// A run of a model whose first vertex has no parameters, as it begins.
@@ -90,7 +79,7 @@ fn follow<'m, L: Ledger>(
         Outcome::WriteFault => unreachable!(),
         outcome => Ok(RunMeasure {
             outcome,
-            events: occurred_in(run.turns(), outcome),
+            events: run.turns(),
             notes: count.notes,
         }),
     }

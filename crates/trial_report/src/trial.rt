@@ -60,7 +60,7 @@ fn put_reduction(
 
 /// The summary of a trial: how large the model is that a seed makes with so many vertices, how large what it is reduced to, by
 /// how many applications of rules; and of a run of each with this seed, up to a stop time in ticks and for at most so many
-/// events, how it stands then, how many events occurred, and how many notes its history has.
+/// events, how it stands then, how many steps it made, and how many notes its history has.
 pub fn trial_text(
     alloc: Global,
     seed: u64,

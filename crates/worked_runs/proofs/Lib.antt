@@ -1,3 +1,4 @@
 pub mod Looks
 pub mod GrammarLaws
 mod DocumentLaws
+mod SnapshotLaws

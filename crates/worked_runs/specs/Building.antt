@@ -1,7 +1,7 @@
 -- Words for writing down event graphs, and what is seen of their runs.
 use Rattle.std.specs.Prelude.{ℕ, ℤ, pos, true, false, List, [], ◌∷◌, map, Some, None}
 use Rattle.model_core.specs.declared.model.Kind.TheVariants as kinds
-use Rattle.model_core.specs.EventGraph.{Variable, Location, Expression, Number, Scalar, Negative, Binary, Add, Subtract, Divide, Above, Equal, Truth, StateChange, Set, Draw, Uniform, EventEdge, EdgeKind, Fixed, Schedule, Urgent, EventVertex, Watched, WatchedVariable}
+use Rattle.model_core.specs.EventGraph.{Variable, Operator, Location, Expression, Number, Scalar, Negative, Binary, Add, Subtract, Divide, Above, Equal, Truth, StateChange, Set, Draw, Uniform, EventEdge, EdgeKind, Fixed, Schedule, Urgent, EventVertex, Watched, WatchedVariable}
 use Rattle.model_core.specs.Run.Machine.{Note, Standing, Look}
 
 -- a range variable lo..hi that is a scalar, and begins with this value
@@ -31,6 +31,10 @@ set v e = Set (at_variable v ∷ []) (e ∷ [])
 
 abbrev pub draw : ℕ → ℕ → ℕ → ℕ → StateChange
 draw v stream lo hi = Draw (at_variable v) stream (Uniform (pos lo) (pos hi))
+
+-- a cell of an array is drawn from stream 54, from 1 to 6
+abbrev pub draw_cell : ℕ → Expression → StateChange
+draw_cell v index = Draw (at_cell v index) 54 (Uniform (pos 1) (pos 6))
 
 abbrev pub plain_edge : EdgeKind → ℕ → List Expression → EventEdge
 plain_edge kind target values = record { target = target; values = values; condition = Truth true; kind = kind }
@@ -84,6 +88,10 @@ minus_one v = Binary Subtract (Scalar v) (whole 1)
 -- the variable is above 0
 abbrev pub positive : ℕ → Expression
 positive v = Binary Above (Scalar v) (whole 0)
+
+-- the variable compared with a number
+abbrev pub scalar_is : Operator → ℕ → ℕ → Expression
+scalar_is op v n = Binary op (Scalar v) (whole n)
 
 abbrev pub minus : ℕ → Expression
 minus n = Negative (whole n)

@@ -24,3 +24,9 @@ pub mod CertificateTexts
 pub mod TwinModels
 pub mod DrawnModels
 pub mod SavedExamples
+pub mod HarbourModel
+pub mod WrittenSnapshots
+pub mod HarbourRuns
+pub mod SnapshotTexts
+pub mod SpelledSnapshots
+pub mod LargeTexts

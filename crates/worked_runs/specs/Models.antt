@@ -129,6 +129,10 @@ cancel_three = plain_edge CancelEqual 1 (whole 3 ∷ [])
 abbrev pub late_and_bad : EventEdge
 late_and_bad = plain_edge (Schedule (Fixed (Binary Subtract (whole 0) (whole 1))) 5) 1 (one_over_zero ∷ [])
 
+-- 2^63 - 1 and 1
+abbrev pub big_sum : Expression
+big_sum = Binary Add (whole 9223372036854775807) (whole 1)
+
 -- each B is cancelled
 abbrev pub cancel_all : EventEdge
 cancel_all = plain_edge CancelAll 1 []
@@ -203,6 +207,20 @@ index_and_cell = Set (at_variable 0 ∷ at_cell 1 (Scalar 0) ∷ []) (whole 1 �
 -- A[2] := 1 / 0, where A has no cell 2
 abbrev pub bad_index_and_value : StateChange
 bad_index_and_value = Set (at_cell 1 (whole 2) ∷ []) (one_over_zero ∷ [])
+
+-- A[one] := 1 beside A[other] := 2
+abbrev pub bad_indexes : Expression → Expression → StateChange
+bad_indexes one other = Set (at_cell 1 one ∷ at_cell 1 other ∷ []) (whole 1 ∷ whole 2 ∷ [])
+
+-- the first event takes these two variables and has these edges to B. The second one is watched before the first, and B behind them
+abbrev pub taking_two : Variable → Variable → List EventEdge → EventGraph
+taking_two x y edges = record {
+  name = codes "TAKES";
+  variables = x ∷ y ∷ [];
+  tables = [];
+  watch = WatchedVariable 1 ∷ WatchedVariable 0 ∷ WatchedVertex 1 ∷ [];
+  vertices = takes (0 ∷ 1 ∷ []) (event (codes "RUN") [] edges) ∷ takes (1 ∷ 0 ∷ []) (event (codes "B") [] []) ∷ [];
+}
 
 -- the first event takes X and makes a change of it
 abbrev pub taking : Variable → StateChange → EventGraph

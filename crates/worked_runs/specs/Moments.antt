@@ -1,5 +1,5 @@
--- Moments of the clock that counts.
-use Rattle.std.specs.Prelude.{ℕ, ◌+◌, [], ◌∷◌, replicate, Some}
+-- Moments of the clock that counts, and how a run of one scalar may stand.
+use Rattle.std.specs.Prelude.{ℕ, ◌+◌, List, [], ◌∷◌, replicate, slice_set, Some}
 use Rattle.model_core.specs.Run.Pending.{Entry}
 use Rattle.model_core.specs.Run.Step.{Configuration}
 use Rattle.model_core.specs.Run.History.{Moment}
@@ -14,3 +14,7 @@ abbrev pub counted_to : ℕ → ℕ → ℕ → Moment
 counted_to time n last =
     let now : Configuration = record { clock = time; state = scalars (n ∷ []); taken = replicate 64 0; pending = next_count time ∷ [] } in
     record { now = now; noted = Some (scalars (last ∷ [])) }
+
+-- at this clock the scalar has this value, so many words were taken from stream 54, and these events are pending
+abbrev pub standing_so : ℕ → ℕ → ℕ → List Entry → Configuration
+standing_so clock n words pending = record { clock = clock; state = scalars (n ∷ []); taken = slice_set (replicate 64 0) 54 words; pending = pending }

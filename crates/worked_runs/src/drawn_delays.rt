@@ -1,10 +1,10 @@
 //! Delays that are drawn: which words they take, and what the rules and the texts make of them.
 #![tactic(auto, unfolding(model_core::specs::Rules::BoundsTable::exact_bounds))]
 
-ghost use Rattle.std.specs.Prelude.{◌≡◌, [], ◌∷◌, Some, None, false, Err, codes, replicate};
+ghost use Rattle.std.specs.Prelude.{◌≡◌, [], ◌∷◌, Some, None, false, Ok, Err, codes, replicate};
 ghost use Rattle.sig_base.specs.declared.fault.FaultKind.TheVariants as faults;
 ghost use Rattle.model_core.specs.declared.static_kind.StaticKind.TheVariants as rules;
-ghost use Rattle.model_core.specs.EventGraph.{ByTable, Truth, Drawn, Schedule};
+ghost use Rattle.model_core.specs.EventGraph.{ByTable, Truth, Fixed, Drawn, Schedule, CancelNext, CancelEqual, CancelAll};
 ghost use Rattle.model_core.specs.Run.Changes.{one_more};
 ghost use Rattle.model_core.specs.Run.Edges.{delay_of, left_by_delay};
 ghost use Rattle.model_core.specs.Run.Machine.{At, On, Ended, Stopped, Faulted};
@@ -14,7 +14,7 @@ ghost use Rattle.model_core.specs.Static.ModelFaults.{told_fault};
 ghost use Rattle.model_core.specs.Rules.Conditions.{first_failed};
 ghost use Rattle.model_core.specs.Rules.Merge.{merge_conditions};
 ghost use Rattle.model_core.specs.Rules.Needed.{unneeded};
-ghost use Rattle.worked_runs.specs.Building.{scalars, showing, only_if, plain_edge, one_over_zero};
+ghost use Rattle.worked_runs.specs.Building.{scalars, showing, whole, schedule, urgent, only_if, plain_edge, one_over_zero};
 ghost use Rattle.worked_runs.specs.DrawnModels.{after_draw, one_to_six, below_zero, arriving, drawing_too, twisted, drawn_in};
 ghost use Rattle.worked_runs.specs.VersionTexts.{second};
 ghost use Rattle.worked_runs.specs.WrittenParts.{static_fault, figure};
@@ -40,6 +40,18 @@ pub fn drawn_delays_may_fault()
         ≡ showing [] (Faulted 0 faults.NegativeDelay) }
     ensures delay { delay_of (arriving []) 42 [] 0 (Drawn 54 below_zero) (replicate 64 0) ≡ Err faults.NegativeDelay }
     ensures word { left_by_delay (Drawn 54 below_zero) (replicate 64 0) ≡ one_more (replicate 64 0) 54 }
+{}
+
+/// A delay that isn't drawn takes no word, and no other kind of edge takes or gives back one.
+#[tactic(auto, unfolding(rand_pcg::specs::Lcg::state_after))]
+pub fn only_drawn_delays_take_words()
+    ensures fixed { delay_of (arriving []) 42 [] 0 (Fixed (whole 3)) (replicate 64 0) ≡ Ok (record { ticks = 3; taken = replicate 64 0 }) }
+    ensures at_once { delay_of (arriving []) 42 [] 0 (Fixed (whole 0)) (replicate 64 0) ≡ Ok (record { ticks = 0; taken = replicate 64 0 }) }
+    ensures drawn { delay_of (arriving []) 42 [] 0 (Drawn 54 one_to_six) (replicate 64 0) ≡ Ok (record { ticks = 4; taken = one_more (replicate 64 0) 54 }) }
+    ensures left_by_fixed { left_by_delay (Fixed one_over_zero) (replicate 64 0) ≡ replicate 64 0 }
+    ensures between_others { look
+        (arriving (after_draw 1 one_to_six ∷ schedule 1 (whole 9) ∷ plain_edge CancelNext 1 [] ∷ plain_edge CancelEqual 2 [] ∷ plain_edge CancelAll 1 [] ∷ urgent 1 ∷ after_draw 2 one_to_six ∷ [])) 42 [] 100 1000
+        ≡ showing (On 0 1 (scalars (1 ∷ [])) ∷ At 0 (scalars (1 ∷ [])) ∷ On 3 2 (scalars (1 ∷ [])) ∷ []) (Ended 3) }
 {}
 
 /// Two events aren't merged where an edge of the first would take its word before a draw of the second. Behind it, it may.

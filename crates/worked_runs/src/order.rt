@@ -1,12 +1,12 @@
 //! The order in which events come, and what cancelling edges take away.
 
-ghost use Rattle.std.specs.Prelude.{◌≡◌, [], ◌∷◌};
+ghost use Rattle.std.specs.Prelude.{◌≡◌, pos, [], ◌∷◌, codes};
 ghost use Rattle.sig_base.specs.declared.fault.FaultKind.TheVariants as faults;
-ghost use Rattle.model_core.specs.EventGraph.{Fixed, Schedule, CancelNext, CancelEqual, CancelAll};
+ghost use Rattle.model_core.specs.EventGraph.{Scalar, Binary, Equal, Fixed, Schedule, Urgent, CancelNext, CancelEqual, CancelAll};
 ghost use Rattle.model_core.specs.Run.Machine.{At, On, Ended, Faulted};
 ghost use Rattle.model_core.specs.Run.History.{look};
-ghost use Rattle.worked_runs.specs.Building.{scalars, showing, whole, plain_edge, schedule, schedule_with, two_numbers, urgent};
-ghost use Rattle.worked_runs.specs.Models.{cut, cancel_three, cancel_all, late_and_bad, ordering, carrying};
+ghost use Rattle.worked_runs.specs.Building.{ranged, clipped, scalars, showing, whole, one_over_zero, is_one_over_zero, set, plain_edge, schedule, schedule_with, only_if, two_numbers, urgent};
+ghost use Rattle.worked_runs.specs.Models.{cut, cancel_three, cancel_all, late_and_bad, ordering, carrying, at_two, taking_two, big_sum};
 
 /// Events come by time, then by priority, then in the order of scheduling.
 pub fn events_come_in_order()
@@ -37,6 +37,29 @@ pub fn equal_events_are_cancelled()
         ≡ showing (At 0 (scalars (0 ∷ [])) ∷ []) (Faulted 5 faults.RangeOutside) }
     ensures delay_before_values { look (cut (late_and_bad ∷ [])) 42 [] 100 1000 ≡ showing [] (Faulted 0 faults.NegativeDelay) }
     ensures all { look (cut (cancel_all ∷ [])) 42 [] 100 1000 ≡ showing (At 0 (scalars (0 ∷ [])) ∷ []) (Ended 0) }
+{}
+
+/// Of an edge the condition is looked at first, on the state that the changes left, then the delay, and then the values from left to
+/// right; those of a cancelling edge too, also where there is nothing to cancel.
+pub fn edges_evaluate_in_order()
+    ensures condition_before_delay { look (cut (only_if is_one_over_zero late_and_bad ∷ [])) 42 [] 100 1000 ≡ showing [] (Faulted 0 faults.DivisionByZero) }
+    ensures values { look (carrying (plain_edge Urgent 1 (one_over_zero ∷ big_sum ∷ []) ∷ [])) 42 [] 100 1000 ≡ showing [] (Faulted 0 faults.DivisionByZero) }
+    ensures values_the_other_way_round { look (carrying (plain_edge Urgent 1 (big_sum ∷ one_over_zero ∷ []) ∷ [])) 42 [] 100 1000 ≡ showing [] (Faulted 0 faults.Overflow) }
+    ensures values_of_a_cancel { look (ordering (plain_edge CancelEqual 2 (one_over_zero ∷ []) ∷ [])) 42 [] 100 1000 ≡ showing [] (Faulted 0 faults.DivisionByZero) }
+    ensures first_edge_first { look (ordering (plain_edge Urgent 1 (big_sum ∷ []) ∷ plain_edge Urgent 1 (one_over_zero ∷ []) ∷ [])) 42 [] 100 1000
+        ≡ showing [] (Faulted 0 faults.Overflow) }
+    ensures behind_the_changes { look (at_two (set 0 (whole 5) ∷ []) (only_if (Binary Equal (Scalar 0) (whole 5)) (plain_edge (Schedule (Fixed (Scalar 0)) 5) 2 (Scalar 0 ∷ [])) ∷ [])) 42 [] 100 1000
+        ≡ showing (At 0 (scalars (0 ∷ [])) ∷ At 2 (scalars (5 ∷ [])) ∷ On 7 1 (scalars (5 ∷ [])) ∷ []) (Ended 7) }
+    ensures changes_before_edges { look (at_two (set 0 (whole 10) ∷ []) (plain_edge Urgent 2 (one_over_zero ∷ []) ∷ [])) 42 [] 100 1000
+        ≡ showing (At 0 (scalars (0 ∷ [])) ∷ []) (Faulted 2 faults.RangeOutside) }
+{}
+
+/// The values that an edge carries go into the parameters of its vertex, each into its own, as the event comes.
+pub fn carried_values_arrive()
+    ensures in_order { look (taking_two (ranged (codes "X") 0 9 0) (ranged (codes "Y") 0 9 0) (plain_edge (Schedule (Fixed (whole 3)) 5) 1 (two_numbers 7 8) ∷ [])) 42 (pos 1 ∷ pos 2 ∷ []) 100 1000
+        ≡ showing (At 0 (scalars (2 ∷ 1 ∷ [])) ∷ On 3 2 (scalars (7 ∷ 8 ∷ [])) ∷ At 3 (scalars (7 ∷ 8 ∷ [])) ∷ []) (Ended 3) }
+    ensures clipped { look (taking_two (clipped (ranged (codes "X") 0 9 0)) (ranged (codes "Y") 0 9 0) (plain_edge Urgent 1 (two_numbers 7 12) ∷ [])) 42 (pos 1 ∷ pos 2 ∷ []) 100 1000
+        ≡ showing (On 0 2 (scalars (7 ∷ 9 ∷ [])) ∷ At 0 (scalars (7 ∷ 9 ∷ [])) ∷ []) (Ended 0) }
 {}
 
 /// A cancelling edge takes events of its own vertex alone, however soon the others are due.

@@ -1,18 +1,13 @@
 -- What a measure tells of a run.
-use Rattle.std.specs.Prelude.{◌≡◌, ℕ, ◌-◌, List, [], ◌++◌, length, codes, decimal}
+use Rattle.std.specs.Prelude.{◌≡◌, ℕ, List, [], ◌++◌, length, codes, decimal}
 use Rattle.model_core.specs.EventGraph.{EventGraph}
 use Rattle.model_core.specs.Run.History.{look}
 use Rattle.model_core.specs.Text.HistoryText.{fault_word}
 use Rattle.watch_trace.specs.declared.outcome.Outcome.{Outcome}
 use Rattle.watch_trace.specs.declared.outcome.Outcome.TheVariants as outcomes
 use Rattle.watch_trace.specs.Following.{outcome_of}
-use Rattle.trial_report.specs.StepsMade.{events_occurred}
+use Rattle.trial_report.specs.StepsMade.{steps_of_run}
 use Rattle.trial_report.specs.declared.run_measure.RunMeasure.{RunMeasure}
-
--- how many events occurred in so many turns: none in one that faults
-abbrev pub occurred_in : ℕ → Outcome → ℕ
-occurred_in turns (outcomes.Faulted time kind) = turns - 1
-occurred_in turns other = turns
 
 -- how a run of this outcome stands, as words
 abbrev pub standing_text : ℕ → ℕ → Outcome → List ℕ
@@ -27,8 +22,8 @@ abbrev pub measure_line : List ℕ → ℕ → ℕ → RunMeasure → List ℕ
 measure_line name until events m =
     name ++ codes " " ++ standing_text until events m.outcome ++ codes " events " ++ decimal m.events ++ codes " notes " ++ decimal m.notes ++ codes "\n"
 
--- it tells how the run of the graph stands, how many events occurred, and how many notes there are
+-- it tells how the run of the graph stands, how many steps it made, and how many notes there are
 pub record Tells (g : EventGraph) (seed until events : ℕ) (m : RunMeasure) : Type 0 where
   pub outcome : m.outcome ≡ outcome_of (look g seed [] until events).standing
-  pub occurred : m.events ≡ events_occurred g seed [] until events
+  pub made : m.events ≡ steps_of_run g seed [] until events
   pub noted : m.notes ≡ length (look g seed [] until events).history

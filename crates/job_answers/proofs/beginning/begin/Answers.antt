@@ -2,7 +2,12 @@ use Rattle.model_core.specs.Code.Views.{graph_of}
 use Rattle.job_answers.proofs.beginning.begin.Goals as goal
 
 -- a valid model can be run
-pub begin-requires-clause-possible : goal.begin-requires-clause-possible
-begin-requires-clause-possible g c =
-    let kept = (c.validity_is_by_parts.ensures.by_parts (graph_of c.args.model.now)).0 c.requires.valid in
+pub check_starts-requires : goal.check_starts-requires
+check_starts-requires c =
+    let kept = (c.validity_is_by_parts.ensures.by_parts (graph_of c.args.model.now)).0 c.requires in
+    c.kept_models_can_be_run.ensures (graph_of c.args.model.now) kept.0 kept.1
+
+pub begin-requires-2-clause-possible : goal.begin-requires-2-clause-possible
+begin-requires-2-clause-possible c =
+    let kept = (c.validity_is_by_parts.ensures.by_parts (graph_of c.args.model.now)).0 c.requires in
     c.kept_models_can_be_run.ensures (graph_of c.args.model.now) kept.0 kept.1

@@ -4,7 +4,7 @@ use Rattle.model_core.specs.Code.Views.{graph_of, expression_of}
 use Rattle.range_infer.specs.declared.left_range.LeftRange.{LeftRange}
 use Rattle.model_core.specs.Ranges.Incoming.{assigned}
 use Rattle.range_infer.specs.Inner.Overlaid.{ranges_left}
-use Rattle.range_infer.proofs.AssignedBeside.{one_beside}
+use Rattle.range_infer.proofs.AssignedBeside.{one_assigned}
 use Rattle.range_infer.proofs.collecting.add_parameters.Goals as goal
 
 pub loop-place-preserved : goal.loop-place-preserved
@@ -15,6 +15,6 @@ loop-place-preserved c =
     let v = slice_index_or c.args.params.now p 0 in
     let added = c.in_ok-add_value_at.ensures.out ∙ ap (λ (left : List LeftRange). c.loop-place.out.items ++ assigned (ranges_left g c.args.ranges.now left) (v ∷ []) (drop p es)) c.loop-place.invariant.left in
     record {
-      out = one_beside (ranges_left g c.args.ranges.now c.args.left.now.items) c.args.params.now es p v c.loop-place.out.items c.add_value_at.new.out.items _ c.loop-place-test.true refl added c.loop-place.invariant.out;
+      out = one_assigned (ranges_left g c.args.ranges.now c.args.left.now.items) c.args.params.now es p v c.loop-place.out.items c.add_value_at.new.out.items _ c.loop-place-test.true refl added c.loop-place.invariant.out;
       left = c.in_ok-add_value_at.ensures.left ∙ c.loop-place.invariant.left;
     }

@@ -5,7 +5,7 @@ use Rattle.model_core.specs.Code.Views.{graph_of, location_of, expression_of}
 use Rattle.range_infer.specs.declared.left_range.LeftRange.{LeftRange}
 use Rattle.model_core.specs.Ranges.Incoming.{assigned}
 use Rattle.range_infer.specs.Inner.Overlaid.{ranges_left}
-use Rattle.range_infer.proofs.AssignedBeside.{one_beside, target_at, many_targets}
+use Rattle.range_infer.proofs.AssignedBeside.{one_assigned, target_at, many_targets}
 use Rattle.range_infer.proofs.collecting.add_targets.Goals as goal
 
 pub loop-place-preserved : goal.loop-place-preserved
@@ -18,6 +18,6 @@ loop-place-preserved c =
     let small : p < length vars = omega (arith, c.loop-place-test.true, many_targets c.args.targets.now) in
     let added = c.in_ok-add_value_at.ensures.out ∙ ap (λ (left : List LeftRange). c.loop-place.out.items ++ assigned (ranges_left g c.args.ranges.now left) (t.var ∷ []) (drop p es)) c.loop-place.invariant.left in
     record {
-      out = one_beside (ranges_left g c.args.ranges.now c.args.left.now.items) vars es p t.var c.loop-place.out.items c.add_value_at.new.out.items _ small (target_at c.args.targets.now p t c.loop-place-test.true c.index-targets-place.is) added c.loop-place.invariant.out;
+      out = one_assigned (ranges_left g c.args.ranges.now c.args.left.now.items) vars es p t.var c.loop-place.out.items c.add_value_at.new.out.items _ small (target_at c.args.targets.now p t c.loop-place-test.true c.index-targets-place.is) added c.loop-place.invariant.out;
       left = c.in_ok-add_value_at.ensures.left ∙ c.loop-place.invariant.left;
     }

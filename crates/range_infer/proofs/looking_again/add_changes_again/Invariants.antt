@@ -7,6 +7,6 @@ use Rattle.range_infer.proofs.looking_again.add_changes_again.Given as goal
 
 abbrev pub invariant-loop-place : goal.invariant-loop-place
 invariant-loop-place l = record {
-  out : l.out.items ≡ l.initial.out.items ++ flat_map (change_again (graph_of l.model) (ranges_left (graph_of l.model) l.ranges l.initial.left.items) l.moved) (map change_of (take l.place l.changes));
+  out : l.out.items ≡ l.initial.out.items ++ flat_map (change_again (ranges_left (graph_of l.model) l.ranges l.initial.left.items) l.moved) (map change_of (take l.place l.changes));
   left : l.left.items ≡ l.initial.left.items;
 }

@@ -180,3 +180,35 @@ returns-clause-bad_start c = λ text line g reads is. (
   ),
   inr refl,
 )
+
+pub returns-clause-finished : goal.returns-clause-finished
+returns-clause-finished c = λ text line g reads is. (
+  line,
+  (
+    jobs.Save 10 0 5 [],
+    refl,
+    record {
+      answer = record { text = text; told = refl; answers = inr (reads.fits, inr (g, reads, sym is)) };
+      input_read = nothing_past TEXT_MAX text reads.fits;
+      input_steady = refl;
+      output_untouched = refl;
+    },
+  ),
+  inr refl,
+)
+
+pub returns-clause-too_large : goal.returns-clause-too_large
+returns-clause-too_large c = λ text line g reads is. (
+  line,
+  (
+    jobs.Save 10 0 5 [],
+    refl,
+    record {
+      answer = record { text = text; told = refl; answers = inr (reads.fits, inr (g, reads, sym is)) };
+      input_read = nothing_past TEXT_MAX text reads.fits;
+      input_steady = refl;
+      output_untouched = refl;
+    },
+  ),
+  inr refl,
+)

@@ -1,0 +1,39 @@
+-- By how much a merge of a vertex with the target of its plain urgent edge makes the canonical text longer: it gets the lines
+-- of what the target does, and loses that of the edge.
+use Rattle.std.specs.Prelude.{ℕ, ◌-◌, ◌^◌, cond, List, ◌++◌, length, min, Option, Some, None}
+use Rattle.std.specs.List.{flat_map}
+use Rattle.std.specs.Option.{option_map_or}
+use Rattle.model_core.specs.EventGraph.{EventGraph, EventVertex, EventEdge}
+use Rattle.model_core.specs.Run.Step.{vertex_at}
+use Rattle.model_core.specs.Text.Canonical.{change_line, edge_line}
+use Rattle.model_core.specs.Rules.UrgentEdges.{plain_urgent_edge}
+use Rattle.model_core.specs.Rules.Merge.{set_parameters}
+use Rattle.merge_rules.specs.PairStanding.{pair_fits}
+use Rattle.merge_rules.specs.declared.growth.Growth.{Growth}
+
+-- the lines of a vertex's changes and edges
+abbrev pub body_lines : EventGraph → EventVertex → List ℕ
+body_lines g v = flat_map (change_line g) v.changes ++ flat_map (edge_line g) v.edges
+
+-- the lines by which another vertex does what the target of this edge does once it has taken the edge's values
+abbrev pub lines_taken_over : EventGraph → EventEdge → List ℕ
+lines_taken_over g e = flat_map (change_line g) (set_parameters (vertex_at g e.target).parameters e.values) ++ body_lines g (vertex_at g e.target)
+
+-- how many bytes the merge adds to the text, and how many it takes from it
+abbrev pub bytes_added : EventGraph → ℕ → ℕ
+bytes_added g first = option_map_or (λ e. length (lines_taken_over g e)) (plain_urgent_edge (vertex_at g first)) 0
+
+abbrev pub bytes_gone : EventGraph → ℕ → ℕ
+bytes_gone g first = option_map_or (λ e. length (edge_line g e)) (plain_urgent_edge (vertex_at g first)) 0
+
+-- a number of bytes, or 2^64 - 1 where there are more
+abbrev pub capped : ℕ → ℕ
+capped n = min n (2 ^ 64 - 1)
+
+-- both numbers
+abbrev pub growth : EventGraph → ℕ → Growth
+growth g first = record { added = capped (bytes_added g first); gone = capped (bytes_gone g first) }
+
+-- where the two fit
+abbrev pub pair_growth : EventGraph → ℕ → Option Growth
+pair_growth g first = cond (pair_fits g first) (Some (growth g first)) None

@@ -1,0 +1,6 @@
+-- The run is one of the model, and has made at most as many steps as there were.
+use Rattle.std.proofs.Common.{◌≡◌, ◌≤◌}
+use Rattle.run_tests.proofs.parts.turns_with_one_more.Given as goal
+
+abbrev pub invariant-loop-i : goal.invariant-loop-i
+invariant-loop-i g l = (l.more.model ≡ l.model) × (l.more.turns ≤ l.i)

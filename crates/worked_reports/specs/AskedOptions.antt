@@ -1,0 +1,20 @@
+-- Options of runs that are saved, and saved runs that are to go on.
+use Rattle.std.specs.Prelude.{ℕ, ℤ, List, replicate}
+use Rattle.command_words.specs.declared.resume_options.ResumeOptions.{ResumeOptions}
+use Rattle.command_words.specs.declared.save_options.SaveOptions.{SaveOptions}
+use Rattle.model_core.specs.Saved.SavedRun.{SavedRun}
+use Rattle.worked_runs.specs.SavedExamples.{due, saved_clock}
+
+abbrev pub saving : ℕ → ℕ → ℕ → List ℤ → SaveOptions
+saving until seed events starts = record { until = until; seed = seed; events = events; starts = starts }
+
+abbrev pub resuming : ℕ → ℕ → ℕ → ResumeOptions
+resuming until events room = record { until = until; events = events; room = room }
+
+-- the clock at 5, after so many events
+abbrev pub after_events : ℕ → SavedRun
+after_events events = record saved_clock { events = events }
+
+-- the clock at 5, with so many events pending at 10
+abbrev pub with_many_pending : ℕ → SavedRun
+with_many_pending count = record saved_clock { pending = replicate count (due 10 5 0) }

@@ -1,0 +1,6 @@
+pub mod Gauge
+pub mod GaugeRuns
+pub mod ShelfReport
+pub mod DescribedModels
+pub mod CommandLines
+pub mod AskedOptions

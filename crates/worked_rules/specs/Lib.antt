@@ -1,0 +1,12 @@
+pub mod MeetingModels
+pub mod UsingModels
+pub mod PartsAlike
+pub mod TwinHalves
+pub mod Halves
+pub mod RangedModels
+pub mod BoundedParts
+pub mod UrgentModels
+pub mod NeedHalves
+pub mod EdgeModels
+pub mod PerformedEvents
+pub mod GraphsApart
