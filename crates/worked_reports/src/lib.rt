@@ -37,4 +37,4 @@ pub use tallies::{
     occurrences_are_counted, runs_end_at_a_time, runs_have_tallies,
 };
 pub use totals::{items_are_added_up, runs_are_totalled, spans_are_joined};
-pub use trials::{events_are_counted, models_have_sizes, trials_have_summaries};
+pub use trials::{models_have_sizes, steps_are_counted, trials_have_summaries};
