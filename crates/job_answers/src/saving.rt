@@ -1,11 +1,10 @@
 //! `save`: a run of a model, stopped while it goes on, as a document of the model and of what is kept of the run.
 
-ghost use Rattle.std.specs.Prelude.{◌≡◌, ◌<◌, ◌≤◌, ◌^◌, ℕ, ℤ, List, length, IfOk};
+ghost use Rattle.std.specs.Prelude.{◌≡◌, ◌<◌, ◌≤◌, ◌^◌, ℕ, ℤ, List, IfOk};
 ghost use Rattle.model_core.specs.Saved.SavedRun.{IsGood};
 ghost use Rattle.model_core.specs.Static.Reading.{IsValid};
 ghost use Rattle.model_core.specs.Code.Views.{graph_of};
 ghost use Rattle.run_control.specs.Beginning.{BegunRun};
-ghost use Rattle.job_answers.specs.AnswerForms.{done};
 ghost use Rattle.job_answers.specs.Delivery.{DeliversSome};
 ghost use Rattle.job_answers.specs.SaveAnswer.{run_finished, snapshot_too_long, saved_document, unless_too_long, saving_answer, save_answer};
 ghost use Rattle.job_answers.specs.declared.answer.Answer.TheVariants.{Refused as IsRefused};

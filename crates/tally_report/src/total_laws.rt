@@ -1,6 +1,6 @@
 //! Laws of totals. The functions do nothing: what they ensure holds of all runs.
 
-ghost use Rattle.std.specs.Prelude.{◌≡◌, ◌++◌, ◌∷◌, [], ◌≤◌, ◌^◌, ℕ, ℤ, List, Option, All, length};
+ghost use Rattle.std.specs.Prelude.{◌≡◌, ◌++◌, ◌∷◌, [], ◌≤◌, ℕ, ℤ, List, Option, All, length};
 ghost use Rattle.std.specs.Int.RustNames.{FitsSigned};
 ghost use mir.Syntax.{w128};
 ghost use Rattle.sig_base.specs.declared.limits.TheConstants.{RUNS_MAX};

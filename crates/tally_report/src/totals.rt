@@ -1,6 +1,6 @@
 //! The totals of many runs of a model.
 
-ghost use Rattle.std.specs.Prelude.{◌≡◌, ◌<◌, ◌*◌, All, IfOk};
+ghost use Rattle.std.specs.Prelude.{◌≡◌, ◌<◌, All, IfOk};
 ghost use Rattle.sig_base.specs.declared.limits.TheConstants.{RUNS_MAX};
 ghost use Rattle.model_core.specs.Code.Views.{graph_of};
 ghost use Rattle.tally_report.specs.SmallAreas.{IsOfRuns};
@@ -23,7 +23,7 @@ pub struct Totals {
 }
 
 impl Model for Totals {
-    ghost use Rattle.std.specs.Prelude.{◌≤◌, All};
+    ghost use Rattle.std.specs.Prelude.{All};
     ghost use Rattle.tally_report.specs.SmallAreas.{IsOfRuns};
     ghost use Rattle.tally_report.specs.Totalling.{RunTotals};
 

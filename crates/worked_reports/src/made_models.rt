@@ -1,7 +1,7 @@
 //! The model that a number makes: the four forms of a vertex, and a whole model.
 
-ghost use Rattle.std.specs.Prelude.{◌≡◌, pos, [], ◌∷◌, codes};
-ghost use Rattle.model_core.specs.EventGraph.{Scalar, Below, AtLeast, Above, Truth, WatchedVariable};
+ghost use Rattle.std.specs.Prelude.{◌≡◌, [], ◌∷◌, codes};
+ghost use Rattle.model_core.specs.EventGraph.{Scalar, Below, AtLeast, Above, WatchedVariable};
 ghost use Rattle.model_gen.specs.Generated.{counter, gap, picked_below, vertex_by, generated_vertex, generated};
 ghost use Rattle.worked_runs.specs.Building.{ranged, clipped, whole, set, draw, schedule, urgent, only_if, event, plus_one, scalar_is};
 

@@ -1,6 +1,6 @@
 //! A small report, worked out by hand, and the rows of single items.
 
-ghost use Rattle.std.specs.Prelude.{◌≡◌, ◌++◌, pos, negsuc, true, false, ◌∷◌, [], codes};
+ghost use Rattle.std.specs.Prelude.{◌≡◌, ◌++◌, pos, negsuc, ◌∷◌, [], codes};
 ghost use Rattle.tally_report.specs.declared.item.Item.TheVariants as items;
 ghost use Rattle.tally_report.specs.declared.run_tally.RunEnd.TheVariants as ends;
 ghost use Rattle.tally_report.specs.Totalling.{totals_of};

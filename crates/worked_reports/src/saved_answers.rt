@@ -2,7 +2,6 @@
 
 ghost use Rattle.std.specs.Prelude.{◌≡◌, ◌+◌, ◌++◌, ℕ, pos, neg_ℤ, List, [], ◌∷◌, Some, None, codes, length};
 ghost use Rattle.sig_base.specs.declared.fault.FaultKind.TheVariants as faults;
-ghost use Rattle.sig_base.specs.declared.limits.TheConstants.{DOCUMENT_MAX};
 ghost use Rattle.model_core.specs.Run.Machine.{Ended, Stopped, Faulted, Going};
 ghost use Rattle.job_answers.specs.declared.answer.Answer.TheVariants.{Given, Refused};
 ghost use Rattle.job_answers.specs.declared.status.End.TheVariants as ends;

@@ -1,8 +1,8 @@
 //! The summary of a model that a number makes, and what it counts.
 
-ghost use Rattle.std.specs.Prelude.{◌≡◌, ◌++◌, [], ◌∷◌, codes};
+ghost use Rattle.std.specs.Prelude.{◌≡◌, ◌++◌, [], codes};
 ghost use Rattle.trial_report.specs.StepsMade.{steps_of_run};
-ghost use Rattle.trial_report.specs.TrialText.{edges_in, size_line, applications_line, without_feed, run_line, summary, Summarises};
+ghost use Rattle.trial_report.specs.TrialText.{edges_in, size_line, applications_line, without_feed, run_line, summary};
 ghost use Rattle.worked_runs.specs.Models.{clock, strict_clock, loop, bank};
 
 /// All edges of all vertices count.

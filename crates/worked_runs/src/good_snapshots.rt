@@ -6,7 +6,7 @@ ghost use Rattle.model_core.specs.Saved.GoodSnapshots.{bad_at, saved_run};
 ghost use Rattle.worked_runs.specs.HarbourModel.{harbour, harbour_watching};
 ghost use Rattle.worked_runs.specs.HarbourRuns.{two_events, two_events_saved, bare_saved};
 ghost use Rattle.worked_runs.specs.WrittenParts.{figure, huge, plain_figure, minus_figure, plain_huge, minus_huge};
-ghost use Rattle.worked_runs.specs.WrittenSnapshots.{stream_part, words_of, value_part, noted_part, carried, minus_carried, event_part, numbered_so, bare, with_streams, with_two_streams, with_values, with_n, with_flags, with_z, with_noted, with_pending, with_run_at, with_a, with_event_of, bad_stream, bad_value, bad_noted, bad_event};
+ghost use Rattle.worked_runs.specs.WrittenSnapshots.{stream_part, words_of, value_part, carried, minus_carried, event_part, numbered_so, bare, with_streams, with_two_streams, with_values, with_n, with_flags, with_z, with_noted, with_pending, with_run_at, with_a, with_event_of, bad_stream, bad_value, bad_noted, bad_event};
 
 /// The two parts of the seed are below 2^32, the clock is at most 2^48, and the events are at most 2^40. A number above 2^63 - 1 is
 /// none of these.

@@ -1,6 +1,6 @@
 //! What is saved of a run, how it goes on, and the order in which pending events are saved.
 
-ghost use Rattle.std.specs.Prelude.{◌≡◌, pos, neg_ℤ, [], ◌∷◌, Some, None};
+ghost use Rattle.std.specs.Prelude.{◌≡◌, pos, [], ◌∷◌, Some};
 ghost use Rattle.model_core.specs.EventGraph.{WatchedVariable, WatchedVertex};
 ghost use Rattle.model_core.specs.Run.Machine.{At, Stopped, Going};
 ghost use Rattle.model_core.specs.Saved.Cells.{cells_declared, watched_sizes, cut_up, in_one_list, cell_variables, variables_watched};

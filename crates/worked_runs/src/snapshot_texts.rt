@@ -1,7 +1,6 @@
 //! The text of a snapshot: a line for each part, in order.
 
-ghost use Rattle.std.specs.Prelude.{◌≡◌, ◌++◌, [], Some, None, codes};
-ghost use Rattle.model_core.specs.EventGraph.{EventGraph};
+ghost use Rattle.std.specs.Prelude.{◌≡◌, ◌++◌, [], Some, codes};
 ghost use Rattle.model_core.specs.Text.SnapshotText.{snapshot_text};
 ghost use Rattle.worked_runs.specs.HarbourModel.{harbour};
 ghost use Rattle.worked_runs.specs.HarbourRuns.{two_events_saved, bare_saved};

@@ -1,6 +1,6 @@
 //! The grammar of a snapshot: what texts spell, and where they are refused.
 
-ghost use Rattle.std.specs.Prelude.{◌++◌, [], ◌∷◌, Some, None, codes};
+ghost use Rattle.std.specs.Prelude.{◌++◌, [], codes};
 ghost use Rattle.model_core.specs.Text.SnapshotGrammar.{snapshot_format};
 ghost use Rattle.worked_runs.specs.GrammarTexts.{IsSpelled};
 ghost use Rattle.worked_runs.specs.SnapshotTexts.{IsNoSnapshotText};
