@@ -18,11 +18,11 @@ office_variables =
     ∷ record (bounded_by (codes "SIZE") (negsuc 6) (pos 6)) { initial = pos 2 }
     ∷ truth_variable (codes "SHUT") ∷ []
 
-abbrev pub is_open : Expression
-is_open = Scalar 0
+abbrev pub door_is_open : Expression
+door_is_open = Scalar 0
 
-abbrev pub size : Expression
-size = Scalar 3
+abbrev pub room_size : Expression
+room_size = Scalar 3
 
 -- its edges come in an order of their own, and to all three events
 abbrev pub enter : EventVertex
@@ -30,30 +30,30 @@ enter = record {
   name = codes "ENTER";
   parameters = 3 ∷ 0 ∷ [];
   changes =
-      Set (at_cell 1 (whole 0) ∷ at_variable 3 ∷ at_variable 0 ∷ []) (Binary Add size (whole 1) ∷ minus 2 ∷ Not is_open ∷ [])
+      Set (at_cell 1 (whole 0) ∷ at_variable 3 ∷ at_variable 0 ∷ []) (Binary Add room_size (whole 1) ∷ minus 2 ∷ Not door_is_open ∷ [])
       ∷ Draw (at_variable 3) 54 (Uniform (negsuc 0) (pos 6))
-      ∷ Draw (at_cell 1 (Binary Add size (whole 1))) 7 (ByTable 1)
+      ∷ Draw (at_cell 1 (Binary Add room_size (whole 1))) 7 (ByTable 1)
       ∷ Set (at_variable 3 ∷ []) (Clock ∷ []) ∷ [];
   edges =
-      edge_when (Schedule (Fixed (whole 0)) 3) 0 (whole 1 ∷ Not is_open ∷ []) (Binary Or (Binary Below (Cell 1 (whole 2)) (minus 1)) is_open)
-      ∷ edge_when (Schedule (Fixed (Binary Add size (whole 2))) 5) 1 [] (Truth true)
-      ∷ edge_when (Schedule (Drawn 54 (Uniform (pos 1) (pos 6))) 5) 0 (size ∷ Truth true ∷ []) (Truth false)
+      edge_when (Schedule (Fixed (whole 0)) 3) 0 (whole 1 ∷ Not door_is_open ∷ []) (Binary Or (Binary Below (Cell 1 (whole 2)) (minus 1)) door_is_open)
+      ∷ edge_when (Schedule (Fixed (Binary Add room_size (whole 2))) 5) 1 [] (Truth true)
+      ∷ edge_when (Schedule (Drawn 54 (Uniform (pos 1) (pos 6))) 5) 0 (room_size ∷ Truth true ∷ []) (Truth false)
       ∷ edge_when (Schedule (Drawn 7 (ByTable 0)) 9) 2 (whole 4 ∷ []) (Truth true)
-      ∷ edge_when (Schedule (Drawn 0 (ByTable 1)) 255) 1 [] is_open
-      ∷ edge_when Urgent 0 (size ∷ Truth true ∷ []) (Truth true)
-      ∷ edge_when Urgent 1 [] (Not is_open) ∷ [];
+      ∷ edge_when (Schedule (Drawn 0 (ByTable 1)) 255) 1 [] door_is_open
+      ∷ edge_when Urgent 0 (room_size ∷ Truth true ∷ []) (Truth true)
+      ∷ edge_when Urgent 1 [] (Not door_is_open) ∷ [];
 }
 
-abbrev pub leave : EventVertex
-leave = record {
+abbrev pub leaving : EventVertex
+leaving = record {
   name = codes "LEAVE";
   parameters = [];
   changes = [];
   edges =
       edge_when CancelNext 0 [] (Truth true)
-      ∷ edge_when CancelNext 1 [] is_open
-      ∷ edge_when CancelEqual 0 (whole 1 ∷ is_open ∷ []) is_open
-      ∷ edge_when CancelEqual 2 (size ∷ []) (Truth true)
+      ∷ edge_when CancelNext 1 [] door_is_open
+      ∷ edge_when CancelEqual 0 (whole 1 ∷ door_is_open ∷ []) door_is_open
+      ∷ edge_when CancelEqual 2 (room_size ∷ []) (Truth true)
       ∷ edge_when CancelAll 1 [] (Truth true)
       ∷ edge_when CancelAll 2 [] (Truth false) ∷ [];
 }
@@ -66,7 +66,7 @@ office = record {
       record { name = codes "LOAD"; rows = record { value = negsuc 0; weight = 3 } ∷ record { value = pos 6; weight = 1 } ∷ [] }
       ∷ record { name = codes "GAP"; rows = record { value = pos 2; weight = 5 } ∷ [] } ∷ [];
   watch = WatchedVariable 3 ∷ WatchedVertex 2 ∷ WatchedVariable 1 ∷ [];
-  vertices = enter ∷ leave ∷ takes (3 ∷ []) (event (codes "CLOSE") [] []) ∷ [];
+  vertices = enter ∷ leaving ∷ takes (3 ∷ []) (event (codes "CLOSE") [] []) ∷ [];
 }
 
 abbrev pub declared_sentences : List ℕ

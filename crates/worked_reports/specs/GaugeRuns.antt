@@ -14,12 +14,12 @@ use Rattle.worked_reports.specs.Gauge.{gauged}
 abbrev pub from : ℕ → ℤ → ValueSince
 from since value = record { since = since; value = value }
 
-abbrev pub span : ℤ → ℤ → ℤ → Span
-span least greatest last = record { least = least; greatest = greatest; last = last }
+abbrev pub spanning : ℤ → ℤ → ℤ → Span
+spanning least greatest last = record { least = least; greatest = greatest; last = last }
 
 -- a cell with these values, or with none
 abbrev pub cell : ℤ → ℤ → ℤ → ℤ → Item
-cell least greatest last area = items.Cell (Some (span least greatest last)) area
+cell least greatest last area = items.Cell (Some (spanning least greatest last)) area
 
 abbrev pub no_value : ℤ → Item
 no_value area = items.Cell None area

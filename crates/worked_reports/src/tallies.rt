@@ -8,7 +8,7 @@ ghost use Rattle.tally_report.specs.declared.run_tally.RunEnd.TheVariants as end
 ghost use Rattle.tally_report.specs.CellCourse.{cells_noted, value_noted, course, span_of, area_of};
 ghost use Rattle.tally_report.specs.Tallying.{CellAt, VertexAt, items_reported, occurrences, run_end, end_time, tally_of};
 ghost use Rattle.worked_reports.specs.Gauge.{gauge, gauged};
-ghost use Rattle.worked_reports.specs.GaugeRuns.{from, span, cell, no_value, gauge_notes, gauge_seen, told};
+ghost use Rattle.worked_reports.specs.GaugeRuns.{from, spanning, cell, no_value, gauge_notes, gauge_seen, told};
 
 /// There is an item for each cell of each watched variable and for each watched vertex, in the order of the watch list, also for an
 /// array of one cell. A note's values are those of the watched variables alone.
@@ -33,11 +33,11 @@ pub fn cells_have_courses()
 /// The least, the greatest and the last value, wherever each stands in the course.
 pub fn courses_have_spans()
     ensures none { span_of [] ≡ None }
-    ensures one { span_of (from 3 (pos 5) ∷ []) ≡ Some (span (pos 5) (pos 5) (pos 5)) }
-    ensures rising { span_of (from 3 (negsuc 1) ∷ from 4 (pos 5) ∷ []) ≡ Some (span (negsuc 1) (pos 5) (pos 5)) }
-    ensures falling { span_of (from 3 (pos 5) ∷ from 4 (negsuc 1) ∷ []) ≡ Some (span (negsuc 1) (pos 5) (negsuc 1)) }
-    ensures up_and_down { span_of (from 0 (pos 3) ∷ from 4 (negsuc 1) ∷ from 5 (pos 7) ∷ from 9 (pos 1) ∷ []) ≡ Some (span (negsuc 1) (pos 7) (pos 1)) }
-    ensures first_of_both { span_of (from 0 (negsuc 3) ∷ from 4 (pos 0) ∷ from 5 (negsuc 1) ∷ []) ≡ Some (span (negsuc 3) (pos 0) (negsuc 1)) }
+    ensures one { span_of (from 3 (pos 5) ∷ []) ≡ Some (spanning (pos 5) (pos 5) (pos 5)) }
+    ensures rising { span_of (from 3 (negsuc 1) ∷ from 4 (pos 5) ∷ []) ≡ Some (spanning (negsuc 1) (pos 5) (pos 5)) }
+    ensures falling { span_of (from 3 (pos 5) ∷ from 4 (negsuc 1) ∷ []) ≡ Some (spanning (negsuc 1) (pos 5) (negsuc 1)) }
+    ensures up_and_down { span_of (from 0 (pos 3) ∷ from 4 (negsuc 1) ∷ from 5 (pos 7) ∷ from 9 (pos 1) ∷ []) ≡ Some (spanning (negsuc 1) (pos 7) (pos 1)) }
+    ensures first_of_both { span_of (from 0 (negsuc 3) ∷ from 4 (pos 0) ∷ from 5 (negsuc 1) ∷ []) ≡ Some (spanning (negsuc 3) (pos 0) (negsuc 1)) }
 {}
 
 /// Each value counts for as long as it holds: up to the next one, and the last one up to the end.

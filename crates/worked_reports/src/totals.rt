@@ -5,16 +5,16 @@ ghost use Rattle.tally_report.specs.declared.item.Item.TheVariants as items;
 ghost use Rattle.tally_report.specs.declared.run_tally.RunEnd.TheVariants as ends;
 ghost use Rattle.tally_report.specs.Totalling.{spans_joined, item_added, items_added, no_totals, with_run, totals_of};
 ghost use Rattle.worked_reports.specs.Gauge.{gauge};
-ghost use Rattle.worked_reports.specs.GaugeRuns.{span, cell, no_value, told, totalled};
+ghost use Rattle.worked_reports.specs.GaugeRuns.{spanning, cell, no_value, told, totalled};
 
 /// The least and the greatest value of both, whichever has them, and the last one of the later; a run without values adds none.
 pub fn spans_are_joined()
     ensures none { spans_joined None None ≡ None }
-    ensures first_alone { spans_joined (Some (span (pos 1) (pos 5) (pos 3))) None ≡ Some (span (pos 1) (pos 5) (pos 3)) }
-    ensures second_alone { spans_joined None (Some (span (pos 1) (pos 5) (pos 3))) ≡ Some (span (pos 1) (pos 5) (pos 3)) }
-    ensures first_has_both { spans_joined (Some (span (negsuc 1) (pos 9) (pos 3))) (Some (span (pos 1) (pos 5) (pos 4))) ≡ Some (span (negsuc 1) (pos 9) (pos 4)) }
-    ensures second_has_both { spans_joined (Some (span (pos 1) (pos 5) (pos 4))) (Some (span (negsuc 1) (pos 9) (pos 3))) ≡ Some (span (negsuc 1) (pos 9) (pos 3)) }
-    ensures each_has_one { spans_joined (Some (span (pos 0) (pos 5) (pos 4))) (Some (span (pos 1) (pos 9) (pos 2))) ≡ Some (span (pos 0) (pos 9) (pos 2)) }
+    ensures first_alone { spans_joined (Some (spanning (pos 1) (pos 5) (pos 3))) None ≡ Some (spanning (pos 1) (pos 5) (pos 3)) }
+    ensures second_alone { spans_joined None (Some (spanning (pos 1) (pos 5) (pos 3))) ≡ Some (spanning (pos 1) (pos 5) (pos 3)) }
+    ensures first_has_both { spans_joined (Some (spanning (negsuc 1) (pos 9) (pos 3))) (Some (spanning (pos 1) (pos 5) (pos 4))) ≡ Some (spanning (negsuc 1) (pos 9) (pos 4)) }
+    ensures second_has_both { spans_joined (Some (spanning (pos 1) (pos 5) (pos 4))) (Some (spanning (negsuc 1) (pos 9) (pos 3))) ≡ Some (spanning (negsuc 1) (pos 9) (pos 3)) }
+    ensures each_has_one { spans_joined (Some (spanning (pos 0) (pos 5) (pos 4))) (Some (spanning (pos 1) (pos 9) (pos 2))) ≡ Some (spanning (pos 0) (pos 9) (pos 2)) }
 {}
 
 /// Areas and counts are summed up, each item with the same one of the next run.

@@ -10,11 +10,11 @@ one_variable = record { name = codes "X"; size = 2; kind = kinds.Range; lo = pos
 abbrev pub one_table : WeightTable
 one_table = record { name = codes "T"; rows = record { value = pos 1; weight = 2 } ∷ record { value = pos 3; weight = 4 } ∷ [] }
 
-abbrev pub one_vertex : EventVertex
-one_vertex = takes (0 ∷ []) (event (codes "RUN") (set 0 (whole 1) ∷ []) (schedule 0 (whole 2) ∷ []))
+abbrev pub plain_vertex : EventVertex
+plain_vertex = takes (0 ∷ []) (event (codes "RUN") (set 0 (whole 1) ∷ []) (schedule 0 (whole 2) ∷ []))
 
 abbrev pub plain_graph : EventGraph
-plain_graph = record { name = codes "G"; variables = one_variable ∷ []; tables = one_table ∷ []; watch = WatchedVariable 0 ∷ []; vertices = one_vertex ∷ [] }
+plain_graph = record { name = codes "G"; variables = one_variable ∷ []; tables = one_table ∷ []; watch = WatchedVariable 0 ∷ []; vertices = plain_vertex ∷ [] }
 
 abbrev pub with_variable : Variable → EventGraph
 with_variable v = record plain_graph { variables = v ∷ [] }
@@ -47,9 +47,9 @@ graphs_apart =
     record plain_graph { watch = WatchedVariable 1 ∷ [] } ∷
     record plain_graph { watch = WatchedVertex 1 ∷ [] } ∷
     record plain_graph { watch = [] } ∷
-    with_vertex (record one_vertex { name = codes "GO" }) ∷
-    with_vertex (record one_vertex { parameters = 1 ∷ [] }) ∷
-    with_vertex (record one_vertex { changes = set 0 (whole 2) ∷ [] }) ∷
-    with_vertex (record one_vertex { edges = schedule 0 (whole 3) ∷ [] }) ∷
-    record plain_graph { vertices = one_vertex ∷ one_vertex ∷ [] } ∷
+    with_vertex (record plain_vertex { name = codes "GO" }) ∷
+    with_vertex (record plain_vertex { parameters = 1 ∷ [] }) ∷
+    with_vertex (record plain_vertex { changes = set 0 (whole 2) ∷ [] }) ∷
+    with_vertex (record plain_vertex { edges = schedule 0 (whole 3) ∷ [] }) ∷
+    record plain_graph { vertices = plain_vertex ∷ plain_vertex ∷ [] } ∷
     []

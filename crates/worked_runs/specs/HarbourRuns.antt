@@ -13,8 +13,8 @@ abbrev pub taken_from_three : ℕ → ℕ → ℕ → List ℕ
 taken_from_three first second third = slice_set (slice_set (slice_set (replicate 64 0) 0 first) 54 second) 63 third
 
 -- the seed is 3 * 2^32 + 7, and the event that is next stands last
-abbrev pub two_events : WrittenSnapshot
-two_events = record (numbered_so (figure 3 14) (figure 7 16) (figure 5 24) (figure 2 37)) {
+abbrev pub two_pending : WrittenSnapshot
+two_pending = record (numbered_so (figure 3 14) (figure 7 16) (figure 5 24) (figure 2 37)) {
   streams = words_of 40 0 4 ∷ words_of 50 54 2 ∷ words_of 55 63 9 ∷ [];
   values = value_part 60 (codes "N") (minus_figure 3 68 ∷ []) ∷ value_part 70 (codes "FLAGS") (plain_figure 1 82 ∷ plain_figure 0 84 ∷ []) ∷ value_part 90 (codes "Z") (plain_figure 12 98 ∷ []) ∷ [];
   noted = Some (noted_part 120 (plain_figure 0 126 ∷ plain_figure 1 128 ∷ minus_figure 2 130 ∷ []));

@@ -5,8 +5,8 @@ use Rattle.worked_runs.specs.WrittenParts.{spelled, figure, huge, plain_figure, 
 use Rattle.worked_runs.specs.WrittenSnapshots.{stream_part, noted_part, carried, minus_carried}
 
 -- a snapshot up to where its streams begin
-abbrev pub front : List ℕ
-front = codes "snapshot seed 1 2 clk 3 events 4 "
+abbrev pub until_streams : List ℕ
+until_streams = codes "snapshot seed 1 2 clk 3 events 4 "
 
 -- that front and `end`
 abbrev pub shortest : WrittenSnapshot
@@ -28,7 +28,7 @@ shortest = record {
 -- two parts of each kind that may stand more than once, with leading zeros and blanks where they may be
 abbrev pub each_part_text : List ℕ
 each_part_text =
-    front ++ codes "stream 007 1 stream 3 2\nvalue N -5 value A 1 , -0,02 noted 1,-1\n"
+    until_streams ++ codes "stream 007 1 stream 3 2\nvalue N -5 value A 1 , -0,02 noted 1,-1\n"
     ++ codes "pending 3 5 RUN pending 0 255 B ( -9223372036854775808 , 9223372036854775807)end"
 
 abbrev pub each_part : WrittenSnapshot

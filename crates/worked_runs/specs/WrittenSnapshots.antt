@@ -59,12 +59,12 @@ numbered_so seed rest clock events = record {
 abbrev pub bare : WrittenSnapshot
 bare = numbered_so (figure 0 14) (figure 0 16) (figure 0 24) (figure 0 37)
 
-abbrev pub with_streams : List WrittenStream → WrittenSnapshot
-with_streams streams = record bare { streams = streams }
+abbrev pub taking_streams : List WrittenStream → WrittenSnapshot
+taking_streams streams = record bare { streams = streams }
 
 -- two streams, each of which gave a word
 abbrev pub with_two_streams : ℕ → ℕ → WrittenSnapshot
-with_two_streams first second = with_streams (words_of 40 first 1 ∷ words_of 50 second 1 ∷ [])
+with_two_streams first second = taking_streams (words_of 40 first 1 ∷ words_of 50 second 1 ∷ [])
 
 abbrev pub with_values : List WrittenValue → WrittenSnapshot
 with_values values = record bare { values = values }

@@ -4,9 +4,9 @@ ghost use Rattle.std.specs.Prelude.{◌≡◌, [], ◌∷◌, Some, None, codes}
 ghost use Rattle.model_core.specs.EventGraph.{WatchedVertex};
 ghost use Rattle.model_core.specs.Saved.GoodSnapshots.{bad_at, saved_run};
 ghost use Rattle.worked_runs.specs.HarbourModel.{harbour, harbour_watching};
-ghost use Rattle.worked_runs.specs.HarbourRuns.{two_events, two_events_saved, bare_saved};
+ghost use Rattle.worked_runs.specs.HarbourRuns.{two_pending, two_events_saved, bare_saved};
 ghost use Rattle.worked_runs.specs.WrittenParts.{figure, huge, plain_figure, minus_figure, plain_huge, minus_huge};
-ghost use Rattle.worked_runs.specs.WrittenSnapshots.{stream_part, words_of, value_part, carried, minus_carried, event_part, numbered_so, bare, with_streams, with_two_streams, with_values, with_n, with_flags, with_z, with_noted, with_pending, with_run_at, with_a, with_event_of, bad_stream, bad_value, bad_noted, bad_event};
+ghost use Rattle.worked_runs.specs.WrittenSnapshots.{stream_part, words_of, value_part, carried, minus_carried, event_part, numbered_so, bare, taking_streams, with_two_streams, with_values, with_n, with_flags, with_z, with_noted, with_pending, with_run_at, with_a, with_event_of, bad_stream, bad_value, bad_noted, bad_event};
 
 /// The two parts of the seed are below 2^32, the clock is at most 2^48, and the events are at most 2^40. A number above 2^63 - 1 is
 /// none of these.
@@ -29,15 +29,15 @@ pub fn streams_rise()
     ensures first_and_last { bad_at harbour (with_two_streams 0 63) ≡ None }
     ensures next_to_one_another { bad_at harbour (with_two_streams 62 63) ≡ None }
     ensures beyond { bad_at harbour (with_two_streams 63 64) ≡ Some 50 }
-    ensures too_large { bad_at harbour (with_streams (stream_part 40 (huge 47) (figure 1 70) ∷ [])) ≡ Some 40 }
+    ensures too_large { bad_at harbour (taking_streams (stream_part 40 (huge 47) (figure 1 70) ∷ [])) ≡ Some 40 }
     ensures twice { bad_at harbour (with_two_streams 54 54) ≡ Some 50 }
     ensures falling { bad_at harbour (with_two_streams 54 53) ≡ Some 50 }
     ensures falling_to_the_first { bad_at harbour (with_two_streams 54 0) ≡ Some 50 }
-    ensures falling_later { bad_at harbour (with_streams (words_of 40 3 1 ∷ words_of 50 7 1 ∷ words_of 55 6 1 ∷ [])) ≡ Some 55 }
-    ensures most_words { bad_at harbour (with_streams (words_of 40 54 4503599627370496 ∷ [])) ≡ None }
-    ensures one_word_too_many { bad_at harbour (with_streams (words_of 40 54 4503599627370497 ∷ [])) ≡ Some 40 }
-    ensures no_word { bad_at harbour (with_streams (words_of 40 54 0 ∷ [])) ≡ Some 40 }
-    ensures words_too_large { bad_at harbour (with_streams (stream_part 40 (figure 54 47) (huge 50) ∷ [])) ≡ Some 40 }
+    ensures falling_later { bad_at harbour (taking_streams (words_of 40 3 1 ∷ words_of 50 7 1 ∷ words_of 55 6 1 ∷ [])) ≡ Some 55 }
+    ensures most_words { bad_at harbour (taking_streams (words_of 40 54 4503599627370496 ∷ [])) ≡ None }
+    ensures one_word_too_many { bad_at harbour (taking_streams (words_of 40 54 4503599627370497 ∷ [])) ≡ Some 40 }
+    ensures no_word { bad_at harbour (taking_streams (words_of 40 54 0 ∷ [])) ≡ Some 40 }
+    ensures words_too_large { bad_at harbour (taking_streams (stream_part 40 (figure 54 47) (huge 50) ∷ [])) ≡ Some 40 }
 {}
 
 /// There is one `value` part for each variable, in order. Where one is missing at the end, the `end` is told; one too many, or with
@@ -129,8 +129,8 @@ pub fn the_first_bad_part_is_told()
 /// A good snapshot stands for its numbers, the words of each stream, the values in order, and the events in order: the time of each is
 /// the clock and its ticks.
 pub fn good_snapshots_stand_for_runs()
-    ensures is_good { bad_at harbour two_events ≡ None }
-    ensures stands { saved_run harbour two_events ≡ two_events_saved }
+    ensures is_good { bad_at harbour two_pending ≡ None }
+    ensures stands { saved_run harbour two_pending ≡ two_events_saved }
     ensures bare_is_good { bad_at harbour bare ≡ None }
     ensures of_a_bare_one { saved_run harbour bare ≡ bare_saved }
     ensures nothing_watched { (saved_run harbour (with_noted [])).noted ≡ Some [] }

@@ -8,7 +8,7 @@ ghost use Rattle.model_core.specs.Static.VersionFaults.{is_version_two, number_f
 ghost use Rattle.model_core.specs.Static.ModelFaults.{told_fault};
 ghost use Rattle.worked_runs.specs.Building.{whole, schedule, urgent};
 ghost use Rattle.worked_runs.specs.DrawnModels.{after_draw, one_to_six};
-ghost use Rattle.worked_runs.specs.LargeTexts.{of_targets, of_parameters, everything, later_parts};
+ghost use Rattle.worked_runs.specs.LargeTexts.{of_targets, of_parameters, everything, parts_behind};
 ghost use Rattle.worked_runs.specs.VersionTexts.{array_at, saying, second, of_sizes};
 ghost use Rattle.worked_runs.specs.WrittenModels.{n_variable};
 ghost use Rattle.worked_runs.specs.WrittenParts.{figure, huge, sized, static_fault};
@@ -69,11 +69,11 @@ pub fn texts_say_a_version_where_they_need_it()
     ensures cells { needs_version_two (of_sizes 4097 0 0) ≡ true }
     ensures parameters { needs_version_two (of_sizes 0 9 0) ≡ true }
     ensures targets { needs_version_two (of_sizes 0 0 9) ≡ true }
-    ensures later_array { needs_version_two (later_parts 4097 0 0 []) ≡ true }
-    ensures later_parameters { needs_version_two (later_parts 4096 9 8 []) ≡ true }
-    ensures later_targets { needs_version_two (later_parts 4096 8 9 []) ≡ true }
-    ensures later_delay { needs_version_two (later_parts 4096 8 8 (schedule 0 (whole 1) ∷ after_draw 0 one_to_six ∷ [])) ≡ true }
-    ensures nothing_later { needs_version_two (later_parts 4096 8 8 (schedule 0 (whole 1) ∷ urgent 0 ∷ [])) ≡ false }
+    ensures later_array { needs_version_two (parts_behind 4097 0 0 []) ≡ true }
+    ensures later_parameters { needs_version_two (parts_behind 4096 9 8 []) ≡ true }
+    ensures later_targets { needs_version_two (parts_behind 4096 8 9 []) ≡ true }
+    ensures later_delay { needs_version_two (parts_behind 4096 8 8 (schedule 0 (whole 1) ∷ after_draw 0 one_to_six ∷ [])) ≡ true }
+    ensures nothing_later { needs_version_two (parts_behind 4096 8 8 (schedule 0 (whole 1) ∷ urgent 0 ∷ [])) ≡ false }
     ensures without { canonical (of_sizes 4 0 1) ≡ codes "model W;\nvar A[4] : 0..9 = 0;\nvertex RUN {\n  set A := 1;\n}\nend\n" }
     ensures line { canonical (of_sizes 5000 0 1) ≡ codes "version 2;\nmodel W;\nvar A[5000] : 0..9 = 0;\nvertex RUN {\n  set A := 1;\n}\nend\n" }
 {}
