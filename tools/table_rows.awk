@@ -94,7 +94,7 @@ function moments_of_rows(   i, all, first, second) {
     got_deviation = sqrt(second / all)
 }
 
-# The table, with most weight first, since a draw looks at the rows from the top.
+# The table, with most weight first.
 function table_text(name,   i, k, gap, v, w, text) {
     for (gap = int(rows / 2); gap > 0; gap = int(gap / 2)) {
         for (i = gap + 1; i <= rows; i++) {

@@ -75,10 +75,8 @@ fn table(alloc: Global) -> Result<Table, NoMemory> {
         value: 4,
         weight: 2,
     };
-    Ok(Table {
-        name: name(alloc, b"T")?,
-        rows: List::of_one(alloc, row)?,
-    })
+    let name = name(alloc, b"T")?;
+    Table::of_rows(alloc, name, List::of_one(alloc, row)?)
 }
 
 /// A model of one variable, one table and one vertex.

@@ -60,7 +60,7 @@ fn weighted(alloc: Global) -> Result<Table, NoMemory>
     rows.push(twenty)?;
     rows.push(thirty)?;
     let name = Name::from_vec(Vec::new(alloc));
-    Ok(Table { name, rows })
+    Table::of_rows(alloc, name, rows)
 }
 
 /// A draw by a table from stream 54; 0 where over 100 words were taken.
@@ -79,6 +79,41 @@ fn rows_of_a_table_have_shares_by_their_weights(rt: HostRuntime) -> Result<(), F
     let mut streams = Streams::begin(42);
     // of six parts that are alike the words lie in 3 2 4 3 4 4 4 3 5 5 1 0
     for value in [30, 20, 30, 30, 30, 30, 30, 30, 30, 30, 10, 10] {
+        assert_eq!(rt; drawn_by(&mut streams, &table), value);
+    }
+    Ok(())
+}
+
+/// The values from 0 to 255, each with weight 1.
+fn many_rows(alloc: Global) -> Result<List<Row>, NoMemory>
+    ensures { IfOk result (λ rows. sum (map (λ r. r.weight) rows) ≤ 256) }
+{
+    let mut rows = Vec::new(alloc);
+    for value in 0..256_u64 {
+        let row = Row {
+            value: value as i64,
+            weight: 1,
+        };
+        rows.push(row)?;
+    }
+    Ok(List::from_vec(rows))
+}
+
+/// The table of these rows.
+fn many_values(alloc: Global) -> Result<Table, NoMemory>
+    ensures { IfOk result (λ table. sum (map (λ r. r.weight) table.rows) ≤ 256) }
+{
+    let rows = many_rows(alloc)?;
+    let name = Name::from_vec(Vec::new(alloc));
+    Table::of_rows(alloc, name, rows)
+}
+
+#[test]
+fn a_table_of_many_rows_is_drawn_from_by_its_words(rt: HostRuntime) -> Result<(), Fail> {
+    let table = many_values(rt.alloc())?;
+    let mut streams = Streams::begin(42);
+    // of 256 parts that are alike a word lies in that of its first byte
+    for value in [0xa1, 0x7b, 0xba, 0x83, 0xbf, 0xcb] {
         assert_eq!(rt; drawn_by(&mut streams, &table), value);
     }
     Ok(())

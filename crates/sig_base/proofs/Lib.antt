@@ -2,3 +2,4 @@ pub mod Lists
 pub mod SinkLemmas
 pub mod SourceLemmas
 pub mod DigitsTaken
+pub mod SumsSearched

@@ -4,3 +4,4 @@ pub mod Sink
 pub mod Memory
 pub mod Rows
 pub mod Stream
+pub mod RunningSums

@@ -47,7 +47,7 @@ pub use std_sink::StdSink;
 pub use std_source::StdSource;
 pub use steps::Steps;
 pub use sure_source::SureSource;
-pub use table::{Carried, Row, Table};
+pub use table::{Carried, Row, Table, share_of};
 pub use take_error::TakeError;
 pub use taking::take_all;
 pub use text::Text;

@@ -94,10 +94,7 @@ fn table(alloc: Global, raw: RawTable, told: &mut Told) -> Result<Table, NoMemor
     ensures { IfOk result (λ t. CheckedPlain told.old told.new (table_faults (written_table raw)) (numbering.table (written_table raw)) (table_of t)) }
 {
     let rows = rows_of(alloc, &raw, told)?;
-    Ok(Table {
-        name: raw.name.name,
-        rows,
-    })
+    Table::of_rows(alloc, raw.name.name, rows)
 }
 
 /// The tables of a model.
