@@ -10,11 +10,14 @@ use Rattle.command_words.specs.declared.job.Job.{Job}
 use Rattle.command_words.specs.declared.words_error.WordsError.{WordsError}
 use Rattle.command_words.specs.declared.words_error.WordsError.TheVariants as errors
 use Rattle.command_words.specs.Jobs.{job_of}
+use Rattle.command_words.specs.KeptLimits.{KeepsLimits}
+use Rattle.command_words.specs.Readings.{reading_of}
 use Rattle.command_words.specs.Inner.Asking.{Asked}
 use Rattle.command_words.specs.Inner.ClapCommand.{clap_rows, command_line, has_one_dash, option_names, rows_in, unless}
 use Rattle.command_words.specs.Inner.MatchedJobs.{matched_job}
 use Rattle.command_words.proofs.ClapLaw.{clap_is_simple}
 use Rattle.command_words.proofs.JobLaw.{matched_job_is}
+use Rattle.command_words.proofs.JobOptions.{job_in_limits}
 
 -- one option more
 pub option_more : (with_one : App → Text → App) (before after all : App) (names rest : List Text) (name : Text) → names ≡ name ∷ rest → after ≡ with_one before name
@@ -61,3 +64,7 @@ pub told_bad : (job asked : Option Job) (answer : Result Job WordsError) → job
 told_bad job asked (Ok j) is told bad = absurd (cc bad)
 told_bad job asked (Err errors.BadWords) is told bad = is ∙ told
 told_bad job asked (Err errors.NoMemory) is told bad = absurd (cc bad)
+
+pub told_within : (words : List Text) (answer : Result Job WordsError) → IfOk answer (λ j. job_of words ≡ Some j) → IfOk answer (λ j. KeepsLimits (reading_of j))
+told_within words (Ok j) is = job_in_limits words j is
+told_within words (Err e) is = tt

@@ -5,44 +5,43 @@ use Rattle.std.specs.List.{list_all, list_any}
 use Rattle.std.proofs.lemmas.Bool.Decides.{nat_tests}
 use Rattle.std.proofs.lemmas.Bool.{and_parts}
 use lib.Pointwise.{pointwise}
-use Rattle.clap.specs.Walk.{Row, Text, first_of}
-use Rattle.command_words.specs.declared.command.Command.{Command}
-use Rattle.command_words.specs.declared.command.Command.TheVariants as commands
+use Rattle.clap.specs.Walk.{Text, first_of}
 use Rattle.command_words.specs.declared.job.Job.{Job}
 use Rattle.command_words.specs.Arguments.{CommandWord, Setting, arguments_of, command_words, has_only_options, is_value, values_of}
-use Rattle.command_words.specs.Jobs.{command_of, job_asked, job_of, job_with, only_command, options_of, run_of, replicate_of, save_of, resume_of, trial_of}
+use Rattle.command_words.specs.Jobs.{OptionsFor, job_asked, job_of, only_word, options_of}
 use Rattle.command_words.specs.Inner.ClapCommand.{clap_rows, has_one_dash, option_names}
-use Rattle.command_words.specs.Inner.MatchedJobs.{asked_by, has_only, matched_job, matched_values}
+use Rattle.command_words.specs.Inner.MatchedJobs.{asked_by, has_only, matched_job}
 use Rattle.command_words.proofs.KnownRules.{itself, known, same_name}
 use Rattle.command_words.proofs.JoinedArguments.{Arguments, fits, joined, rows_for}
 use Rattle.command_words.proofs.ClapTakes.{rows_with}
 use Rattle.command_words.proofs.ClapLaw.{clap_answers}
 use Rattle.command_words.proofs.FittingArguments.{command_once, option_once, options_known}
-use Rattle.command_words.proofs.JobOptions.{asks, asks_fits, not_given}
+use Rattle.command_words.proofs.JobOptions.{Keeps, Sound, asks, asks_fits, not_given, options_sound}
 use Rattle.command_words.proofs.HyphenWords.{begins_with_hyphen, has_hyphen, no_hyphen-whole, one_dash-hyphen, whole-given}
 use Rattle.command_words.proofs.WholeArguments.{whole}
 
 -- ---- a word that begins with `-` is no command
 
-no_command : (word : List ℕ) → is_value word ≡ false → command_of word ≡ None
+no_command : (word : List ℕ) → is_value word ≡ false → options_of word ≡ None
 no_command [] hyphen = absurd (let wrong : true ≡ false = hyphen in cc)
 no_command (b ∷ rest) hyphen = go (nat_eq 45 b) refl
   where
-    go : (t : Bool) → nat_eq 45 b ≡ t → command_of (b ∷ rest) ≡ None
-    go true e = let is : 45 ≡ b = grind (arith, nat_tests) in subst (λ c. command_of (c ∷ rest) ≡ None) is refl
+    go : (t : Bool) → nat_eq 45 b ≡ t → options_of (b ∷ rest) ≡ None
+    go true e = let is : 45 ≡ b = grind (arith, nat_tests) in subst (λ c. options_of (c ∷ rest) ≡ None) is refl
     go false e = absurd (let wrong : true ≡ false = rw e at hyphen in cc)
 
-no_only_command : (words : List (List ℕ)) → list_any begins_with_hyphen words ≡ true → only_command words ≡ None
-no_only_command [] some = refl
-no_only_command (word ∷ []) some = no_command word (go (is_value word) some)
+-- nor is any of the words where one begins so
+no_word : (words : List (List ℕ)) → list_any begins_with_hyphen words ≡ true → option_and_then options_of (only_word words) ≡ None
+no_word [] some = refl
+no_word (word ∷ []) some = no_command word (go (is_value word) some)
   where
     go : (b : Bool) → (not b || false) ≡ true → b ≡ false
     go false e = refl
     go true e = sym e
-no_only_command (word ∷ other ∷ words) some = refl
+no_word (word ∷ other ∷ words) some = refl
 
 hyphen_no_job : (words : List (List ℕ)) → has_hyphen (arguments_of words) ≡ true → job_of words ≡ None
-hyphen_no_job words some = ap (λ command. job_asked command (arguments_of words)) (no_only_command (command_words (arguments_of words)) some)
+hyphen_no_job words some = ap (job_asked (arguments_of words)) (no_word (command_words (arguments_of words)) some)
 
 -- words with one dash are no job
 pub one_dash_no_job : (words : List (List ℕ)) → list_any has_one_dash words ≡ true → job_of words ≡ None
@@ -110,58 +109,42 @@ only_is options given fit = go (has_only_options options given) (has_only option
         (λ name here some. test (first_of name (rows_for given)) (known options name) (all_at passing option_names name e here) (λ none. some (values name here ∙ none)))
 
 -- the job of the arguments, by the rows of those that join
-run_is : (given : Arguments) (rows : List Row) → ((name : Text) → known option_names name ≡ true → values_of name given ≡ matched_values rows name) → run_of (λ name. values_of name given) ≡ run_of (matched_values rows)
-run_is given rows same = rw (same (codes "until") refl, same (codes "seed") refl, same (codes "events") refl, same (codes "start") refl, same (codes "room") refl) refl
+asked_is : (given : Arguments) → fits option_names [] given ≡ true → (o : Option (OptionsFor Job)) → IfSome o (λ options. Sound options Keeps) → job_asked given o ≡ asked_by o (rows_for given)
+asked_is given fit None sound = refl
+asked_is given fit (Some options) sound =
+    ap₂ (λ b j. cond b j None) (only_is options.names given fit)
+    (sound.same _ _ (λ name here. option_once option_names name refl here [] given fit))
 
-replicate_is : (given : Arguments) (rows : List Row) → ((name : Text) → known option_names name ≡ true → values_of name given ≡ matched_values rows name) → replicate_of (λ name. values_of name given) ≡ replicate_of (matched_values rows)
-replicate_is given rows same = rw (same (codes "until") refl, same (codes "seed") refl, same (codes "events") refl, same (codes "runs") refl, same (codes "start") refl) refl
+-- the options that the arguments' word names
+abbrev named : Arguments → Option (OptionsFor Job)
+named given = option_and_then options_of (only_word (command_words given))
 
-save_is : (given : Arguments) (rows : List Row) → ((name : Text) → known option_names name ≡ true → values_of name given ≡ matched_values rows name) → save_of (λ name. values_of name given) ≡ save_of (matched_values rows)
-save_is given rows same = rw (same (codes "until") refl, same (codes "seed") refl, same (codes "events") refl, same (codes "start") refl) refl
-
-resume_is : (given : Arguments) (rows : List Row) → ((name : Text) → known option_names name ≡ true → values_of name given ≡ matched_values rows name) → resume_of (λ name. values_of name given) ≡ resume_of (matched_values rows)
-resume_is given rows same = rw (same (codes "until") refl, same (codes "events") refl, same (codes "room") refl) refl
-
-trial_is : (given : Arguments) (rows : List Row) → ((name : Text) → known option_names name ≡ true → values_of name given ≡ matched_values rows name) → trial_of (λ name. values_of name given) ≡ trial_of (matched_values rows)
-trial_is given rows same = rw (same (codes "seed") refl, same (codes "vertices") refl, same (codes "until") refl, same (codes "events") refl) refl
-
-job_is : (command : Command) (given : Arguments) (rows : List Row) → ((name : Text) → known option_names name ≡ true → values_of name given ≡ matched_values rows name)
-    → job_with command (λ name. values_of name given) ≡ job_with command (matched_values rows)
-job_is commands.Run given rows same = run_is given rows same
-job_is commands.Replicate given rows same = replicate_is given rows same
-job_is commands.Save given rows same = save_is given rows same
-job_is commands.Resume given rows same = resume_is given rows same
-job_is commands.Trial given rows same = trial_is given rows same
-job_is _ given rows same = refl
-
-asked_is : (given : Arguments) → fits option_names [] given ≡ true → (o : Option Command) → job_asked o given ≡ asked_by o (rows_for given)
-asked_is given fit None = refl
-asked_is given fit (Some command) =
-    ap₂ (λ b j. cond b j None) (only_is (options_of command) given fit)
-    (job_is command given (rows_for given) (λ name here. option_once option_names name refl here [] given fit))
-
-fit_job : (given : Arguments) → fits option_names [] given ≡ true → job_asked (only_command (command_words given)) given ≡ matched_job (rows_for given)
+fit_job : (given : Arguments) → fits option_names [] given ≡ true → job_asked given (named given) ≡ matched_job (rows_for given)
 fit_job given fit =
-    ap (λ o. job_asked o given) (ap only_command (command_once option_names refl [] given fit) ∙ go (first_of (codes "command") (rows_for given)))
-    ∙ asked_is given fit (option_and_then command_of (first_of (codes "command") (rows_for given)))
+    ap (job_asked given) (ap (option_and_then options_of) (ap only_word (command_once option_names refl [] given fit) ∙ only (first_of (codes "command") (rows_for given))))
+    ∙ asked_is given fit _ (sound (first_of (codes "command") (rows_for given)))
   where
-    go : (o : Option Text) → only_command (option_to_list o) ≡ option_and_then command_of o
-    go None = refl
-    go (Some word) = refl
+    only : (o : Option Text) → only_word (option_to_list o) ≡ o
+    only None = refl
+    only (Some word) = refl
+
+    sound : (o : Option Text) → IfSome (option_and_then options_of o) (λ options. Sound options Keeps)
+    sound None = tt
+    sound (Some word) = options_sound word
 
 -- arguments that don't join ask for no job
-no_fit_job : (given : Arguments) → fits option_names [] given ≡ false → job_asked (only_command (command_words given)) given ≡ None
-no_fit_job given none = go (job_asked (only_command (command_words given)) given) refl
+no_fit_job : (given : Arguments) → fits option_names [] given ≡ false → job_asked given (named given) ≡ None
+no_fit_job given none = go (job_asked given (named given)) refl
   where
-    go : (o : Option Job) → job_asked (only_command (command_words given)) given ≡ o → o ≡ None
+    go : (o : Option Job) → job_asked given (named given) ≡ o → o ≡ None
     go None e = refl
     go (Some job) e = absurd (let wrong : false ≡ true = sym none ∙ asks_fits given job (asks given job e) in cc)
 
 -- the same of the words' arguments and what `clap` makes of them
-joined_job : (given : Arguments) → job_asked (only_command (command_words given)) given ≡ option_and_then matched_job (option_map rows_for (joined option_names [] given))
+joined_job : (given : Arguments) → job_asked given (named given) ≡ option_and_then matched_job (option_map rows_for (joined option_names [] given))
 joined_job given = go (fits option_names [] given) refl
   where
-    go : (b : Bool) → fits option_names [] given ≡ b → job_asked (only_command (command_words given)) given ≡ option_and_then matched_job (option_map rows_for (cond (fits option_names [] given) (Some given) None))
+    go : (b : Bool) → fits option_names [] given ≡ b → job_asked given (named given) ≡ option_and_then matched_job (option_map rows_for (cond (fits option_names [] given) (Some given) None))
     go true e = rw e (fit_job given e)
     go false e = rw e (no_fit_job given e)
 

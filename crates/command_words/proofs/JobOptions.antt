@@ -1,36 +1,47 @@
--- Arguments that ask for a job fit: its command takes each of their options, and none is given twice.
-use Rattle.std.proofs.Common.{◌≡◌, ◌∙◌, ◌&&◌, ◌≤◌, ℕ, ℤ, Bool, true, false, cond, nat_eq, bytes_eq, refl, sym, ap, ap₂, subst, arith, List, [], ◌∷◌, Option, Some, None, length}
-use Rattle.std.specs.List.{AllByRecursion, list_all}
-use Rattle.std.proofs.lemmas.Bool.{and_parts}
+-- Arguments that ask for a job fit: its command takes each of their options, and none is given twice. And the job keeps its
+-- limits, since the numbers of its options do.
+use Rattle.std.proofs.Common.{◌≡◌, ◌∙◌, ◌&&◌, ◌||◌, ◌≤◌, ◌⊎◌, ◌++◌, ◌^◌, ◌-◌, ℕ, ℤ, Bool, true, false, cond, nat_eq, bytes_eq, inl, inr, refl, sym, ap, ap₂, subst, arith, List, [], ◌∷◌, Option, Some, None, find, length, codes, option_and_then, option_map}
+use Rattle.std.specs.Prelude.{IfSome}
+use Rattle.std.specs.List.{AllByRecursion}
+use Rattle.std.proofs.lemmas.Bool.{and_parts, or_cases}
+use Rattle.std.proofs.lemmas.List.Folds.{list_any-append}
 use lib.Pointwise.{pointwise}
 use Rattle.clap.specs.Walk.{Text}
-use Rattle.command_words.specs.declared.command.Command.{Command}
-use Rattle.command_words.specs.declared.command.Command.TheVariants as commands
+use Rattle.sig_base.specs.declared.limits.TheConstants.{STOP_MAX, EVENTS_MAX, RUNS_MAX}
 use Rattle.command_words.specs.declared.job.Job.{Job}
-use Rattle.command_words.specs.Arguments.{CommandWord, Setting, command_words, has_only_options, values_of}
-use Rattle.command_words.specs.ArgumentValues.{besides, needed}
-use Rattle.command_words.specs.Jobs.{command_of, job_asked, job_with, only_command, options_of, run_with, replicate_with, save_with, resume_with, trial_with}
+use Rattle.command_words.specs.declared.job.Job.TheVariants as jobs
+use Rattle.command_words.specs.declared.run_options.TheConstants.{ROOM_MAX, ROOM_USUAL}
+use Rattle.command_words.specs.declared.trial_options.TheConstants.{VERTICES_MADE_MAX}
+use Rattle.command_words.specs.Arguments.{CommandWord, Setting, arguments_of, command_words, has_only_options, values_of}
+use Rattle.command_words.specs.ArgumentValues.{besides, needed, starting_values}
+use Rattle.command_words.specs.Jobs.{OptionsFor, Values, always, applied, ◌⊛◌, commands, job_asked, job_of, number_option, only_word, options_of, usual_option}
+use Rattle.command_words.specs.KeptLimits.{KeepsLimits}
+use Rattle.command_words.specs.Readings.{reading_of}
 use Rattle.command_words.specs.Inner.ClapCommand.{option_names}
 use Rattle.command_words.proofs.KnownRules.{known, same_name}
 use Rattle.command_words.proofs.JoinedArguments.{Arguments, fits}
 use Rattle.command_words.proofs.FittingArguments.{fit-fits}
+use Rattle.command_words.proofs.NumbersGiven.{IsFrom, besides_lies, needed_lies}
 
--- ---- the options of a command
+-- ---- names among others
 
-among_known : (names options : List Text) (name : Text) → list_all (known names) options ≡ true → known options name ≡ true → known names name ≡ true
-among_known names [] name all here = absurd (let wrong : false ≡ true = here in cc)
-among_known names (o ∷ options) name all here = go (pointwise nat_eq name o) refl (among_known names options name (and_parts (known names o) (list_all (known names) options) all).1)
+-- each name among these is among those
+abbrev Among : List Text → List Text → Type 0
+Among options names = (name : Text) → known options name ≡ true → known names name ≡ true
+
+alone : (other name : Text) → known (other ∷ []) name ≡ true → name ≡ other
+alone other name here = go (pointwise nat_eq name other) refl here
   where
-    go : (b : Bool) → pointwise nat_eq name o ≡ b → (known options name ≡ true → known names name ≡ true) → known names name ≡ true
-    go true e rest = ap (known names) (same_name name o e) ∙ (and_parts (known names o) (list_all (known names) options) all).0
-    go false e rest = rest (rw e at here)
+    go : (b : Bool) → pointwise nat_eq name other ≡ b → (b || false) ≡ true → name ≡ other
+    go true e is = same_name name other e
+    go false e is = absurd (cc is)
 
-wider : (names options : List Text) (given : Arguments) → list_all (known names) options ≡ true → has_only_options options given ≡ true → has_only_options names given ≡ true
-wider names options [] all only = refl
-wider names options (CommandWord word ∷ given) all only = wider names options given all only
-wider names options (Setting name value ∷ given) all only =
-    ap₂ (λ a b. a && b) (among_known names options name all (and_parts (known options name) (has_only_options options given) only).0)
-    (wider names options given all (and_parts (known options name) (has_only_options options given) only).1)
+wider : (names options : List Text) (given : Arguments) → Among options names → has_only_options options given ≡ true → has_only_options names given ≡ true
+wider names options [] among only = refl
+wider names options (CommandWord word ∷ given) among only = wider names options given among only
+wider names options (Setting name value ∷ given) among only =
+    ap₂ (λ a b. a && b) (among name (and_parts (known options name) (has_only_options options given) only).0)
+    (wider names options given among (and_parts (known options name) (has_only_options options given) only).1)
 
 pub not_given : (options : List Text) (name : Text) (given : Arguments) → has_only_options options given ≡ true → known options name ≡ false → values_of name given ≡ []
 not_given options name [] only none = refl
@@ -42,18 +53,25 @@ not_given options name (Setting other value ∷ given) only none =
     go false e rest = rw e rest
     go true e rest = absurd (let wrong : true ≡ false = sym (and_parts (known options other) (has_only_options options given) only).0 ∙ ap (known options) (same_name other name e) ∙ none in cc)
 
-command_options_known : (command : Command) → list_all (known option_names) (options_of command) ≡ true
-command_options_known commands.Run = refl
-command_options_known commands.Replicate = refl
-command_options_known commands.Save = refl
-command_options_known commands.Resume = refl
-command_options_known commands.Trial = refl
-command_options_known _ = refl
-
--- ---- how often a job's options are given
+-- ---- what is so of options
 
 abbrev Once : List Text → Type 0
 Once values = length values ≤ 1
+
+-- the same values are given to each option that there is
+abbrev pub SameValues : Values → Values → Type 0
+SameValues v w = (name : Text) → known option_names name ≡ true → v name ≡ w name
+
+-- There are such options; each is given once where they give something; what they give is seen of their values; and it is such.
+pub record Sound {A : Type 0} (options : OptionsFor A) (IsSuch : A → Type 0) : Type 0 where
+  pub are_known : Among options.names option_names
+  pub once : (values : Values) (a : A) → options.gives values ≡ Some a → (name : Text) → known options.names name ≡ true → Once (values name)
+  pub same : (v w : Values) → SameValues v w → options.gives v ≡ options.gives w
+  pub such : (values : Values) → IfSome (options.gives values) IsSuch
+
+-- options of which this is so
+abbrev SoundOptions : (A : Type 0) → (A → Type 0) → Type 0
+SoundOptions A IsSuch = (options : OptionsFor A) × Sound options IsSuch
 
 once_needed : {A : Type 0} (read : Text → Option A) (values : List Text) (a : A) → needed read values ≡ Some a → Once values
 once_needed read [] a e = absurd (let wrong : None ≡ Some a = e in cc)
@@ -65,115 +83,229 @@ once_besides usual read [] a e = omega arith
 once_besides usual read (v ∷ []) a e = omega arith
 once_besides usual read (v ∷ w ∷ values) a e = absurd (let wrong : None ≡ Some a = e in cc)
 
--- a run has a value of each kind
+sound_number : (option : Text) (lowest highest : ℕ) → known option_names option ≡ true → SoundOptions ℕ (IsFrom lowest highest)
+sound_number option lowest highest there = (
+  number_option option lowest highest,
+  record {
+    are_known = λ name here. subst (λ n. known option_names n ≡ true) (sym (alone option name here)) there;
+    once = λ values n e name here. subst (λ n. Once (values n)) (sym (alone option name here)) (once_needed _ (values option) n e);
+    same = λ v w e. ap (needed _) (e option there);
+    such = λ values. needed_lies lowest highest (values option);
+  },
+)
+
+sound_usual : {A : Type 0} (option : Text) (usual : A) (read : Text → Option A) (IsSuch : A → Type 0) → known option_names option ≡ true
+    → ((values : List Text) → IfSome (besides usual read values) IsSuch) → SoundOptions A IsSuch
+sound_usual option usual read IsSuch there such = (
+  usual_option option usual read,
+  record {
+    are_known = λ name here. subst (λ n. known option_names n ≡ true) (sym (alone option name here)) there;
+    once = λ values a e name here. subst (λ n. Once (values n)) (sym (alone option name here)) (once_besides usual read (values option) a e);
+    same = λ v w e. ap (besides usual read) (e option there);
+    such = λ values. such (values option);
+  },
+)
+
+-- no option at all
+sound_always : {A : Type 0} (IsSuch : A → Type 0) (a : A) → IsSuch a → SoundOptions A IsSuch
+sound_always IsSuch a such = (
+  always a,
+  record {
+    are_known = λ name here. absurd (cc here);
+    once = λ values b e name here. absurd (cc here);
+    same = λ v w e. refl;
+    such = λ values. such;
+  },
+)
+
+-- a value is there
 abbrev IsThere : {A : Type 0} → Option A → Type 0
 IsThere {A} o = (a : A) × (o ≡ Some a)
 
-run_parts : (until seed events : Option ℕ) (starts : Option (List ℤ)) (room : Option ℕ) (job : Job) → run_with until seed events starts room ≡ Some job
-    → IsThere until × IsThere seed × IsThere events × IsThere starts × IsThere room
-run_parts (Some until) (Some seed) (Some events) (Some starts) (Some room) job e = ((until, refl), (seed, refl), (events, refl), (starts, refl), (room, refl))
-run_parts None seed events starts room job e = absurd (let wrong : None ≡ Some job = e in cc)
-run_parts (Some until) None events starts room job e = absurd (let wrong : None ≡ Some job = e in cc)
-run_parts (Some until) (Some seed) None starts room job e = absurd (let wrong : None ≡ Some job = e in cc)
-run_parts (Some until) (Some seed) (Some events) None room job e = absurd (let wrong : None ≡ Some job = e in cc)
-run_parts (Some until) (Some seed) (Some events) (Some starts) None job e = absurd (let wrong : None ≡ Some job = e in cc)
+both_there : {A B : Type 0} (f : Option (A → B)) (a : Option A) (b : B) → applied f a ≡ Some b → IsThere f × IsThere a
+both_there (Some f) (Some a) b e = ((f, refl), (a, refl))
+both_there None a b e = absurd (let wrong : None ≡ Some b = e in cc)
+both_there (Some f) None b e = absurd (let wrong : None ≡ Some b = e in cc)
 
--- and so have replications
-replicate_parts : (until seed events runs : Option ℕ) (starts : Option (List ℤ)) (job : Job) → replicate_with until seed events runs starts ≡ Some job
-    → IsThere until × IsThere seed × IsThere events × IsThere runs × IsThere starts
-replicate_parts (Some until) (Some seed) (Some events) (Some runs) (Some starts) job e = ((until, refl), (seed, refl), (events, refl), (runs, refl), (starts, refl))
-replicate_parts None seed events runs starts job e = absurd (let wrong : None ≡ Some job = e in cc)
-replicate_parts (Some until) None events runs starts job e = absurd (let wrong : None ≡ Some job = e in cc)
-replicate_parts (Some until) (Some seed) None runs starts job e = absurd (let wrong : None ≡ Some job = e in cc)
-replicate_parts (Some until) (Some seed) (Some events) None starts job e = absurd (let wrong : None ≡ Some job = e in cc)
-replicate_parts (Some until) (Some seed) (Some events) (Some runs) None job e = absurd (let wrong : None ≡ Some job = e in cc)
+both_such : {A B : Type 0} (IsSuch : B → Type 0) (IsPart : A → Type 0) (f : Option (A → B)) (a : Option A)
+    → IfSome f (λ g. (x : A) → IsPart x → IsSuch (g x)) → IfSome a IsPart → IfSome (applied f a) IsSuch
+both_such IsSuch IsPart (Some g) (Some x) whole part = whole x part
+both_such IsSuch IsPart None a whole part = tt
+both_such IsSuch IsPart (Some g) None whole part = tt
 
--- and so has a run that is saved
-save_parts : (until seed events : Option ℕ) (starts : Option (List ℤ)) (job : Job) → save_with until seed events starts ≡ Some job → IsThere until × IsThere seed × IsThere events × IsThere starts
-save_parts (Some until) (Some seed) (Some events) (Some starts) job e = ((until, refl), (seed, refl), (events, refl), (starts, refl))
-save_parts None seed events starts job e = absurd (let wrong : None ≡ Some job = e in cc)
-save_parts (Some until) None events starts job e = absurd (let wrong : None ≡ Some job = e in cc)
-save_parts (Some until) (Some seed) None starts job e = absurd (let wrong : None ≡ Some job = e in cc)
-save_parts (Some until) (Some seed) (Some events) None job e = absurd (let wrong : None ≡ Some job = e in cc)
-
--- and so has a run that goes on
-resume_parts : (until events room : Option ℕ) (job : Job) → resume_with until events room ≡ Some job → IsThere until × IsThere events × IsThere room
-resume_parts (Some until) (Some events) (Some room) job e = ((until, refl), (events, refl), (room, refl))
-resume_parts None events room job e = absurd (let wrong : None ≡ Some job = e in cc)
-resume_parts (Some until) None room job e = absurd (let wrong : None ≡ Some job = e in cc)
-resume_parts (Some until) (Some events) None job e = absurd (let wrong : None ≡ Some job = e in cc)
-
--- and so has a trial
-trial_parts : (seed vertices until events : Option ℕ) (job : Job) → trial_with seed vertices until events ≡ Some job → IsThere seed × IsThere vertices × IsThere until × IsThere events
-trial_parts (Some seed) (Some vertices) (Some until) (Some events) job e = ((seed, refl), (vertices, refl), (until, refl), (events, refl))
-trial_parts None vertices until events job e = absurd (let wrong : None ≡ Some job = e in cc)
-trial_parts (Some seed) None until events job e = absurd (let wrong : None ≡ Some job = e in cc)
-trial_parts (Some seed) (Some vertices) None events job e = absurd (let wrong : None ≡ Some job = e in cc)
-trial_parts (Some seed) (Some vertices) (Some until) None job e = absurd (let wrong : None ≡ Some job = e in cc)
-
-job_options_once : (command : Command) (given : Arguments) (job : Job) → job_with command (λ name. values_of name given) ≡ Some job → AllByRecursion (λ name. Once (values_of name given)) (options_of command)
-job_options_once commands.Run given job e =
-    let (until, seed, events, starts, room) = run_parts _ _ _ _ _ job e in
-    (once_needed _ _ until.0 until.1, (once_needed _ _ seed.0 seed.1, (once_needed _ _ events.0 events.1, (once_besides _ _ _ starts.0 starts.1, (once_besides _ _ _ room.0 room.1, tt)))))
-job_options_once commands.Replicate given job e =
-    let (until, seed, events, runs, starts) = replicate_parts _ _ _ _ _ job e in
-    (once_needed _ _ until.0 until.1, (once_needed _ _ seed.0 seed.1, (once_needed _ _ events.0 events.1, (once_needed _ _ runs.0 runs.1, (once_besides _ _ _ starts.0 starts.1, tt)))))
-job_options_once commands.Save given job e =
-    let (until, seed, events, starts) = save_parts _ _ _ _ job e in
-    (once_needed _ _ until.0 until.1, (once_needed _ _ seed.0 seed.1, (once_needed _ _ events.0 events.1, (once_besides _ _ _ starts.0 starts.1, tt))))
-job_options_once commands.Resume given job e =
-    let (until, events, room) = resume_parts _ _ _ job e in
-    (once_needed _ _ until.0 until.1, (once_needed _ _ events.0 events.1, (once_besides _ _ _ room.0 room.1, tt)))
-job_options_once commands.Trial given job e =
-    let (seed, vertices, until, events) = trial_parts _ _ _ _ job e in
-    (once_needed _ _ seed.0 seed.1, (once_needed _ _ vertices.0 vertices.1, (once_needed _ _ until.0 until.1, (once_needed _ _ events.0 events.1, tt))))
-job_options_once _ given job e = tt
-
-one_of : (P : Text → Type 0) (options : List Text) (name : Text) → AllByRecursion P options → known options name ≡ true → P name
-one_of P [] name all here = absurd (let wrong : false ≡ true = here in cc)
-one_of P (o ∷ options) name all here = go (pointwise nat_eq name o) refl (one_of P options name all.1)
+-- one option behind others
+behind : {A B : Type 0} {IsPart : A → Type 0} {IsSuch : B → Type 0} → SoundOptions A IsPart → SoundOptions (A → B) (λ g. (x : A) → IsPart x → IsSuch (g x)) → SoundOptions B IsSuch
+behind {A} {B} {IsPart} {IsSuch} (a, second) (f, first) = (
+  f ⊛ a,
+  record {
+    are_known = λ name here. known_in name (by_part name here);
+    once = λ values b e name here. once values (both_there (f.gives values) (a.gives values) b e) name (by_part name here);
+    same = λ v w e. ap₂ applied (first.same v w e) (second.same v w e);
+    such = λ values. both_such IsSuch IsPart (f.gives values) (a.gives values) (first.such values) (second.such values);
+  },
+)
   where
-    go : (b : Bool) → pointwise nat_eq name o ≡ b → (known options name ≡ true → P name) → P name
-    go true e rest = subst P (sym (same_name name o e)) all.0
-    go false e rest = rest (rw e at here)
+    by_part : (name : Text) → known (f.names ++ a.names) name ≡ true → (known f.names name ≡ true) ⊎ (known a.names name ≡ true)
+    by_part name here = or_cases _ _ (sym (list_any-append (λ n. pointwise nat_eq name n) f.names a.names) ∙ here)
+
+    known_in : (name : Text) → (known f.names name ≡ true) ⊎ (known a.names name ≡ true) → known option_names name ≡ true
+    known_in name (inl here) = first.are_known name here
+    known_in name (inr here) = second.are_known name here
+
+    once : (values : Values) → IsThere (f.gives values) × IsThere (a.gives values) → (name : Text)
+        → (known f.names name ≡ true) ⊎ (known a.names name ≡ true) → Once (values name)
+    once values there name (inl here) = first.once values there.0.0 there.0.1 name here
+    once values there name (inr here) = second.once values there.1.0 there.1.1 name here
+
+-- ---- the options of each command
+
+abbrev until : SoundOptions ℕ (IsFrom 0 STOP_MAX)
+until = sound_number (codes "until") 0 STOP_MAX refl
+
+abbrev seed : SoundOptions ℕ (IsFrom 0 (2 ^ 64 - 1))
+seed = sound_number (codes "seed") 0 (2 ^ 64 - 1) refl
+
+abbrev events : SoundOptions ℕ (IsFrom 1 EVENTS_MAX)
+events = sound_number (codes "events") 1 EVENTS_MAX refl
+
+abbrev runs : SoundOptions ℕ (IsFrom 1 RUNS_MAX)
+runs = sound_number (codes "runs") 1 RUNS_MAX refl
+
+abbrev vertices : SoundOptions ℕ (IsFrom 1 VERTICES_MADE_MAX)
+vertices = sound_number (codes "vertices") 1 VERTICES_MADE_MAX refl
+
+abbrev room : SoundOptions ℕ (IsFrom 0 ROOM_MAX)
+room = sound_usual (codes "room") ROOM_USUAL _ _ refl (λ values. besides_lies ROOM_USUAL ROOM_MAX values (omega arith))
+
+anything : {A : Type 0} (o : Option A) → IfSome o (λ a. Unit {0})
+anything (Some a) = tt
+anything None = tt
+
+abbrev start : SoundOptions (List ℤ) (λ starts. Unit {0})
+start = sound_usual (codes "start") [] starting_values _ refl (λ values. anything _)
+
+-- what a job asks for keeps its limits
+abbrev pub Keeps : Job → Type 0
+Keeps job = KeepsLimits (reading_of job)
+
+bare : (job : Job) → Keeps job → Sound (always job) Keeps
+unfolding sound_always
+bare job keeps = (sound_always Keeps job keeps).1
+
+abbrev run : SoundOptions Job Keeps
+run = behind room (behind start (behind events (behind seed (behind until (sound_always _ jobs.Run (λ _ soon _ _ _ few _ _ _ _. (soon.1, few.1)))))))
+
+abbrev replicate : SoundOptions Job Keeps
+replicate = behind start (behind runs (behind events (behind seed (behind until (sound_always _ jobs.Replicate (λ _ soon _ _ _ few _ many _ _. (soon.1, few.1, many.0, many.1)))))))
+
+abbrev save : SoundOptions Job Keeps
+save = behind start (behind events (behind seed (behind until (sound_always _ jobs.Save (λ _ soon seed wide _ few _ _. (soon.1, omega (arith, wide.1), few.1))))))
+
+abbrev resume : SoundOptions Job Keeps
+resume = behind room (behind events (behind until (sound_always _ jobs.Resume (λ _ soon _ few _ roomy. (soon.1, few.1, roomy.1)))))
+
+abbrev trial : SoundOptions Job Keeps
+trial = behind events (behind until (behind vertices (behind seed (sound_always _ jobs.Trial (λ _ _ _ made _ soon _ few. (made.0, made.1, soon.1, few.1))))))
+
+commands_sound : AllByRecursion (λ command. Sound command.1 Keeps) commands
+unfolding behind sound_always sound_number sound_usual
+commands_sound = (
+  bare jobs.Check tt,
+  (
+    bare jobs.Print tt,
+    (
+      bare jobs.Reduce tt,
+      (
+        bare jobs.Certify tt,
+        (
+          bare jobs.Uses tt,
+          (
+            bare jobs.Conflicts tt,
+            (
+              bare jobs.Fuse tt,
+              (
+                bare jobs.Narrow tt,
+                (
+                  bare jobs.Describe tt,
+                  (run.1, (replicate.1, (save.1, (resume.1, (trial.1, tt))))),
+                ),
+              ),
+            ),
+          ),
+        ),
+      ),
+    ),
+  ),
+)
+
+-- what is so of the options of each command is so of those of the one that a word names
+abbrev named : Text → List (Text × OptionsFor Job) → Option (OptionsFor Job)
+named word table = option_map (λ command. command.1) (find (λ command. pointwise nat_eq word command.0) table)
+
+named_sound : (word : Text) (table : List (Text × OptionsFor Job)) → AllByRecursion (λ command. Sound command.1 Keeps) table → IfSome (named word table) (λ options. Sound options Keeps)
+named_sound word [] each = tt
+named_sound word (command ∷ table) each = by (pointwise nat_eq word command.0) (named_sound word table each.1)
+  where
+    by : (b : Bool) → IfSome (named word table) (λ options. Sound options Keeps)
+        → IfSome (option_map (λ c. c.1) (cond b (Some command) (find (λ c. pointwise nat_eq word c.0) table))) (λ options. Sound options Keeps)
+    by true rest = each.0
+    by false rest = rest
+
+pub options_sound : (word : Text) → IfSome (options_of word) (λ options. Sound options Keeps)
+options_sound word = named_sound word commands commands_sound
 
 -- no option is given twice
-given_once : (command : Command) (given : Arguments) (job : Job) (name : Text) → has_only_options (options_of command) given ≡ true → job_with command (λ name. values_of name given) ≡ Some job → Once (values_of name given)
-given_once command given job name only e = go (known (options_of command) name) refl
+given_once : (options : OptionsFor Job) (given : Arguments) (job : Job) (name : Text) → Sound options Keeps → has_only_options options.names given ≡ true
+    → options.gives (λ name. values_of name given) ≡ Some job → Once (values_of name given)
+given_once options given job name sound only e = go (known options.names name) refl
   where
-    go : (b : Bool) → known (options_of command) name ≡ b → Once (values_of name given)
-    go true here = one_of (λ n. Once (values_of n given)) (options_of command) name (job_options_once command given job e) here
-    go false none = subst Once (sym (not_given (options_of command) name given only none)) (omega arith)
+    go : (b : Bool) → known options.names name ≡ b → Once (values_of name given)
+    go true here = sound.once (λ name. values_of name given) job e name here
+    go false none = subst Once (sym (not_given options.names name given only none)) (omega arith)
 
 -- ---- arguments that ask for a job join
 
 pub record Asks (given : Arguments) (job : Job) : Type 0 where
-  pub command : Command
+  pub word : Text
+  pub options : OptionsFor Job
+  pub named : options_of word ≡ Some options
   pub one : length (command_words given) ≡ 1
-  pub only : has_only_options (options_of command) given ≡ true
-  pub asked : job_with command (λ name. values_of name given) ≡ Some job
+  pub only : has_only_options options.names given ≡ true
+  pub asked : options.gives (λ name. values_of name given) ≡ Some job
 
-pub asks : (given : Arguments) (job : Job) → job_asked (only_command (command_words given)) given ≡ Some job → Asks given job
+pub asks : (given : Arguments) (job : Job) → job_asked given (option_and_then options_of (only_word (command_words given))) ≡ Some job → Asks given job
 asks given job e = by_words (command_words given) refl e
   where
-    with_options : (command : Command) (b : Bool) → length (command_words given) ≡ 1 → has_only_options (options_of command) given ≡ b → cond b (job_with command (λ name. values_of name given)) None ≡ Some job → Asks given job
-    with_options command true one only is = record { command = command; one = one; only = only; asked = is }
-    with_options command false one only is = absurd (let wrong : None ≡ Some job = is in cc)
+    with_options : (word : Text) (options : OptionsFor Job) (b : Bool) → options_of word ≡ Some options → length (command_words given) ≡ 1 → has_only_options options.names given ≡ b
+        → cond b (options.gives (λ name. values_of name given)) None ≡ Some job → Asks given job
+    with_options word options true named one only is = record { word = word; options = options; named = named; one = one; only = only; asked = is }
+    with_options word options false named one only is = absurd (let wrong : None ≡ Some job = is in cc)
 
-    with_command : (o : Option Command) → length (command_words given) ≡ 1 → job_asked o given ≡ Some job → Asks given job
-    with_command None one is = absurd (let wrong : None ≡ Some job = is in cc)
-    with_command (Some command) one is = with_options command (has_only_options (options_of command) given) one refl is
+    with_word : (word : Text) (o : Option (OptionsFor Job)) → options_of word ≡ o → length (command_words given) ≡ 1 → job_asked given o ≡ Some job → Asks given job
+    with_word word None named one is = absurd (let wrong : None ≡ Some job = is in cc)
+    with_word word (Some options) named one is = with_options word options (has_only_options options.names given) named one refl is
 
-    by_words : (words : List (List ℕ)) → command_words given ≡ words → job_asked (only_command words) given ≡ Some job → Asks given job
+    by_words : (words : List Text) → command_words given ≡ words → job_asked given (option_and_then options_of (only_word words)) ≡ Some job → Asks given job
     by_words [] same is = absurd (let wrong : None ≡ Some job = is in cc)
-    by_words (word ∷ []) same is = with_command (command_of word) (ap length same) is
+    by_words (word ∷ []) same is = with_word word (options_of word) refl (ap length same) is
     by_words (word ∷ other ∷ words) same is = absurd (let wrong : None ≡ Some job = is in cc)
+
+sound_asked : (given : Arguments) (job : Job) (asked : Asks given job) → Sound asked.options Keeps
+sound_asked given job asked = subst (λ o. IfSome o (λ options. Sound options Keeps)) asked.named (options_sound asked.word)
 
 pub asks_fits : (given : Arguments) (job : Job) → Asks given job → fits option_names [] given ≡ true
 asks_fits given job asked = fit-fits option_names refl given [] (record {
-  known_options = wider option_names (options_of asked.command) given (command_options_known asked.command) asked.only;
-  once = λ name here. given_once asked.command given job name asked.only asked.asked;
+  known_options = wider option_names asked.options.names given sound.are_known asked.only;
+  once = λ name here. given_once asked.options given job name sound asked.only asked.asked;
   new = λ name here wrong. absurd (cc wrong);
   no_other = λ wrong. absurd (cc wrong);
   needed = λ _. asked.one;
 })
+  where
+    sound : Sound asked.options Keeps
+    sound = sound_asked given job asked
+
+pub job_in_limits : (words : List Text) (job : Job) → job_of words ≡ Some job → KeepsLimits (reading_of job)
+job_in_limits words job e =
+    let asked = asks (arguments_of words) job e in
+    subst (λ o. IfSome o Keeps) asked.asked ((sound_asked (arguments_of words) job asked).such (λ name. values_of name (arguments_of words)))

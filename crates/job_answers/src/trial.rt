@@ -3,7 +3,7 @@
 ghost use Rattle.std.specs.Prelude.{IfOk};
 ghost use Rattle.command_words.specs.declared.reading.BareJob.TheVariants.{Trial};
 ghost use Rattle.command_words.specs.declared.reading.Reading.TheVariants.{Nothing};
-ghost use Rattle.command_words.specs.Readings.{KeepsLimits};
+ghost use Rattle.command_words.specs.KeptLimits.{KeepsLimits};
 ghost use Rattle.job_answers.specs.TrialAnswer.{IsTrial};
 
 use crate::answer::Answer;

@@ -20,7 +20,8 @@ use Rattle.command_words.specs.declared.reading.Reading.TheVariants as readings
 use Rattle.command_words.specs.Jobs.{job_of}
 use Rattle.command_words.specs.declared.resume_options.ResumeOptions.{ResumeOptions}
 use Rattle.command_words.specs.declared.save_options.SaveOptions.{SaveOptions}
-use Rattle.command_words.specs.Readings.{reading_of, limit_of, KeepsLimits}
+use Rattle.command_words.specs.Readings.{reading_of, limit_of}
+use Rattle.command_words.specs.KeptLimits.{KeepsLimits}
 use Rattle.job_answers.specs.declared.answer.Answer.{Answer}
 use Rattle.job_answers.specs.declared.answer.Answer.TheVariants.{Given, Refused}
 use Rattle.job_answers.specs.declared.delivering.Said.{Said}

@@ -10,7 +10,8 @@ ghost use Rattle.command_words.specs.declared.reading.Reading.TheVariants.{Model
 ghost use Rattle.command_words.specs.declared.resume_options.ResumeOptions.{ResumeOptions};
 ghost use Rattle.command_words.specs.declared.save_options.SaveOptions.{SaveOptions};
 ghost use Rattle.command_words.specs.Jobs.{job_of};
-ghost use Rattle.command_words.specs.Readings.{reading_of, limit_of, KeepsLimits};
+ghost use Rattle.command_words.specs.Readings.{reading_of, limit_of};
+ghost use Rattle.command_words.specs.KeptLimits.{KeepsLimits};
 ghost use Rattle.model_core.specs.EventGraph.{EventGraph};
 ghost use Rattle.model_core.specs.Saved.SavedRun.{SavedRun};
 ghost use Rattle.model_core.specs.Static.Reading.{Reads};

@@ -4,9 +4,8 @@ use Rattle.std.specs.List.{list_all, list_any}
 use Rattle.std.specs.Option.{option_to_list}
 use lib.Pointwise.{pointwise}
 use Rattle.clap.specs.Words.{Row, Text, first_of}
-use Rattle.command_words.specs.declared.command.Command.{Command}
 use Rattle.command_words.specs.declared.job.Job.{Job}
-use Rattle.command_words.specs.Jobs.{command_of, job_with, options_of}
+use Rattle.command_words.specs.Jobs.{OptionsFor, options_of}
 use Rattle.command_words.specs.Inner.ClapCommand.{option_names}
 
 -- the values of an option
@@ -21,11 +20,11 @@ may_be_given options rows name = not (is_some (first_of name rows)) || list_any 
 abbrev pub has_only : List Text → List Row → Bool
 has_only options rows = list_all (may_be_given options rows) option_names
 
--- the job of a command, if it takes the options that are given
-abbrev pub asked_by : Option Command → List Row → Option Job
+-- the job that a command's options give, where no other option is given
+abbrev pub asked_by : Option (OptionsFor Job) → List Row → Option Job
 asked_by None rows = None
-asked_by (Some command) rows = if has_only (options_of command) rows then job_with command (matched_values rows) else None
+asked_by (Some options) rows = if has_only options.names rows then options.gives (matched_values rows) else None
 
 -- the job of the matches, if they are one
 abbrev pub matched_job : List Row → Option Job
-matched_job rows = asked_by (option_and_then command_of (first_of (codes "command") rows)) rows
+matched_job rows = asked_by (option_and_then options_of (first_of (codes "command") rows)) rows

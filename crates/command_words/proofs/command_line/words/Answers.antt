@@ -1,6 +1,6 @@
 use Rattle.std.proofs.Common.{◌∙◌, None, Some, ap, map, rules, string_bytes, sym}
 use Rattle.command_words.proofs.JobLaw.{one_dash_no_job}
-use Rattle.command_words.proofs.ClapCalls.{job_told, told_bad, told_ok}
+use Rattle.command_words.proofs.ClapCalls.{job_told, told_bad, told_ok, told_within}
 use Rattle.command_words.proofs.command_line.words.Goals as goal
 
 -- a word begins with one `-`
@@ -13,14 +13,18 @@ returns-in-Some-clause-ok c =
     told_ok _ _ c.matched_job.result
     (job_told (map string_bytes c.args.words.now) _ c.in_ok-matches.field-0 (Some c.in-Some.matches) (sym c.if-any_has_one_dash.false ∙ c.any_has_one_dash.ensures)
     (ap (map (λ w. w.now)) c.as_slice.ensures.value ∙ c.in_ok-named.ensures) c.in-Some.is c.in_ok-matches.ensures)
-    c.matched_job.ensures.asked
+    c.matched_job.ensures
+
+-- and so it keeps its limits
+pub returns-in-Some-clause-within : goal.returns-in-Some-clause-within
+returns-in-Some-clause-within c = told_within (map string_bytes c.args.words.now) c.matched_job.result (returns-in-Some-clause-ok c)
 
 pub returns-in-Some-clause-bad_words : goal.returns-in-Some-clause-bad_words
 returns-in-Some-clause-bad_words c =
     told_bad _ _ c.matched_job.result
     (job_told (map string_bytes c.args.words.now) _ c.in_ok-matches.field-0 (Some c.in-Some.matches) (sym c.if-any_has_one_dash.false ∙ c.any_has_one_dash.ensures)
     (ap (map (λ w. w.now)) c.as_slice.ensures.value ∙ c.in_ok-named.ensures) c.in-Some.is c.in_ok-matches.ensures)
-    c.matched_job.ensures.asked
+    c.matched_job.ensures
 
 -- there are no matches
 pub returns-clause-bad_words : goal.returns-clause-bad_words

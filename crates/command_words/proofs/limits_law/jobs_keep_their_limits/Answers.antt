@@ -1,4 +1,4 @@
-use Rattle.command_words.proofs.JobLimits.{job_in_limits}
+use Rattle.command_words.proofs.JobOptions.{job_in_limits}
 use Rattle.command_words.proofs.limits_law.jobs_keep_their_limits.Goals as goal
 
 pub returns : goal.returns

@@ -2,7 +2,7 @@ use Rattle.std.proofs.Common.{sym, subst}
 use Rattle.std.specs.Prelude.{map}
 use Rattle.std.specs.String.{string_bytes}
 use Rattle.command_words.specs.declared.reading.Reading.{Reading}
-use Rattle.command_words.specs.Readings.{KeepsLimits}
+use Rattle.command_words.specs.KeptLimits.{KeepsLimits}
 use Rattle.sigma_top.proofs.TopCall.{serves}
 use Rattle.sigma_top.proofs.frame.serve.Goals as goal
 
