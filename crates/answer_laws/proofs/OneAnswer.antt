@@ -15,9 +15,10 @@ use Rattle.job_answers.specs.declared.complaint.Complaint.{Complaint}
 use Rattle.job_answers.specs.AnswerForms.{refused, too_long}
 use Rattle.job_answers.specs.AnswerLaws.{DocumentParts, SavedParts, MayBeAsked, KeepsAnswerLaws}
 use Rattle.job_answers.specs.Answers.{AnswersModel, AnswersDocument, AnswersSaved, IsRefused, Responds, IsWithin, IsOver, Answers}
-use Rattle.job_answers.specs.Complaints.{IsComplaint, HasComplaint, message_of, byte_line}
-use Rattle.job_answers.specs.DocumentComplaints.{IsDocumentComplaint, HasDocumentComplaint}
-use Rattle.job_answers.specs.SavedComplaints.{IsSavedComplaint, HasSavedComplaint}
+use Rattle.job_answers.specs.Complaints.{IsComplaint, message_of, byte_line}
+use Rattle.job_answers.specs.Complained.{HasComplaint, HasDocumentComplaint, HasSavedComplaint}
+use Rattle.job_answers.specs.DocumentComplaints.{IsDocumentComplaint}
+use Rattle.job_answers.specs.SavedComplaints.{IsSavedComplaint}
 use Rattle.job_answers.specs.SavedReading.{ReadsSaved}
 
 -- of each text within its limit there is one thing to complain of, or it reads as a model, and never both

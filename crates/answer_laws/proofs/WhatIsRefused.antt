@@ -14,9 +14,7 @@ use Rattle.job_answers.specs.declared.status.Status.TheVariants as statuses
 use Rattle.job_answers.specs.AnswerForms.{refused, too_long}
 use Rattle.job_answers.specs.AnswerLaws.{KeepsAnswerLaws}
 use Rattle.job_answers.specs.Answers.{Responds, IsOver, Answers}
-use Rattle.job_answers.specs.Complaints.{HasComplaint}
-use Rattle.job_answers.specs.DocumentComplaints.{HasDocumentComplaint}
-use Rattle.job_answers.specs.SavedComplaints.{HasSavedComplaint}
+use Rattle.job_answers.specs.Complained.{HasComplaint, HasDocumentComplaint, HasSavedComplaint}
 use Rattle.job_answers.specs.SavedReading.{ReadsSaved}
 use Rattle.job_answers.specs.Statuses.{status_of_answer}
 use Rattle.answer_laws.specs.Unreadable.{IsNoModel, IsNoDocument, IsNoSavedDocument, IsUnreadable}

@@ -13,9 +13,7 @@ ghost use Rattle.job_answers.specs.declared.status.Status.{Status};
 ghost use Rattle.job_answers.specs.AnswerForms.{refused, too_long};
 ghost use Rattle.job_answers.specs.AnswerLaws.{MayBeAsked};
 ghost use Rattle.job_answers.specs.Answers.{IsOver, Answers};
-ghost use Rattle.job_answers.specs.Complaints.{HasComplaint};
-ghost use Rattle.job_answers.specs.DocumentComplaints.{HasDocumentComplaint};
-ghost use Rattle.job_answers.specs.SavedComplaints.{HasSavedComplaint};
+ghost use Rattle.job_answers.specs.Complained.{HasComplaint, HasDocumentComplaint, HasSavedComplaint};
 ghost use Rattle.job_answers.specs.Statuses.{status_of_answer};
 ghost use Rattle.answer_laws.specs.Unreadable.{IsNoModel, IsNoDocument, IsNoSavedDocument, IsUnreadable};
 

@@ -14,7 +14,8 @@ use Rattle.model_core.specs.Static.ModelFaults.{IsTold, told_fault}
 use Rattle.model_core.specs.Static.Reading.{Reads}
 use Rattle.job_answers.specs.declared.complaint.Complaint.{Complaint}
 use Rattle.job_answers.specs.declared.complaint.Complaint.TheVariants as complaints
-use Rattle.job_answers.specs.Complaints.{IsComplaint, HasComplaint}
+use Rattle.job_answers.specs.Complaints.{IsComplaint}
+use Rattle.job_answers.specs.Complained.{HasComplaint}
 use Rattle.job_answers.specs.Inner.TextFacts.{TextFacts}
 
 -- a text has one list of tokens

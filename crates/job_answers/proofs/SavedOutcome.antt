@@ -16,7 +16,8 @@ use Rattle.model_core.specs.Saved.GoodSnapshots.{bad_at, saved_run}
 use Rattle.job_answers.specs.declared.complaint.Complaint.{Complaint}
 use Rattle.job_answers.specs.declared.complaint.Complaint.TheVariants as complaints
 use Rattle.job_answers.specs.SavedReading.{ReadsSaved}
-use Rattle.job_answers.specs.SavedComplaints.{IsSnapshotComplaint, IsSavedGrammarComplaint, in_model, in_snapshot, IsSavedComplaint, of_saved_bytes, of_saved_tokens, of_model, of_snapshot, HasSavedComplaint}
+use Rattle.job_answers.specs.SavedComplaints.{IsSnapshotComplaint, IsSavedGrammarComplaint, in_model, in_snapshot, IsSavedComplaint, of_saved_bytes, of_saved_tokens, of_model, of_snapshot}
+use Rattle.job_answers.specs.Complained.{HasSavedComplaint}
 use Rattle.job_answers.proofs.FaultLaws.{FaultLaws}
 use Rattle.job_answers.proofs.FrontOutcome.{Computed, and_then, front_outcome, front_begun, front_complained, FrontFault, FrontModel, front_or_fault, unless_fault, one_graph}
 

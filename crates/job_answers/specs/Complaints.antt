@@ -53,7 +53,3 @@ IsComplaint text complaints.TooDeep at = (tokens : List Lexeme) × (tokens_of te
 IsComplaint text complaints.Unexpected at = (tokens : List Lexeme) × (tokens_of text ≡ Ok tokens) × (too_deep_at OPENINGS_MAX tokens ≡ None) × IsUnexpectedAt text tokens at
 IsComplaint text (complaints.Static kind) at = (m : WrittenModel) × SpellsText text m × IsTold m kind at
 IsComplaint text complaints.BadSnapshot at = ⊥
-
--- something is to be complained of at some byte of the text
-abbrev pub HasComplaint : List ℕ → Type 0
-HasComplaint text = (what : Complaint) × (at : ℕ) × IsComplaint text what at

@@ -41,7 +41,3 @@ pub data IsDocumentComplaint (text : List ℕ) (what : Complaint) (at : ℕ) : T
   of_tokens : (tokens : List Lexeme) → tokens_of text ≡ Ok tokens → IsGrammarComplaint text tokens what at → IsDocumentComplaint text what at
   of_first : (first second : WrittenModel) (applications : List RuleApplication) → SpellsDocument text first applications second → (kind : StaticKind) → what ≡ complaints.Static kind → IsTold first kind at → IsDocumentComplaint text what at
   of_second : (first second : WrittenModel) (applications : List RuleApplication) → SpellsDocument text first applications second → (g : EventGraph) → Accepted first g → (kind : StaticKind) → what ≡ complaints.Static kind → IsTold second kind at → IsDocumentComplaint text what at
-
--- something is to be complained of at some byte of a document
-abbrev pub HasDocumentComplaint : List ℕ → Type 0
-HasDocumentComplaint text = (what : Complaint) × (at : ℕ) × IsDocumentComplaint text what at

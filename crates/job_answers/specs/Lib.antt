@@ -2,6 +2,7 @@ pub mod Complaints
 pub mod DocumentComplaints
 pub mod SavedReading
 pub mod SavedComplaints
+pub mod Complained
 pub mod AnswerForms
 pub mod CheckAnswer
 pub mod PrintAnswer
@@ -21,6 +22,7 @@ pub mod CertifyAnswer
 pub mod TrialAnswer
 pub mod Answers
 pub mod Statuses
+pub mod FailureStatus
 pub mod AnswerLaws
 pub mod SavedAndResumed
 pub mod PlainKinds

@@ -31,7 +31,3 @@ pub data IsSavedComplaint (text : List ℕ) (what : Complaint) (at : ℕ) : Type
   of_saved_tokens : (tokens : List Lexeme) → tokens_of text ≡ Ok tokens → IsSavedGrammarComplaint text tokens what at → IsSavedComplaint text what at
   of_model : (model : WrittenModel) (snapshot : WrittenSnapshot) → SpellsSaved text model snapshot → (kind : StaticKind) → what ≡ complaints.Static kind → IsTold model kind at → IsSavedComplaint text what at
   of_snapshot : (model : WrittenModel) (snapshot : WrittenSnapshot) → SpellsSaved text model snapshot → (g : EventGraph) → Accepted model g → what ≡ complaints.BadSnapshot → bad_at g snapshot ≡ Some at → IsSavedComplaint text what at
-
--- something is to be complained of at some byte of a saved document
-abbrev pub HasSavedComplaint : List ℕ → Type 0
-HasSavedComplaint text = (what : Complaint) × (at : ℕ) × IsSavedComplaint text what at

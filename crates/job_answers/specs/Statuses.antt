@@ -40,13 +40,6 @@ status_of_refusal refusals.BadStart = statuses.BadStart
 status_of_refusal refusals.Finished = statuses.Finished
 status_of_refusal refusals.TooLarge = statuses.TooLarge
 
--- the status where there is no answer
-abbrev pub status_of_failure : Failure → Status
-status_of_failure failures.Usage = statuses.Usage
-status_of_failure failures.ReadFault = statuses.ReadFault
-status_of_failure failures.WriteFault = statuses.WriteFault
-status_of_failure failures.NoMemory = statuses.NoMemory
-
 -- the line that tells why there is no answer
 abbrev pub failure_line : Failure → List ℕ
 failure_line failures.Usage = codes "sigma: bad command line\n"

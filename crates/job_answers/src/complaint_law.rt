@@ -10,7 +10,8 @@ ghost use Rattle.job_answers.specs.declared.answer.Answer.{Answer};
 ghost use Rattle.job_answers.specs.declared.complaint.Complaint.{Complaint};
 ghost use Rattle.job_answers.specs.declared.status.Status.{Status};
 ghost use Rattle.job_answers.specs.Answers.{Answers};
-ghost use Rattle.job_answers.specs.Complaints.{IsComplaint, HasComplaint};
+ghost use Rattle.job_answers.specs.Complaints.{IsComplaint};
+ghost use Rattle.job_answers.specs.Complained.{HasComplaint};
 ghost use Rattle.job_answers.specs.Statuses.{status_of_answer};
 ghost use Rattle.job_answers.specs.Inner.TextFacts.{TextFacts};
 

@@ -7,8 +7,9 @@ ghost use Rattle.model_core.specs.Rules.Reduction.{RuleApplication};
 ghost use Rattle.model_core.specs.Static.Reading.{ReadsDocument};
 ghost use Rattle.model_core.specs.Saved.SavedRun.{SavedRun};
 ghost use Rattle.job_answers.specs.declared.complaint.Complaint.{Complaint};
-ghost use Rattle.job_answers.specs.DocumentComplaints.{IsDocumentComplaint, HasDocumentComplaint};
-ghost use Rattle.job_answers.specs.SavedComplaints.{IsSavedComplaint, HasSavedComplaint};
+ghost use Rattle.job_answers.specs.DocumentComplaints.{IsDocumentComplaint};
+ghost use Rattle.job_answers.specs.Complained.{HasDocumentComplaint, HasSavedComplaint};
+ghost use Rattle.job_answers.specs.SavedComplaints.{IsSavedComplaint};
 ghost use Rattle.job_answers.specs.SavedReading.{ReadsSaved};
 
 use snapshot_text::snapshots_have_one_reading;

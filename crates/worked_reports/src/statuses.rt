@@ -6,7 +6,8 @@ ghost use Rattle.job_answers.specs.declared.status.End.TheVariants as ends;
 ghost use Rattle.job_answers.specs.declared.status.Failure.TheVariants as failures;
 ghost use Rattle.job_answers.specs.declared.status.Refusal.TheVariants as refusals;
 ghost use Rattle.job_answers.specs.declared.status.Status.TheVariants as statuses;
-ghost use Rattle.job_answers.specs.Statuses.{exit_status_of, status_of_end, status_of_refusal, status_of_failure, failure_line, status_of_answer, bytes_of_answer};
+ghost use Rattle.job_answers.specs.Statuses.{exit_status_of, status_of_end, status_of_refusal, failure_line, status_of_answer, bytes_of_answer};
+ghost use Rattle.job_answers.specs.FailureStatus.{status_of_failure};
 
 /// Each status has a number of its own.
 pub fn statuses_have_numbers()

@@ -1,0 +1,18 @@
+-- That there is something to complain of in a text. The answers need no such word: they tell what it is. The laws do.
+use Rattle.std.specs.Prelude.{ℕ, List}
+use Rattle.job_answers.specs.declared.complaint.Complaint.{Complaint}
+use Rattle.job_answers.specs.Complaints.{IsComplaint}
+use Rattle.job_answers.specs.DocumentComplaints.{IsDocumentComplaint}
+use Rattle.job_answers.specs.SavedComplaints.{IsSavedComplaint}
+
+-- at some byte of a text that is to be a model
+abbrev pub HasComplaint : List ℕ → Type 0
+HasComplaint text = (what : Complaint) × (at : ℕ) × IsComplaint text what at
+
+-- or a document
+abbrev pub HasDocumentComplaint : List ℕ → Type 0
+HasDocumentComplaint text = (what : Complaint) × (at : ℕ) × IsDocumentComplaint text what at
+
+-- or a saved document
+abbrev pub HasSavedComplaint : List ℕ → Type 0
+HasSavedComplaint text = (what : Complaint) × (at : ℕ) × IsSavedComplaint text what at
