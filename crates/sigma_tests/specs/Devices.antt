@@ -23,4 +23,4 @@ with_line line = output_of line 0 true
 
 -- the table of statuses over such devices
 abbrev pub EndsSo : Status → List (List ℕ) → Inlet → Inlet → Outlet → Outlet → Outlet → Outlet → Type 0
-EndsSo status words i j o p e f = Ends {S = Inlet} {K = Outlet} {E = Outlet} (λ i. i) (λ o. o) (λ e. e) status words i j o p e f
+EndsSo status words i j o p e f = Ends {S = Inlet} {K = Outlet} {E = Outlet} (λ i. i) (λ o. o) (λ e. e) words i j o p e f status

@@ -6,6 +6,8 @@ use Rattle.std.proofs.lemmas.List.{append-nil}
 use Rattle.sig_base.specs.Faults.{HasRisen}
 use Rattle.sig_base.specs.Sink.{Outlet, GrowsBy}
 use Rattle.model_core.specs.EventGraph.{EventGraph}
+use Rattle.model_core.specs.Ranges.Narrowed.{IsNarrowed}
+use Rattle.model_core.specs.Rules.Fuse.{Fused}
 use Rattle.model_core.specs.Run.History.{Moment, start}
 use Rattle.model_core.specs.Saved.SavedRun.{SavedRun, saved_moment}
 use Rattle.model_core.specs.Static.Reading.{Reads}
@@ -20,8 +22,8 @@ use Rattle.command_words.specs.declared.reading.Reading.TheVariants as readings
 use Rattle.command_words.specs.Jobs.{job_of}
 use Rattle.command_words.specs.declared.resume_options.ResumeOptions.{ResumeOptions}
 use Rattle.command_words.specs.declared.save_options.SaveOptions.{SaveOptions}
-use Rattle.command_words.specs.Readings.{reading_of, limit_of}
 use Rattle.command_words.specs.KeptLimits.{KeepsLimits}
+use Rattle.command_words.specs.Readings.{reading_of, limit_of}
 use Rattle.job_answers.specs.declared.answer.Answer.{Answer}
 use Rattle.job_answers.specs.declared.answer.Answer.TheVariants.{Given, Refused}
 use Rattle.job_answers.specs.declared.delivering.Said.{Said}
@@ -36,20 +38,23 @@ use Rattle.job_answers.specs.declared.status.Status.{Status}
 use Rattle.job_answers.specs.declared.status.Status.TheVariants as statuses
 use Rattle.job_answers.specs.Answers.{Answers, MayStopShort}
 use Rattle.job_answers.specs.CertifyAnswer.{Certifies}
+use Rattle.job_answers.specs.ReduceAnswer.{KeepsMeaning}
+use Rattle.job_answers.specs.RewrittenAnswer.{RewritesTheSame}
 use Rattle.job_answers.specs.RunAnswer.{ExceedsRoomFrom, FitsRoomFrom, RunFitsRoom}
 use Rattle.job_answers.specs.ResumeAnswer.{ResumedFitsRoom}
 use Rattle.job_answers.specs.SavedAndResumed.{SavesTheRun, WritesTheRest}
 use Rattle.job_answers.specs.SavedReading.{ReadsSaved}
 use Rattle.job_answers.specs.Statuses.{status_of_answer, bytes_of_answer, status_of_end, status_of_refusal, failure_line}
 use Rattle.job_answers.specs.FailureStatus.{status_of_failure}
+use Rattle.sigma_top.specs.Promises.{KeepsPromises}
 use Rattle.sigma_top.specs.StatusTable.{text_of, Told, WritesAnswer, Refuses, RepliesToInput, HasBegun, LacksMemory, ForJob, Ends}
 use Rattle.sigma_top.specs.Inner.Frame.{Performs, Serves}
 
 -- ---- what `reduce`, `fuse` and `narrow` give, and what `certify` finds sound
 
--- what is written for a text by a job on a model means the same
-abbrev pub WritesSuch : ModelJob → (List ℕ → List ℕ → Type 0) → Type 0
-WritesSuch job IsSuch = (text bytes : List ℕ) (end : End) → Answers (readings.Model job) text (Given end bytes) → IsSuch text bytes
+-- what a job on a model gives for a text is such
+abbrev pub GivesSuch : ModelJob → (List ℕ → List ℕ → Type 0) → Type 0
+GivesSuch job IsSuch = (text bytes : List ℕ) (end : End) → Answers (readings.Model job) text (Given end bytes) → IsSuch text bytes
 
 abbrev pub SoundMeansTheSame : Type 0
 SoundMeansTheSame = (text bytes : List ℕ) → Answers (readings.Document documents.Certify) text (Given ends.Done bytes) → Certifies text
@@ -149,41 +154,41 @@ module _ {S K : Type 0} (source : S → Inlet) (sink : K → Outlet) (words : Li
 
 module _ {S K E : Type 0} (source : S → Inlet) (sink : K → Outlet) (errors : E → Outlet) (words : List (List ℕ)) (i j : S) (o p : K) (e : E) where
   -- a job that wrote is told by its status alone
-  gave : (end : End) → Serves source sink words (Ok (said.Gave end)) i j o p → Ends source sink errors (status_of_end end) words i j o p e e
+  gave : (end : End) → Serves source sink words (Ok (said.Gave end)) i j o p → Ends source sink errors words i j o p e e (status_of_end end)
   gave ends.Done h = (h, refl)
   gave ends.ModelFault h = (h, refl)
   gave ends.Budget h = (h, refl)
   gave ends.Rejected h = (h, refl)
 
-  pub gave_ends : (end : End) (r : Result Said Failure) (status : Status) → r ≡ Ok (said.Gave end) → status ≡ status_of_end end → Serves source sink words r i j o p → Ends source sink errors status words i j o p e e
+  pub gave_ends : (end : End) (r : Result Said Failure) (status : Status) → r ≡ Ok (said.Gave end) → status ≡ status_of_end end → Serves source sink words r i j o p → Ends source sink errors words i j o p e e status
   gave_ends end r status is known h =
-      subst (λ (s : Status). Ends source sink errors s words i j o p e e) (sym known) (gave end (subst (λ (x : Result Said Failure). Serves source sink words x i j o p) is h))
+      subst (λ (s : Status). Ends source sink errors words i j o p e e s) (sym known) (gave end (subst (λ (x : Result Said Failure). Serves source sink words x i j o p) is h))
 
   module _ (f : E) where
     -- a refusal is told by its line
-    refused : (why : Refusal) (line : List ℕ) → Serves source sink words (Ok (said.Refused why line)) i j o p → Told (errors e) (errors f) line → Ends source sink errors (status_of_refusal why) words i j o p e f
+    refused : (why : Refusal) (line : List ℕ) → Serves source sink words (Ok (said.Refused why line)) i j o p → Told (errors e) (errors f) line → Ends source sink errors words i j o p e f (status_of_refusal why)
     refused refusals.Refused line h told = (line, h, told)
     refused refusals.BadStart line h told = (line, h, told)
     refused refusals.Finished line h told = (line, h, told)
     refused refusals.TooLarge line h told = (line, h, told)
 
     pub refused_ends : (why : Refusal) (line shown : List ℕ) (r : Result Said Failure) (status : Status) → r ≡ Ok (said.Refused why line) → status ≡ status_of_refusal why → shown ≡ line → Serves source sink words r i j o p → Told (errors e) (errors f) shown
-        → Ends source sink errors status words i j o p e f
+        → Ends source sink errors words i j o p e f status
     refused_ends why line shown r status is known same h told =
-        subst (λ (s : Status). Ends source sink errors s words i j o p e f) (sym known)
+        subst (λ (s : Status). Ends source sink errors words i j o p e f s) (sym known)
         (refused why line (subst (λ (x : Result Said Failure). Serves source sink words x i j o p) is h) (subst (λ (l : List ℕ). Told (errors e) (errors f) l) same told))
 
     -- and so is a failure
-    failed : (failure : Failure) → Serves source sink words (Err failure) i j o p → Told (errors e) (errors f) (failure_line failure) → Ends source sink errors (status_of_failure failure) words i j o p e f
+    failed : (failure : Failure) → Serves source sink words (Err failure) i j o p → Told (errors e) (errors f) (failure_line failure) → Ends source sink errors words i j o p e f (status_of_failure failure)
     failed failures.Usage h told = (h.0, h.1, h.2, told)
     failed failures.ReadFault h told = (h, told)
     failed failures.WriteFault h told = (h, told)
     failed failures.NoMemory h told = (h, told)
 
     pub failure_ends : (failure : Failure) (shown : List ℕ) (r : Result Said Failure) (status : Status) → r ≡ Err failure → status ≡ status_of_failure failure → shown ≡ failure_line failure → Serves source sink words r i j o p → Told (errors e) (errors f) shown
-        → Ends source sink errors status words i j o p e f
+        → Ends source sink errors words i j o p e f status
     failure_ends failure shown r status is known same h told =
-        subst (λ (s : Status). Ends source sink errors s words i j o p e f) (sym known)
+        subst (λ (s : Status). Ends source sink errors words i j o p e f s) (sym known)
         (failed failure (subst (λ (x : Result Said Failure). Serves source sink words x i j o p) is h) (subst (λ (l : List ℕ). Told (errors e) (errors f) l) same told))
 
     -- the bytes of the output grew by these
@@ -195,41 +200,41 @@ module _ {S K E : Type 0} (source : S → Inlet) (sink : K → Outlet) (errors :
     replied job asked a other is answer = subst (λ (x : Job). RepliesToInput (reading_of x) (source i) a) (same_Some _ _ (sym is ∙ asked)) answer
 
     -- what a job on a model gives is such for what the input had
-    pub given_is_such : (job : Job) (of_model : ModelJob) → reading_of job ≡ readings.Model of_model → (IsSuch : List ℕ → List ℕ → Type 0) → WritesSuch of_model IsSuch
-        → (status : Status) → Ends source sink errors status words i j o p e f → job_of words ≡ Some job → status ≡ statuses.Done → IfSome (source i).left (λ text. (out : List ℕ) × IsSuch text out × Grows out)
+    given_is_such : (job : Job) (of_model : ModelJob) → reading_of job ≡ readings.Model of_model → (IsSuch : List ℕ → List ℕ → Type 0) → GivesSuch of_model IsSuch
+        → (status : Status) → Ends source sink errors words i j o p e f status → job_of words ≡ Some job → status ≡ statuses.Done → IfSome (source i).left (λ text. (out : List ℕ) × IsSuch text out × Grows out)
     given_is_such job of_model is IsSuch law status h asked is_done =
-        let done = (subst (λ (s : Status). Ends source sink errors s words i j o p e f) is_done h).0 in
+        let done = (subst (λ (s : Status). Ends source sink errors words i j o p e f s) is_done h).0 in
         let answer = subst (λ (reading : Reading). RepliesToInput reading (source i) (Given ends.Done done.2.bytes)) is (replied job asked (Given ends.Done done.2.bytes) done.0 done.1 done.2.answer) in
         if_told (source i).left answer.text (λ text. (out : List ℕ) × IsSuch text out × Grows out) answer.told (done.2.bytes, law answer.text done.2.bytes ends.Done answer.answers, done.2.output_grown)
 
     -- what `certify` finds sound means the same
-    pub certified_means : SoundMeansTheSame → (status : Status) → Ends source sink errors status words i j o p e f → job_of words ≡ Some jobs.Certify → status ≡ statuses.Done → IfSome (source i).left Certifies
+    certified_means : SoundMeansTheSame → (status : Status) → Ends source sink errors words i j o p e f status → job_of words ≡ Some jobs.Certify → status ≡ statuses.Done → IfSome (source i).left Certifies
     certified_means law status h asked is_done =
-        let done = (subst (λ (s : Status). Ends source sink errors s words i j o p e f) is_done h).0 in
+        let done = (subst (λ (s : Status). Ends source sink errors words i j o p e f s) is_done h).0 in
         let answer = replied jobs.Certify asked (Given ends.Done done.2.bytes) done.0 done.1 done.2.answer in
         if_told (source i).left answer.text Certifies answer.told (law answer.text done.2.bytes answer.answers)
 
     -- what `save` writes is what `resume` goes on from
-    pub saved_is_such : SavesSuch → ((job : Job) → job_of words ≡ Some job → KeepsLimits (reading_of job)) → (options : SaveOptions)
-        → (status : Status) → Ends source sink errors status words i j o p e f → job_of words ≡ Some (jobs.Save options.until options.seed options.events options.starts) → status ≡ statuses.Done
+    saved_is_such : SavesSuch → ((job : Job) → job_of words ≡ Some job → KeepsLimits (reading_of job)) → (options : SaveOptions)
+        → (status : Status) → Ends source sink errors words i j o p e f status → job_of words ≡ Some (jobs.Save options.until options.seed options.events options.starts) → status ≡ statuses.Done
         → IfSome (source i).left (λ text. (out : List ℕ) × SavesTheRun text out options × Grows out)
     saved_is_such law limits options status h asked is_done =
         given_is_such (jobs.Save options.until options.seed options.events options.starts) (models.Save options) refl (λ text out. SavesTheRun text out options)
         (λ text out end answers. law options text out end (limits (jobs.Save options.until options.seed options.events options.starts) asked) answers) status h asked is_done
 
     -- where `run` lacks memory it has written nothing, if it fits its room
-    pub within_room : (until seed events : ℕ) (starts : List ℤ) (room : ℕ) → job_of words ≡ Some (jobs.Run until seed events starts room) → (status : Status) → Ends source sink errors status words i j o p e f → status ≡ statuses.NoMemory
+    pub within_room : (until seed events : ℕ) (starts : List ℤ) (room : ℕ) → job_of words ≡ Some (jobs.Run until seed events starts room) → (status : Status) → Ends source sink errors words i j o p e f status → status ≡ statuses.NoMemory
         → IfSome (source i).left (λ told. RunsFit until seed events starts room told → p ≡ o)
     within_room until seed events starts room asked status h is_short =
         kept_unless (jobs.Run until seed events starts room) (RunsFit until seed events starts room) (runs_fit until seed events starts room) source sink i j o p (λ x. refl) words asked
-        (subst (λ (s : Status). Ends source sink errors s words i j o p e f) is_short h).0
+        (subst (λ (s : Status). Ends source sink errors words i j o p e f s) is_short h).0
 
     -- and so it is with `resume`
-    pub resumed_within_room : (until events room : ℕ) → job_of words ≡ Some (jobs.Resume until events room) → (status : Status) → Ends source sink errors status words i j o p e f → status ≡ statuses.NoMemory
+    pub resumed_within_room : (until events room : ℕ) → job_of words ≡ Some (jobs.Resume until events room) → (status : Status) → Ends source sink errors words i j o p e f status → status ≡ statuses.NoMemory
         → IfSome (source i).left (λ told. ResumedFit until events room told → p ≡ o)
     resumed_within_room until events room asked status h is_short =
         kept_unless (jobs.Resume until events room) (ResumedFit until events room) (resumed_fit until events room) source sink i j o p (λ x. refl) words asked
-        (subst (λ (s : Status). Ends source sink errors s words i j o p e f) is_short h).0
+        (subst (λ (s : Status). Ends source sink errors words i j o p e f s) is_short h).0
 
     module _ (job : Job) (asked : job_of words ≡ Some job) where
       given : (end : End) → ForJob words (λ reading. WritesAnswer source sink reading end i j o p) → IsComplete (reading_of job) (status_of_end end) (source i).left Grows
@@ -243,7 +248,7 @@ module _ {S K E : Type 0} (source : S → Inlet) (sink : K → Outlet) (errors :
           if_answers (reading_of job) (text_of (limit_of (reading_of job)) (source i).left) (λ a. status_of_refusal why ≡ status_of_answer a) (λ a. Grows (bytes_of_answer a)) answer.text (Refused why line) answer.told answer.answers refl (unwritten sink h.2.output_untouched)
 
       -- no status is left but that of the answer, and want of memory
-      pub complete : (HasRisen (source i).faults (source j).faults → ⊥) → (HasRisen (sink o).faults (sink p).faults → ⊥) → (status : Status) → Ends source sink errors status words i j o p e f → (status ≡ statuses.NoMemory) ⊎ IsComplete (reading_of job) status (source i).left Grows
+      pub complete : (HasRisen (source i).faults (source j).faults → ⊥) → (HasRisen (sink o).faults (sink p).faults → ⊥) → (status : Status) → Ends source sink errors words i j o p e f status → (status ≡ statuses.NoMemory) ⊎ IsComplete (reading_of job) status (source i).left Grows
       complete read wrote statuses.Done h = inr (given ends.Done h.0)
       complete read wrote statuses.Refused h = inr (refusal refusals.Refused h.0 h.1)
       complete read wrote statuses.Usage h = absurd (some_is_not_none asked h.0)
@@ -258,7 +263,7 @@ module _ {S K E : Type 0} (source : S → Inlet) (sink : K → Outlet) (errors :
       complete read wrote statuses.TooLarge h = inr (refusal refusals.TooLarge h.0 h.1)
 
       -- where neither memory, the input nor the output failed, it is that of the answer
-      pub answered : (status : Status) → Ends source sink errors status words i j o p e f → (status ≡ statuses.ReadFault → ⊥) → (status ≡ statuses.WriteFault → ⊥) → (status ≡ statuses.NoMemory → ⊥) → IsComplete (reading_of job) status (source i).left Grows
+      pub answered : (status : Status) → Ends source sink errors words i j o p e f status → (status ≡ statuses.ReadFault → ⊥) → (status ≡ statuses.WriteFault → ⊥) → (status ≡ statuses.NoMemory → ⊥) → IsComplete (reading_of job) status (source i).left Grows
       answered statuses.Done h read wrote held = given ends.Done h.0
       answered statuses.Refused h read wrote held = refusal refusals.Refused h.0 h.1
       answered statuses.Usage h read wrote held = absurd (some_is_not_none asked h.0)
@@ -273,7 +278,7 @@ module _ {S K E : Type 0} (source : S → Inlet) (sink : K → Outlet) (errors :
       answered statuses.TooLarge h read wrote held = refusal refusals.TooLarge h.0 h.1
 
     -- a text that reads as a model is reduced, or memory is short
-    pub reduces_what_reads : ReducesWhatReads → job_of words ≡ Some jobs.Reduce → (HasRisen (source i).faults (source j).faults → ⊥) → (HasRisen (sink o).faults (sink p).faults → ⊥) → (status : Status) → Ends source sink errors status words i j o p e f
+    pub reduces_what_reads : ReducesWhatReads → job_of words ≡ Some jobs.Reduce → (HasRisen (source i).faults (source j).faults → ⊥) → (HasRisen (sink o).faults (sink p).faults → ⊥) → (status : Status) → Ends source sink errors words i j o p e f status
         → IfSome (source i).left (λ text. (g : EventGraph) → Reads text g → (status ≡ statuses.Done) ⊎ (status ≡ statuses.NoMemory))
     reduces_what_reads law asked read wrote status h = always_reduced law status (source i).left Grows (complete jobs.Reduce asked read wrote status h)
 
@@ -284,7 +289,20 @@ module _ {S K E : Type 0} (source : S → Inlet) (sink : K → Outlet) (errors :
     rest_written options status (Some document) (a, answers, is, grows) =
         λ text saved_by saves early few. subst Grows (ap bytes_of_answer (saves.resumed options.until options.events options.room early few a answers)) grows
 
-    pub goes_on : (options : ResumeOptions) → job_of words ≡ Some (jobs.Resume options.until options.events options.room) → (status : Status) → Ends source sink errors status words i j o p e f
+    goes_on : (options : ResumeOptions) → job_of words ≡ Some (jobs.Resume options.until options.events options.room) → (status : Status) → Ends source sink errors words i j o p e f status
         → (status ≡ statuses.ReadFault → ⊥) → (status ≡ statuses.WriteFault → ⊥) → (status ≡ statuses.NoMemory → ⊥) → IfSome (source i).left (WritesTheRest options.until options.events Grows)
     goes_on options asked status h read wrote held =
         rest_written options status (source i).left (answered (jobs.Resume options.until options.events options.room) asked status h read wrote held)
+
+    -- all promises, by the laws of what jobs write
+    pub promises_kept : GivesSuch models.Reduce KeepsMeaning → GivesSuch models.Fuse (RewritesTheSame Fused) → GivesSuch models.Narrow (RewritesTheSame IsNarrowed)
+        → SavesSuch → ((job : Job) → job_of words ≡ Some job → KeepsLimits (reading_of job)) → SoundMeansTheSame
+        → (status : Status) → Ends source sink errors words i j o p e f status → KeepsPromises (λ s. status ≡ s) words (source i) (sink o) (sink p)
+    promises_kept reduces fuses narrows saves limits sound status h = record {
+      reduced = given_is_such jobs.Reduce models.Reduce refl KeepsMeaning reduces status h;
+      fused = given_is_such jobs.Fuse models.Fuse refl (RewritesTheSame Fused) fuses status h;
+      narrowed = given_is_such jobs.Narrow models.Narrow refl (RewritesTheSame IsNarrowed) narrows status h;
+      saved = λ options. saved_is_such saves limits options status h;
+      resumed = λ options asked. goes_on options asked status h;
+      certified = certified_means sound status h;
+    }

@@ -1,2 +1,3 @@
 pub mod StatusTable
+pub mod Promises
 pub mod Inner

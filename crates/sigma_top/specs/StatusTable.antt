@@ -16,6 +16,7 @@ use Rattle.job_answers.specs.declared.status.End.{End}
 use Rattle.job_answers.specs.declared.status.End.TheVariants as ends
 use Rattle.job_answers.specs.declared.status.Refusal.{Refusal}
 use Rattle.job_answers.specs.declared.status.Refusal.TheVariants as refusals
+use Rattle.job_answers.specs.declared.status.Failure.{Failure}
 use Rattle.job_answers.specs.declared.status.Failure.TheVariants as failures
 use Rattle.job_answers.specs.Answers.{Answers, MayStopShort, HasNothingToWrite}
 use Rattle.job_answers.specs.FrontWritten.{GrowsByFront}
@@ -118,19 +119,39 @@ ForJob words Holds = (job : Job) × (job_of words ≡ Some job) × Holds (readin
 abbrev pub Told : Outlet → Outlet → List ℕ → Type 0
 Told old new line = HasRisen old.faults new.faults ⊎ GrowsBy old.written new.written line
 
--- What a call with these words that ends with this status did: to the input from i to j, to the output from o to p, and to
--- the error output from e to f, of which this is seen.
+-- What a call with these words did: to the input from i to j, to the output from o to p, and to the error output from e
+-- to f, of which this is seen.
 module _ {S K E : Type 0} (source : S → Inlet) (sink : K → Outlet) (errors : E → Outlet) where
-  abbrev pub Ends : Status → List (List ℕ) → S → S → K → K → E → E → Type 0
-  Ends statuses.Done words i j o p e f = ForJob words (λ reading. WritesAnswer source sink reading ends.Done i j o p) × (f ≡ e)
-  Ends statuses.Refused words i j o p e f = (line : List ℕ) × ForJob words (λ reading. Refuses source sink reading refusals.Refused line i j o p) × Told (errors e) (errors f) line
-  Ends statuses.Usage words i j o p e f = (job_of words ≡ None) × (j ≡ i) × (p ≡ o) × Told (errors e) (errors f) (failure_line failures.Usage)
-  Ends statuses.ReadFault words i j o p e f = ForJob words (λ reading. FailsToRead source sink reading i j o p) × Told (errors e) (errors f) (failure_line failures.ReadFault)
-  Ends statuses.WriteFault words i j o p e f = ForJob words (λ reading. FailsToWrite source sink reading i j o p) × Told (errors e) (errors f) (failure_line failures.WriteFault)
-  Ends statuses.NoMemory words i j o p e f = (((j ≡ i) × (p ≡ o)) ⊎ ForJob words (λ reading. LacksMemory source sink reading i j o p)) × Told (errors e) (errors f) (failure_line failures.NoMemory)
-  Ends statuses.ModelFault words i j o p e f = ForJob words (λ reading. WritesAnswer source sink reading ends.ModelFault i j o p) × (f ≡ e)
-  Ends statuses.Budget words i j o p e f = ForJob words (λ reading. WritesAnswer source sink reading ends.Budget i j o p) × (f ≡ e)
-  Ends statuses.Rejected words i j o p e f = ForJob words (λ reading. WritesAnswer source sink reading ends.Rejected i j o p) × (f ≡ e)
-  Ends statuses.BadStart words i j o p e f = (line : List ℕ) × ForJob words (λ reading. Refuses source sink reading refusals.BadStart line i j o p) × Told (errors e) (errors f) line
-  Ends statuses.Finished words i j o p e f = (line : List ℕ) × ForJob words (λ reading. Refuses source sink reading refusals.Finished line i j o p) × Told (errors e) (errors f) line
-  Ends statuses.TooLarge words i j o p e f = (line : List ℕ) × ForJob words (λ reading. Refuses source sink reading refusals.TooLarge line i j o p) × Told (errors e) (errors f) line
+  module _ (words : List (List ℕ)) (i j : S) (o p : K) (e f : E) where
+    -- the answer was written, and nothing is told
+    abbrev pub IsGiven : End → Type 0
+    IsGiven end = ForJob words (λ reading. WritesAnswer source sink reading end i j o p) × (f ≡ e)
+
+    -- the text was refused, with a line that is told
+    abbrev pub IsTurnedDown : Refusal → Type 0
+    IsTurnedDown why =
+        (line : List ℕ) × ForJob words (λ reading. Refuses source sink reading why line i j o p)
+        × Told (errors e) (errors f) line
+
+    -- the line of a failure is told
+    abbrev pub TellsFailure : Failure → Type 0
+    TellsFailure failure = Told (errors e) (errors f) (failure_line failure)
+
+    -- what the call did that ended with this status
+    abbrev pub Ends : Status → Type 0
+    Ends statuses.Done = IsGiven ends.Done
+    Ends statuses.Refused = IsTurnedDown refusals.Refused
+    Ends statuses.Usage = (job_of words ≡ None) × (j ≡ i) × (p ≡ o) × TellsFailure failures.Usage
+    Ends statuses.ReadFault =
+        ForJob words (λ reading. FailsToRead source sink reading i j o p) × TellsFailure failures.ReadFault
+    Ends statuses.WriteFault =
+        ForJob words (λ reading. FailsToWrite source sink reading i j o p) × TellsFailure failures.WriteFault
+    Ends statuses.NoMemory =
+        (((j ≡ i) × (p ≡ o)) ⊎ ForJob words (λ reading. LacksMemory source sink reading i j o p))
+        × TellsFailure failures.NoMemory
+    Ends statuses.ModelFault = IsGiven ends.ModelFault
+    Ends statuses.Budget = IsGiven ends.Budget
+    Ends statuses.Rejected = IsGiven ends.Rejected
+    Ends statuses.BadStart = IsTurnedDown refusals.BadStart
+    Ends statuses.Finished = IsTurnedDown refusals.Finished
+    Ends statuses.TooLarge = IsTurnedDown refusals.TooLarge

@@ -1,33 +1,24 @@
 //! The top call: from the words, the input and the outputs to a status. It knows a job by what that reads, and everything
 //! else is proved once for all jobs.
 
-ghost use Rattle.std.specs.Prelude.{◌≡◌, ◌≢◌, ◌⊎◌, ℕ, ℤ, List, Some, map, IfSome};
+ghost use Rattle.std.specs.Prelude.{◌≡◌, ◌⊎◌, ℕ, ℤ, List, Some, map, IfSome};
 ghost use Rattle.std.specs.String.{string_bytes};
-ghost use Rattle.sig_base.specs.Sink.{GrowsBy};
 ghost use Rattle.sig_base.specs.Faults.{HasRisen};
 ghost use Rattle.command_words.specs.declared.job.Job.{Job};
 ghost use Rattle.command_words.specs.declared.reading.Reading.TheVariants.{Model as OfModel};
-ghost use Rattle.command_words.specs.declared.resume_options.ResumeOptions.{ResumeOptions};
-ghost use Rattle.command_words.specs.declared.save_options.SaveOptions.{SaveOptions};
 ghost use Rattle.command_words.specs.Jobs.{job_of};
-ghost use Rattle.command_words.specs.Readings.{reading_of, limit_of};
 ghost use Rattle.command_words.specs.KeptLimits.{KeepsLimits};
+ghost use Rattle.command_words.specs.Readings.{reading_of, limit_of};
 ghost use Rattle.model_core.specs.EventGraph.{EventGraph};
 ghost use Rattle.model_core.specs.Saved.SavedRun.{SavedRun};
 ghost use Rattle.model_core.specs.Static.Reading.{Reads};
-ghost use Rattle.job_answers.specs.declared.answer.Answer.{Answer};
-ghost use Rattle.job_answers.specs.Answers.{IsWithin, Answers, Responds, MayStopShort};
-ghost use Rattle.job_answers.specs.CertifyAnswer.{Certifies};
+ghost use Rattle.job_answers.specs.Answers.{IsWithin, Responds, MayStopShort};
 ghost use Rattle.job_answers.specs.Delivery.{DeliversSome};
-ghost use Rattle.job_answers.specs.FuseAnswer.{FusesTheSame};
-ghost use Rattle.job_answers.specs.NarrowAnswer.{NarrowsTheSame};
-ghost use Rattle.job_answers.specs.ReduceAnswer.{KeepsMeaning};
 ghost use Rattle.job_answers.specs.ResumeAnswer.{ResumedFitsRoom};
 ghost use Rattle.job_answers.specs.RunAnswer.{RunFitsRoom};
-ghost use Rattle.job_answers.specs.SavedAndResumed.{SavesTheRun, WritesTheRest};
 ghost use Rattle.job_answers.specs.SavedReading.{ReadsSaved};
-ghost use Rattle.job_answers.specs.Statuses.{status_of_answer, bytes_of_answer};
-ghost use Rattle.sigma_top.specs.StatusTable.{text_of, Told, Ends};
+ghost use Rattle.sigma_top.specs.Promises.{IsOfAnswer, KeepsPromises};
+ghost use Rattle.sigma_top.specs.StatusTable.{Told, Ends};
 ghost use Rattle.sigma_top.specs.Inner.Frame.{Performs, Serves};
 
 use crate::text_taking::{Taken, take_text};
@@ -50,7 +41,8 @@ fn respond_to_model<K: Sink>(
 ) -> Result<Said, Failure>
     requires within { IsWithin (limit_of (OfModel job.now)) text.now }
     requires limits { KeepsLimits (OfModel job.now) }
-    ensures { DeliversSome K.seen (Responds (OfModel job.now) text.now) (MayStopShort (OfModel job.now) text.now) result output.old output.new }
+    ensures { DeliversSome K.seen (Responds (OfModel job.now) text.now) (MayStopShort (OfModel job.now) text.now)
+        result output.old output.new }
 {
     match model_of(alloc, text) {
         Ok(model) => answer_model(alloc, job, model, output),
@@ -68,7 +60,8 @@ fn respond<K: Sink>(
 ) -> Result<Said, Failure>
     requires within { IsWithin (limit_of reading.now) text.now }
     requires limits { KeepsLimits reading.now }
-    ensures { DeliversSome K.seen (Responds reading.now text.now) (MayStopShort reading.now text.now) result output.old output.new }
+    ensures { DeliversSome K.seen (Responds reading.now text.now) (MayStopShort reading.now text.now)
+        result output.old output.new }
 {
     match reading {
         Reading::Model(job) => respond_to_model(alloc, job, text, output),
@@ -103,7 +96,8 @@ fn serve<S: Source, K: Sink>(
     input: &mut S,
     output: &mut K,
 ) -> Result<Said, Failure>
-    ensures { Serves S.seen K.seen (map string_bytes words.now) result input.old input.new output.old output.new }
+    ensures { Serves S.seen K.seen (map string_bytes words.now) result
+        input.old input.new output.old output.new }
 {
     match command_words::words(alloc, words) {
         Ok(job) => perform(alloc, &job.reading(), input, output),
@@ -127,7 +121,8 @@ fn work<S: Source, K: Sink, E: Sink>(
     output: &mut K,
     errors: &mut E,
 ) -> Status
-    ensures { Ends S.seen K.seen E.seen result (map string_bytes words.now) input.old input.new output.old output.new errors.old errors.new }
+    ensures { Ends S.seen K.seen E.seen (map string_bytes words.now)
+        input.old input.new output.old output.new errors.old errors.new result }
 {
     match serve(alloc, words, input, output) {
         Ok(Said::Gave(end)) => end.status(),
@@ -155,54 +150,39 @@ pub fn sigma<S: Source, K: Sink, E: Sink>(
     errors: &mut E,
 ) -> Status
     // What each status means, for the input, the output and the error output.
-    ensures ends { Ends S.seen K.seen E.seen result (map string_bytes words.now) input.old input.new output.old output.new errors.old errors.new }
+    ensures ends { Ends S.seen K.seen E.seen (map string_bytes words.now)
+        input.old input.new output.old output.new errors.old errors.new result }
 
     // Words that are a job leave no status but that of the job's answer, unless memory, the input or the output fails.
     ensures complete { (job : Job) → job_of (map string_bytes words.now) ≡ Some job
-        → (HasRisen (S.seen input.old).faults (S.seen input.new).faults → ⊥) → (HasRisen (K.seen output.old).faults (K.seen output.new).faults → ⊥)
-        → (result ≡ Status.NoMemory) ⊎ IfSome (text_of (limit_of (reading_of job)) (S.seen input.old).left) (λ text. (a : Answer) × Answers (reading_of job) text a
-        × (result ≡ status_of_answer a) × GrowsBy (K.seen output.old).written (K.seen output.new).written (bytes_of_answer a)) }
+        → (HasRisen (S.seen input.old).faults (S.seen input.new).faults → ⊥)
+        → (HasRisen (K.seen output.old).faults (K.seen output.new).faults → ⊥)
+        → (result ≡ Status.NoMemory)
+        ⊎ IsOfAnswer (reading_of job) (S.seen input.old) result (K.seen output.old) (K.seen output.new) }
 
     // A text that reads as a model is reduced, unless memory, the input or the output fails.
     ensures always_reduced { job_of (map string_bytes words.now) ≡ Some Job.Reduce
-        → (HasRisen (S.seen input.old).faults (S.seen input.new).faults → ⊥) → (HasRisen (K.seen output.old).faults (K.seen output.new).faults → ⊥)
-        → IfSome (S.seen input.old).left (λ text. (g : EventGraph) → Reads text g → (result ≡ Status.Done) ⊎ (result ≡ Status.NoMemory)) }
+        → (HasRisen (S.seen input.old).faults (S.seen input.new).faults → ⊥)
+        → (HasRisen (K.seen output.old).faults (K.seen output.new).faults → ⊥)
+        → IfSome (S.seen input.old).left (λ text.
+        (g : EventGraph) → Reads text g → (result ≡ Status.Done) ⊎ (result ≡ Status.NoMemory)) }
 
     // Where `run` lacks memory nothing is written, if the run fits the room that it was given.
-    ensures within_room { (until seed events : ℕ) (starts : List ℤ) (room : ℕ) → job_of (map string_bytes words.now) ≡ Some (Job.Run until seed events starts room)
-        → result ≡ Status.NoMemory → IfSome (S.seen input.old).left (λ text. ((g : EventGraph) → Reads text g → RunFitsRoom g until seed events starts room)
-        → output.new ≡ output.old) }
+    ensures within_room { (until seed events : ℕ) (starts : List ℤ) (room : ℕ)
+        → job_of (map string_bytes words.now) ≡ Some (Job.Run until seed events starts room) → result ≡ Status.NoMemory
+        → IfSome (S.seen input.old).left (λ text.
+        ((g : EventGraph) → Reads text g → RunFitsRoom g until seed events starts room) → output.new ≡ output.old) }
 
     // Where `resume` lacks memory nothing is written, if the saved run fits the room that it has.
-    ensures resumed_within_room { (until events room : ℕ) → job_of (map string_bytes words.now) ≡ Some (Job.Resume until events room)
-        → result ≡ Status.NoMemory → IfSome (S.seen input.old).left (λ text. ((g : EventGraph) (s : SavedRun) → ReadsSaved text g s → ResumedFitsRoom g s until events room)
+    ensures resumed_within_room { (until events room : ℕ)
+        → job_of (map string_bytes words.now) ≡ Some (Job.Resume until events room) → result ≡ Status.NoMemory
+        → IfSome (S.seen input.old).left (λ text.
+        ((g : EventGraph) (s : SavedRun) → ReadsSaved text g s → ResumedFitsRoom g s until events room)
         → output.new ≡ output.old) }
 
-    // What `reduce` writes means the same as what it read.
-    ensures reduced { job_of (map string_bytes words.now) ≡ Some Job.Reduce → result ≡ Status.Done → IfSome (S.seen input.old).left (λ text.
-        (out : List ℕ) × KeepsMeaning text out × GrowsBy (K.seen output.old).written (K.seen output.new).written out) }
-
-    // What `fuse` writes is what fusing makes of the model that was read, and means the same.
-    ensures fused { job_of (map string_bytes words.now) ≡ Some Job.Fuse → result ≡ Status.Done → IfSome (S.seen input.old).left (λ text.
-        (out : List ℕ) × FusesTheSame text out × GrowsBy (K.seen output.old).written (K.seen output.new).written out) }
-
-    // What `narrow` writes is the model that was read with the ranges that it needs, and means the same.
-    ensures narrowed { job_of (map string_bytes words.now) ≡ Some Job.Narrow → result ≡ Status.Done → IfSome (S.seen input.old).left (λ text.
-        (out : List ℕ) × NarrowsTheSame text out × GrowsBy (K.seen output.old).written (K.seen output.new).written out) }
-
-    // What `save` writes is a document of the model and of its run after so many events. It reads back, and the saved run goes
-    // on from there as the whole run does.
-    ensures saved { (o : SaveOptions) → job_of (map string_bytes words.now) ≡ Some (Job.Save o.until o.seed o.events o.starts) → result ≡ Status.Done
-        → IfSome (S.seen input.old).left (λ text. (out : List ℕ) × SavesTheRun text out o × GrowsBy (K.seen output.old).written (K.seen output.new).written out) }
-
-    // What `resume` writes of what `save` wrote is the history of that run from there on, unless memory, the input or the
-    // output fails.
-    ensures resumed { (o : ResumeOptions) → job_of (map string_bytes words.now) ≡ Some (Job.Resume o.until o.events o.room)
-        → result ≢ Status.ReadFault → result ≢ Status.WriteFault → result ≢ Status.NoMemory
-        → IfSome (S.seen input.old).left (WritesTheRest o.until o.events (λ out. GrowsBy (K.seen output.old).written (K.seen output.new).written out)) }
-
-    // The two models of a document that `certify` finds sound mean the same.
-    ensures certified { job_of (map string_bytes words.now) ≡ Some Job.Certify → result ≡ Status.Done → IfSome (S.seen input.old).left Certifies }
+    // What each job is for: the promises `reduced`, `fused`, `narrowed`, `saved`, `resumed` and `certified`, one field each.
+    ensures promises { KeepsPromises (λ status. result ≡ status) (map string_bytes words.now)
+        (S.seen input.old) (K.seen output.old) (K.seen output.new) }
 {
     written_models_mean_the_same();
     fused_models_mean_the_same();

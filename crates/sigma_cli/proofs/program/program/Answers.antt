@@ -1,9 +1,12 @@
 -- The exit status 0 is that of one status alone.
-use Rattle.std.proofs.Common.{◌≡◌, ℕ, Result, Ok, Err, refl, sym, ap, ◌∙◌}
+use Rattle.std.proofs.Common.{◌≡◌, ℕ, List, Result, Ok, Err, refl, sym, ap, ◌∙◌}
 use Rattle.std.specs.Prelude.{IfOk}
+use Rattle.sig_base.specs.Sink.{Outlet}
+use Rattle.sig_base.specs.Source.{Inlet}
 use Rattle.job_answers.specs.declared.status.Status.{Status}
 use Rattle.job_answers.specs.declared.status.Status.TheVariants as statuses
 use Rattle.job_answers.specs.Statuses.{exit_status_of}
+use Rattle.sigma_top.specs.Promises.{KeepsPromises}
 use Rattle.sigma_cli.proofs.program.program.Goals as goal
 
 is_done : (status : Status) → exit_status_of status ≡ 0 → status ≡ statuses.Done
@@ -20,38 +23,28 @@ is_done statuses.BadStart e = cc
 is_done statuses.Finished e = cc
 is_done statuses.TooLarge e = cc
 
--- what holds of words where the status is this one holds where the exit status is 0
-at_zero : {A E : Type 0} (words : Result A E) (Asked Holds : A → Type 0) (exit number : ℕ) (status : Status) → exit ≡ number → number ≡ exit_status_of status → IfOk words (λ w. Asked w → status ≡ statuses.Done → Holds w) → IfOk words (λ w. Asked w → exit ≡ 0 → Holds w)
-at_zero (Ok w) Asked Holds exit number status is known h = λ asked zero. h asked (is_done status (sym known ∙ sym is ∙ zero))
-at_zero (Err e) Asked Holds exit number status is known h = tt
+-- what is promised at a status is promised at its exit status
+at_exit : (exit number : ℕ) (status : Status) (words : List (List ℕ)) (input : Inlet) (before after : Outlet) → exit ≡ number → number ≡ exit_status_of status
+    → KeepsPromises (λ s. status ≡ s) words input before after → KeepsPromises (λ s. exit ≡ exit_status_of s) words input before after
+at_exit exit number status words input before after is known kept = record {
+  reduced = λ asked zero. kept.reduced asked (done zero);
+  fused = λ asked zero. kept.fused asked (done zero);
+  narrowed = λ asked zero. kept.narrowed asked (done zero);
+  saved = λ options asked zero. kept.saved options asked (done zero);
+  resumed = λ options asked read wrote held. kept.resumed options asked (λ e. read (number_is e)) (λ e. wrote (number_is e)) (λ e. held (number_is e));
+  certified = λ asked zero. kept.certified asked (done zero);
+}
+  where
+    done : exit ≡ 0 → status ≡ statuses.Done
+    done zero = is_done status (sym known ∙ sym is ∙ zero)
 
--- the same of each of many things that may be asked
-each_at_zero : {X A E : Type 0} (words : Result A E) (Asked Holds : X → A → Type 0) (exit number : ℕ) (status : Status) → exit ≡ number → number ≡ exit_status_of status → IfOk words (λ w. (x : X) → Asked x w → status ≡ statuses.Done → Holds x w) → IfOk words (λ w. (x : X) → Asked x w → exit ≡ 0 → Holds x w)
-each_at_zero (Ok w) Asked Holds exit number status is known h = λ x asked zero. h x asked (is_done status (sym known ∙ sym is ∙ zero))
-each_at_zero (Err e) Asked Holds exit number status is known h = tt
+    number_is : {s : Status} → status ≡ s → exit ≡ exit_status_of s
+    number_is e = is ∙ known ∙ ap exit_status_of e
 
--- what holds unless the status is one of three holds unless the exit status is that of one of them
-each_unless : {X A E : Type 0} (words : Result A E) (Asked Holds : X → A → Type 0) (exit number : ℕ) (status : Status) → exit ≡ number → number ≡ exit_status_of status
-    → IfOk words (λ w. (x : X) → Asked x w → (status ≡ statuses.ReadFault → ⊥) → (status ≡ statuses.WriteFault → ⊥) → (status ≡ statuses.NoMemory → ⊥) → Holds x w)
-    → IfOk words (λ w. (x : X) → Asked x w → (exit ≡ exit_status_of statuses.ReadFault → ⊥) → (exit ≡ exit_status_of statuses.WriteFault → ⊥) → (exit ≡ exit_status_of statuses.NoMemory → ⊥) → Holds x w)
-each_unless (Ok w) Asked Holds exit number status is known h =
-    λ x asked read wrote held. h x asked (λ e. read (is ∙ known ∙ ap exit_status_of e)) (λ e. wrote (is ∙ known ∙ ap exit_status_of e)) (λ e. held (is ∙ known ∙ ap exit_status_of e))
-each_unless (Err e) Asked Holds exit number status is known h = tt
+if_ok : {A E : Type 0} (words : Result A E) (P Q : A → Type 0) → ((w : A) → P w → Q w) → IfOk words P → IfOk words Q
+if_ok (Ok w) P Q each h = each w h
+if_ok (Err e) P Q each h = tt
 
-pub returns-clause-saved : goal.returns-clause-saved
-returns-clause-saved g c = each_at_zero c.args.words _ _ _ _ c.work-status.result c.from.ensures c.number.ensures c.work-status.ensures.saved
-
-pub returns-clause-resumed : goal.returns-clause-resumed
-returns-clause-resumed g c = each_unless c.args.words _ _ _ _ c.work-status.result c.from.ensures c.number.ensures c.work-status.ensures.resumed
-
-pub returns-clause-reduced : goal.returns-clause-reduced
-returns-clause-reduced g c = at_zero c.args.words _ _ _ _ c.work-status.result c.from.ensures c.number.ensures c.work-status.ensures.reduced
-
-pub returns-clause-fused : goal.returns-clause-fused
-returns-clause-fused g c = at_zero c.args.words _ _ _ _ c.work-status.result c.from.ensures c.number.ensures c.work-status.ensures.fused
-
-pub returns-clause-narrowed : goal.returns-clause-narrowed
-returns-clause-narrowed g c = at_zero c.args.words _ _ _ _ c.work-status.result c.from.ensures c.number.ensures c.work-status.ensures.narrowed
-
-pub returns-clause-certified : goal.returns-clause-certified
-returns-clause-certified g c = at_zero c.args.words _ _ _ _ c.work-status.result c.from.ensures c.number.ensures c.work-status.ensures.certified
+pub returns-clause-promises : goal.returns-clause-promises
+returns-clause-promises g c =
+    if_ok c.args.words _ _ (λ w. at_exit _ _ c.work-status.result _ _ _ _ c.from.ensures c.number.ensures) c.work-status.ensures.promises
