@@ -7,7 +7,7 @@ use Rattle.model_core.specs.EventGraph.{EventGraph}
 use Rattle.model_core.specs.Static.Reading.{IsValid}
 use Rattle.job_answers.specs.AnswerLaws.{KeepsAnswerLaws}
 use Rattle.job_answers.specs.Answers.{HasNothingToWrite}
-use Rattle.job_answers.specs.CheckAnswer.{accepted_line}
+use Rattle.job_answers.specs.AnswerForms.{accepted_line}
 use Rattle.job_answers.proofs.GivenAnswers.{begins_with, done_answer}
 
 has_bytes : (g : EventGraph) → 0 < length (accepted_line g)

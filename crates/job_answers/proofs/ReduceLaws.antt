@@ -9,9 +9,9 @@ use Rattle.model_core.specs.Rules.Certificate.{certificate}
 use Rattle.model_core.specs.Rules.Reduction.{RuleApplication, Strategy}
 use Rattle.job_answers.specs.declared.answer.Answer.{Answer}
 use Rattle.job_answers.specs.declared.status.End.TheVariants as ends
-use Rattle.job_answers.specs.AnswerForms.{done}
+use Rattle.job_answers.specs.AnswerForms.{done, IsDone}
 use Rattle.job_answers.specs.AnswerLaws.{KeepsAnswerLaws}
-use Rattle.job_answers.specs.ReduceAnswer.{Reduces, IsReduction}
+use Rattle.job_answers.specs.ReduceAnswer.{Reduces}
 use Rattle.job_answers.specs.Statuses.{status_of_answer}
 use Rattle.job_answers.proofs.GivenAnswers.{some_bytes, end_unrefused}
 use Rattle.job_answers.proofs.PrintLaws.{canonical_has_bytes}
@@ -25,7 +25,7 @@ pub record OneStrategy : Type 0 where
 abbrev pub StrategyEnds : Type 0
 StrategyEnds = (g : EventGraph) → IsValid g → (applications : List RuleApplication) × (h : EventGraph) × Strategy g applications h
 
-exists : StrategyEnds → (g : EventGraph) → IsValid g → (a : Answer) × IsReduction g a
+exists : StrategyEnds → (g : EventGraph) → IsValid g → (a : Answer) × IsDone (Reduces g) a
 exists ends g valid =
     let (applications, reduced, strategy) = ends g valid in
     let out = canonical reduced ++ certificate applications in

@@ -10,9 +10,9 @@ use Rattle.command_words.specs.declared.reading.ModelJob.TheVariants.{Fuse, Narr
 use Rattle.command_words.specs.declared.reading.Reading.TheVariants.{Model}
 use Rattle.job_answers.specs.declared.answer.Answer.{Answer}
 use Rattle.job_answers.specs.declared.status.End.TheVariants as ends
-use Rattle.job_answers.specs.AnswerForms.{done}
+use Rattle.job_answers.specs.AnswerForms.{done, IsDone}
 use Rattle.job_answers.specs.AnswerLaws.{HasOneAnswer, KeepsAnswerLaws}
-use Rattle.job_answers.specs.RewrittenAnswer.{Rewrites, IsRewriting}
+use Rattle.job_answers.specs.RewrittenAnswer.{Rewrites}
 use Rattle.job_answers.specs.Statuses.{status_of_answer}
 use Rattle.job_answers.proofs.GivenAnswers.{some_bytes, end_unrefused}
 use Rattle.job_answers.proofs.PrintLaws.{canonical_has_bytes}
@@ -23,7 +23,7 @@ pub record BecomesOne (Becomes : EventGraph → EventGraph → Type 0) : Type 0 
   pub determined : (g h k : EventGraph) → Becomes g h → Becomes g k → h ≡ k
 
 module _ (Becomes : EventGraph → EventGraph → Type 0) (law : BecomesOne Becomes) where
-  exists : (g : EventGraph) → IsValid g → (a : Answer) × IsRewriting Becomes g a
+  exists : (g : EventGraph) → IsValid g → (a : Answer) × IsDone (Rewrites Becomes g) a
   exists g valid =
       let (h, becomes) = law.ends g valid in
       (done (canonical h), (canonical h, record { rewritten = h; becomes = becomes; written = refl }, refl))
@@ -34,7 +34,7 @@ module _ (Becomes : EventGraph → EventGraph → Type 0) (law : BecomesOne Beco
   has_bytes : (g : EventGraph) (out : List ℕ) → Rewrites Becomes g out → 0 < length out
   has_bytes g out r = subst (λ (bytes : List ℕ). 0 < length bytes) (append-nil (canonical r.rewritten) ∙ sym r.written) (canonical_has_bytes r.rewritten [])
 
-  pub rewriting_laws : (MayBeNone : List ℕ → Type 0) → HasOneAnswer IsValid (IsRewriting Becomes) MayBeNone
+  pub rewriting_laws : (MayBeNone : List ℕ → Type 0) → HasOneAnswer IsValid (λ g. IsDone (Rewrites Becomes g)) MayBeNone
   rewriting_laws MayBeNone = record {
     exists = exists;
     one = λ g a b x y. x.2 ∙ ap (λ out. done out) (one_text g x.0 y.0 x.1 y.1) ∙ sym y.2;

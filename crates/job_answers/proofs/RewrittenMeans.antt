@@ -10,7 +10,8 @@ use Rattle.job_answers.specs.declared.answer.Answer.TheVariants.{Given}
 use Rattle.job_answers.specs.declared.answer.Answer.{Answer}
 use Rattle.job_answers.specs.declared.status.End.{End}
 use Rattle.job_answers.specs.Answers.{AnswersModel, Responds, Answers}
-use Rattle.job_answers.specs.RewrittenAnswer.{Rewrites, IsRewriting, RewritesTheSame}
+use Rattle.job_answers.specs.AnswerForms.{IsDone}
+use Rattle.job_answers.specs.RewrittenAnswer.{Rewrites, RewritesTheSame}
 use Rattle.job_answers.proofs.GivenAnswers.{given_is_no_refusal, given_bytes}
 
 -- what a valid model becomes is valid and means the same, and what is valid reads back
@@ -33,7 +34,7 @@ module _ (Becomes : EventGraph → EventGraph → Type 0) (law : KeepsMeaningAs 
         same = law.same g r.rewritten valid r.becomes;
       }
 
-  module _ (job : ModelJob) (answers_so : (g : EventGraph) (a : Answer) → AnswersModel job g a → IsRewriting Becomes g a) where
+  module _ (job : ModelJob) (answers_so : (g : EventGraph) (a : Answer) → AnswersModel job g a → IsDone (Rewrites Becomes g) a) where
     of_model : (text out : List ℕ) (end : End) → Responds (Model job) text (Given end out) → RewritesTheSame Becomes text out
     of_model text out end (inl h) = absurd (given_is_no_refusal h.told)
     of_model text out end (inr h) =

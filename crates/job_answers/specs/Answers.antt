@@ -14,29 +14,29 @@ use Rattle.command_words.specs.declared.reading.Reading.TheVariants as readings
 use Rattle.command_words.specs.Readings.{limit_of}
 use Rattle.model_core.specs.EventGraph.{EventGraph}
 use Rattle.model_core.specs.Static.Reading.{Reads, ReadsDocument}
+use Rattle.model_core.specs.Text.Canonical.{canonical}
+use Rattle.model_core.specs.Ranges.Narrowed.{IsNarrowed}
+use Rattle.model_core.specs.Rules.Fuse.{Fused}
 use Rattle.model_core.specs.Rules.Reduction.{RuleApplication}
 use Rattle.model_core.specs.Saved.SavedRun.{SavedRun}
 use Rattle.job_answers.specs.declared.answer.Answer.{Answer}
 use Rattle.job_answers.specs.declared.complaint.Complaint.{Complaint}
-use Rattle.job_answers.specs.AnswerForms.{refused, too_long}
+use Rattle.conflict_report.specs.ConflictText.{conflict_text}
+use Rattle.describe.specs.Description.{description}
+use Rattle.trial_report.specs.TrialText.{Summarises}
+use Rattle.use_analysis.specs.UsesText.{uses_text}
+use Rattle.job_answers.specs.AnswerForms.{done, IsDone, accepted_line, refused, too_long}
 use Rattle.job_answers.specs.Complaints.{IsComplaint, message_of, byte_line}
 use Rattle.job_answers.specs.DocumentComplaints.{IsDocumentComplaint}
 use Rattle.job_answers.specs.SavedComplaints.{IsSavedComplaint}
 use Rattle.job_answers.specs.SavedReading.{ReadsSaved}
-use Rattle.job_answers.specs.CheckAnswer.{check_answer}
-use Rattle.job_answers.specs.PrintAnswer.{print_answer}
-use Rattle.job_answers.specs.ReduceAnswer.{IsReduction}
-use Rattle.job_answers.specs.UsesAnswer.{uses_answer}
-use Rattle.job_answers.specs.ConflictsAnswer.{conflicts_answer}
-use Rattle.job_answers.specs.FuseAnswer.{IsFusion}
-use Rattle.job_answers.specs.NarrowAnswer.{IsNarrowing}
-use Rattle.job_answers.specs.DescribeAnswer.{describe_answer}
+use Rattle.job_answers.specs.ReduceAnswer.{Reduces}
+use Rattle.job_answers.specs.RewrittenAnswer.{Rewrites}
 use Rattle.job_answers.specs.RunAnswer.{run_answer, ExceedsRoom}
 use Rattle.job_answers.specs.ReplicateAnswer.{replicate_answer}
 use Rattle.job_answers.specs.SaveAnswer.{save_answer}
 use Rattle.job_answers.specs.ResumeAnswer.{resume_answer, ResumedExceedsRoom}
 use Rattle.job_answers.specs.CertifyAnswer.{certify_answer}
-use Rattle.job_answers.specs.TrialAnswer.{IsTrial}
 
 -- ---- what is answered for what was read, job by job
 
@@ -45,14 +45,14 @@ use Rattle.job_answers.specs.TrialAnswer.{IsTrial}
 -- another text that means the same, `describe` the model in English, `run` the history of a run, `replicate` the report of
 -- many runs, and `save` a document from which a run can go on
 abbrev pub AnswersModel : ModelJob → EventGraph → Answer → Type 0
-AnswersModel models.Check g a = a ≡ check_answer g
-AnswersModel models.Print g a = a ≡ print_answer g
-AnswersModel models.Reduce g a = IsReduction g a
-AnswersModel models.Uses g a = a ≡ uses_answer g
-AnswersModel models.Conflicts g a = a ≡ conflicts_answer g
-AnswersModel models.Fuse g a = IsFusion g a
-AnswersModel models.Narrow g a = IsNarrowing g a
-AnswersModel models.Describe g a = a ≡ describe_answer g
+AnswersModel models.Check g a = a ≡ done (accepted_line g)
+AnswersModel models.Print g a = a ≡ done (canonical g)
+AnswersModel models.Reduce g a = IsDone (Reduces g) a
+AnswersModel models.Uses g a = a ≡ done (uses_text g)
+AnswersModel models.Conflicts g a = a ≡ done (conflict_text g)
+AnswersModel models.Fuse g a = IsDone (Rewrites Fused g) a
+AnswersModel models.Narrow g a = IsDone (Rewrites IsNarrowed g) a
+AnswersModel models.Describe g a = a ≡ done (description g)
 AnswersModel (models.Run options) g a = a ≡ run_answer g options.until options.seed options.events options.starts
 AnswersModel (models.Replicate options) g a = a ≡ replicate_answer g options
 AnswersModel (models.Save options) g a = a ≡ save_answer g options
@@ -67,7 +67,7 @@ AnswersSaved (saved_jobs.Resume options) g s a = a ≡ resume_answer g s options
 
 -- `trial` tells what comes of a model that a number makes
 abbrev pub AnswersAlone : BareJob → Answer → Type 0
-AnswersAlone (bare.Trial options) a = IsTrial options a
+AnswersAlone (bare.Trial options) a = IsDone (Summarises options.seed options.vertices options.until options.events) a
 
 -- A job on a model that writes as it goes may lack memory behind a front of its bytes: `run` where the run needs more room
 -- than was asked for, `replicate` anywhere.

@@ -1,4 +1,4 @@
--- What `reduce` answers for a model, and what that is for.
+-- What `reduce` writes of a model, and what that is for.
 use Rattle.std.specs.Prelude.{◌≡◌, ℕ, List, ◌++◌}
 use Rattle.model_core.specs.EventGraph.{EventGraph}
 use Rattle.model_core.specs.Static.Reading.{Reads}
@@ -6,8 +6,6 @@ use Rattle.model_core.specs.Text.Canonical.{canonical}
 use Rattle.model_core.specs.Rules.Reduction.{RuleApplication, Strategy}
 use Rattle.model_core.specs.Rules.Certificate.{certificate}
 use Rattle.model_core.specs.Run.Same.{Same}
-use Rattle.job_answers.specs.declared.answer.Answer.{Answer}
-use Rattle.job_answers.specs.AnswerForms.{IsDone}
 
 -- the canonical text of what the strategy makes of the model, and the certificate of its applications
 pub record Reduces (original : EventGraph) (out : List ℕ) : Type 0 where
@@ -15,9 +13,6 @@ pub record Reduces (original : EventGraph) (out : List ℕ) : Type 0 where
   pub reduced : EventGraph
   pub strategy : Strategy original applications reduced
   pub written : out ≡ canonical reduced ++ certificate applications
-
-abbrev pub IsReduction : EventGraph → Answer → Type 0
-IsReduction g a = IsDone (Reduces g) a
 
 -- What is written for the text spells a model that means the same: it reads back, and the two models are the same.
 pub record KeepsMeaning (text out : List ℕ) : Type 0 where

@@ -1,21 +1,15 @@
--- The answer that is the text of a model made of the one that was read, as that of `fuse` and of `narrow` is, and what it is
--- for.
+-- The text of a model made of the one that was read, as `fuse` and `narrow` write it, and what it is for.
 use Rattle.std.specs.Prelude.{◌≡◌, ℕ, List}
 use Rattle.model_core.specs.EventGraph.{EventGraph}
 use Rattle.model_core.specs.Static.Reading.{Reads}
 use Rattle.model_core.specs.Text.Canonical.{canonical}
 use Rattle.model_core.specs.Run.Same.{Same}
-use Rattle.job_answers.specs.declared.answer.Answer.{Answer}
-use Rattle.job_answers.specs.AnswerForms.{IsDone}
 
 -- the canonical text of what the model becomes
 pub record Rewrites (Becomes : EventGraph → EventGraph → Type 0) (original : EventGraph) (out : List ℕ) : Type 0 where
   pub rewritten : EventGraph
   pub becomes : Becomes original rewritten
   pub written : out ≡ canonical rewritten
-
-abbrev pub IsRewriting : (EventGraph → EventGraph → Type 0) → EventGraph → Answer → Type 0
-IsRewriting Becomes g a = IsDone (Rewrites Becomes g) a
 
 -- What is written for the text is that of a model that means the same: it reads back, and the two models are the same.
 pub record RewritesTheSame (Becomes : EventGraph → EventGraph → Type 0) (text out : List ℕ) : Type 0 where

@@ -2,7 +2,7 @@
 
 ghost use Rattle.std.specs.Prelude.{◌≡◌, IfOk};
 ghost use Rattle.model_core.specs.Code.Views.{graph_of};
-ghost use Rattle.job_answers.specs.CheckAnswer.{check_answer};
+ghost use Rattle.job_answers.specs.AnswerForms.{done, accepted_line};
 
 use crate::answer::Answer;
 use crate::status::End;
@@ -12,7 +12,7 @@ use std::alloc::Global;
 
 /// That the model of this name is accepted.
 pub fn acceptance(alloc: Global, model: &Model) -> Result<Answer, NoMemory>
-    ensures { IfOk result (λ a. a ≡ check_answer (graph_of model.now)) }
+    ensures { IfOk result (λ a. a ≡ done (accepted_line (graph_of model.now))) }
 {
     let mut out = Vec::new(alloc);
     put_bytes(&mut out, b"accepted ")?;

@@ -2,7 +2,8 @@
 
 ghost use Rattle.std.specs.Prelude.{◌≡◌, IfOk};
 ghost use Rattle.model_core.specs.Code.Views.{graph_of};
-ghost use Rattle.job_answers.specs.PrintAnswer.{print_answer};
+ghost use Rattle.model_core.specs.Text.Canonical.{canonical};
+ghost use Rattle.job_answers.specs.AnswerForms.{done};
 
 use crate::answer::Answer;
 use crate::status::End;
@@ -13,7 +14,7 @@ use std::alloc::Global;
 
 /// The canonical text of the model.
 pub fn canonical_text(alloc: Global, model: &Model) -> Result<Answer, NoMemory>
-    ensures { IfOk result (λ a. a ≡ print_answer (graph_of model.now)) }
+    ensures { IfOk result (λ a. a ≡ done (canonical (graph_of model.now))) }
 {
     let out = print(alloc, model)?;
     Ok(Answer::Given(End::Done, out))

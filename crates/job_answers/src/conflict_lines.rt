@@ -2,7 +2,8 @@
 
 ghost use Rattle.std.specs.Prelude.{◌≡◌, IfOk};
 ghost use Rattle.model_core.specs.Code.Views.{graph_of};
-ghost use Rattle.job_answers.specs.ConflictsAnswer.{conflicts_answer};
+ghost use Rattle.conflict_report.specs.ConflictText.{conflict_text};
+ghost use Rattle.job_answers.specs.AnswerForms.{done};
 
 use crate::answer::Answer;
 use crate::status::End;
@@ -13,7 +14,7 @@ use std::alloc::Global;
 
 /// A line for each pair.
 pub fn conflict_lines(alloc: Global, model: &Model) -> Result<Answer, NoMemory>
-    ensures { IfOk result (λ a. a ≡ conflicts_answer (graph_of model.now)) }
+    ensures { IfOk result (λ a. a ≡ done (conflict_text (graph_of model.now))) }
 {
     let out = conflict_text(alloc, model)?;
     Ok(Answer::Given(End::Done, out))

@@ -5,7 +5,8 @@ ghost use Rattle.model_core.specs.Static.Reading.{IsValid};
 ghost use Rattle.model_core.specs.Text.Canonical.{canonical};
 ghost use Rattle.model_core.specs.Rules.Certificate.{certificate};
 ghost use Rattle.model_core.specs.Code.Views.{graph_of, application_of};
-ghost use Rattle.job_answers.specs.ReduceAnswer.{Reduces, IsReduction};
+ghost use Rattle.job_answers.specs.AnswerForms.{IsDone};
+ghost use Rattle.job_answers.specs.ReduceAnswer.{Reduces};
 
 use crate::answer::Answer;
 use crate::status::End;
@@ -42,7 +43,7 @@ fn reduction_text(alloc: Global, model: Model) -> Result<Text, NoMemory>
 /// The reduced model and the certificate.
 pub fn reduction(alloc: Global, model: Model) -> Result<Answer, NoMemory>
     requires { IsValid (graph_of model) }
-    ensures { IfOk result (IsReduction (graph_of model)) }
+    ensures { IfOk result (IsDone (Reduces (graph_of model))) }
 {
     let out = reduction_text(alloc, model)?;
     Ok(Answer::Given(End::Done, out))

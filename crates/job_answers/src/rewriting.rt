@@ -7,9 +7,8 @@ ghost use Rattle.model_core.specs.Text.Canonical.{canonical};
 ghost use Rattle.model_core.specs.Rules.Fuse.{Fused};
 ghost use Rattle.model_core.specs.Ranges.Narrowed.{IsNarrowed};
 ghost use Rattle.model_core.specs.Code.Views.{graph_of};
+ghost use Rattle.job_answers.specs.AnswerForms.{IsDone};
 ghost use Rattle.job_answers.specs.RewrittenAnswer.{Rewrites};
-ghost use Rattle.job_answers.specs.FuseAnswer.{IsFusion};
-ghost use Rattle.job_answers.specs.NarrowAnswer.{IsNarrowing};
 
 use crate::answer::Answer;
 use crate::status::End;
@@ -49,7 +48,7 @@ fn narrowed_text(alloc: Global, model: Model) -> Result<Text, NoMemory>
 
 /// The model in which of vertices that do the same one is left.
 pub fn fusion(alloc: Global, model: Model) -> Result<Answer, NoMemory>
-    ensures { IfOk result (IsFusion (graph_of model)) }
+    ensures { IfOk result (IsDone (Rewrites Fused (graph_of model))) }
 {
     let out = fused_text(alloc, model)?;
     Ok(Answer::Given(End::Done, out))
@@ -58,7 +57,7 @@ pub fn fusion(alloc: Global, model: Model) -> Result<Answer, NoMemory>
 /// The model with the ranges declared that it needs.
 pub fn narrowing(alloc: Global, model: Model) -> Result<Answer, NoMemory>
     requires { IsValid (graph_of model) }
-    ensures { IfOk result (IsNarrowing (graph_of model)) }
+    ensures { IfOk result (IsDone (Rewrites IsNarrowed (graph_of model))) }
 {
     let out = narrowed_text(alloc, model)?;
     Ok(Answer::Given(End::Done, out))

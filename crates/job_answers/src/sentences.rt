@@ -2,7 +2,8 @@
 
 ghost use Rattle.std.specs.Prelude.{◌≡◌, IfOk};
 ghost use Rattle.model_core.specs.Code.Views.{graph_of};
-ghost use Rattle.job_answers.specs.DescribeAnswer.{describe_answer};
+ghost use Rattle.describe.specs.Description.{description};
+ghost use Rattle.job_answers.specs.AnswerForms.{done};
 
 use crate::answer::Answer;
 use crate::status::End;
@@ -13,7 +14,7 @@ use std::alloc::Global;
 
 /// The sentences.
 pub fn sentences(alloc: Global, model: &Model) -> Result<Answer, NoMemory>
-    ensures { IfOk result (λ a. a ≡ describe_answer (graph_of model.now)) }
+    ensures { IfOk result (λ a. a ≡ done (description (graph_of model.now))) }
 {
     let out = describe(alloc, model)?;
     Ok(Answer::Given(End::Done, out))

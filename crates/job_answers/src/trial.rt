@@ -4,7 +4,8 @@ ghost use Rattle.std.specs.Prelude.{IfOk};
 ghost use Rattle.command_words.specs.declared.reading.BareJob.TheVariants.{Trial};
 ghost use Rattle.command_words.specs.declared.reading.Reading.TheVariants.{Nothing};
 ghost use Rattle.command_words.specs.KeptLimits.{KeepsLimits};
-ghost use Rattle.job_answers.specs.TrialAnswer.{IsTrial};
+ghost use Rattle.trial_report.specs.TrialText.{Summarises};
+ghost use Rattle.job_answers.specs.AnswerForms.{IsDone};
 
 use crate::answer::Answer;
 use crate::status::End;
@@ -16,7 +17,7 @@ use trial_report::trial_text;
 /// The summary.
 pub fn trial(alloc: Global, options: &TrialOptions) -> Result<Answer, NoMemory>
     requires { KeepsLimits (Nothing (Trial options.now)) }
-    ensures { IfOk result (IsTrial options.now) }
+    ensures { IfOk result (IsDone (Summarises options.now.seed options.now.vertices options.now.until options.now.events)) }
 {
     let out = trial_text(
         alloc,

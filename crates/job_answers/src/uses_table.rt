@@ -2,7 +2,8 @@
 
 ghost use Rattle.std.specs.Prelude.{◌≡◌, IfOk};
 ghost use Rattle.model_core.specs.Code.Views.{graph_of};
-ghost use Rattle.job_answers.specs.UsesAnswer.{uses_answer};
+ghost use Rattle.use_analysis.specs.UsesText.{uses_text};
+ghost use Rattle.job_answers.specs.AnswerForms.{done};
 
 use crate::answer::Answer;
 use crate::status::End;
@@ -13,7 +14,7 @@ use use_analysis::put_uses;
 
 /// A line for each variable.
 pub fn uses_table(alloc: Global, model: &Model) -> Result<Answer, NoMemory>
-    ensures { IfOk result (λ a. a ≡ uses_answer (graph_of model.now)) }
+    ensures { IfOk result (λ a. a ≡ done (uses_text (graph_of model.now))) }
 {
     let mut out = Vec::new(alloc);
     put_uses(alloc, &mut out, model)?;

@@ -7,8 +7,8 @@ ghost use Rattle.command_words.specs.declared.reading.DocumentJob.TheVariants as
 ghost use Rattle.command_words.specs.declared.reading.ModelJob.TheVariants as models;
 ghost use Rattle.command_words.specs.declared.reading.SavedJob.TheVariants as saved_jobs;
 ghost use Rattle.command_words.specs.declared.reading.Reading.TheVariants as readings;
-ghost use Rattle.command_words.specs.Readings.{reading_of, limit_of};
 ghost use Rattle.command_words.specs.KeptLimits.{KeepsLimits};
+ghost use Rattle.command_words.specs.Readings.{reading_of, limit_of};
 ghost use Rattle.worked_reports.specs.CommandLines.{of_run, of_replicate, of_save, of_resume, of_trial};
 
 /// Eleven jobs read a model, `certify` a document and `resume` a saved one, and `trial` reads nothing. Each asks what the words asked.
