@@ -46,51 +46,21 @@ pub fn answer_model<K: Sink>(
     requires limits { KeepsLimits (OfModel job.now) }
     ensures { DeliversSome K.seen (AnswersModel job.now (graph_of model)) (MayFallShort job.now (graph_of model)) result output.old output.new }
 {
-    match job {
-        ModelJob::Check => {
-            let answer = acceptance(alloc, &model);
-            forget(model);
-            deliver(output, answer)
-        }
-        ModelJob::Print => {
-            let answer = canonical_text(alloc, &model);
-            forget(model);
-            deliver(output, answer)
-        }
-        ModelJob::Reduce => deliver(output, reduction(alloc, model)),
-        ModelJob::Uses => {
-            let answer = uses_table(alloc, &model);
-            forget(model);
-            deliver(output, answer)
-        }
-        ModelJob::Conflicts => {
-            let answer = conflict_lines(alloc, &model);
-            forget(model);
-            deliver(output, answer)
-        }
-        ModelJob::Fuse => deliver(output, fusion(alloc, model)),
-        ModelJob::Narrow => deliver(output, narrowing(alloc, model)),
-        ModelJob::Describe => {
-            let answer = sentences(alloc, &model);
-            forget(model);
-            deliver(output, answer)
-        }
-        ModelJob::Run(options) => {
-            let said = run_model(alloc, &model, options, output);
-            forget(model);
-            said
-        }
-        ModelJob::Replicate(options) => {
-            let said = replicate(alloc, &model, options, output);
-            forget(model);
-            said
-        }
-        ModelJob::Save(options) => {
-            let said = save_run(alloc, &model, options, output);
-            forget(model);
-            said
-        }
-    }
+    let said = match job {
+        ModelJob::Reduce => return deliver(output, reduction(alloc, model)),
+        ModelJob::Fuse => return deliver(output, fusion(alloc, model)),
+        ModelJob::Narrow => return deliver(output, narrowing(alloc, model)),
+        ModelJob::Check => deliver(output, acceptance(alloc, &model)),
+        ModelJob::Print => deliver(output, canonical_text(alloc, &model)),
+        ModelJob::Uses => deliver(output, uses_table(alloc, &model)),
+        ModelJob::Conflicts => deliver(output, conflict_lines(alloc, &model)),
+        ModelJob::Describe => deliver(output, sentences(alloc, &model)),
+        ModelJob::Run(options) => run_model(alloc, &model, options, output),
+        ModelJob::Replicate(options) => replicate(alloc, &model, options, output),
+        ModelJob::Save(options) => save_run(alloc, &model, options, output),
+    };
+    forget(model);
+    said
 }
 
 /// What is asked of the document.
