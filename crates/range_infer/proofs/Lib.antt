@@ -16,10 +16,11 @@ mod OpenEnds
 mod RoundsEnd
 mod OneInference
 mod UnmovedParts
+mod AllSeen
 mod PassedOver
 mod PartsBeside
 mod NumbersHeld
-pub mod Overlays
+pub mod LedBack
 mod VariablesOfModel
 mod AssignedBeside
 mod FittingTests

@@ -1,13 +1,13 @@
--- One turn of the search for ranges in late rounds: one round more, or the end.
-use Rattle.std.proofs.Common.{◌≡◌, ℕ, zero, suc, ◌+◌, ◌*◌, ◌<◌, ◌≤◌, nat_le, Bool, true, false, List, length, sym, ◌∙◌, ap, ap₂, subst, arith}
+-- One turn of the search for ranges: one round more, or the end.
+use Rattle.std.proofs.Common.{◌≡◌, ℕ, suc, ◌+◌, ◌*◌, ◌<◌, ◌≤◌, nat_le, Bool, List, length, sym, ◌∙◌, ap, ap₂, subst, arith}
 use Rattle.std.proofs.lemmas.Bool.Decides.{nat_tests}
 use Rattle.model_core.specs.EventGraph.{EventGraph}
 use Rattle.model_core.specs.Static.OwnRules.{KeepsParts}
 use Rattle.model_core.specs.declared.incoming.Incoming.{Incoming}
 use Rattle.model_core.specs.declared.var_range.VarRange.{VarRange}
 use Rattle.model_core.specs.Ranges.Incoming.{incoming}
-use Rattle.model_core.specs.Ranges.Inference.{each_variable, first_range, next_range, round, after_rounds, IsInferred}
-use Rattle.range_infer.specs.Inner.IncomingAgain.{TakesAgain}
+use Rattle.model_core.specs.Ranges.Inference.{each_variable, next_range, round, after_rounds, IsInferred}
+use Rattle.range_infer.specs.Inner.LookedAt.{TakesAgain}
 use Rattle.range_infer.proofs.OneRound.{Growing, variables_given}
 use Rattle.range_infer.proofs.OpenEnds.{open_ends, at_most_two_each}
 use Rattle.range_infer.proofs.RoundsEnd.{growing_after, bounded_more, few_rounds}
@@ -15,14 +15,12 @@ use Rattle.range_infer.proofs.PassedOver.{StandsFor, stands_again}
 
 -- the ranges after so many rounds, of which each late one changed something, and what stands for all that is taken under them
 pub record Turn (g : EventGraph) (rounds : ℕ) (ranges : List VarRange) (takes : List Incoming) : Type 0 where
-  pub late : 16 ≤ rounds
   pub reached : ranges ≡ after_rounds g rounds
   pub stand : StandsFor g ranges takes
   pub bounded : rounds + open_ends g.variables ranges ≤ 16 + 2 * length g.variables
 
-pub first_turn : (g : EventGraph) (ranges seen : List VarRange) (takes : List Incoming) → ranges ≡ after_rounds g 16 → seen ≡ ranges → takes ≡ incoming g seen → Turn g 16 ranges takes
+pub first_turn : (g : EventGraph) (ranges seen : List VarRange) (takes : List Incoming) → ranges ≡ after_rounds g 0 → seen ≡ ranges → takes ≡ incoming g seen → Turn g 0 ranges takes
 first_turn g ranges seen takes first same taken = record {
-  late = omega arith;
   reached = first;
   stand = λ late. ap (λ (is : List Incoming). each_variable g (next_range g late is ranges)) (taken ∙ ap (incoming g) same);
   bounded = omega (arith, at_most_two_each g.variables ranges);
@@ -38,14 +36,12 @@ module _ (g : EventGraph) (keeps : KeepsParts g) (rounds : ℕ) (ranges : List V
   pub few : rounds < 4017
   few = few_rounds g keeps rounds ranges turn.bounded
 
-  is_late : nat_le 17 (suc rounds) ≡ true
-  is_late = let late = turn.late in grind (arith, nat_tests)
-
   -- what is made of ranges and of what is taken, which are seen under other names
-  pub is_round : (seen : List VarRange) (given : List Incoming) (next : List VarRange) → seen ≡ ranges → given ≡ takes → next ≡ each_variable g (next_range g true given seen) → next ≡ round g (suc rounds) ranges
-  is_round seen given next same are made =
-      made ∙ (ap₂ (λ (is : List Incoming) (rs : List VarRange). each_variable g (next_range g true is rs)) are same ∙
-      (turn.stand true ∙ ap (λ (late : Bool). each_variable g (next_range g late (incoming g ranges) ranges)) (sym is_late)))
+  pub is_round : (late : Bool) (seen : List VarRange) (given : List Incoming) (next : List VarRange) → late ≡ nat_le 16 rounds → seen ≡ ranges → given ≡ takes → next ≡ each_variable g (next_range g late given seen) → next ≡ round g (suc rounds) ranges
+  is_round late seen given next so same are made =
+      let when : late ≡ nat_le 17 (suc rounds) = so ∙ (let one : nat_le 16 rounds ≡ nat_le 17 (suc rounds) = grind (arith, nat_tests) in one) in
+      made ∙ (ap₂ (λ (is : List Incoming) (rs : List VarRange). each_variable g (next_range g late is rs)) are same ∙
+      (turn.stand late ∙ ap (λ (late : Bool). each_variable g (next_range g late (incoming g ranges) ranges)) when))
 
   module _ (next : List VarRange) (made : next ≡ round g (suc rounds) ranges) where
     pub many_next : length next ≡ length g.variables
@@ -59,30 +55,7 @@ module _ (g : EventGraph) (keeps : KeepsParts g) (rounds : ℕ) (ranges : List V
         let more = bounded_more g keeps rounds ranges growing turn.bounded (λ stays. changes (made ∙ stays)) in
         let ends : open_ends g.variables next ≡ open_ends g.variables (round g (suc rounds) ranges) = ap (open_ends g.variables) made in
         record {
-          late = omega (arith, turn.late);
           reached = made ∙ (ap (round g (suc rounds)) turn.reached ∙ ap (after_rounds g) (let one : suc rounds ≡ rounds + 1 = omega arith in one));
           stand = stands_again g ranges next growing (suc rounds) made again (subst (λ (rs : List VarRange). TakesAgain g rs next again) o (subst (λ (rs : List VarRange). TakesAgain g old rs again) n taken));
           bounded = omega (arith, more, ends);
         }
-
--- ---- an early round
-
-pub many_after : (g : EventGraph) (k : ℕ) → length (after_rounds g k) ≡ length g.variables
-many_after g zero = variables_given g (first_range g)
-many_after g (suc k) = variables_given g (next_range g (nat_le 17 (suc k)) (incoming g (after_rounds g k)) (after_rounds g k))
-
--- what is made of ranges and of what is taken, which are seen under other names
-module _ (g : EventGraph) (k : ℕ) (early : k < 16) (ranges seen here : List VarRange) (takes given : List Incoming) (reached : ranges ≡ after_rounds g k) (same : seen ≡ ranges) (taken : takes ≡ incoming g seen) (again : here ≡ ranges) (are : given ≡ takes) (next : List VarRange) (made : next ≡ each_variable g (next_range g false given here)) where
-  is_early : nat_le 17 (suc k) ≡ false
-  is_early = grind (arith, nat_tests)
-
-  is_early_round : next ≡ round g (suc k) ranges
-  is_early_round =
-      made ∙ (ap₂ (λ (is : List Incoming) (rs : List VarRange). each_variable g (next_range g false is rs)) (are ∙ (taken ∙ ap (incoming g) same)) again ∙
-      ap (λ (late : Bool). each_variable g (next_range g late (incoming g ranges) ranges)) (sym is_early))
-
-  pub early_reached : next ≡ after_rounds g (k + 1)
-  early_reached = is_early_round ∙ (ap (round g (suc k)) reached ∙ ap (after_rounds g) (let one : suc k ≡ k + 1 = omega arith in one))
-
-  pub early_inferred : next ≡ ranges → IsInferred g ranges
-  early_inferred stays = record { rounds = k; few = omega (arith, early); reached = sym reached; stays = sym is_early_round ∙ stays }

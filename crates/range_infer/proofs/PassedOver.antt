@@ -22,7 +22,8 @@ use Rattle.model_core.specs.Ranges.Inference.{hull, grown_range, ends_moved, eac
 use Rattle.model_core.proofs.EachOne.{either_false, every-front, every-behind, every-flat_map, every-map, every-fails}
 use Rattle.range_infer.specs.Inner.Moved.{is_moved, MarksMoved}
 use Rattle.range_infer.specs.Inner.PartReads.{each_reads}
-use Rattle.range_infer.specs.Inner.IncomingAgain.{assigned_again, change_again, values_again, edge_again, vertex_again, incoming_again, TakesAgain}
+use Rattle.range_infer.specs.Inner.LookedAt.{looks_at, assigned_seen, change_seen, values_seen, edge_seen, vertex_seen, incoming_seen, TakesAgain}
+use Rattle.range_infer.proofs.AllSeen.{all_values}
 use Rattle.range_infer.proofs.ModelWithRanges.{range_given, as_many_variables}
 use Rattle.range_infer.proofs.OneRound.{holds-itself, holds-trans, wider, Growing, all-holds, all-inside, all-taken, ends_moved-takes, ordered, round-growing, variable_given, variables_given}
 use Rattle.range_infer.proofs.NarrowModels.{fits_everywhere}
@@ -72,28 +73,28 @@ module _ (g : EventGraph) (v : ℕ) (in_order : (variable_at g v).lo ≤ℤ (var
   -- ---- the values beside variables
 
   module _ (moved : List Bool) where
-    assigned_alike : (old new : List Variable) → StayElsewhere moved old new → (vs : List ℕ) (es : List Expression) → AllByRecursion IsHeld (assigned old vs es) → GrowAlike (assigned_again moved new vs es) (assigned new vs es)
+    assigned_alike : (old new : List Variable) → StayElsewhere moved old new → (vs : List ℕ) (es : List Expression) → AllByRecursion IsHeld (assigned old vs es) → GrowAlike (assigned_seen false moved new vs es) (assigned new vs es)
     assigned_alike old new stay [] es held = λ x wide. refl
     assigned_alike old new stay (v ∷ vs) [] held = λ x wide. refl
     assigned_alike old new stay (v ∷ vs) (e ∷ es) held =
         let one : List Variable → List Incoming = λ ranges. record { variable = v; bounds = bounds_under refined ranges e } ∷ [] in
-        joined_alike (cond (list_any (is_moved moved) (variables_in e)) (one new) []) (one new) (assigned_again moved new vs es) (assigned new vs es)
-        (part_alike (list_any (is_moved moved) (variables_in e)) (one old) (one new) (held.0, tt)
+        joined_alike (cond (looks_at false moved (variables_in e)) (one new) []) (one new) (assigned_seen false moved new vs es) (assigned new vs es)
+        (part_alike (looks_at false moved (variables_in e)) (one old) (one new) (held.0, tt)
         (λ none. ap (λ (b : Bounds). record { variable = v; bounds = b } ∷ []) (bounds_stay moved e old new stay (every-fails (is_moved moved) (variables_in e) none))))
         (assigned_alike old new stay vs es held.1)
 
-    -- where no value reads one, none is looked at
-    nothing_again : (ranges : List Variable) (vs : List ℕ) (es : List Expression) → list_any (list_any (is_moved moved)) (each_reads es) ≡ false → assigned_again moved ranges vs es ≡ []
-    nothing_again ranges [] es none = refl
-    nothing_again ranges (v ∷ vs) [] none = refl
-    nothing_again ranges (v ∷ vs) (e ∷ es) none =
-        let (here, later) = either_false (list_any (is_moved moved) (variables_in e)) (list_any (list_any (is_moved moved)) (each_reads es)) none in
-        ap₂ (λ (b : Bool) (is : List Incoming). cond b (record { variable = v; bounds = bounds_under refined ranges e } ∷ []) [] ++ is) here (nothing_again ranges vs es later)
+    -- where no value is looked at nothing is seen
+    nothing_seen : (ranges : List Variable) (vs : List ℕ) (es : List Expression) → list_any (looks_at false moved) (each_reads es) ≡ false → assigned_seen false moved ranges vs es ≡ []
+    nothing_seen ranges [] es none = refl
+    nothing_seen ranges (v ∷ vs) [] none = refl
+    nothing_seen ranges (v ∷ vs) (e ∷ es) none =
+        let (here, later) = either_false (looks_at false moved (variables_in e)) (list_any (looks_at false moved) (each_reads es)) none in
+        ap₂ (λ (b : Bool) (is : List Incoming). cond b (record { variable = v; bounds = bounds_under refined ranges e } ∷ []) [] ++ is) here (nothing_seen ranges vs es later)
 
   -- ---- the parts of a model
 
   module _ (moved : List Bool) (old new : List Variable) (stay : StayElsewhere moved old new) where
-    change_alike : (c : StateChange) → AllByRecursion IsHeld (into_change g old c) → GrowAlike (change_again new moved c) (into_change g new c)
+    change_alike : (c : StateChange) → AllByRecursion IsHeld (into_change g old c) → GrowAlike (change_seen g false moved new c) (into_change g new c)
     change_alike (Set targets values) held = assigned_alike moved old new stay (map (λ (l : Location). l.variable) targets) values held
     change_alike (Draw target stream choice) held =
         part_alike false (into_change g old (Draw target stream choice)) (into_change g new (Draw target stream choice)) held (λ none. refl)
@@ -109,43 +110,41 @@ module _ (g : EventGraph) (v : ℕ) (in_order : (variable_at g v).lo ≤ℤ (var
       known_new = refined e.condition true new
 
       abbrev gives : List Variable → Bool
-      gives ranges = can_schedule e.kind && (bounds_under refined ranges e.condition).can_true
+      gives ranges = (bounds_under refined ranges e.condition).can_true
 
-      abbrev rest : List Incoming
-      rest = cond (list_any (list_any (is_moved moved)) (each_reads e.values)) (values_again g new moved e) []
-
-      by_values : StayElsewhere moved known_old known_new → (t some : Bool) → (some ≡ false → assigned_again moved known_new params e.values ≡ []) → AllByRecursion IsHeld (cond t (assigned known_old params e.values) [])
-          → GrowAlike (cond some (cond t (assigned_again moved known_new params e.values) []) []) (cond t (assigned known_new params e.values) [])
-      by_values after false true nothing held = λ x wide. refl
-      by_values after false false nothing held = λ x wide. refl
-      by_values after true true nothing held = assigned_alike moved known_old known_new after params e.values held
-      by_values after true false nothing held = subst (λ (is : List Incoming). GrowAlike is (assigned known_new params e.values)) (nothing refl) (assigned_alike moved known_old known_new after params e.values held)
+      by_values : StayElsewhere moved known_old known_new → (k t some : Bool) → (some ≡ false → assigned_seen false moved known_new params e.values ≡ []) → AllByRecursion IsHeld (cond (k && t) (assigned known_old params e.values) [])
+          → GrowAlike (cond (k && some) (cond t (assigned_seen false moved known_new params e.values) []) []) (cond (k && t) (assigned known_new params e.values) [])
+      by_values after false t some nothing held = λ x wide. refl
+      by_values after true false true nothing held = λ x wide. refl
+      by_values after true false false nothing held = λ x wide. refl
+      by_values after true true true nothing held = assigned_alike moved known_old known_new after params e.values held
+      by_values after true true false nothing held = subst (λ (is : List Incoming). GrowAlike is (assigned known_new params e.values)) (nothing refl) (assigned_alike moved known_old known_new after params e.values held)
 
       -- where the condition reads none the edge schedules where it did
-      unread : list_any (is_moved moved) (variables_in e.condition) ≡ false → AllByRecursion IsHeld (into_edge g old e) → GrowAlike rest (into_edge g new e)
+      unread : list_any (is_moved moved) (variables_in e.condition) ≡ false → AllByRecursion IsHeld (into_edge g old e) → GrowAlike (values_seen g false moved new e) (into_edge g new e)
       unread none held =
           let still : Unmoved moved (variables_in e.condition) = every-fails (is_moved moved) (variables_in e.condition) none in
-          let same : gives old ≡ gives new = ap (λ (b : Bounds). can_schedule e.kind && b.can_true) (bounds_stay moved e.condition old new stay still) in
-          by_values (known moved e.condition true old new stay still) (gives new) (list_any (list_any (is_moved moved)) (each_reads e.values)) (nothing_again moved known_new params e.values)
-          (subst (λ (t : Bool). AllByRecursion IsHeld (cond t (assigned known_old params e.values) [])) same held)
+          let same : gives old ≡ gives new = ap (λ (b : Bounds). b.can_true) (bounds_stay moved e.condition old new stay still) in
+          by_values (known moved e.condition true old new stay still) (can_schedule e.kind) (gives new) (list_any (looks_at false moved) (each_reads e.values)) (nothing_seen moved known_new params e.values)
+          (subst (λ (t : Bool). AllByRecursion IsHeld (cond (can_schedule e.kind && t) (assigned known_old params e.values) [])) same held)
 
-      edge_alike : AllByRecursion IsHeld (into_edge g old e) → GrowAlike (edge_again g new moved e) (into_edge g new e)
+      edge_alike : AllByRecursion IsHeld (into_edge g old e) → GrowAlike (edge_seen g false moved new e) (into_edge g new e)
       edge_alike held = by (list_any (is_moved moved) (variables_in e.condition)) refl where
-        by : (b : Bool) → list_any (is_moved moved) (variables_in e.condition) ≡ b → GrowAlike (cond b (into_edge g new e) rest) (into_edge g new e)
-        by true is = λ x wide. refl
+        by : (b : Bool) → list_any (is_moved moved) (variables_in e.condition) ≡ b → GrowAlike (values_seen g b moved new e) (into_edge g new e)
+        by true is = λ x wide. ap (grow x) (all_values g moved new e)
         by false is = unread is held
 
-    vertex_alike : (u : EventVertex) → AllByRecursion IsHeld (into_vertex g old u) → GrowAlike (vertex_again g new moved u) (into_vertex g new u)
+    vertex_alike : (u : EventVertex) → AllByRecursion IsHeld (into_vertex g old u) → GrowAlike (vertex_seen g false moved new u) (into_vertex g new u)
     vertex_alike u held =
         let changes = flat_map (into_change g old) u.changes in
         let edges = flat_map (into_edge g old) u.edges in
-        joined_alike (flat_map (change_again new moved) u.changes) (flat_map (into_change g new) u.changes) (flat_map (edge_again g new moved) u.edges) (flat_map (into_edge g new) u.edges)
-        (each_alike (change_again new moved) (into_change g new) u.changes (every-map (λ (c : StateChange). AllByRecursion IsHeld (into_change g old c)) (λ (c : StateChange). GrowAlike (change_again new moved c) (into_change g new c)) change_alike u.changes (every-flat_map IsHeld (into_change g old) u.changes (every-front IsHeld changes edges held))))
-        (each_alike (edge_again g new moved) (into_edge g new) u.edges (every-map (λ (e : EventEdge). AllByRecursion IsHeld (into_edge g old e)) (λ (e : EventEdge). GrowAlike (edge_again g new moved e) (into_edge g new e)) edge_alike u.edges (every-flat_map IsHeld (into_edge g old) u.edges (every-behind IsHeld changes edges held))))
+        joined_alike (flat_map (change_seen g false moved new) u.changes) (flat_map (into_change g new) u.changes) (flat_map (edge_seen g false moved new) u.edges) (flat_map (into_edge g new) u.edges)
+        (each_alike (change_seen g false moved new) (into_change g new) u.changes (every-map (λ (c : StateChange). AllByRecursion IsHeld (into_change g old c)) (λ (c : StateChange). GrowAlike (change_seen g false moved new c) (into_change g new c)) change_alike u.changes (every-flat_map IsHeld (into_change g old) u.changes (every-front IsHeld changes edges held))))
+        (each_alike (edge_seen g false moved new) (into_edge g new) u.edges (every-map (λ (e : EventEdge). AllByRecursion IsHeld (into_edge g old e)) (λ (e : EventEdge). GrowAlike (edge_seen g false moved new e) (into_edge g new e)) edge_alike u.edges (every-flat_map IsHeld (into_edge g old) u.edges (every-behind IsHeld changes edges held))))
 
-    pub vertices_alike : (us : List EventVertex) → AllByRecursion IsHeld (flat_map (into_vertex g old) us) → GrowAlike (flat_map (vertex_again g new moved) us) (flat_map (into_vertex g new) us)
+    pub vertices_alike : (us : List EventVertex) → AllByRecursion IsHeld (flat_map (into_vertex g old) us) → GrowAlike (flat_map (vertex_seen g false moved new) us) (flat_map (into_vertex g new) us)
     vertices_alike us held =
-        each_alike (vertex_again g new moved) (into_vertex g new) us (every-map (λ (u : EventVertex). AllByRecursion IsHeld (into_vertex g old u)) (λ (u : EventVertex). GrowAlike (vertex_again g new moved u) (into_vertex g new u)) vertex_alike us (every-flat_map IsHeld (into_vertex g old) us held))
+        each_alike (vertex_seen g false moved new) (into_vertex g new) us (every-map (λ (u : EventVertex). AllByRecursion IsHeld (into_vertex g old u)) (λ (u : EventVertex). GrowAlike (vertex_seen g false moved new u) (into_vertex g new u)) vertex_alike us (every-flat_map IsHeld (into_vertex g old) us held))
 
 -- ---- all variables, after a round
 
@@ -177,19 +176,19 @@ module _ (g : EventGraph) (before ranges : List VarRange) (growing : Growing g b
           (ap (with_range (variable_at g v)) ((marks v).0 still) ∙ sym (range_given g.variables ranges now_growing.fitting.as_many v));
     }
 
-    next_alike : (late : Bool) (v : ℕ) → v < length g.variables → next_range g late (incoming_again g ranges moved) ranges v ≡ next_range g late (incoming g ranges) ranges v
+    next_alike : (late : Bool) (v : ℕ) → v < length g.variables → next_range g late (incoming_seen g false moved ranges) ranges v ≡ next_range g late (incoming g ranges) ranges v
     next_alike late v small = by (is_fixed g v) refl where
       r : VarRange
       r = range_at ranges v
 
-      by : (b : Bool) → is_fixed g v ≡ b → cond b r (ends_moved late (declared_range (variable_at g v)) r (fold (grown_range g v) r (incoming_again g ranges moved))) ≡ cond b r (ends_moved late (declared_range (variable_at g v)) r (fold (grown_range g v) r (incoming g ranges)))
+      by : (b : Bool) → is_fixed g v ≡ b → cond b r (ends_moved late (declared_range (variable_at g v)) r (fold (grown_range g v) r (incoming_seen g false moved ranges))) ≡ cond b r (ends_moved late (declared_range (variable_at g v)) r (fold (grown_range g v) r (incoming g ranges)))
       by true is = refl
       by false free =
           ap (ends_moved late (declared_range (variable_at g v)) r) (vertices_alike g v (ordered g before growing v) r moved (with_ranges g.variables before) (with_ranges g.variables ranges) stay g.vertices (held v small free) r (holds-itself r))
 
-    stands : StandsFor g ranges (incoming_again g ranges moved)
+    stands : StandsFor g ranges (incoming_seen g false moved ranges)
     stands late =
-        let some : ℕ → VarRange = next_range g late (incoming_again g ranges moved) ranges in
+        let some : ℕ → VarRange = next_range g late (incoming_seen g false moved ranges) ranges in
         let all : ℕ → VarRange = next_range g late (incoming g ranges) ranges in
         ext_get_or no_range (each_variable g some) (each_variable g all) (variables_given g some ∙ sym (variables_given g all)) (λ v small.
         let there : v < length g.variables = omega (arith, small, variables_given g some) in

@@ -1,7 +1,7 @@
 -- The code of this crate, restated for its proofs. No public clause cites these, and nobody has to believe them.
-pub mod Overlaid
+pub mod RangesLeft
 pub mod RangeTests
 pub mod GrownBy
 pub mod PartReads
 pub mod Moved
-pub mod IncomingAgain
+pub mod LookedAt

@@ -1,17 +1,18 @@
 //! The bounds of an expression under the ranges that are left where it is evaluated.
+#![tactic(auto, using(crate::proofs::LedBack::leading_back))]
 
-ghost use Rattle.std.specs.Prelude.{◌≡◌, length, List, pos, int_le, int_lt, ◌&&◌, IfOk, OnOk};
+ghost use Rattle.std.specs.Prelude.{◌≡◌, List, pos, int_le, int_lt, ◌&&◌, true, false, IfOk, OnOk};
 ghost use Rattle.model_core.specs.Run.State.{variable_at};
 ghost use Rattle.model_core.specs.Rules.BoundsTable.{kind_bounds, variable_bounds, quiet_index};
-ghost use Rattle.model_core.specs.Rules.BoundsOf.{ranged_at, bounds_under};
-ghost use Rattle.model_core.specs.Code.Views.{graph_of, expression_of};
+ghost use Rattle.model_core.specs.Rules.BoundsOf.{ranged_at, beside, bounds_under};
+ghost use Rattle.model_core.specs.Code.Views.{graph_of, expression_of, operator_of};
 ghost use Rattle.model_core.specs.Ranges.OtherRanges.{with_ranges};
 ghost use Rattle.model_core.specs.Ranges.Refined.{refined};
-ghost use Rattle.range_infer.specs.Inner.Overlaid.{ranges_left};
+ghost use Rattle.range_infer.specs.Inner.RangesLeft.{variables_left, StaysLeft, LeadsBack};
 
-use crate::left_range::LeftRange;
-use crate::refinement::{range_left, refine, refine_beside};
-use model_core::{Bounds, Expr, Kind, Model, VarRange};
+use crate::ranges_left::RangesLeft;
+use crate::refinement::{forget, refine, tells_of_both};
+use model_core::{Bounds, Expr, Kind, Model, Op, VarRange};
 use range_bounds::{
     chosen_bounds, negative_bounds, number_bounds, operator_bounds, opposite, truth_bounds,
 };
@@ -27,18 +28,11 @@ fn kind_bounds(kind: Kind, range: VarRange, quiet: bool) -> Bounds
 }
 
 /// The bounds of what the variable at this place holds.
-fn variable_bounds(
-    model: &Model,
-    ranges: &[VarRange],
-    left: &[LeftRange],
-    var: usize,
-    quiet: bool,
-) -> Bounds
-    requires many { length ranges.now ≡ length model.now.vars }
-    ensures { result ≡ variable_bounds (ranged_at (ranges_left (graph_of model.now) ranges.now left.now) var) quiet }
+fn variable_bounds(left: &RangesLeft, var: usize, quiet: bool) -> Bounds
+    ensures { result ≡ variable_bounds (ranged_at (variables_left left.now) var) quiet }
 {
-    match model.vars.as_slice().get(var) {
-        Some(found) => kind_bounds(found.kind, range_left(ranges, left, var), quiet),
+    match left.model.vars.as_slice().get(var) {
+        Some(found) => kind_bounds(found.kind, left.ranges[var], quiet),
         None => number_bounds(0, 0, quiet),
     }
 }
@@ -67,73 +61,100 @@ fn quiet_index(model: &Model, var: usize, index: &Bounds) -> bool
 }
 
 /// The bounds of an operand, as `bounds_left` finds them.
-// Most operands are variables: their bounds are told without a call.
+// Most operands are variables or numbers: their bounds are told without a call.
 #[cycle(bounds_left)]
-fn operand_left(
-    model: &Model,
-    ranges: &[VarRange],
-    left: &mut Vec<LeftRange>,
-    expr: &Expr,
-) -> Result<Bounds, NoMemory>
-    requires many { length ranges.now ≡ length model.now.vars }
-    ensures bounds { IfOk result (λ b. b ≡ bounds_under refined (ranges_left (graph_of model.now) ranges.now left.old.items) (expression_of expr.now)) }
-    ensures left { OnOk result (left.new.items ≡ left.old.items) }
+fn operand_left(left: &mut RangesLeft, expr: &Expr) -> Result<Bounds, NoMemory>
+    ensures bounds { IfOk result (λ b. b ≡ bounds_under refined (variables_left left.old) (expression_of expr.now)) }
+    ensures left { OnOk result (StaysLeft left.old left.new) }
 {
-    if let Expr::Scalar(var) = expr {
-        return Ok(variable_bounds(model, ranges, left.as_slice(), *var, true));
+    match expr {
+        Expr::Scalar(var) => Ok(variable_bounds(left, *var, true)),
+        Expr::Int(n) => Ok(number_bounds(*n, *n, true)),
+        _ => bounds_left(left, expr),
     }
-    bounds_left(model, ranges, left, expr)
 }
 
-/// The bounds of an expression under the ranges that are left: those given, with what was added in place of some. What is
-/// added on the way is taken away again.
+/// The bounds of the left operand of this operator. What is left where the right one is evaluated stays.
 #[cycle(bounds_left)]
-pub(crate) fn bounds_left(
-    model: &Model,
-    ranges: &[VarRange],
-    left: &mut Vec<LeftRange>,
-    expr: &Expr,
-) -> Result<Bounds, NoMemory>
-    requires many { length ranges.now ≡ length model.now.vars }
-    ensures bounds { IfOk result (λ b. b ≡ bounds_under refined (ranges_left (graph_of model.now) ranges.now left.old.items) (expression_of expr.now)) }
-    ensures left { OnOk result (left.new.items ≡ left.old.items) }
+fn bounds_beside(left: &mut RangesLeft, op: Op, first: &Expr) -> Result<Bounds, NoMemory>
+    ensures bounds { IfOk result (λ b. b ≡ bounds_under refined (variables_left left.old) (expression_of first.now)) }
+    ensures left { OnOk result (variables_left left.new ≡ beside refined (operator_of op) (expression_of first.now) (variables_left left.old)) }
+    ensures back { OnOk result (LeadsBack left.old left.new) }
+{
+    match op {
+        Op::And => bounds_where(left, first, true),
+        Op::Or => bounds_where(left, first, false),
+        Op::Eq | Op::Ne | Op::Lt | Op::Le | Op::Gt | Op::Ge => operand_left(left, first),
+        Op::Add | Op::Sub | Op::Mul | Op::Div | Op::Rem | Op::Min | Op::Max => {
+            operand_left(left, first)
+        }
+    }
+}
+
+/// The bounds of an expression under the ranges that are left. What is replaced on the way is put back.
+#[cycle(bounds_left)]
+pub(crate) fn bounds_left(left: &mut RangesLeft, expr: &Expr) -> Result<Bounds, NoMemory>
+    ensures bounds { IfOk result (λ b. b ≡ bounds_under refined (variables_left left.old) (expression_of expr.now)) }
+    ensures left { OnOk result (StaysLeft left.old left.new) }
 {
     match expr {
         Expr::Int(n) => Ok(number_bounds(*n, *n, true)),
         Expr::Truth(b) => Ok(truth_bounds(!*b, *b, true)),
         Expr::Clk => Ok(number_bounds(0, 1 << 48, true)),
-        Expr::Scalar(v) => Ok(variable_bounds(model, ranges, left.as_slice(), *v, true)),
+        Expr::Scalar(v) => Ok(variable_bounds(left, *v, true)),
         Expr::Cell(v, i) => {
-            let index = bounds_left(model, ranges, left, i)?;
-            let quiet = quiet_index(model, *v, &index);
-            Ok(variable_bounds(model, ranges, left.as_slice(), *v, quiet))
+            let index = bounds_left(left, i)?;
+            let quiet = quiet_index(left.model, *v, &index);
+            Ok(variable_bounds(left, *v, quiet))
         }
         Expr::Neg(a) => {
-            let bounds = bounds_left(model, ranges, left, a)?;
+            let bounds = bounds_left(left, a)?;
             Ok(negative_bounds(&bounds))
         }
         Expr::Not(a) => {
-            let bounds = bounds_left(model, ranges, left, a)?;
+            let bounds = bounds_left(left, a)?;
             Ok(opposite(&bounds))
         }
-        Expr::Binary(op, x, y) => {
-            let a = operand_left(model, ranges, left, x)?;
-            let before = left.len();
-            refine_beside(model, ranges, left, *op, x)?;
-            let b = operand_left(model, ranges, left, y)?;
-            left.truncate(before);
+        Expr::Binary(op, first, second) => {
+            let replaced = left.replaced.len();
+            let a = bounds_beside(left, *op, first)?;
+            let b = operand_left(left, second)?;
+            forget(left, replaced);
             Ok(operator_bounds(*op, &a, &b))
         }
         Expr::If(test, yes, no) => {
-            let c = bounds_left(model, ranges, left, test)?;
-            let before = left.len();
-            refine(model, ranges, left, test, true)?;
-            let a = bounds_left(model, ranges, left, yes)?;
-            left.truncate(before);
-            refine(model, ranges, left, test, false)?;
-            let b = bounds_left(model, ranges, left, no)?;
-            left.truncate(before);
+            let replaced = left.replaced.len();
+            let c = bounds_where(left, test, true)?;
+            let a = operand_left(left, yes)?;
+            forget(left, replaced);
+            refine(left, test, false)?;
+            let b = operand_left(left, no)?;
+            forget(left, replaced);
             Ok(chosen_bounds(&c, &a, &b))
         }
     }
+}
+
+/// The bounds of an expression. What is left where it has this value stays.
+// A chain of `and` or of `or` is gone through once, and not once more for each of its operands.
+#[cycle(bounds_left)]
+pub(crate) fn bounds_where(
+    left: &mut RangesLeft,
+    expr: &Expr,
+    value: bool,
+) -> Result<Bounds, NoMemory>
+    ensures bounds { IfOk result (λ b. b ≡ bounds_under refined (variables_left left.old) (expression_of expr.now)) }
+    ensures left { OnOk result (variables_left left.new ≡ refined (expression_of expr.now) value (variables_left left.old)) }
+    ensures back { OnOk result (LeadsBack left.old left.new) }
+{
+    if let Expr::Binary(op, first, second) = expr {
+        if tells_of_both(*op, value) {
+            let a = bounds_where(left, first, value)?;
+            let b = bounds_where(left, second, value)?;
+            return Ok(operator_bounds(*op, &a, &b));
+        }
+    }
+    let bounds = bounds_left(left, expr)?;
+    refine(left, expr, value)?;
+    Ok(bounds)
 }

@@ -13,6 +13,7 @@ ghost use Rattle.range_infer.specs.Inner.RangeTests.{encloses_kept, first_after}
 use crate::collecting::incoming;
 use crate::fitting::are_fitting;
 use crate::keeping::kept_range;
+use crate::part_reads::all_parts_read;
 use crate::range_verdict::RangeVerdict;
 use model_core::{Incoming, Model, VarRange};
 use sig_base::{List, NoMemory};
@@ -89,7 +90,8 @@ fn check_fitting(
     requires fitting { Fitting (graph_of model.now) ranges.now }
     ensures { IfOk result (VerdictHolds (graph_of model.now) ranges.now) }
 {
-    let takes = incoming(alloc, model, ranges)?;
+    let reads = all_parts_read(alloc, model)?;
+    let takes = incoming(alloc, model, reads.as_slice(), ranges)?;
     let start = first_wrong_start(model, ranges);
     let first = first_outside(model, ranges, start, takes.as_slice());
     if first < model.vars.len() {

@@ -1,59 +1,64 @@
-//! What a model's variables take under given ranges, collected from its changes and edges.
+//! What a model's variables take under given ranges, collected from those of its changes and edges that are looked at.
+#![tactic(auto, using(crate::proofs::LedBack::leading_back))]
 
-ghost use Rattle.std.specs.Prelude.{◌≡◌, length, true, [], ◌∷◌, ◌++◌, map, drop, OnOk, IfOk};
+ghost use Rattle.std.specs.Prelude.{◌≡◌, length, cond, true, [], ◌∷◌, ◌++◌, map, drop, OnOk, IfOk};
 ghost use Rattle.std.specs.List.{flat_map};
 ghost use Rattle.model_core.specs.EventGraph.{Location};
 ghost use Rattle.model_core.specs.Run.Step.{vertex_at};
 ghost use Rattle.model_core.specs.Rules.BoundsOf.{bounds_under};
 ghost use Rattle.model_core.specs.Code.Views.{graph_of, expression_of, location_of, change_of, edge_kind_of, edge_of, vertex_of};
 ghost use Rattle.model_core.specs.Ranges.Refined.{refined};
-ghost use Rattle.model_core.specs.Ranges.Incoming.{assigned, into_change, can_schedule, into_edge, into_vertex, incoming};
-ghost use Rattle.range_infer.specs.Inner.Overlaid.{ranges_left};
+ghost use Rattle.model_core.specs.Ranges.Incoming.{assigned, can_schedule, incoming};
+ghost use Rattle.range_infer.specs.Inner.RangesLeft.{variables_left, StaysLeft};
+ghost use Rattle.range_infer.specs.Inner.PartReads.{each_reads, set_reads, carried_reads, parts_read};
+ghost use Rattle.range_infer.specs.Inner.LookedAt.{assigned_seen, change_seen, values_seen, edge_seen, vertex_seen, incoming_seen, TakesAgain};
 
-use crate::bounds_left::bounds_left;
-use crate::left_range::LeftRange;
-use crate::refinement::refine;
+use crate::bounds_left::{bounds_left, bounds_where};
+use crate::looking::{Look, looks_at, looks_at_one, looks_at_place};
+use crate::moves::moved_ranges;
+use crate::part_reads::{EdgeReads, VertexReads};
+use crate::ranges_left::RangesLeft;
+use crate::refinement::forget;
+use crate::rounds::copied;
 use model_core::{Change, Edge, EdgeForm, Expr, Incoming, Model, Target, VarRange, Vertex};
 use range_bounds::choice_bounds;
-use sig_base::NoMemory;
+use sig_base::{List, NoMemory};
 use std::alloc::Global;
 
 /// Adds what the variable takes of the value at this place, if there is one.
-pub(crate) fn add_value_at(
+fn add_value_at(
     out: &mut Vec<Incoming>,
-    model: &Model,
-    ranges: &[VarRange],
-    left: &mut Vec<LeftRange>,
+    left: &mut RangesLeft,
     variable: usize,
     values: &[Expr],
     place: usize,
 ) -> Result<(), NoMemory>
-    requires many { length ranges.now ≡ length model.now.vars }
-    ensures out { OnOk result (out.new.items ≡ out.old.items ++ assigned (ranges_left (graph_of model.now) ranges.now left.old.items) (variable ∷ []) (drop place (map expression_of values.now))) }
-    ensures left { OnOk result (left.new.items ≡ left.old.items) }
+    ensures out { OnOk result (out.new.items ≡ out.old.items ++ assigned (variables_left left.old) (variable ∷ []) (drop place (map expression_of values.now))) }
+    ensures left { OnOk result (StaysLeft left.old left.new) }
 {
     if let Some(value) = values.get(place) {
-        let bounds = bounds_left(model, ranges, left, value)?;
+        let bounds = bounds_left(left, value)?;
         out.push(Incoming { variable, bounds })?;
     }
     Ok(())
 }
 
-/// Adds what parameters take of the values beside them.
-fn add_parameters(
+/// Adds what the variable takes of the value at this place, if there is one that is looked at.
+fn add_value(
     out: &mut Vec<Incoming>,
-    model: &Model,
-    ranges: &[VarRange],
-    left: &mut Vec<LeftRange>,
-    params: &[usize],
+    left: &mut RangesLeft,
+    look: &Look,
+    variable: usize,
     values: &[Expr],
+    reads: &[List<usize>],
+    place: usize,
 ) -> Result<(), NoMemory>
-    requires many { length ranges.now ≡ length model.now.vars }
-    ensures out { OnOk result (out.new.items ≡ out.old.items ++ assigned (ranges_left (graph_of model.now) ranges.now left.old.items) params.now (map expression_of values.now)) }
-    ensures left { OnOk result (left.new.items ≡ left.old.items) }
+    requires reads { reads.now ≡ each_reads (map expression_of values.now) }
+    ensures out { OnOk result (out.new.items ≡ out.old.items ++ assigned_seen look.now.all look.now.moved.now (variables_left left.old) (variable ∷ []) (drop place (map expression_of values.now))) }
+    ensures left { OnOk result (StaysLeft left.old left.new) }
 {
-    for (place, param) in params.iter().enumerate() {
-        add_value_at(out, model, ranges, left, *param, values, place)?;
+    if looks_at_place(look, reads, place) {
+        add_value_at(out, left, variable, values, place)?;
     }
     Ok(())
 }
@@ -61,18 +66,37 @@ fn add_parameters(
 /// Adds what targets take of the values beside them.
 fn add_targets(
     out: &mut Vec<Incoming>,
-    model: &Model,
-    ranges: &[VarRange],
-    left: &mut Vec<LeftRange>,
+    left: &mut RangesLeft,
+    look: &Look,
     targets: &[Target],
     values: &[Expr],
+    reads: &[List<usize>],
 ) -> Result<(), NoMemory>
-    requires many { length ranges.now ≡ length model.now.vars }
-    ensures out { OnOk result (out.new.items ≡ out.old.items ++ assigned (ranges_left (graph_of model.now) ranges.now left.old.items) (map (λ (l : Location). l.variable) (map location_of targets.now)) (map expression_of values.now)) }
-    ensures left { OnOk result (left.new.items ≡ left.old.items) }
+    requires reads { reads.now ≡ each_reads (map expression_of values.now) }
+    ensures out { OnOk result (out.new.items ≡ out.old.items ++ assigned_seen look.now.all look.now.moved.now (variables_left left.old) (map (λ (l : Location). l.variable) (map location_of targets.now)) (map expression_of values.now)) }
+    ensures left { OnOk result (StaysLeft left.old left.new) }
 {
     for (place, target) in targets.iter().enumerate() {
-        add_value_at(out, model, ranges, left, target.var, values, place)?;
+        add_value(out, left, look, target.var, values, reads, place)?;
+    }
+    Ok(())
+}
+
+/// Adds what parameters take of the values beside them.
+fn add_parameters(
+    out: &mut Vec<Incoming>,
+    left: &mut RangesLeft,
+    look: &Look,
+    params: &[usize],
+    values: &[Expr],
+    reads: &[List<usize>],
+) -> Result<(), NoMemory>
+    requires reads { reads.now ≡ each_reads (map expression_of values.now) }
+    ensures out { OnOk result (out.new.items ≡ out.old.items ++ assigned_seen look.now.all look.now.moved.now (variables_left left.old) params.now (map expression_of values.now)) }
+    ensures left { OnOk result (StaysLeft left.old left.new) }
+{
+    for (place, param) in params.iter().enumerate() {
+        add_value(out, left, look, *param, values, reads, place)?;
     }
     Ok(())
 }
@@ -80,35 +104,36 @@ fn add_targets(
 /// Adds what a change sets or draws.
 fn add_change(
     out: &mut Vec<Incoming>,
-    model: &Model,
-    ranges: &[VarRange],
-    left: &mut Vec<LeftRange>,
+    left: &mut RangesLeft,
+    look: &Look,
     change: &Change,
+    reads: &[List<usize>],
 ) -> Result<(), NoMemory>
-    requires many { length ranges.now ≡ length model.now.vars }
-    ensures out { OnOk result (out.new.items ≡ out.old.items ++ into_change (graph_of model.now) (ranges_left (graph_of model.now) ranges.now left.old.items) (change_of change.now)) }
-    ensures left { OnOk result (left.new.items ≡ left.old.items) }
+    requires reads { reads.now ≡ set_reads (change_of change.now) }
+    ensures out { OnOk result (out.new.items ≡ out.old.items ++ change_seen (graph_of left.old.model.now) look.now.all look.now.moved.now (variables_left left.old) (change_of change.now)) }
+    ensures left { OnOk result (StaysLeft left.old left.new) }
 {
     match change {
         Change::Set { targets, values } => {
             let targets = targets.as_slice();
-            add_targets(out, model, ranges, left, targets, values.as_slice())
+            add_targets(out, left, look, targets, values.as_slice(), reads)
         }
         Change::Draw {
             target,
             stream: _,
             choice,
         } => {
-            out.push(Incoming {
-                variable: target.var,
-                bounds: choice_bounds(model, choice),
-            })?;
+            if look.all {
+                let bounds = choice_bounds(left.model, choice);
+                let variable = target.var;
+                out.push(Incoming { variable, bounds })?;
+            }
             Ok(())
         }
     }
 }
 
-pub(crate) fn can_schedule(form: &EdgeForm) -> bool
+fn can_schedule(form: &EdgeForm) -> bool
     ensures { result ≡ can_schedule (edge_kind_of form.now) }
 {
     match form {
@@ -121,147 +146,192 @@ pub(crate) fn can_schedule(form: &EdgeForm) -> bool
     }
 }
 
-/// Adds what the parameters of the vertex take that an edge schedules where its condition is true.
+/// Adds what the parameters of the vertex take to which an edge leads, where its condition is true, if it can be.
 fn add_carried(
     out: &mut Vec<Incoming>,
-    model: &Model,
-    ranges: &[VarRange],
-    left: &mut Vec<LeftRange>,
+    left: &mut RangesLeft,
+    look: &Look,
     edge: &Edge,
+    reads: &[List<usize>],
 ) -> Result<(), NoMemory>
-    requires many { length ranges.now ≡ length model.now.vars }
-    ensures out { OnOk result (out.new.items ≡ out.old.items ++ assigned (refined (expression_of edge.now.condition) true (ranges_left (graph_of model.now) ranges.now left.old.items)) (vertex_at (graph_of model.now) edge.now.target).parameters (map expression_of edge.now.values)) }
-    ensures left { OnOk result (left.new.items ≡ left.old.items) }
+    requires reads { reads.now ≡ each_reads (map expression_of edge.now.values) }
+    ensures out { OnOk result (out.new.items ≡ out.old.items ++ cond (bounds_under refined (variables_left left.old) (expression_of edge.now.condition)).can_true
+        (assigned_seen look.now.all look.now.moved.now (refined (expression_of edge.now.condition) true (variables_left left.old)) (vertex_at (graph_of left.old.model.now) edge.now.target).parameters (map expression_of edge.now.values)) []) }
+    ensures left { OnOk result (StaysLeft left.old left.new) }
 {
-    let before = left.len();
-    refine(model, ranges, left, &edge.condition, true)?;
-    let params = model.parameters_at(edge.target);
-    add_parameters(out, model, ranges, left, params, edge.values.as_slice())?;
-    left.truncate(before);
+    let replaced = left.replaced.len();
+    let condition = bounds_where(left, &edge.condition, true)?;
+    if condition.can_true {
+        let params = left.model.parameters_at(edge.target);
+        add_parameters(out, left, look, params, edge.values.as_slice(), reads)?;
+    }
+    forget(left, replaced);
     Ok(())
 }
 
-/// Whether an expression can be true.
-pub(crate) fn can_be_true(
-    model: &Model,
-    ranges: &[VarRange],
-    left: &mut Vec<LeftRange>,
-    expr: &Expr,
-) -> Result<bool, NoMemory>
-    requires many { length ranges.now ≡ length model.now.vars }
-    ensures value { IfOk result (λ can. can ≡ (bounds_under refined (ranges_left (graph_of model.now) ranges.now left.old.items) (expression_of expr.now)).can_true) }
-    ensures left { OnOk result (left.new.items ≡ left.old.items) }
-{
-    let bounds = bounds_left(model, ranges, left, expr)?;
-    Ok(bounds.can_true)
-}
-
-/// Adds what an edge carries, if it schedules where its condition can be true.
-// Called for each edge of a model in many rounds, from two places.
-#[inline(always)]
-pub(crate) fn add_edge(
+/// Adds what an edge carries, if it schedules and carries something that is looked at.
+fn add_values(
     out: &mut Vec<Incoming>,
-    model: &Model,
-    ranges: &[VarRange],
-    left: &mut Vec<LeftRange>,
+    left: &mut RangesLeft,
+    look: &Look,
     edge: &Edge,
+    reads: &[List<usize>],
 ) -> Result<(), NoMemory>
-    requires many { length ranges.now ≡ length model.now.vars }
-    ensures out { OnOk result (out.new.items ≡ out.old.items ++ into_edge (graph_of model.now) (ranges_left (graph_of model.now) ranges.now left.old.items) (edge_of edge.now)) }
-    ensures left { OnOk result (left.new.items ≡ left.old.items) }
+    requires reads { reads.now ≡ each_reads (map expression_of edge.now.values) }
+    ensures out { OnOk result (out.new.items ≡ out.old.items ++ values_seen (graph_of left.old.model.now) look.now.all look.now.moved.now (variables_left left.old) (edge_of edge.now)) }
+    ensures left { OnOk result (StaysLeft left.old left.new) }
 {
-    if !can_schedule(&edge.form) {
-        return Ok(());
-    }
-    if can_be_true(model, ranges, left, &edge.condition)? {
-        add_carried(out, model, ranges, left, edge)?;
+    if can_schedule(&edge.form) && looks_at_one(look, reads) {
+        add_carried(out, left, look, edge, reads)?;
     }
     Ok(())
+}
+
+/// Adds what an edge carries: all of it where its condition is looked at.
+fn add_edge(
+    out: &mut Vec<Incoming>,
+    left: &mut RangesLeft,
+    look: &Look,
+    edge: &Edge,
+    reads: &EdgeReads,
+) -> Result<(), NoMemory>
+    requires reads { reads.now ≡ carried_reads (edge_of edge.now) }
+    ensures out { OnOk result (out.new.items ≡ out.old.items ++ edge_seen (graph_of left.old.model.now) look.now.all look.now.moved.now (variables_left left.old) (edge_of edge.now)) }
+    ensures left { OnOk result (StaysLeft left.old left.new) }
+{
+    let whole = Look {
+        all: looks_at(look, reads.condition.as_slice()),
+        moved: look.moved,
+    };
+    add_values(out, left, &whole, edge, reads.values.as_slice())
 }
 
 fn add_changes(
     out: &mut Vec<Incoming>,
-    model: &Model,
-    ranges: &[VarRange],
-    left: &mut Vec<LeftRange>,
+    left: &mut RangesLeft,
+    look: &Look,
     changes: &[Change],
+    reads: &[List<List<usize>>],
 ) -> Result<(), NoMemory>
-    requires many { length ranges.now ≡ length model.now.vars }
-    ensures out { OnOk result (out.new.items ≡ out.old.items ++ flat_map (into_change (graph_of model.now) (ranges_left (graph_of model.now) ranges.now left.old.items)) (map change_of changes.now)) }
-    ensures left { OnOk result (left.new.items ≡ left.old.items) }
+    requires reads { reads.now ≡ map set_reads (map change_of changes.now) }
+    ensures out { OnOk result (out.new.items ≡ out.old.items ++ flat_map (change_seen (graph_of left.old.model.now) look.now.all look.now.moved.now (variables_left left.old)) (map change_of changes.now)) }
+    ensures left { OnOk result (StaysLeft left.old left.new) }
 {
-    for change in changes {
-        add_change(out, model, ranges, left, change)?;
+    for place in 0..changes.len() {
+        add_change(out, left, look, &changes[place], reads[place].as_slice())?;
     }
     Ok(())
 }
 
 fn add_edges(
     out: &mut Vec<Incoming>,
-    model: &Model,
-    ranges: &[VarRange],
-    left: &mut Vec<LeftRange>,
+    left: &mut RangesLeft,
+    look: &Look,
     edges: &[Edge],
+    reads: &[EdgeReads],
 ) -> Result<(), NoMemory>
-    requires many { length ranges.now ≡ length model.now.vars }
-    ensures out { OnOk result (out.new.items ≡ out.old.items ++ flat_map (into_edge (graph_of model.now) (ranges_left (graph_of model.now) ranges.now left.old.items)) (map edge_of edges.now)) }
-    ensures left { OnOk result (left.new.items ≡ left.old.items) }
+    requires reads { reads.now ≡ map carried_reads (map edge_of edges.now) }
+    ensures out { OnOk result (out.new.items ≡ out.old.items ++ flat_map (edge_seen (graph_of left.old.model.now) look.now.all look.now.moved.now (variables_left left.old)) (map edge_of edges.now)) }
+    ensures left { OnOk result (StaysLeft left.old left.new) }
 {
-    for edge in edges {
-        add_edge(out, model, ranges, left, edge)?;
+    for place in 0..edges.len() {
+        add_edge(out, left, look, &edges[place], &reads[place])?;
     }
     Ok(())
 }
 
 fn add_vertex(
     out: &mut Vec<Incoming>,
-    model: &Model,
-    ranges: &[VarRange],
-    left: &mut Vec<LeftRange>,
+    left: &mut RangesLeft,
+    look: &Look,
     vertex: &Vertex,
+    reads: &VertexReads,
 ) -> Result<(), NoMemory>
-    requires many { length ranges.now ≡ length model.now.vars }
-    ensures out { OnOk result (out.new.items ≡ out.old.items ++ into_vertex (graph_of model.now) (ranges_left (graph_of model.now) ranges.now left.old.items) (vertex_of vertex.now)) }
-    ensures left { OnOk result (left.new.items ≡ left.old.items) }
+    requires reads { reads.now ≡ parts_read (vertex_of vertex.now) }
+    ensures out { OnOk result (out.new.items ≡ out.old.items ++ vertex_seen (graph_of left.old.model.now) look.now.all look.now.moved.now (variables_left left.old) (vertex_of vertex.now)) }
+    ensures left { OnOk result (StaysLeft left.old left.new) }
 {
-    add_changes(out, model, ranges, left, vertex.changes.as_slice())?;
-    add_edges(out, model, ranges, left, vertex.edges.as_slice())
+    let changes = vertex.changes.as_slice();
+    add_changes(out, left, look, changes, reads.sets.as_slice())?;
+    let edges = vertex.edges.as_slice();
+    add_edges(out, left, look, edges, reads.carried.as_slice())
 }
 
 fn add_vertices(
     out: &mut Vec<Incoming>,
-    model: &Model,
-    ranges: &[VarRange],
-    left: &mut Vec<LeftRange>,
+    left: &mut RangesLeft,
+    look: &Look,
     vertices: &[Vertex],
+    reads: &[VertexReads],
 ) -> Result<(), NoMemory>
-    requires many { length ranges.now ≡ length model.now.vars }
-    ensures out { OnOk result (out.new.items ≡ out.old.items ++ flat_map (into_vertex (graph_of model.now) (ranges_left (graph_of model.now) ranges.now left.old.items)) (map vertex_of vertices.now)) }
-    ensures left { OnOk result (left.new.items ≡ left.old.items) }
+    requires reads { reads.now ≡ map parts_read (map vertex_of vertices.now) }
+    ensures out { OnOk result (out.new.items ≡ out.old.items ++ flat_map (vertex_seen (graph_of left.old.model.now) look.now.all look.now.moved.now (variables_left left.old)) (map vertex_of vertices.now)) }
+    ensures left { OnOk result (StaysLeft left.old left.new) }
 {
-    for vertex in vertices {
-        add_vertex(out, model, ranges, left, vertex)?;
+    for place in 0..vertices.len() {
+        add_vertex(out, left, look, &vertices[place], &reads[place])?;
     }
     Ok(())
 }
 
-/// All that a model's variables take under these ranges, one for each variable.
+/// What a model's variables take under these ranges, one for each variable, by the parts that are looked at.
+fn incoming_seen(
+    alloc: Global,
+    model: &Model,
+    reads: &[VertexReads],
+    ranges: &[VarRange],
+    look: &Look,
+) -> Result<Vec<Incoming>, NoMemory>
+    requires many { length ranges.now ≡ length model.now.vars }
+    requires reads { reads.now ≡ map parts_read (map vertex_of model.now.vertices) }
+    ensures { IfOk result (λ takes. takes.items ≡ incoming_seen (graph_of model.now) look.now.all look.now.moved.now ranges.now) }
+{
+    let mut left = RangesLeft {
+        model,
+        ranges: copied(alloc, ranges)?,
+        replaced: Vec::new(alloc),
+    };
+    let mut out = Vec::new(alloc);
+    let vertices = model.vertices.as_slice();
+    add_vertices(&mut out, &mut left, look, vertices, reads)?;
+    Ok(out)
+}
+
+/// All that a model's variables take under these ranges, one for each variable, where its parts read this.
 pub(crate) fn incoming(
     alloc: Global,
     model: &Model,
+    reads: &[VertexReads],
     ranges: &[VarRange],
 ) -> Result<Vec<Incoming>, NoMemory>
     requires many { length ranges.now ≡ length model.now.vars }
+    requires reads { reads.now ≡ map parts_read (map vertex_of model.now.vertices) }
     ensures { IfOk result (λ all. all.items ≡ incoming (graph_of model.now) ranges.now) }
 {
-    let mut out = Vec::new(alloc);
-    let mut left = Vec::new(alloc);
-    add_vertices(
-        &mut out,
-        model,
-        ranges,
-        &mut left,
-        model.vertices.as_slice(),
-    )?;
-    Ok(out)
+    let look = Look {
+        all: true,
+        moved: &[],
+    };
+    incoming_seen(alloc, model, reads, ranges, &look)
+}
+
+/// What a model's variables take, where their ranges were these and are those now, by the parts that read one that moved.
+pub(crate) fn taken_again(
+    alloc: Global,
+    model: &Model,
+    reads: &[VertexReads],
+    old: &[VarRange],
+    new: &[VarRange],
+) -> Result<Vec<Incoming>, NoMemory>
+    requires many_old { length old.now ≡ length model.now.vars }
+    requires many { length new.now ≡ length model.now.vars }
+    requires reads { reads.now ≡ map parts_read (map vertex_of model.now.vertices) }
+    ensures { IfOk result (λ takes. TakesAgain (graph_of model.now) old.now new.now takes.items) }
+{
+    let moved = moved_ranges(alloc, old, new)?;
+    let look = Look {
+        all: false,
+        moved: moved.as_slice(),
+    };
+    incoming_seen(alloc, model, reads, new, &look)
 }

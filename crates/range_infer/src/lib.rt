@@ -8,14 +8,15 @@ mod fitting;
 mod inferring;
 mod keeping;
 mod law;
-mod left_range;
-mod looking_again;
+mod looking;
 mod moves;
 mod narrowing;
 mod numbers_left;
 mod part_reads;
 mod range_verdict;
+mod ranges_left;
 mod refinement;
+mod replaced_range;
 mod rounds;
 
 pub use checking::check_ranges;

@@ -67,7 +67,8 @@ fn grow(model: &Model, grown: &mut Vec<VarRange>, taken: &Incoming)
     }
 }
 
-fn copied(alloc: Global, ranges: &[VarRange]) -> Result<Vec<VarRange>, NoMemory>
+/// The same ranges.
+pub(crate) fn copied(alloc: Global, ranges: &[VarRange]) -> Result<Vec<VarRange>, NoMemory>
     ensures { IfOk result (λ copy. copy.items ≡ ranges.now) }
 {
     let copy: Vec<VarRange> = ranges.iter().copied().collect(alloc)?;

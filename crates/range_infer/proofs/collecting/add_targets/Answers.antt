@@ -1,23 +1,24 @@
 -- One more target, with the value beside it.
 use Rattle.std.proofs.Common.{◌++◌, ◌∷◌, [], ◌∙◌, ◌<◌, ap, map, drop, length, List, arith}
-use Rattle.model_core.specs.EventGraph.{Location}
-use Rattle.model_core.specs.Code.Views.{graph_of, location_of, expression_of}
-use Rattle.range_infer.specs.declared.left_range.LeftRange.{LeftRange}
-use Rattle.model_core.specs.Ranges.Incoming.{assigned}
-use Rattle.range_infer.specs.Inner.Overlaid.{ranges_left}
-use Rattle.range_infer.proofs.AssignedBeside.{one_assigned, target_at, many_targets}
+use Rattle.model_core.specs.EventGraph.{Location, Variable}
+use Rattle.model_core.specs.Code.Views.{location_of, expression_of}
+use Rattle.range_infer.specs.Inner.RangesLeft.{variables_left}
+use Rattle.range_infer.specs.Inner.LookedAt.{assigned_seen}
+use Rattle.range_infer.proofs.LedBack.{same_variables, stays-trans}
+use Rattle.range_infer.proofs.AssignedBeside.{one_seen, target_at, many_targets}
 use Rattle.range_infer.proofs.collecting.add_targets.Goals as goal
 
 pub loop-place-preserved : goal.loop-place-preserved
 loop-place-preserved c =
-    let g = graph_of c.args.model.now in
+    let look = c.args.look.now in
     let es = map expression_of c.args.values.now in
     let vars = map (λ (t : Location). t.variable) (map location_of c.args.targets.now) in
     let p = c.loop-place.place in
     let t = c.index-targets-place.result in
     let small : p < length vars = omega (arith, c.loop-place-test.true, many_targets c.args.targets.now) in
-    let added = c.in_ok-add_value_at.ensures.out ∙ ap (λ (left : List LeftRange). c.loop-place.out.items ++ assigned (ranges_left g c.args.ranges.now left) (t.var ∷ []) (drop p es)) c.loop-place.invariant.left in
+    let stays = same_variables c.args.left.now c.loop-place.left c.loop-place.invariant.left in
+    let added = c.in_ok-add_value.ensures.out ∙ ap (λ (rs : List Variable). c.loop-place.out.items ++ assigned_seen look.all look.moved.now rs (t.var ∷ []) (drop p es)) stays in
     record {
-      out = one_assigned (ranges_left g c.args.ranges.now c.args.left.now.items) vars es p t.var c.loop-place.out.items c.add_value_at.new.out.items _ small (target_at c.args.targets.now p t c.loop-place-test.true c.index-targets-place.is) added c.loop-place.invariant.out;
-      left = c.in_ok-add_value_at.ensures.left ∙ c.loop-place.invariant.left;
+      out = one_seen look.all look.moved.now (variables_left c.args.left.now) vars es p t.var c.loop-place.out.items c.add_value.new.out.items _ small (target_at c.args.targets.now p t c.loop-place-test.true c.index-targets-place.is) added c.loop-place.invariant.out;
+      left = stays-trans c.args.left.now c.loop-place.left c.add_value.new.left c.loop-place.invariant.left c.in_ok-add_value.ensures.left;
     }

@@ -1,15 +1,15 @@
 use Rattle.std.proofs.Common.{◌≡◌, ◌++◌, map, drop}
 use Rattle.model_core.specs.EventGraph.{Location}
-use Rattle.model_core.specs.Code.Views.{graph_of, location_of, expression_of}
-use Rattle.model_core.specs.Ranges.Incoming.{assigned}
-use Rattle.range_infer.specs.Inner.Overlaid.{ranges_left}
+use Rattle.model_core.specs.Code.Views.{location_of, expression_of}
+use Rattle.range_infer.specs.Inner.RangesLeft.{variables_left, StaysLeft}
+use Rattle.range_infer.specs.Inner.LookedAt.{assigned_seen}
 use Rattle.range_infer.proofs.collecting.add_targets.Given as goal
 
 abbrev pub invariant-loop-place : goal.invariant-loop-place
 invariant-loop-place l =
-    let rs = ranges_left (graph_of l.model) l.ranges l.initial.left.items in
+    let seen = assigned_seen l.look.all l.look.moved.now (variables_left l.initial.left) in
     let vars = map (λ (t : Location). t.variable) (map location_of l.targets) in
     record {
-      out : l.out.items ++ assigned rs (drop l.place vars) (drop l.place (map expression_of l.values)) ≡ l.initial.out.items ++ assigned rs vars (map expression_of l.values);
-      left : l.left.items ≡ l.initial.left.items;
+      out : l.out.items ++ seen (drop l.place vars) (drop l.place (map expression_of l.values)) ≡ l.initial.out.items ++ seen vars (map expression_of l.values);
+      left : StaysLeft l.initial.left l.left;
     }

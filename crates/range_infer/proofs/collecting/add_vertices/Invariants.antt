@@ -1,12 +1,12 @@
 use Rattle.std.proofs.Common.{◌≡◌, ◌++◌, map, take}
 use Rattle.std.specs.List.{flat_map}
 use Rattle.model_core.specs.Code.Views.{graph_of, vertex_of}
-use Rattle.model_core.specs.Ranges.Incoming.{into_vertex}
-use Rattle.range_infer.specs.Inner.Overlaid.{ranges_left}
+use Rattle.range_infer.specs.Inner.RangesLeft.{variables_left, StaysLeft}
+use Rattle.range_infer.specs.Inner.LookedAt.{vertex_seen}
 use Rattle.range_infer.proofs.collecting.add_vertices.Given as goal
 
-abbrev pub invariant-loop-vertex : goal.invariant-loop-vertex
-invariant-loop-vertex l = record {
-  out : l.out.items ≡ l.initial.out.items ++ flat_map (into_vertex (graph_of l.model) (ranges_left (graph_of l.model) l.ranges l.initial.left.items)) (map vertex_of (take l.vertex-index l.vertices));
-  left : l.left.items ≡ l.initial.left.items;
+abbrev pub invariant-loop-place : goal.invariant-loop-place
+invariant-loop-place l = record {
+  out : l.out.items ≡ l.initial.out.items ++ flat_map (vertex_seen (graph_of l.initial.left.model.now) l.look.all l.look.moved.now (variables_left l.initial.left)) (map vertex_of (take l.place l.vertices));
+  left : StaysLeft l.initial.left l.left;
 }

@@ -1,23 +1,22 @@
 -- Each turn makes one round more, or ends.
-use Rattle.std.proofs.Common.{◌≡◌, ◌∙◌, sym, ap, subst, length, Bool, true, false, arith}
+use Rattle.std.proofs.Common.{◌≡◌, ◌∙◌, sym, ap, subst, length, Bool, true, false, refl, arith}
 use Rattle.std.proofs.lemmas.List.{length-map}
 use Rattle.model_core.specs.Code.Views.{graph_of, variable_of}
 use Rattle.model_core.specs.Ranges.Inference.{IsInferred}
 use Rattle.range_infer.proofs.OneRound.{variables_given}
-use Rattle.range_infer.proofs.OneTurn.{first_turn, as_many, few, is_round, many_next, inferred, next_turn, many_after}
-use Rattle.range_infer.proofs.inferring.late_rounds.Goals as goal
+use Rattle.range_infer.proofs.OneTurn.{first_turn, as_many, few, is_round, many_next, inferred, next_turn}
+use Rattle.range_infer.proofs.inferring.make_rounds.Goals as goal
 
 not_true_too : (b : Bool) → b ≡ false → b ≡ true → ⊥
 not_true_too true e f = cc
 not_true_too false e f = cc
 
-pub incoming-requires : goal.incoming-requires
-incoming-requires c =
-    let g = graph_of c.args.model.now in
-    record { many = ap length (c.as_slice.ensures.value ∙ c.requires.first) ∙ (many_after g 16 ∙ length-map c.args.model.now.vars variable_of) }
+pub incoming-requires-clause-many : goal.incoming-requires-clause-many
+incoming-requires-clause-many c =
+    ap length (c.as_slice.ensures.value ∙ c.in_ok-ranges.ensures) ∙ (variables_given (graph_of c.args.model.now) _ ∙ length-map c.args.model.now.vars variable_of)
 
 pub loop-takes-init : goal.loop-takes-init
-loop-takes-init c = first_turn (graph_of c.args.model.now) c.args.first.items c.as_slice.result.now c.in_ok-takes.takes.items c.requires.first c.as_slice.ensures.value c.in_ok-takes.ensures
+loop-takes-init c = first_turn (graph_of c.args.model.now) c.in_ok-ranges.ranges.items c.as_slice.result.now c.in_ok-takes.takes.items c.in_ok-ranges.ensures c.as_slice.ensures.value c.in_ok-takes.ensures
 
 pub next_round-requires : goal.next_round-requires
 next_round-requires c =
@@ -31,7 +30,7 @@ same_ranges-requires c =
     let g = graph_of c.args.model.now in
     let keeps = ((c.validity_is_by_parts.ensures.by_parts g).0 c.requires.valid).0.parts in
     let turn = c.loop-takes in
-    let made = is_round g keeps turn.rounds turn.ranges.items turn.takes.items turn.invariant c.as_slice-in-loop-takes.result.now c.as_slice-in-loop-takes-2.result.now c.in_ok-next.next.items c.as_slice-in-loop-takes.ensures.value c.as_slice-in-loop-takes-2.ensures.value c.in_ok-next.ensures in
+    let made = is_round g keeps turn.rounds turn.ranges.items turn.takes.items turn.invariant _ c.as_slice-in-loop-takes.result.now c.as_slice-in-loop-takes-2.result.now c.in_ok-next.next.items refl c.as_slice-in-loop-takes.ensures.value c.as_slice-in-loop-takes-2.ensures.value c.in_ok-next.ensures in
     ap length c.as_slice-in-loop-takes-3.ensures.value ∙ (many_next g keeps turn.rounds turn.ranges.items turn.takes.items turn.invariant c.in_ok-next.next.items made ∙ sym (ap length c.as_slice-in-loop-takes-4.ensures.value ∙ as_many g keeps turn.rounds turn.ranges.items turn.takes.items turn.invariant))
 
 pub returns-then-same_ranges : goal.returns-then-same_ranges
@@ -39,7 +38,7 @@ returns-then-same_ranges c =
     let g = graph_of c.args.model.now in
     let keeps = ((c.validity_is_by_parts.ensures.by_parts g).0 c.requires.valid).0.parts in
     let turn = c.loop-takes in
-    let made = is_round g keeps turn.rounds turn.ranges.items turn.takes.items turn.invariant c.as_slice-in-loop-takes.result.now c.as_slice-in-loop-takes-2.result.now c.in_ok-next.next.items c.as_slice-in-loop-takes.ensures.value c.as_slice-in-loop-takes-2.ensures.value c.in_ok-next.ensures in
+    let made = is_round g keeps turn.rounds turn.ranges.items turn.takes.items turn.invariant _ c.as_slice-in-loop-takes.result.now c.as_slice-in-loop-takes-2.result.now c.in_ok-next.next.items refl c.as_slice-in-loop-takes.ensures.value c.as_slice-in-loop-takes-2.ensures.value c.in_ok-next.ensures in
     let stays = sym c.as_slice-in-loop-takes-3.ensures.value ∙ (c.same_ranges.ensures.0 c.if-same_ranges.true ∙ c.as_slice-in-loop-takes-4.ensures.value) in
     subst (IsInferred g) (sym c.from_vec.ensures) (inferred g keeps turn.rounds turn.ranges.items turn.takes.items turn.invariant c.in_ok-next.next.items made stays)
 
@@ -68,6 +67,6 @@ loop-takes-preserved c =
     let g = graph_of c.args.model.now in
     let keeps = ((c.validity_is_by_parts.ensures.by_parts g).0 c.requires.valid).0.parts in
     let turn = c.loop-takes in
-    let made = is_round g keeps turn.rounds turn.ranges.items turn.takes.items turn.invariant c.as_slice-in-loop-takes.result.now c.as_slice-in-loop-takes-2.result.now c.in_ok-next.next.items c.as_slice-in-loop-takes.ensures.value c.as_slice-in-loop-takes-2.ensures.value c.in_ok-next.ensures in
+    let made = is_round g keeps turn.rounds turn.ranges.items turn.takes.items turn.invariant _ c.as_slice-in-loop-takes.result.now c.as_slice-in-loop-takes-2.result.now c.in_ok-next.next.items refl c.as_slice-in-loop-takes.ensures.value c.as_slice-in-loop-takes-2.ensures.value c.in_ok-next.ensures in
     let changes : c.in_ok-next.next.items ≡ turn.ranges.items → ⊥ = λ same. not_true_too c.same_ranges.result c.if-same_ranges.false (c.same_ranges.ensures.1 (c.as_slice-in-loop-takes-3.ensures.value ∙ (same ∙ sym c.as_slice-in-loop-takes-4.ensures.value))) in
     next_turn g keeps turn.rounds turn.ranges.items turn.takes.items turn.invariant c.in_ok-next.next.items made changes c.as_slice-in-loop-takes-5.result.now c.as_slice-in-loop-takes-6.result.now c.in_ok-takes-2.takes.items c.as_slice-in-loop-takes-5.ensures.value c.as_slice-in-loop-takes-6.ensures.value c.in_ok-takes-2.ensures

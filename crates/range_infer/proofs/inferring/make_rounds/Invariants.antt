@@ -1,7 +1,7 @@
 use Rattle.std.proofs.Common.{◌+◌, ◌-◌, ◌*◌, length}
 use Rattle.model_core.specs.Code.Views.{graph_of}
 use Rattle.range_infer.proofs.OneTurn.{Turn}
-use Rattle.range_infer.proofs.inferring.late_rounds.Given as goal
+use Rattle.range_infer.proofs.inferring.make_rounds.Given as goal
 
 abbrev pub invariant-loop-takes : goal.invariant-loop-takes
 invariant-loop-takes l = Turn (graph_of l.model) l.rounds l.ranges.items l.takes.items

@@ -1,9 +1,0 @@
--- What the part at a place reads.
-use Rattle.model_core.specs.Code.Views.{edge_of}
-use Rattle.range_infer.specs.Inner.PartReads.{carried_reads}
-use Rattle.range_infer.proofs.PartsBeside.{made_of_part}
-use Rattle.range_infer.proofs.looking_again.add_edges_again.Goals as goal
-
-pub add_edge_again-requires-clause-reads : goal.add_edge_again-requires-clause-reads
-add_edge_again-requires-clause-reads c =
-    made_of_part edge_of carried_reads c.args.edges.now c.args.reads.now c.loop-place.place c.index-edges-place.result c.index-reads-place.result c.requires.reads c.loop-place-test.true c.index-edges-place.is c.index-reads-place.is

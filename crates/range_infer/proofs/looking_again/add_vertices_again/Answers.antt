@@ -1,9 +1,0 @@
--- What the parts of the vertex at a place read.
-use Rattle.model_core.specs.Code.Views.{vertex_of}
-use Rattle.range_infer.specs.Inner.PartReads.{parts_read}
-use Rattle.range_infer.proofs.PartsBeside.{made_of_part}
-use Rattle.range_infer.proofs.looking_again.add_vertices_again.Goals as goal
-
-pub add_vertex_again-requires-clause-reads : goal.add_vertex_again-requires-clause-reads
-add_vertex_again-requires-clause-reads c =
-    made_of_part vertex_of parts_read c.args.vertices.now c.args.reads.now c.loop-place.place c.index-vertices-place.result c.index-reads-place.result c.requires.reads c.loop-place-test.true c.index-vertices-place.is c.index-reads-place.is

@@ -1,0 +1,57 @@
+//! Which parts of a model are looked at: all of them, or those that read a variable whose range moved.
+
+ghost use Rattle.std.specs.Prelude.{◌≡◌, [], slice_index_or};
+ghost use Rattle.std.specs.List.{list_any};
+ghost use Rattle.range_infer.specs.Inner.Moved.{is_moved};
+ghost use Rattle.range_infer.specs.Inner.LookedAt.{looks_at};
+
+use crate::moves::is_moved;
+use sig_base::List;
+
+/// All parts are looked at, or those that read one of the variables that are marked as moved.
+#[derive(Clone, Copy)]
+pub(crate) struct Look<'m> {
+    pub(crate) all: bool,
+    pub(crate) moved: &'m [bool],
+}
+
+/// Whether the range of one of these variables moved.
+fn one_moved(moved: &[bool], vars: &[usize]) -> bool
+    ensures { result ≡ list_any (is_moved moved.now) vars.now }
+{
+    for var in vars {
+        if is_moved(moved, *var) {
+            return true;
+        }
+    }
+    false
+}
+
+/// Whether a part is looked at that reads these variables.
+pub(crate) fn looks_at(look: &Look, vars: &[usize]) -> bool
+    ensures { result ≡ looks_at look.now.all look.now.moved.now vars.now }
+{
+    look.all || one_moved(look.moved, vars)
+}
+
+/// Whether the part at this place is looked at, which reads the variables in the list at the same place.
+pub(crate) fn looks_at_place(look: &Look, reads: &[List<usize>], place: usize) -> bool
+    ensures { result ≡ looks_at look.now.all look.now.moved.now (slice_index_or reads.now place []) }
+{
+    match reads.get(place) {
+        Some(vars) => looks_at(look, vars.as_slice()),
+        None => look.all,
+    }
+}
+
+/// Whether one of the parts is looked at that read the variables in these lists.
+pub(crate) fn looks_at_one(look: &Look, reads: &[List<usize>]) -> bool
+    ensures { result ≡ list_any (looks_at look.now.all look.now.moved.now) reads.now }
+{
+    for vars in reads {
+        if looks_at(look, vars.as_slice()) {
+            return true;
+        }
+    }
+    false
+}
