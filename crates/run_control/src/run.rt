@@ -8,7 +8,7 @@ ghost use Rattle.model_core.specs.Code.Views.{graph_of};
 use crate::begin_error::BeginError;
 use crate::occurrence::occur;
 use crate::parts::Parts;
-use crate::room::make_room;
+use crate::plans::Plans;
 use crate::starts::{carried, check_starts, schedule_first};
 use crate::turn::Turn;
 use event_list::{Entry, First, Pending};
@@ -28,19 +28,17 @@ struct Fault {
     kind: FaultKind,
 }
 
-/// A run of a model over a pending list. Its parts fit together at all times: it is sound. The last two are places in which
-/// a step puts the event that occurs, and each one that is scheduled, so that it needs no new ones.
+/// A run of a model over a pending list. Its parts fit together at all times: it is sound. The last one is a place in which
+/// a step puts the event that occurs, so that it needs no new one.
 #[derive(Drop)]
 pub struct Run<'m, P: Pending> {
     model: &'m Graph,
-    pending: P,
+    plans: Plans<P>,
     state: State,
-    streams: Streams,
     clock: u64,
     turns: u64,
     fault: Option<Fault>,
     happening: Entry,
-    scheduled: Entry,
 }
 
 impl<'m, P: Pending> Model for Run<'m, P> {
@@ -57,15 +55,15 @@ impl<'m, P: Pending> Model for Run<'m, P> {
 
     ghost view = { λ r. record {
       model = r.model.now;
-      seed = r.streams.seed;
-      now = record { clock = r.clock; state = r.state; taken = r.streams.taken; pending = P.entries r.pending };
-      spare = P.spare r.pending;
-      numbered = P.numbered r.pending;
+      seed = r.plans.seed;
+      now = record { clock = r.clock; state = r.state; taken = r.plans.planned.taken; pending = r.plans.planned.pending };
+      spare = r.plans.spare;
+      numbered = r.plans.numbered;
       turns = r.turns;
       faulted = option_map (λ f. record { time = f.time; kind = f.kind }) r.fault;
     } };
 
-    ghost invariant = { λ r. SoundRun (graph_of r.model.now) r.state r.streams.taken r.turns (P.numbered r.pending) (P.vertices r.pending) (P.entries r.pending) };
+    ghost invariant = { λ r. SoundRun (graph_of r.model.now) r.state r.plans.planned.taken r.turns r.plans.numbered r.plans.vertices r.plans.planned.pending };
 }
 
 /// A vertex of a model.
@@ -117,14 +115,16 @@ impl<'m, P: Pending> Run<'m, P> {
         runs_stay_in_range();
         Ok(Run {
             model,
-            pending,
+            plans: Plans {
+                pending,
+                streams: Streams::begin(seed),
+                scheduled: Entry::blank(),
+            },
             state,
-            streams: Streams::begin(seed),
             clock: 0,
             turns: 0,
             fault: None,
             happening: Entry::blank(),
-            scheduled: Entry::blank(),
         })
     }
 
@@ -156,14 +156,16 @@ impl<'m, P: Pending> Run<'m, P> {
     {
         Run {
             model,
-            pending,
+            plans: Plans {
+                pending,
+                streams,
+                scheduled: Entry::blank(),
+            },
             state,
-            streams,
             clock,
             turns,
             fault: None,
             happening: Entry::blank(),
-            scheduled: Entry::blank(),
         }
     }
 
@@ -180,10 +182,11 @@ impl<'m, P: Pending> Run<'m, P> {
         ensures known { Known (length self.entry.model.vertices) (P.entries result.pending) }
         ensures turns { result.turns ≡ self.entry.turns }
     {
+        let plans = self.plans;
         Parts {
-            pending: self.pending,
+            pending: plans.pending,
             state: self.state,
-            streams: self.streams,
+            streams: plans.streams,
             clock: self.clock,
             turns: self.turns,
         }
@@ -195,7 +198,10 @@ impl<'m, P: Pending> Run<'m, P> {
     {
         match &self.fault {
             Some(_) => None,
-            None => self.pending.first(),
+            None => {
+                let plans = &self.plans;
+                plans.pending.first()
+            }
         }
     }
 
@@ -230,7 +236,8 @@ impl<'m, P: Pending> Run<'m, P> {
         ensures made_for { P.vertices result.now ≡ length self.now.model.vertices }
         ensures known { Known (length self.now.model.vertices) (P.entries result.now) }
     {
-        &self.pending
+        let plans = &self.plans;
+        &plans.pending
     }
 
     /// Makes one step up to a stop time in ticks: the next event occurs. Room for what it schedules is made before
@@ -252,7 +259,8 @@ impl<'m, P: Pending> Run<'m, P> {
                 kind: fault.kind,
             }),
             None => {
-                let first = self.pending.first();
+                let plans = &self.plans;
+                let first = plans.pending.first();
                 self.go_on(first, until, steps)
             }
         }
@@ -285,22 +293,12 @@ impl<'m, P: Pending> Run<'m, P> {
         }
         let model = self.model;
         let happening = vertex_at(model, vertex);
-        make_room(&mut self.pending, happening.edges.as_slice())?;
-        self.pending.take_first_into(&mut self.happening, steps);
+        let plans = &mut self.plans;
+        plans.take_first(happening.edges.as_slice(), &mut self.happening, steps)?;
         self.clock = time;
         self.turns += 1;
         let state = &mut self.state;
-        let streams = &mut self.streams;
-        match occur(
-            model,
-            happening,
-            &self.happening,
-            state,
-            streams,
-            &mut self.pending,
-            &mut self.scheduled,
-            steps,
-        ) {
+        match occur(model, happening, &self.happening, state, plans, steps) {
             Ok(()) => Ok(Turn::Ran { vertex, time }),
             Err(kind) => {
                 self.fault = Some(Fault { time, kind });
