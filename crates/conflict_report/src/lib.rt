@@ -1,4 +1,6 @@
 //! Which simultaneous events need priorities: the vertices that are in conflict, and the law that events of others commute.
+//! There are two ways: `conflict` asks of two vertices, and takes no memory; `conflict_list` notes first, in sets of bits, who
+//! touches what, so that a pair costs it four bits however much its vertices do.
 #![tactic(auto)]
 
 mod conflict_tables;

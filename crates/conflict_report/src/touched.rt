@@ -1,19 +1,16 @@
 //! What a vertex touches: the variables that it reads and those that it writes, the streams from which it draws, and the
-//! vertices that it names and those whose events it cancels. All are found in one walk over its changes and edges.
+//! vertices that it names and those whose events it cancels.
 
 ghost use Rattle.std.specs.Prelude.{◌≡◌, ◌++◌, map, OnOk};
-ghost use Rattle.std.specs.List.{flat_map};
-ghost use Rattle.model_core.specs.Rules.Uses.{variables_in, location_reads, delay_streams};
-ghost use Rattle.model_core.specs.Code.Views.{expression_of, location_of, change_of, edge_delay_of, edge_of, vertex_of};
+ghost use Rattle.model_core.specs.Rules.Uses.{delay_streams};
+ghost use Rattle.model_core.specs.Code.Views.{change_of, edge_delay_of, edge_of, vertex_of};
 ghost use Rattle.conflict_report.specs.Inner.TouchedLists.{nothing_touched, after_change, after_changes, after_form, after_edge, after_edges, after_vertex};
 
-use model_core::{Change, Delay, Edge, EdgeForm, Expr, Target, Vertex};
+use model_core::{Change, Delay, Edge, EdgeForm, Vertex};
 use sig_base::NoMemory;
 use std::alloc::Global;
 use std::marker::Model;
-use use_analysis::{
-    add_deciding_reads, add_index_reads, add_places, add_target_vars, add_variables,
-};
+use use_analysis::{add_vertex_reads, add_vertex_writes};
 
 /// Lists of what is touched, as it stands in the vertex. Contracts see the lists.
 #[derive(Drop)]
@@ -31,26 +28,6 @@ impl Model for Touched {
     ghost Value = { TouchedLists };
 
     ghost view = { λ t. record { reads = t.reads.items; writes = t.writes.items; streams = t.streams.items; names = t.names.items; cancels = t.cancels.items } };
-}
-
-/// Adds what the indexes of targets read.
-fn add_indexes(reads: &mut Vec<usize>, targets: &[Target]) -> Result<(), NoMemory>
-    ensures { OnOk result (reads.new.items ≡ reads.old.items ++ flat_map location_reads (map location_of targets.now)) }
-{
-    for target in targets {
-        add_index_reads(reads, target)?;
-    }
-    Ok(())
-}
-
-/// Adds what values read.
-fn add_values(reads: &mut Vec<usize>, values: &[Expr]) -> Result<(), NoMemory>
-    ensures { OnOk result (reads.new.items ≡ reads.old.items ++ flat_map variables_in (map expression_of values.now)) }
-{
-    for value in values {
-        add_variables(reads, value)?;
-    }
-    Ok(())
 }
 
 /// Adds the stream from which a delay is drawn, if it is.
@@ -77,29 +54,24 @@ impl Touched {
         }
     }
 
-    /// Adds what a change touches.
+    /// Adds the stream from which a change draws, if it does.
     fn add_change(&mut self, change: &Change) -> Result<(), NoMemory>
         ensures { OnOk result (self.new ≡ after_change (change_of change.now) self.old) }
     {
         match change {
-            Change::Set { targets, values } => {
-                add_indexes(&mut self.reads, targets.as_slice())?;
-                add_values(&mut self.reads, values.as_slice())?;
-                add_target_vars(&mut self.writes, targets.as_slice())
-            }
+            Change::Set {
+                targets: _,
+                values: _,
+            } => Ok(()),
             Change::Draw {
-                target,
+                target: _,
                 stream,
                 choice: _,
-            } => {
-                add_index_reads(&mut self.reads, target)?;
-                self.writes.push(target.var)?;
-                Ok(self.streams.push(usize::from(*stream))?)
-            }
+            } => Ok(self.streams.push(usize::from(*stream))?),
         }
     }
 
-    /// Adds what changes touch.
+    /// Adds the streams from which changes draw.
     fn add_changes(&mut self, changes: &[Change]) -> Result<(), NoMemory>
         ensures { OnOk result (self.new ≡ after_changes (map change_of changes.now) self.old) }
     {
@@ -124,17 +96,15 @@ impl Touched {
         }
     }
 
-    /// Adds what an edge touches.
+    /// Adds what an edge touches but the variables that it reads.
     fn add_edge(&mut self, edge: &Edge) -> Result<(), NoMemory>
         ensures { OnOk result (self.new ≡ after_edge (edge_of edge.now) self.old) }
     {
-        add_deciding_reads(&mut self.reads, edge)?;
-        add_values(&mut self.reads, edge.values.as_slice())?;
         self.names.push(edge.target)?;
         self.add_form(edge)
     }
 
-    /// Adds what edges touch.
+    /// Adds what edges touch but the variables that they read.
     fn add_edges(&mut self, edges: &[Edge]) -> Result<(), NoMemory>
         ensures { OnOk result (self.new ≡ after_edges (map edge_of edges.now) self.old) }
     {
@@ -148,8 +118,9 @@ impl Touched {
     pub(crate) fn add_vertex(&mut self, place: usize, vertex: &Vertex) -> Result<(), NoMemory>
         ensures { OnOk result (self.new ≡ after_vertex place (vertex_of vertex.now) self.old) }
     {
+        add_vertex_reads(&mut self.reads, vertex)?;
+        add_vertex_writes(&mut self.writes, vertex)?;
         self.names.push(place)?;
-        add_places(&mut self.writes, vertex.params.as_slice())?;
         self.add_changes(vertex.changes.as_slice())?;
         self.add_edges(vertex.edges.as_slice())
     }

@@ -5,15 +5,19 @@ use Rattle.std.specs.List.{list_all, list_any}
 use Rattle.std.specs.Option.{option_map, option_map_or}
 use Rattle.model_core.specs.EventGraph.{EventGraph, EventVertex, EventEdge}
 use Rattle.model_core.specs.Run.Step.{vertex_at}
-use Rattle.model_core.specs.Rules.BoundsOfParts.{quiet_edge}
+use Rattle.model_core.specs.Rules.BoundsOfParts.{quiet_change, quiet_edge}
 use Rattle.model_core.specs.Rules.Conditions.{first_failed}
 use Rattle.model_core.specs.Rules.Uses.{vertex_writes, has_drawn_delay}
 use Rattle.model_core.specs.Rules.UrgentEdges.{plain_urgent, plain_urgent_edge}
-use Rattle.model_core.specs.Rules.Merge.{cancels, is_watched_vertex, reads_none_of, happens_unseen, values_at_once, other_edges, has_few_parts, merged_with}
+use Rattle.model_core.specs.Rules.Merge.{cancels, is_watched_vertex, reads_none_of, is_unwatched, happens_unseen, values_at_once, other_edges, has_few_parts, merged_with}
 
 -- the place to which the plain urgent edge leads, if there is one
 abbrev pub target_at_once : EventVertex → Option ℕ
 target_at_once v = option_map (λ (e : EventEdge). e.target) (plain_urgent_edge v)
+
+-- the event v, once it has its values, writes no watched variable and never faults
+abbrev pub acts_unseen : EventGraph → EventVertex → Bool
+acts_unseen g v = list_all (is_unwatched (vertex_writes v)) g.watch && list_all (quiet_change g) v.changes && list_all (quiet_edge g) v.edges
 
 -- the conditions of a merge of a vertex with the target of its plain urgent edge, but two: that the model is single urgent,
 -- and that the text of the result isn't too long

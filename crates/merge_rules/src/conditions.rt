@@ -1,6 +1,6 @@
 //! The conditions of merge that can be told from the two vertices.
 
-ghost use Rattle.std.specs.Prelude.{◌≡◌, ◌&&◌, ◌||◌, not, true, false, ◌∷◌, map, take, drop, length};
+ghost use Rattle.std.specs.Prelude.{◌≡◌, ◌<◌, ◌&&◌, ◌||◌, not, true, false, ◌∷◌, map, take, drop, length};
 ghost use lib.Pointwise.{pointwise};
 ghost use Rattle.std.specs.List.{list_all};
 ghost use Rattle.std.specs.Option.{option_map_or};
@@ -12,6 +12,8 @@ ghost use Rattle.model_core.specs.Rules.Uses.{vertex_writes, has_drawn_delay};
 ghost use Rattle.model_core.specs.Rules.UrgentEdges.{plain_urgent_edge, single_urgent};
 ghost use Rattle.model_core.specs.Rules.Merge.{set_parameters, leads_to, is_watched_vertex, reads_none_of, is_unwatched, happens_unseen, values_at_once, other_edges, merge_conditions};
 ghost use Rattle.model_core.specs.Code.Views.{graph_of, expression_of, change_of, edge_of, vertex_of, watched_of};
+ghost use Rattle.merge_rules.specs.PairStanding.{acts_unseen};
+ghost use Rattle.merge_rules.specs.KeptPairs.{TellsUnseen};
 ghost use Rattle.merge_rules.specs.Inner.ReadingEdges.{is_calm};
 
 use crate::at_once::edge_at_once;
@@ -120,23 +122,56 @@ fn quiet_parameters(model: &Model, params: &[usize], values: &[Expr]) -> bool
     params.is_empty() || quiet_pairs(model, params, values)
 }
 
-fn happens_unseen(model: &Model, second: &Vertex, values: &[Expr]) -> bool
-    ensures { result ≡ happens_unseen (graph_of model.now) (vertex_of second.now) (map expression_of values.now) }
+/// Whether a vertex acts unseen once it has its values: it writes no watched variable, and never faults.
+fn acts_unseen(model: &Model, vertex: &Vertex) -> bool
+    ensures { result ≡ acts_unseen (graph_of model.now) (vertex_of vertex.now) }
 {
-    all_unwatched(second, model.watch.as_slice())
-        && quiet_parameters(model, second.params.as_slice(), values)
-        && quiet_changes(model, second.changes.as_slice())
-        && quiet_edges(model, second.edges.as_slice())
+    all_unwatched(vertex, model.watch.as_slice())
+        && quiet_changes(model, vertex.changes.as_slice())
+        && quiet_edges(model, vertex.edges.as_slice())
+}
+
+/// The same of the vertex at this place.
+pub(crate) fn acts_unseen_at(model: &Model, vertex: usize) -> bool
+    requires { vertex < length model.now.vertices }
+    ensures { result ≡ acts_unseen (graph_of model.now) (vertex_at (graph_of model.now) vertex) }
+{
+    acts_unseen(model, &model.vertices.as_slice()[vertex])
+}
+
+/// The same of the second vertex, where it may be known.
+fn second_acts_unseen(model: &Model, unseen: Option<bool>, second: &Vertex) -> bool
+    requires { TellsUnseen unseen (graph_of model.now) (vertex_of second.now) }
+    ensures { result ≡ acts_unseen (graph_of model.now) (vertex_of second.now) }
+{
+    match unseen {
+        Some(unseen) => unseen,
+        None => acts_unseen(model, second),
+    }
+}
+
+/// Whether the second vertex takes the values of the first one's plain urgent edge, and none can fault.
+fn takes_quietly(model: &Model, first: &Vertex, second: &Vertex) -> bool
+    ensures { result ≡ list_all (quiet_change (graph_of model.now)) (set_parameters (vertex_of second.now).parameters (values_at_once (vertex_of first.now))) }
+{
+    let params = second.params.as_slice();
+    match edge_at_once(first) {
+        Some(edge) => quiet_parameters(model, params, edge.values.as_slice()),
+        None => quiet_parameters(model, params, &[]),
+    }
 }
 
 /// Whether the second event, to which the first one's plain urgent edge gives its values, happens unseen.
-fn second_happens_unseen(model: &Model, first: &Vertex, second: &Vertex) -> bool
+fn second_happens_unseen(
+    model: &Model,
+    unseen: Option<bool>,
+    first: &Vertex,
+    second: &Vertex,
+) -> bool
+    requires { TellsUnseen unseen (graph_of model.now) (vertex_of second.now) }
     ensures { result ≡ happens_unseen (graph_of model.now) (vertex_of second.now) (values_at_once (vertex_of first.now)) }
 {
-    match edge_at_once(first) {
-        Some(edge) => happens_unseen(model, second, edge.values.as_slice()),
-        None => happens_unseen(model, second, &[]),
-    }
+    second_acts_unseen(model, unseen, second) && takes_quietly(model, first, second)
 }
 
 /// Whether the edges of the first vertex but its plain urgent one never fault, read nothing that the second writes, and draw
@@ -162,22 +197,25 @@ fn others_stand_aside<R: ReadsWritten>(
 }
 
 /// Whether the first vertex isn't watched, or the second event happens unseen.
-fn notes_stay(model: &Model, first: usize, a: &Vertex, b: &Vertex) -> bool
+fn notes_stay(model: &Model, unseen: Option<bool>, first: usize, a: &Vertex, b: &Vertex) -> bool
+    requires { TellsUnseen unseen (graph_of model.now) (vertex_of b.now) }
     ensures { result ≡ (not (is_watched_vertex (graph_of model.now) first) || happens_unseen (graph_of model.now) (vertex_of b.now) (values_at_once (vertex_of a.now))) }
 {
-    !is_watched(model, first) || second_happens_unseen(model, a, b)
+    !is_watched(model, first) || second_happens_unseen(model, unseen, a, b)
 }
 
 /// The first condition but that on the limits that fails, by its number from 1, where the first three hold. The two
 /// vertices are those at these places.
 fn failed_later<R: ReadsWritten>(
     model: &Model,
+    unseen: Option<bool>,
     readers: &mut R,
     first: usize,
     second: usize,
     a: &Vertex,
     b: &Vertex,
 ) -> Option<u8>
+    requires unseen { TellsUnseen unseen (graph_of model.now) (vertex_of b.now) }
     requires ready { R.ready readers.old (length model.now.vars) }
     requires first { vertex_of a.now ≡ vertex_at (graph_of model.now) first }
     requires second { vertex_of b.now ≡ vertex_at (graph_of model.now) second }
@@ -193,22 +231,24 @@ fn failed_later<R: ReadsWritten>(
     if !others_stand_aside(model, readers, a, b) {
         return Some(6);
     }
-    if !notes_stay(model, first, a, b) {
+    if !notes_stay(model, unseen, first, a, b) {
         return Some(7);
     }
     None
 }
 
 /// The first condition but that on the limits that fails, by its number from 1, in a model of which it is known whether
-/// it is single urgent.
+/// it is single urgent. It may be told whether the second vertex acts unseen.
 pub(crate) fn failed_before_limits<R: ReadsWritten>(
     model: &Model,
     single: bool,
+    unseen: Option<bool>,
     readers: &mut R,
     first: usize,
     second: usize,
 ) -> Option<u8>
     requires single { single ≡ single_urgent (graph_of model.now) }
+    requires unseen { TellsUnseen unseen (graph_of model.now) (vertex_at (graph_of model.now) second) }
     requires ready { R.ready readers.old (length model.now.vars) }
     ensures same { readers.new ≡ readers.old }
     ensures failed { result ≡ first_failed (take 7 (merge_conditions (graph_of model.now) first second)) }
@@ -229,5 +269,5 @@ pub(crate) fn failed_before_limits<R: ReadsWritten>(
     if !single {
         return Some(3);
     }
-    failed_later(model, readers, first, second, a, b)
+    failed_later(model, unseen, readers, first, second, a, b)
 }

@@ -1,6 +1,6 @@
 //! What is known of each vertex, as the first of two that may be merged: where its plain urgent edge leads, whether the two
-//! fit and by how much their merge makes the text longer; as the second, how long the lines of what it does are; and how many
-//! edges lead to it.
+//! fit and by how much their merge makes the text longer; as the second, how long the lines of what it does are, and whether it
+//! acts unseen; and how many edges lead to it.
 
 ghost use Rattle.std.specs.Prelude.{◌≡◌, map, OnOk, IfOk};
 ghost use Rattle.model_core.specs.Rules.PlacedEdges.{with_place};
@@ -32,6 +32,8 @@ pub(crate) struct KeptPair {
     pub(crate) standing: Standing,
     /// How many bytes the lines of its changes and edges have, if they were counted: 2^64 - 1 where they have more.
     pub(crate) body: Option<u64>,
+    /// Whether it acts unseen once it has its values, if that was asked.
+    pub(crate) unseen: Option<bool>,
     /// How many edges lead to the vertex.
     pub(crate) incoming: u64,
 }
@@ -44,6 +46,7 @@ fn unasked(vertex: &Vertex) -> KeptPair
         target: target_at_once(vertex),
         standing: Standing::Unknown,
         body: None,
+        unseen: None,
         incoming: 0,
     }
 }
@@ -146,6 +149,7 @@ fn lead_nowhere(pairs: &mut Vec<KeptPair>, first: usize)
             target: None,
             standing: Standing::Refused,
             body: None,
+            unseen: None,
             incoming: pairs[first].incoming,
         };
     }

@@ -11,18 +11,18 @@ ghost use Rattle.model_core.specs.Rules.Merge.{is_watched_vertex, merge_conditio
 ghost use Rattle.model_core.specs.Code.Views.{graph_of, edge_of, vertex_of};
 ghost use Rattle.merge_rules.specs.Known.{IsKnown};
 ghost use Rattle.merge_rules.specs.NothingCounted.{NothingCounted};
-ghost use Rattle.merge_rules.specs.PairStanding.{target_at_once, pair_fits};
+ghost use Rattle.merge_rules.specs.PairStanding.{target_at_once, acts_unseen, pair_fits};
 ghost use Rattle.merge_rules.specs.Growth.{body_lines, capped, pair_growth};
-ghost use Rattle.merge_rules.specs.KeptPairs.{has_incoming, TellsFit, ArePairs};
+ghost use Rattle.merge_rules.specs.KeptPairs.{has_incoming, TellsFit, TellsUnseen, ArePairs};
 
-use crate::conditions::failed_before_limits;
+use crate::conditions::{acts_unseen_at, failed_before_limits};
 use crate::growth::{Growth, body_at, grows_by};
 use crate::kept_pairs::{
     KeptPair, Standing, add_all_edges, all_unasked, move_up, take_edges, take_over_pairs,
 };
 use crate::known::Known;
 use crate::within_limits::{has_short_text, keeps_few_parts};
-use model_core::{Edge, Model, Vertex};
+use model_core::{Edge, Model, Vertex, is_watched};
 use round_trip::validity_is_by_parts;
 use sig_base::NoMemory;
 use std::alloc::Global;
@@ -54,8 +54,16 @@ fn edges_at(vertices: &[Vertex], place: usize) -> &[Edge]
     }
 }
 
-/// Whether the two fit: a vertex and the target of its plain urgent edge, in a single urgent model.
-fn pair_fits(model: &Model, counts: &mut UseCounts, first: usize, second: usize) -> bool
+/// Whether the two fit: a vertex and the target of its plain urgent edge, in a single urgent model. It may be told whether the
+/// second one acts unseen.
+fn pair_fits(
+    model: &Model,
+    unseen: Option<bool>,
+    counts: &mut UseCounts,
+    first: usize,
+    second: usize,
+) -> bool
+    requires unseen { TellsUnseen unseen (graph_of model.now) (vertex_at (graph_of model.now) second) }
     requires counts { NothingCounted (length model.now.vars) counts.old }
     requires single { single_urgent (graph_of model.now) ≡ true }
     requires target { target_at_once (vertex_at (graph_of model.now) first) ≡ Some second }
@@ -63,7 +71,7 @@ fn pair_fits(model: &Model, counts: &mut UseCounts, first: usize, second: usize)
     ensures fits { result ≡ pair_fits (graph_of model.now) first }
     ensures counts { counts.new ≡ counts.old }
 {
-    match failed_before_limits(model, true, counts, first, second) {
+    match failed_before_limits(model, true, unseen, counts, first, second) {
         Some(_) => false,
         None => keeps_few_parts(model, first, second),
     }
@@ -147,6 +155,38 @@ impl KeptPairs {
         bytes
     }
 
+    /// Whether the vertex at this place acts unseen once it has its values, which is then known.
+    fn find_unseen(&mut self, model: &Model, vertex: usize) -> bool
+        requires kept { ArePairs (graph_of model.now) self.old }
+        requires there { vertex < length model.now.vertices }
+        ensures is { result ≡ acts_unseen (graph_of model.now) (vertex_at (graph_of model.now) vertex) }
+        ensures kept { ArePairs (graph_of model.now) self.new }
+    {
+        let pair = self.pairs[vertex];
+        if let Some(unseen) = pair.unseen {
+            return unseen;
+        }
+        let unseen = acts_unseen_at(model, vertex);
+        self.pairs[vertex] = KeptPair {
+            unseen: Some(unseen),
+            ..pair
+        };
+        unseen
+    }
+
+    /// The same of the second of two, where it matters: where the first is watched.
+    fn unseen_behind(&mut self, model: &Model, first: usize, second: usize) -> Option<bool>
+        requires { ArePairs (graph_of model.now) self.old }
+        ensures unseen { TellsUnseen result (graph_of model.now) (vertex_at (graph_of model.now) second) }
+        ensures kept { ArePairs (graph_of model.now) self.new }
+    {
+        if second < model.vertices.len() && is_watched(model, first) {
+            Some(self.find_unseen(model, second))
+        } else {
+            None
+        }
+    }
+
     /// By how much a merge of the two makes the text longer, where they fit.
     fn ask(
         &mut self,
@@ -164,7 +204,8 @@ impl KeptPairs {
         ensures kept { ArePairs (graph_of model.now) self.new }
         ensures counts { counts.new ≡ counts.old }
     {
-        if !pair_fits(model, counts, first, second) {
+        let unseen = self.unseen_behind(model, first, second);
+        if !pair_fits(model, unseen, counts, first, second) {
             return None;
         }
         let body = self.find_body(model, second);

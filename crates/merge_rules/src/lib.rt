@@ -14,7 +14,6 @@ mod other_edges;
 mod reads_written;
 mod taking_over;
 mod within_limits;
-mod written;
 
 pub use first_pair::first_merge;
 pub use kept_search::KeptPairs;

@@ -33,7 +33,7 @@ pub(crate) fn failed_merge<R: ReadsWritten>(
     ensures same { readers.new ≡ readers.old }
 {
     let single = known.find_single(model);
-    if let Some(condition) = failed_before_limits(model, single, readers, first, second) {
+    if let Some(condition) = failed_before_limits(model, single, None, readers, first, second) {
         return Some(condition);
     }
     if is_within_limits(model, known.find_bytes(model), first, second) {

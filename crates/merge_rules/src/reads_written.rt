@@ -8,10 +8,9 @@ ghost use Rattle.model_core.specs.Code.Views.{edge_of, vertex_of};
 ghost use Rattle.merge_rules.specs.NothingCounted.{NothingCounted};
 ghost use Rattle.merge_rules.specs.Inner.ReadingEdges.{reads_it, reads_one_of, counted, uncounted, told_by_counts};
 
-use crate::written::{VariableTest, one_written_passes};
 use model_core::{Edge, Model, Vertex};
 use sig_base::EDGES_MAX;
-use use_analysis::{UseCounts, reads_of_edge};
+use use_analysis::{NumberTest, UseCounts, one_written_passes, reads_of_edge};
 
 /// What tells whether one of some edges reads what a vertex writes.
 pub(crate) trait ReadsWritten {
@@ -92,11 +91,11 @@ struct ReadBy<'e> {
     edge: &'e Edge,
 }
 
-impl VariableTest for ReadBy<'_> {
+impl NumberTest for ReadBy<'_> {
     ghost test = { λ r v. reads_it v (edge_of r.edge.now) };
 
-    fn passes(&self, var: usize) -> bool {
-        reads_of_edge(self.edge, var)
+    fn passes(&self, number: usize) -> bool {
+        reads_of_edge(self.edge, number)
     }
 }
 
@@ -128,14 +127,14 @@ struct Counted<'e> {
     behind: &'e [Edge],
 }
 
-impl VariableTest for Counted<'_> {
+impl NumberTest for Counted<'_> {
     ghost test = { λ c v. told_by_counts c.variables c.counts.now.readers (map edge_of c.before.now) (map edge_of c.behind.now) v };
 
-    fn passes(&self, var: usize) -> bool {
-        if var < self.variables {
-            self.counts.readers(var) > 0
+    fn passes(&self, number: usize) -> bool {
+        if number < self.variables {
+            self.counts.readers(number) > 0
         } else {
-            one_reads(self.before, var) || one_reads(self.behind, var)
+            one_reads(self.before, number) || one_reads(self.behind, number)
         }
     }
 }

@@ -145,7 +145,7 @@ fn add_all_edge_reads(out: &mut Vec<usize>, edges: &[Edge]) -> Result<(), NoMemo
 }
 
 /// Adds what a vertex reads.
-pub(crate) fn add_vertex_reads(out: &mut Vec<usize>, vertex: &Vertex) -> Result<(), NoMemory>
+pub fn add_vertex_reads(out: &mut Vec<usize>, vertex: &Vertex) -> Result<(), NoMemory>
     ensures { OnOk result (out.new.items ≡ out.old.items ++ vertex_reads (vertex_of vertex.now)) }
 {
     add_all_change_reads(out, vertex.changes.as_slice())?;
@@ -197,7 +197,7 @@ pub fn add_places(out: &mut Vec<usize>, places: &[usize]) -> Result<(), NoMemory
 }
 
 /// Adds what a vertex writes.
-pub(crate) fn add_vertex_writes(out: &mut Vec<usize>, vertex: &Vertex) -> Result<(), NoMemory>
+pub fn add_vertex_writes(out: &mut Vec<usize>, vertex: &Vertex) -> Result<(), NoMemory>
     ensures { OnOk result (out.new.items ≡ out.old.items ++ vertex_writes (vertex_of vertex.now)) }
 {
     add_places(out, vertex.params.as_slice())?;

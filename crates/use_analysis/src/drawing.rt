@@ -1,17 +1,17 @@
-//! Whether a change, an edge or a vertex draws from a random stream. Nothing here takes memory.
+//! Whether a random stream from which a change, an edge or a vertex draws passes a test. Nothing here takes memory.
 #![tactic(auto, using(model_core::proofs::AmongUses::among_parts))]
 
 ghost use Rattle.std.specs.Prelude.{◌≡◌, map};
-ghost use Rattle.std.specs.List.{flat_map};
+ghost use Rattle.std.specs.List.{list_any, flat_map};
 ghost use Rattle.model_core.specs.Rules.MarkedPlaces.{is_among};
 ghost use Rattle.model_core.specs.Rules.Uses.{change_streams, delay_streams, timing_streams, edge_streams, vertex_streams};
 ghost use Rattle.model_core.specs.Code.Views.{change_of, edge_delay_of, edge_kind_of, edge_of, vertex_of};
 
+use crate::number_test::{Is, NumberTest};
 use model_core::{Change, Delay, Edge, EdgeForm, Vertex};
 
-/// Whether a change draws from the stream of this number.
-pub fn draws_of_change(change: &Change, stream: u8) -> bool
-    ensures { result ≡ is_among (change_streams (change_of change.now)) stream }
+fn change_passes<T: NumberTest>(test: &T, change: &Change) -> bool
+    ensures { result ≡ list_any (T.test test.now) (change_streams (change_of change.now)) }
 {
     match change {
         Change::Set {
@@ -20,72 +20,78 @@ pub fn draws_of_change(change: &Change, stream: u8) -> bool
         } => false,
         Change::Draw {
             target: _,
-            stream: own,
+            stream,
             choice: _,
-        } => *own == stream,
+        } => test.passes(usize::from(*stream)),
     }
 }
 
-/// Whether a delay is drawn from the stream.
-fn draws_of_delay(delay: &Delay, stream: u8) -> bool
-    ensures { result ≡ is_among (delay_streams (edge_delay_of delay.now)) stream }
+fn delay_passes<T: NumberTest>(test: &T, delay: &Delay) -> bool
+    ensures { result ≡ list_any (T.test test.now) (delay_streams (edge_delay_of delay.now)) }
 {
     match delay {
         Delay::Fixed(_) => false,
-        Delay::Drawn {
-            stream: drawn,
-            choice: _,
-        } => *drawn == stream,
+        Delay::Drawn { stream, choice: _ } => test.passes(usize::from(*stream)),
     }
 }
 
-/// Whether the delay of an edge of this form is drawn from the stream.
-fn draws_of_timing(form: &EdgeForm, stream: u8) -> bool
-    ensures { result ≡ is_among (timing_streams (edge_kind_of form.now)) stream }
+fn timing_passes<T: NumberTest>(test: &T, form: &EdgeForm) -> bool
+    ensures { result ≡ list_any (T.test test.now) (timing_streams (edge_kind_of form.now)) }
 {
     match form {
-        EdgeForm::Schedule { delay, priority: _ } => draws_of_delay(delay, stream),
+        EdgeForm::Schedule { delay, priority: _ } => delay_passes(test, delay),
         EdgeForm::Urgent | EdgeForm::CancelNext | EdgeForm::CancelEqual | EdgeForm::CancelAll => {
             false
         }
     }
 }
 
+fn one_change_passes<T: NumberTest>(test: &T, changes: &[Change]) -> bool
+    ensures { result ≡ list_any (T.test test.now) (flat_map change_streams (map change_of changes.now)) }
+{
+    for change in changes {
+        if change_passes(test, change) {
+            return true;
+        }
+    }
+    false
+}
+
+fn one_edge_passes<T: NumberTest>(test: &T, edges: &[Edge]) -> bool
+    ensures { result ≡ list_any (T.test test.now) (flat_map edge_streams (map edge_of edges.now)) }
+{
+    for edge in edges {
+        if timing_passes(test, &edge.form) {
+            return true;
+        }
+    }
+    false
+}
+
+/// Whether a stream from which the vertex draws, by one of its changes or edges, passes.
+pub fn one_stream_passes<T: NumberTest>(test: &T, vertex: &Vertex) -> bool
+    ensures { result ≡ list_any (T.test test.now) (vertex_streams (vertex_of vertex.now)) }
+{
+    one_change_passes(test, vertex.changes.as_slice())
+        || one_edge_passes(test, vertex.edges.as_slice())
+}
+
+/// Whether a change draws from the stream of this number.
+pub fn draws_of_change(change: &Change, stream: u8) -> bool
+    ensures { result ≡ is_among (change_streams (change_of change.now)) stream }
+{
+    let test = Is {
+        number: usize::from(stream),
+    };
+    change_passes(&test, change)
+}
+
 /// Whether an edge draws from the stream of this number: whether its delay is drawn from it.
 pub fn draws_of_edge(edge: &Edge, stream: u8) -> bool
     ensures { result ≡ is_among (edge_streams (edge_of edge.now)) stream }
 {
-    draws_of_timing(&edge.form, stream)
-}
-
-/// Whether one of these changes draws from the stream.
-fn draws_of_changes(changes: &[Change], stream: u8) -> bool
-    ensures { result ≡ is_among (flat_map change_streams (map change_of changes.now)) stream }
-{
-    for change in changes {
-        if draws_of_change(change, stream) {
-            return true;
-        }
-    }
-    false
-}
-
-/// Whether one of these edges draws from the stream.
-fn draws_of_edges(edges: &[Edge], stream: u8) -> bool
-    ensures { result ≡ is_among (flat_map edge_streams (map edge_of edges.now)) stream }
-{
-    for edge in edges {
-        if draws_of_edge(edge, stream) {
-            return true;
-        }
-    }
-    false
-}
-
-/// Whether a vertex draws from the stream of this number: by one of its changes or edges.
-pub fn draws_of_vertex(vertex: &Vertex, stream: u8) -> bool
-    ensures { result ≡ is_among (vertex_streams (vertex_of vertex.now)) stream }
-{
-    draws_of_changes(vertex.changes.as_slice(), stream)
-        || draws_of_edges(vertex.edges.as_slice(), stream)
+    let test = Is {
+        number: usize::from(stream),
+    };
+    timing_passes(&test, &edge.form)
 }

@@ -1,11 +1,10 @@
-//! Whether a variable is read by an edge, a change or a vertex, and whether a vertex writes it. Nothing here takes memory.
+//! Whether a variable is read by an edge, a change or a vertex. Nothing here takes memory.
 #![tactic(auto, using(model_core::proofs::AmongUses::among_parts))]
 
 ghost use Rattle.std.specs.Prelude.{◌≡◌, map, Some};
 ghost use Rattle.std.specs.List.{flat_map};
-ghost use Rattle.model_core.specs.EventGraph.{Location};
 ghost use Rattle.model_core.specs.Rules.MarkedPlaces.{is_among};
-ghost use Rattle.model_core.specs.Rules.Uses.{variables_in, location_reads, change_reads, change_writes, delay_reads, timing_reads, edge_reads, vertex_reads, vertex_writes};
+ghost use Rattle.model_core.specs.Rules.Uses.{variables_in, location_reads, change_reads, delay_reads, timing_reads, edge_reads, vertex_reads};
 ghost use Rattle.model_core.specs.Code.Views.{expression_of, location_of, change_of, edge_delay_of, edge_kind_of, edge_of, vertex_of};
 
 use model_core::{Change, Delay, Edge, EdgeForm, Expr, Target, Vertex};
@@ -136,49 +135,4 @@ pub fn reads_of_vertex(vertex: &Vertex, var: usize) -> bool
     ensures { result ≡ is_among (vertex_reads (vertex_of vertex.now)) var }
 {
     reads_of_changes(vertex.changes.as_slice(), var) || reads_of_edges(vertex.edges.as_slice(), var)
-}
-
-/// Whether one of these targets is the variable, or a cell of it.
-fn targets_one(targets: &[Target], var: usize) -> bool
-    ensures { result ≡ is_among (map (λ (l : Location). l.variable) (map location_of targets.now)) var }
-{
-    for target in targets {
-        if target.var == var {
-            return true;
-        }
-    }
-    false
-}
-
-/// Whether a change writes a variable, or a cell of it.
-fn writes_of_change(change: &Change, var: usize) -> bool
-    ensures { result ≡ is_among (change_writes (change_of change.now)) var }
-{
-    match change {
-        Change::Set { targets, values: _ } => targets_one(targets.as_slice(), var),
-        Change::Draw {
-            target,
-            stream: _,
-            choice: _,
-        } => target.var == var,
-    }
-}
-
-/// Whether one of these changes writes a variable.
-fn writes_of_changes(changes: &[Change], var: usize) -> bool
-    ensures { result ≡ is_among (flat_map change_writes (map change_of changes.now)) var }
-{
-    for change in changes {
-        if writes_of_change(change, var) {
-            return true;
-        }
-    }
-    false
-}
-
-/// Whether a vertex writes a variable: as one of its parameters, or by one of its changes.
-pub fn writes_of_vertex(vertex: &Vertex, var: usize) -> bool
-    ensures { result ≡ is_among (vertex_writes (vertex_of vertex.now)) var }
-{
-    vertex.params.as_slice().contains(&var) || writes_of_changes(vertex.changes.as_slice(), var)
 }

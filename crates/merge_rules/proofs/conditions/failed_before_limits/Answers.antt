@@ -1,4 +1,4 @@
-use Rattle.std.proofs.Common.{◌≡◌, ◌≢◌, ◌∙◌, ◌==◌, ℕ, nat_lt, Bool, true, false, ◌&&◌, not, List, take, drop, length, get_or, Option, Some, None, is_some, refl, sym, ap, arith}
+use Rattle.std.proofs.Common.{◌≡◌, ◌≢◌, ◌∙◌, ◌==◌, ℕ, nat_lt, Bool, true, false, ◌&&◌, not, List, take, drop, length, get_or, Option, Some, None, is_some, refl, sym, ap, subst, arith}
 use Rattle.std.specs.Prelude.{is_none}
 use Rattle.std.specs.Option.{option_map_or}
 use Rattle.std.proofs.lemmas.Bool.Decides.{nat_tests}
@@ -10,8 +10,9 @@ use Rattle.model_core.specs.Run.Step.{no_vertex, vertex_at}
 use Rattle.model_core.specs.Rules.UrgentEdges.{plain_urgent, plain_urgent_edge, single_urgent}
 use Rattle.model_core.specs.Rules.Merge.{leads_to, merge_conditions}
 use Rattle.model_core.specs.Code.Views.{graph_of, vertex_of}
-use Rattle.merge_rules.proofs.MergeHolds.{is_below}
-use Rattle.merge_rules.proofs.FirstOfSeven.{first_fails, second_fails, third_fails, three_hold}
+use Rattle.merge_rules.specs.KeptPairs.{TellsUnseen}
+use Rattle.merge_rules.proofs.OneStepForTwo.MergeHolds.{is_below}
+use Rattle.merge_rules.proofs.ConditionsAsked.FirstOfSeven.{first_fails, second_fails, third_fails, three_hold}
 use Rattle.merge_rules.proofs.conditions.failed_before_limits.Goals as goal
 use Rattle.merge_rules.proofs.conditions.failed_before_limits.Goals.{then-first-second-via-then-first-second, then-first-second-via-else-first-second+then-not-leads_at_once}
 
@@ -141,3 +142,10 @@ failed_later-requires-clause-first t c = there c.args.model.now c.as_slice-verti
 
 pub failed_later-requires-clause-second : goal.failed_later-requires-clause-second
 failed_later-requires-clause-second t c = there c.args.model.now c.as_slice-vertices.result.now c.args.second c.in-Some-get.b.now c.as_slice-vertices.ensures c.in-Some-get.ensures.lookup.0 c.in-Some-get.ensures.lookup.1
+
+pub failed_later-requires-clause-unseen : goal.failed_later-requires-clause-unseen
+failed_later-requires-clause-unseen t c =
+    let g = graph_of c.args.model.now in
+    subst (TellsUnseen c.args.unseen g)
+    (sym (there c.args.model.now c.as_slice-vertices.result.now c.args.second c.in-Some-get.b.now c.as_slice-vertices.ensures c.in-Some-get.ensures.lookup.0 c.in-Some-get.ensures.lookup.1))
+    c.requires.unseen

@@ -7,7 +7,7 @@ use Rattle.model_core.specs.Rules.BoundsOfParts.{quiet_edge}
 use Rattle.model_core.specs.Rules.Uses.{vertex_writes, has_drawn_delay}
 use Rattle.model_core.specs.Rules.Merge.{cancels, is_watched_vertex, reads_none_of, happens_unseen, values_at_once, other_edges}
 use Rattle.model_core.specs.Code.Views.{graph_of, edge_of}
-use Rattle.merge_rules.proofs.FirstOfSeven.{fourth_fails, fifth_fails, sixth_fails, seventh_fails, none_fails}
+use Rattle.merge_rules.proofs.ConditionsAsked.FirstOfSeven.{fourth_fails, fifth_fails, sixth_fails, seventh_fails, none_fails}
 use Rattle.merge_rules.proofs.conditions.failed_later.Goals as goal
 
 abbrev fourth : EventGraph → ℕ → Bool

@@ -6,7 +6,7 @@ use Rattle.model_core.specs.Rules.Uses.{vertex_writes}
 use Rattle.model_core.specs.Rules.Merge.{other_edges}
 use Rattle.model_core.specs.Code.Views.{graph_of, edge_of, vertex_of}
 use Rattle.merge_rules.specs.Inner.ReadingEdges.{is_calm, reads_one_of}
-use Rattle.merge_rules.proofs.StandAside.{first_not_calm, second_not_calm, both_calm}
+use Rattle.merge_rules.proofs.ConditionsAsked.StandAside.{first_not_calm, second_not_calm, both_calm}
 use Rattle.merge_rules.proofs.conditions.others_stand_aside.Goals as goal
 
 pub returns-then-not-all_calm-clause-told : goal.returns-then-not-all_calm-clause-told

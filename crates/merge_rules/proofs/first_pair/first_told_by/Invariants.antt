@@ -2,7 +2,7 @@ use Rattle.std.proofs.Common.{◌≡◌, length}
 use Rattle.model_core.specs.Rules.Merge.{merge_at, first_merge}
 use Rattle.model_core.specs.Code.Views.{graph_of}
 use Rattle.merge_rules.specs.Known.{IsKnown}
-use Rattle.merge_rules.proofs.PairsFound.{first_from}
+use Rattle.merge_rules.proofs.ConditionsAsked.PairsFound.{first_from}
 use Rattle.merge_rules.proofs.first_pair.first_told_by.Given as goal
 
 abbrev pub invariant-loop-first : goal.invariant-loop-first

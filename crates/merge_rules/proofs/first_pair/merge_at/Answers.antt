@@ -4,7 +4,7 @@ use Rattle.model_core.specs.EventGraph.{EventVertex, EventEdge}
 use Rattle.model_core.specs.Run.Step.{vertex_at}
 use Rattle.model_core.specs.Rules.UrgentEdges.{plain_urgent_edge}
 use Rattle.model_core.specs.Code.Views.{graph_of}
-use Rattle.merge_rules.proofs.PairsFound.{pair_found, pair_refused}
+use Rattle.merge_rules.proofs.ConditionsAsked.PairsFound.{pair_found, pair_refused}
 use Rattle.merge_rules.proofs.first_pair.merge_at.Goals as goal
 
 pub returns-in-None-failed_merge-clause-found : goal.returns-in-None-failed_merge-clause-found

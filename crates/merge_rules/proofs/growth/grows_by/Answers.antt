@@ -8,7 +8,7 @@ use Rattle.model_core.specs.Text.Canonical.{change_line}
 use Rattle.model_core.specs.Rules.Merge.{set_parameters}
 use Rattle.model_core.specs.Code.Views.{graph_of, expression_of}
 use Rattle.merge_rules.specs.Growth.{body_lines, bytes_added, capped}
-use Rattle.merge_rules.proofs.LimitsTold.{gone_here, added_here, capped_sum}
+use Rattle.merge_rules.proofs.MergedText.LimitsTold.{gone_here, added_here, capped_sum}
 use Rattle.merge_rules.proofs.growth.grows_by.Goals as goal
 
 pub returns : goal.returns

@@ -2,7 +2,7 @@
 use Rattle.std.proofs.Common.{◌<◌, length, arith}
 use Rattle.std.proofs.lemmas.List.{length-map}
 use Rattle.model_core.specs.Code.Views.{graph_of, vertex_of}
-use Rattle.merge_rules.proofs.PairsFit.{refused, fitting}
+use Rattle.merge_rules.proofs.PairsBetweenMerges.PairsFit.{refused, fitting}
 use Rattle.merge_rules.proofs.kept_search.pair_fits.Goals as goal
 
 pub returns-in-Some-clause-fits : goal.returns-in-Some-clause-fits

@@ -2,7 +2,7 @@
 use Rattle.std.proofs.Common.{◌<◌, ◌∙◌, sym, length, arith}
 use Rattle.std.proofs.lemmas.List.{length-map}
 use Rattle.model_core.specs.Code.Views.{graph_of, vertex_of}
-use Rattle.merge_rules.proofs.PairsFit.{seven-hold, found-short, refused-long, refused-unfit, fits-told, unfit-told}
+use Rattle.merge_rules.proofs.PairsBetweenMerges.PairsFit.{seven-hold, found-short, refused-long, refused-unfit, fits-told, unfit-told}
 use Rattle.merge_rules.proofs.kept_search.short_merge.Goals as goal
 
 pub returns-in_default-clause-found : goal.returns-in_default-clause-found

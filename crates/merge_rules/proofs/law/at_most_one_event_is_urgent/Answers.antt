@@ -1,4 +1,4 @@
-use Rattle.merge_rules.proofs.SettledSteps.{begins_settled, step_settled}
+use Rattle.merge_rules.proofs.SingleUrgentModels.SettledSteps.{begins_settled, step_settled}
 use Rattle.merge_rules.proofs.law.at_most_one_event_is_urgent.Goals as goal
 
 pub returns-clause-begins : goal.returns-clause-begins

@@ -1,7 +1,7 @@
 use Rattle.model_core.specs.Rules.Merge.{merged}
-use Rattle.merge_rules.proofs.MergeHolds.{conditions_hold}
-use Rattle.merge_rules.proofs.MergeResult.{merged_same}
-use Rattle.merge_rules.proofs.ValidMerged.{merged_rules, merged_spellable}
+use Rattle.merge_rules.proofs.OneStepForTwo.MergeHolds.{conditions_hold}
+use Rattle.merge_rules.proofs.OneStepForTwo.MergeResult.{merged_same}
+use Rattle.merge_rules.proofs.MergedText.ValidMerged.{merged_rules, merged_spellable}
 use Rattle.merge_rules.proofs.law.merging_keeps_the_meaning.Goals as goal
 
 pub returns-clause-valid : goal.returns-clause-valid

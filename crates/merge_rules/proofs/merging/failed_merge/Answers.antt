@@ -2,7 +2,7 @@
 use Rattle.std.proofs.Common.{◌∙◌, sym, take}
 use Rattle.model_core.specs.Rules.Merge.{merge_conditions, merged, is_within_limits}
 use Rattle.model_core.specs.Code.Views.{graph_of}
-use Rattle.merge_rules.proofs.PairsFound.{last_fails}
+use Rattle.merge_rules.proofs.ConditionsAsked.PairsFound.{last_fails}
 use Rattle.merge_rules.proofs.merging.failed_merge.Goals as goal
 
 pub returns-else-is_within_limits-clause-failed : goal.returns-else-is_within_limits-clause-failed

@@ -4,10 +4,10 @@ use Rattle.model_core.specs.EventGraph.{EventGraph}
 use Rattle.model_core.specs.Text.Canonical.{canonical}
 use Rattle.model_core.specs.Code.Views.{graph_of}
 use Rattle.model_core.specs.Rules.Merge.{merge_conditions}
-use Rattle.merge_rules.proofs.LimitsTold.{first_among, second_among, urgent_there, urgent_at}
+use Rattle.merge_rules.proofs.MergedText.LimitsTold.{first_among, second_among, urgent_there, urgent_at}
 use Rattle.model_core.specs.Rules.UrgentEdges.{single_urgent}
-use Rattle.merge_rules.proofs.SingleKept.{merged_single}
-use Rattle.merge_rules.proofs.PairsFound.{front_holds, counted_whole}
+use Rattle.merge_rules.proofs.SingleUrgentModels.SingleKept.{merged_single}
+use Rattle.merge_rules.proofs.ConditionsAsked.PairsFound.{front_holds, counted_whole}
 use Rattle.merge_rules.proofs.merging.merge_measured.Goals as goal
 
 -- ---- the places and the edge, as the code reads them

@@ -1,6 +1,6 @@
 -- What stands before the place, and what stands behind it.
 use Rattle.model_core.specs.Code.Views.{edge_of}
-use Rattle.merge_rules.proofs.AllButOne.{parts_left}
+use Rattle.merge_rules.proofs.ConditionsAsked.AllButOne.{parts_left}
 use Rattle.merge_rules.proofs.other_edges.all_but.Goals as goal
 
 pub returns-then-place-edges : goal.returns-then-place-edges

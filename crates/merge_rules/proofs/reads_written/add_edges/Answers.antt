@@ -5,7 +5,7 @@ use Rattle.model_core.specs.Rules.Uses.{edge_reads}
 use Rattle.model_core.specs.Code.Views.{edge_of}
 use Rattle.use_analysis.specs.UseNumbers.{UseNumbers, raised_at}
 use Rattle.merge_rules.specs.Inner.ReadingEdges.{counted}
-use Rattle.merge_rules.proofs.CountedEdges.{one_left, raised_little}
+use Rattle.merge_rules.proofs.ConditionsAsked.CountedEdges.{one_left, raised_little}
 use Rattle.merge_rules.proofs.reads_written.add_edges.Goals as goal
 
 pub loop-edge-preserved : goal.loop-edge-preserved

@@ -6,7 +6,7 @@ use Rattle.model_core.specs.Rules.Uses.{edge_reads}
 use Rattle.model_core.specs.Code.Views.{edge_of}
 use Rattle.use_analysis.specs.UseNumbers.{UseNumbers, lowered_at}
 use Rattle.merge_rules.specs.Inner.ReadingEdges.{reads_it, uncounted}
-use Rattle.merge_rules.proofs.CountedEdges.{one_left, still_enough, can_lower}
+use Rattle.merge_rules.proofs.ConditionsAsked.CountedEdges.{one_left, still_enough, can_lower}
 use Rattle.merge_rules.proofs.reads_written.take_edges.Goals as goal
 
 pub loop-edge-preserved : goal.loop-edge-preserved

@@ -2,7 +2,7 @@
 use Rattle.std.proofs.Common.{◌∙◌, ap, length, arith}
 use Rattle.std.proofs.lemmas.List.{length-map}
 use Rattle.model_core.specs.Code.Views.{vertex_of, edge_of}
-use Rattle.merge_rules.proofs.PlainEdges.{plain_within}
+use Rattle.merge_rules.proofs.SingleUrgentModels.PlainEdges.{plain_within}
 use Rattle.merge_rules.proofs.taking_over.take_over.Goals as goal
 
 pub put_in_place-requires-clause-place : goal.put_in_place-requires-clause-place

@@ -2,7 +2,7 @@
 use Rattle.std.proofs.Common.{rules, arith}
 use Rattle.std.proofs.lemmas.List.{length-map}
 use Rattle.model_core.specs.Code.Views.{vertex_of, edge_of}
-use Rattle.merge_rules.proofs.PlainEdges.{plain_within}
+use Rattle.merge_rules.proofs.SingleUrgentModels.PlainEdges.{plain_within}
 use Rattle.merge_rules.proofs.within_limits.urgent_place.Goals as goal
 
 pub returns-clause-within : goal.returns-clause-within

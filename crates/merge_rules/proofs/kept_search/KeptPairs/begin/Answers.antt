@@ -3,7 +3,7 @@ use Rattle.model_core.specs.declared.vertex.Vertex.{Vertex}
 use Rattle.model_core.specs.Code.Views.{graph_of, vertex_of}
 use Rattle.merge_rules.specs.KeptPairs.{ArePairs}
 use Rattle.merge_rules.specs.Inner.PairMoves.{unasked, all_edges_added}
-use Rattle.merge_rules.proofs.PairsKept.{are-unasked}
+use Rattle.merge_rules.proofs.PairsBetweenMerges.PairsKept.{are-unasked}
 use Rattle.merge_rules.proofs.kept_search.KeptPairs.begin.Goals as goal
 
 pub returns : goal.returns

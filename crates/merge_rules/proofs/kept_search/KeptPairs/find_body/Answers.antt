@@ -2,7 +2,7 @@ use Rattle.std.proofs.Common.{◌<◌, sym, subst, length, arith}
 use Rattle.std.proofs.lemmas.List.{length-map}
 use Rattle.model_core.specs.Code.Views.{graph_of, vertex_of}
 use Rattle.merge_rules.specs.KeptPairs.{ArePairs}
-use Rattle.merge_rules.proofs.PairsKept.{are-measured}
+use Rattle.merge_rules.proofs.PairsBetweenMerges.PairsKept.{are-measured}
 use Rattle.merge_rules.proofs.kept_search.KeptPairs.find_body.Goals as goal
 
 pub returns-clause-kept : goal.returns-clause-kept

@@ -4,7 +4,7 @@ use Rattle.model_core.specs.Code.Views.{graph_of}
 use Rattle.merge_rules.specs.Known.{IsKnown}
 use Rattle.merge_rules.specs.NothingCounted.{NothingCounted}
 use Rattle.merge_rules.specs.KeptPairs.{ArePairs}
-use Rattle.merge_rules.proofs.PairsFound.{first_from}
+use Rattle.merge_rules.proofs.ConditionsAsked.PairsFound.{first_from}
 use Rattle.merge_rules.proofs.kept_search.KeptPairs.first_single.Given as goal
 
 abbrev pub invariant-loop-first : goal.invariant-loop-first

@@ -2,7 +2,7 @@ use Rattle.std.proofs.Common.{◌<◌, length, sym, subst, arith}
 use Rattle.std.proofs.lemmas.List.{length-map}
 use Rattle.model_core.specs.Code.Views.{graph_of, vertex_of}
 use Rattle.merge_rules.specs.KeptPairs.{ArePairs}
-use Rattle.merge_rules.proofs.PairsKept.{led-told}
+use Rattle.merge_rules.proofs.PairsBetweenMerges.PairsKept.{led-told}
 use Rattle.merge_rules.proofs.kept_search.KeptPairs.is_led_to.Goals as goal
 
 pub returns : goal.returns

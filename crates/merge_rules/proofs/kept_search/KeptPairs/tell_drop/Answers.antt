@@ -9,8 +9,8 @@ use Rattle.model_core.specs.Code.Views.{graph_of, vertex_of, edge_of}
 use Rattle.merge_rules.specs.KeptPairs.{ArePairs}
 use Rattle.merge_rules.specs.Inner.PairMoves.{edges_taken, moved_up}
 use Rattle.merge_rules.specs.declared.kept_pairs.KeptPair.{KeptPair}
-use Rattle.merge_rules.proofs.LedPlaces.{taken-long}
-use Rattle.merge_rules.proofs.PairsAfterDrop.{are-dropped}
+use Rattle.merge_rules.proofs.PairsBetweenMerges.LedPlaces.{taken-long}
+use Rattle.merge_rules.proofs.PairsBetweenMerges.PairsAfterDrop.{are-dropped}
 use Rattle.merge_rules.proofs.kept_search.KeptPairs.tell_drop.Goals as goal
 
 pub remove-requires : goal.remove-requires

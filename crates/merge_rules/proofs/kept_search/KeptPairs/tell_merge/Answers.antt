@@ -6,7 +6,7 @@ use Rattle.model_core.specs.Rules.Merge.{merged}
 use Rattle.model_core.specs.Code.Views.{graph_of, vertex_of, edge_of}
 use Rattle.merge_rules.specs.KeptPairs.{ArePairs}
 use Rattle.merge_rules.specs.Inner.PairMoves.{pairs_merged}
-use Rattle.merge_rules.proofs.PairsAfterMerge.{are-merged}
+use Rattle.merge_rules.proofs.PairsBetweenMerges.PairsAfterMerge.{are-merged}
 use Rattle.merge_rules.proofs.kept_search.KeptPairs.tell_merge.Goals as goal
 
 pub returns : goal.returns

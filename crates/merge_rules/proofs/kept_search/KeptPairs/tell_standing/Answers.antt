@@ -2,7 +2,7 @@ use Rattle.std.proofs.Common.{◌<◌, sym, subst, length, arith}
 use Rattle.std.proofs.lemmas.List.{length-map}
 use Rattle.model_core.specs.Code.Views.{graph_of, vertex_of}
 use Rattle.merge_rules.specs.KeptPairs.{TellsFit, ArePairs}
-use Rattle.merge_rules.proofs.PairsKept.{are-asked}
+use Rattle.merge_rules.proofs.PairsBetweenMerges.PairsKept.{are-asked}
 use Rattle.merge_rules.proofs.kept_search.KeptPairs.tell_standing.Goals as goal
 
 pub returns : goal.returns

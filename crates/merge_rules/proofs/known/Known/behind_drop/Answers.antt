@@ -1,7 +1,7 @@
 -- A model that is known to be single urgent stays so.
 use Rattle.std.proofs.Common.{◌∙◌, Some, sym, subst}
 use Rattle.merge_rules.specs.Known.{TellsSingle}
-use Rattle.merge_rules.proofs.SingleKept.{dropped_single}
+use Rattle.merge_rules.proofs.SingleUrgentModels.SingleKept.{dropped_single}
 use Rattle.merge_rules.proofs.known.Known.behind_drop.Goals as goal
 
 pub returns-in-Some : goal.returns-in-Some

@@ -7,7 +7,7 @@ use Rattle.model_core.specs.Rules.Uses.{vertex_writes}
 use Rattle.model_core.specs.Code.Views.{edge_of, vertex_of}
 use Rattle.use_analysis.specs.UseNumbers.{UseNumbers}
 use Rattle.merge_rules.specs.Inner.ReadingEdges.{reads_it, reads_one_of, counted, uncounted, told_by_counts}
-use Rattle.merge_rules.proofs.CountedEdges.{counted_few, all_counted, half_counted, enough_before, enough_behind, back_again, counts_tell}
+use Rattle.merge_rules.proofs.ConditionsAsked.CountedEdges.{counted_few, all_counted, half_counted, enough_before, enough_behind, back_again, counts_tell}
 use Rattle.merge_rules.proofs.reads_written.UseCountsReadsWritten.reads_written.Goals as goal
 
 abbrev readers : UseNumbers → List ℕ

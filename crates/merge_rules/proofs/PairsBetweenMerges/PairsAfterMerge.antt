@@ -1,0 +1,199 @@
+-- What is kept of the vertices is right after a merge, once it is told.
+use Rattle.std.proofs.Common.{◌≡◌, ℕ, ◌+◌, ◌-◌, ◌<◌, ◌==◌, nat_lt, Bool, true, false, cond, List, [], ◌∷◌, ◌++◌, map, length, slice_get, slice_index_or, Option, Some, None, is_some, is_none, refl, sym, ◌∙◌, ap, ap₂, subst, arith}
+use Rattle.std.specs.List.{AllByRecursion, remove}
+use Rattle.std.specs.Option.{option_map, option_map_or, option_and_then}
+use Rattle.std.proofs.lemmas.List.{length-map}
+use Rattle.std.proofs.lemmas.Bool.Decides.{nat_tests}
+use Rattle.model_core.specs.EventGraph.{EventGraph, EventVertex, EventEdge, Watched, WatchedVariable, WatchedVertex}
+use Rattle.model_core.specs.Run.Step.{no_vertex, vertex_at}
+use Rattle.model_core.specs.Rules.Conditions.{first_failed}
+use Rattle.model_core.specs.Rules.Drop.{edge_renumbered, vertex_renumbered, watched_renumbered}
+use Rattle.model_core.specs.Rules.PlacedEdges.{with_place}
+use Rattle.model_core.specs.Rules.UrgentEdges.{plain_urgent}
+use Rattle.model_core.specs.Rules.Merge.{merge_conditions, merged_with, merged}
+use Rattle.model_core.proofs.PlacesChanged.{length_placed, shown_placed}
+use Rattle.run_laws.proofs.MappedVertices.{WatchedTold}
+use Rattle.model_core.specs.Text.Canonical.{vertex_name}
+use Rattle.merge_rules.specs.PairStanding.{target_at_once, acts_unseen, pair_conditions, pair_fits}
+use Rattle.merge_rules.specs.Growth.{body_lines, growth, pair_growth}
+use Rattle.merge_rules.specs.declared.growth.Growth.{Growth}
+use Rattle.merge_rules.specs.KeptPairs.{edges_leading, edges_to, TellsFit, TellsLength, IsPair, ArePairs, no_pair}
+use Rattle.merge_rules.specs.Inner.PairMoves.{with_more, with_fewer, edges_added, asked_again, led_nowhere, pairs_merged}
+use Rattle.merge_rules.specs.declared.kept_pairs.KeptPair.{KeptPair}
+use Rattle.merge_rules.specs.declared.kept_pairs.Standing.TheVariants as standings
+use Rattle.merge_rules.specs.UrgentVertices.{has_plain}
+use Rattle.merge_rules.proofs.OneStepForTwo.MergeHolds.{Mergeable, conditions_hold, is_below}
+use Rattle.merge_rules.proofs.OneStepForTwo.MergeResult.{joined_is}
+use Rattle.merge_rules.proofs.OneStepForTwo.EdgesAside.{urgent_edge}
+use Rattle.merge_rules.proofs.SingleUrgentModels.OneUrgentLess.{plain_gone}
+use Rattle.merge_rules.proofs.PairsBetweenMerges.PairsMoved.{acts-alike, fits-moved, still_told}
+use Rattle.merge_rules.proofs.PairsBetweenMerges.GrowthMoved.{body-alike, growth-moved}
+use Rattle.merge_rules.proofs.MergedText.ValidMerged.{name_stays}
+use Rattle.merge_rules.proofs.PairsBetweenMerges.LedPlaces.{same-numbers, placed-elsewhere, placed-there, mapped-there, added-long, added-at, one_fewer-at, leading-joined, leading-without, to-placed}
+
+-- ---- names that stay
+
+watch-same : (watch : List Watched) → map (watched_renumbered (λ k. k)) watch ≡ watch
+watch-same [] = refl
+watch-same (WatchedVariable v ∷ watch) = ap (λ ws. WatchedVariable v ∷ ws) (watch-same watch)
+watch-same (WatchedVertex v ∷ watch) = ap (λ ws. WatchedVertex v ∷ ws) (watch-same watch)
+
+edges-same : (es : List EventEdge) → map (edge_renumbered (λ k. k)) es ≡ es
+edges-same [] = refl
+edges-same (e ∷ es) = ap (λ es. e ∷ es) (edges-same es)
+
+vertex-same : (v : EventVertex) → vertex_renumbered (λ k. k) v ≡ v
+vertex-same v = ap (λ es. record v { edges = es }) (edges-same v.edges)
+
+all-told : (watch : List Watched) → AllByRecursion (WatchedTold (λ k. Unit {0})) watch
+all-told [] = tt
+all-told (WatchedVariable v ∷ watch) = (tt, all-told watch)
+all-told (WatchedVertex v ∷ watch) = (tt, all-told watch)
+
+all-live : (es : List EventEdge) → AllByRecursion (λ (e : EventEdge). Unit {0}) es
+all-live [] = tt
+all-live (e ∷ es) = (tt, all-live es)
+
+no-plain : (v : EventVertex) → has_plain v ≡ false → target_at_once v ≡ None
+no-plain v none = by (plain_urgent v) none where
+  by : (o : Option ℕ) → is_some o ≡ false → option_map (λ (e : EventEdge). e.target) (option_and_then (slice_get v.edges) o) ≡ None
+  by None e = refl
+  by (Some k) e = cc
+
+module _ (g : EventGraph) (first second : ℕ) (none : first_failed (merge_conditions g first second) ≡ None) where
+  abbrev h : EventGraph
+  h = merged g first second
+
+  abbrev a : EventVertex
+  a = vertex_at g first
+
+  abbrev b : EventVertex
+  b = vertex_at g second
+
+  m : Mergeable g first second
+  m = conditions_hold g first second none
+
+  there : first < length g.vertices
+  there = is_below first (length g.vertices) m.exists
+
+  elsewhere : (k : ℕ) → (k == first) ≡ false → vertex_at h k ≡ vertex_at g k
+  elsewhere k apart = placed-elsewhere (merged_with b) first k g.vertices no_vertex apart
+
+  here : vertex_at h first ≡ merged_with b a
+  here = placed-there (merged_with b) first g.vertices no_vertex there
+
+  long : length h.vertices ≡ length g.vertices
+  long = length_placed (merged_with b) first g.vertices
+
+  -- two that aren't the one that has changed can be merged as before
+  fits-elsewhere : (k : ℕ) → (k == first) ≡ false → ((t : ℕ) → target_at_once (vertex_at g k) ≡ Some t → (t == first) ≡ false) → pair_fits h k ≡ pair_fits g k
+  fits-elsewhere k apart target_apart =
+      ap (λ (watch : List Watched). pair_fits (let g : EventGraph = record h { watch = watch } in g) k) (sym (watch-same g.watch))
+      ∙ fits-moved g (λ k. k) h.vertices (λ k. Unit {0}) (λ x y live too. refl) (all-told g.watch) k tt (all-live (vertex_at g k).edges)
+      (ap (nat_lt k) long) (elsewhere k apart ∙ sym (vertex-same (vertex_at g k)))
+      (λ t is. (tt, ap (nat_lt t) long, elsewhere t (target_apart t is) ∙ sym (vertex-same (vertex_at g t))))
+
+  -- what they do has the lines that it had, and the text becomes as much longer
+  names-stay : (k : ℕ) → Unit {0} → vertex_name h k ≡ vertex_name g k
+  names-stay k live = sym (shown_placed (λ (v : EventVertex). v.name) (merged_with b) [] (name_stays b) first g.vertices k)
+
+  body-elsewhere : (k : ℕ) → (k == first) ≡ false → body_lines h (vertex_at h k) ≡ body_lines g (vertex_at g k)
+  body-elsewhere k apart =
+      ap (body_lines h) (elsewhere k apart ∙ sym (vertex-same (vertex_at g k)))
+      ∙ body-alike g (λ k. k) h.vertices (λ k. Unit {0}) names-stay (vertex_at g k) (all-live (vertex_at g k).edges)
+
+  acts-elsewhere : (k : ℕ) → (k == first) ≡ false → acts_unseen h (vertex_at h k) ≡ acts_unseen g (vertex_at g k)
+  acts-elsewhere k apart =
+      ap (acts_unseen h) (elsewhere k apart ∙ sym (vertex-same (vertex_at g k)))
+      ∙ ap (λ (watch : List Watched). acts_unseen (let g : EventGraph = record h { watch = watch } in g) (vertex_renumbered (λ k. k) (vertex_at g k))) (sym (watch-same g.watch))
+      ∙ acts-alike g (λ k. k) h.vertices (vertex_at g k)
+
+  growth-elsewhere : (k : ℕ) → (k == first) ≡ false → ((t : ℕ) → target_at_once (vertex_at g k) ≡ Some t → (t == first) ≡ false) → growth h k ≡ growth g k
+  growth-elsewhere k apart target_apart =
+      growth-moved g (λ k. k) h.vertices (λ k. Unit {0}) names-stay k (elsewhere k apart ∙ sym (vertex-same (vertex_at g k)))
+      (λ t is. (tt, elsewhere t (target_apart t is) ∙ sym (vertex-same (vertex_at g t)), all-live (vertex_at g t).edges))
+
+  pair-growth-elsewhere : (k : ℕ) → (k == first) ≡ false → ((t : ℕ) → target_at_once (vertex_at g k) ≡ Some t → (t == first) ≡ false) → pair_growth h k ≡ pair_growth g k
+  pair-growth-elsewhere k apart target_apart = ap₂ (λ fits (grows : Growth). cond fits (Some grows) None) (fits-elsewhere k apart target_apart) (growth-elsewhere k apart target_apart)
+
+  -- the edge to the second vertex is gone, and its own are added
+  edges-counted : (k : ℕ) → edges_to h.vertices k ≡ edges_to g.vertices k + edges_leading b.edges k - cond (second == k) 1 0
+  edges-counted k =
+      let p = m.edge in
+      let placed = to-placed (merged_with b) g.vertices first k there in
+      let rest : cond (second == k) 1 0 + edges_leading (remove a.edges p.place) k ≡ edges_leading a.edges k = leading-without a.edges p.place (urgent_edge second p.values) k p.there in
+      let joined : edges_leading (merged_with b a).edges k ≡ edges_leading (remove a.edges p.place) k + edges_leading b.edges k =
+      ap (λ (v : EventVertex). edges_leading v.edges k) (joined_is a b second p) ∙ ap (λ (es : List EventEdge). edges_leading (es ++ b.edges) k) (sym p.rest) ∙ leading-joined (remove a.edges p.place) b.edges k in
+      omega (arith, placed, rest, joined)
+
+  module _ (pairs : List KeptPair) (are : ArePairs g pairs) where
+    abbrev counted : List KeptPair
+    counted = with_place (with_fewer 1) second (edges_added b.edges pairs)
+
+    abbrev after : List KeptPair
+    after = pairs_merged first second b.edges pairs
+
+    old : ℕ → KeptPair
+    old k = slice_index_or pairs k no_pair
+
+    counted-long : length counted ≡ length pairs
+    counted-long = length_placed (with_fewer 1) second (edges_added b.edges pairs) ∙ added-long b.edges pairs
+
+    counted-at : (k : ℕ) → k < length pairs → slice_index_or counted k no_pair ≡ with_fewer (cond (second == k) 1 0) (with_more (edges_leading b.edges k) (slice_index_or pairs k no_pair))
+    counted-at k below =
+        one_fewer-at second k (edges_added b.edges pairs) (omega (arith, below, added-long b.edges pairs))
+        ∙ ap (with_fewer (cond (second == k) 1 0)) (added-at b.edges pairs k below)
+
+    after-long : length after ≡ length h.vertices
+    after-long = length_placed led_nowhere first (map (asked_again first) counted) ∙ length-map counted (asked_again first) ∙ counted-long ∙ are.long ∙ sym long
+
+    asked-at : (k : ℕ) → k < length pairs → slice_index_or (map (asked_again first) counted) k no_pair ≡ asked_again first (with_fewer (cond (second == k) 1 0) (with_more (edges_leading b.edges k) (slice_index_or pairs k no_pair)))
+    asked-at k below = mapped-there (asked_again first) counted k no_pair (omega (arith, below, counted-long)) ∙ ap (asked_again first) (counted-at k below)
+
+    -- what is known of the other stays known, but where its plain urgent edge leads to the one that has changed
+    still-tells : (k : ℕ) → (k == first) ≡ false → (p : KeptPair) → p.target ≡ target_at_once (vertex_at g k) → TellsFit p.standing (pair_growth g k) → TellsFit (asked_again first p).standing (pair_growth h k)
+    still-tells k apart p target tells = by p.target refl where
+      by : (o : Option ℕ) → p.target ≡ o → TellsFit (cond (option_map_or (λ target. target == first) o false) standings.Unknown p.standing) (pair_growth h k)
+      by None is = subst (TellsFit p.standing) (sym (pair-growth-elsewhere k apart (λ t leads. let no : None ≡ Some t = sym is ∙ target ∙ leads in cc))) tells
+      by (Some t) is = chosen (t == first) refl where
+        chosen : (c : Bool) → (t == first) ≡ c → TellsFit (cond c standings.Unknown p.standing) (pair_growth h k)
+        chosen true same = tt
+        chosen false other =
+            subst (TellsFit p.standing)
+            (sym (pair-growth-elsewhere k apart (λ u leads. let both : Some t ≡ Some u = sym is ∙ target ∙ leads in let e : t ≡ u = cc in subst (λ v. (v == first) ≡ false) e other))) tells
+
+    pair-elsewhere : (k : ℕ) → k < length g.vertices → (k == first) ≡ false → IsPair h k (slice_index_or after k no_pair)
+    pair-elsewhere k below apart =
+        let p = slice_index_or pairs k no_pair in
+        let was = are.each k below in
+        let within : k < length pairs = omega (arith, below, are.long) in
+        subst (IsPair h k) (sym (placed-elsewhere led_nowhere first k (map (asked_again first) counted) no_pair apart ∙ asked-at k within)) (record {
+          target = was.target ∙ sym (ap target_at_once (elsewhere k apart));
+          standing = still-tells k apart (with_fewer (cond (second == k) 1 0) (with_more (edges_leading b.edges k) p)) was.target was.standing;
+          body = subst (TellsLength p.body) (sym (body-elsewhere k apart)) was.body;
+          unseen = still_told p.unseen g h _ _ (acts-elsewhere k apart) was.unseen;
+          incoming = ap (λ n. n + edges_leading b.edges k - cond (second == k) 1 0) was.incoming ∙ sym (edges-counted k);
+        })
+
+    pair-here : IsPair h first (slice_index_or after first no_pair)
+    pair-here =
+        let was = are.each first there in
+        let within : first < length pairs = omega (arith, there, are.long) in
+        let leads : target_at_once (vertex_at h first) ≡ None = ap target_at_once here ∙ no-plain (merged_with b a) (plain_gone g first second none) in
+        subst (IsPair h first)
+        (sym (placed-there led_nowhere first (map (asked_again first) counted) no_pair (omega (arith, within, length-map counted (asked_again first), counted-long)) ∙ ap led_nowhere (asked-at first within)))
+        (record {
+          target = sym leads;
+          standing = ap (λ (o : Option ℕ). cond (option_map_or (λ second. is_none (first_failed (pair_conditions h first second))) o false) (Some (growth h first)) None) leads;
+          body = tt;
+          unseen = tt;
+          incoming = ap (λ n. n + edges_leading b.edges first - cond (second == first) 1 0) was.incoming ∙ sym (edges-counted first);
+        })
+
+    pub are-merged : ArePairs h after
+    are-merged = record { long = after-long; each = each } where
+      each : (k : ℕ) → k < length h.vertices → IsPair h k (slice_index_or after k no_pair)
+      each k below = by (k == first) refl where
+        by : (c : Bool) → (k == first) ≡ c → IsPair h k (slice_index_or after k no_pair)
+        by true same = subst (λ j. IsPair h j (slice_index_or after j no_pair)) (sym (same-numbers k first same)) pair-here
+        by false apart = pair-elsewhere k (omega (arith, below, long)) apart

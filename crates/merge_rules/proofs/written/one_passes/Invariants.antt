@@ -1,8 +1,0 @@
-use Rattle.std.proofs.Common.{◌≡◌, drop}
-use Rattle.std.specs.List.{list_any}
-use Rattle.merge_rules.proofs.written.one_passes.Given as goal
-
-abbrev pub invariant-loop-var : goal.invariant-loop-var
-invariant-loop-var g l =
-    list_any (g.T.VariableTest.test l.test) (drop l.var-index l.vars)
-    ≡ list_any (g.T.VariableTest.test l.test) l.vars
