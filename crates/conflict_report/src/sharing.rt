@@ -16,15 +16,15 @@ use use_analysis::{
 
 /// The variables that this vertex reads or writes.
 #[derive(Drop)]
-struct Used<'v> {
-    by: &'v Vertex,
+struct UsedBy<'v> {
+    vertex: &'v Vertex,
 }
 
-impl NumberTest for Used<'_> {
-    ghost test = { λ u n. is_among (vertex_reads (vertex_of u.by.now) ++ vertex_writes (vertex_of u.by.now)) n };
+impl NumberTest for UsedBy<'_> {
+    ghost test = { λ u n. is_among (vertex_reads (vertex_of u.vertex.now) ++ vertex_writes (vertex_of u.vertex.now)) n };
 
     fn passes(&self, number: usize) -> bool {
-        reads_of_vertex(self.by, number) || writes_of_vertex(self.by, number)
+        reads_of_vertex(self.vertex, number) || writes_of_vertex(self.vertex, number)
     }
 }
 
@@ -32,20 +32,20 @@ impl NumberTest for Used<'_> {
 pub(crate) fn over_variables(a: &Vertex, b: &Vertex) -> bool
     ensures { result ≡ over_variables (vertex_of a.now) (vertex_of b.now) }
 {
-    one_written_passes(&Used { by: b }, a) || one_written_passes(&Used { by: a }, b)
+    one_written_passes(&UsedBy { vertex: b }, a) || one_written_passes(&UsedBy { vertex: a }, b)
 }
 
 /// The streams from which this vertex draws.
 #[derive(Drop)]
-struct Drawn<'v> {
-    by: &'v Vertex,
+struct DrawnBy<'v> {
+    vertex: &'v Vertex,
 }
 
-impl NumberTest for Drawn<'_> {
-    ghost test = { λ d n. is_among (vertex_streams (vertex_of d.by.now)) n };
+impl NumberTest for DrawnBy<'_> {
+    ghost test = { λ d n. is_among (vertex_streams (vertex_of d.vertex.now)) n };
 
     fn passes(&self, number: usize) -> bool {
-        one_stream_passes(&Is { number }, self.by)
+        one_stream_passes(&Is { number }, self.vertex)
     }
 }
 
@@ -53,7 +53,7 @@ impl NumberTest for Drawn<'_> {
 pub(crate) fn over_streams(a: &Vertex, b: &Vertex) -> bool
     ensures { result ≡ over_streams (vertex_of a.now) (vertex_of b.now) }
 {
-    one_stream_passes(&Drawn { by: b }, a)
+    one_stream_passes(&DrawnBy { vertex: b }, a)
 }
 
 /// Whether one of these edges names the vertex at this place.

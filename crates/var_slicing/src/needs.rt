@@ -6,7 +6,7 @@ ghost use Rattle.model_core.specs.EventGraph.{Location, Expression, scalar_locat
 ghost use Rattle.model_core.specs.Rules.Uses.{variables_in, location_reads};
 ghost use Rattle.model_core.specs.Rules.Needed.{watched_variables, compared_parameters, faulting_target, faulting_parameters, each_beside, needed_by_parameters, is_scheduling, compares_values};
 ghost use Rattle.model_core.specs.Code.Views.{graph_of, vertex_of, change_of, edge_of, edge_kind_of, location_of, expression_of, watched_of};
-ghost use Rattle.var_slicing.specs.Inner.Needing.{collected_of, nothing, with_change, with_changes, with_all_changes, with_edge, with_edges, with_all_edges, beside_at, collected};
+ghost use Rattle.var_slicing.specs.Inner.Needing.{collected_of, nothing, with_change, with_changes, with_all_changes, with_edge, with_edges, with_all_edges, collected};
 
 use crate::delays::{add_delay_stream, add_drawn_from};
 use crate::streams::StreamDraw;
@@ -65,22 +65,6 @@ fn add_faulting_target(
     Ok(())
 }
 
-/// The same for the right side at a place, if there is one.
-fn add_faulting_target_at(
-    out: &mut Vec<usize>,
-    model: &Model,
-    target: &Target,
-    values: &[Expr],
-    place: usize,
-) -> Result<(), NoMemory>
-    ensures { OnOk result (out.new.items ≡ out.old.items ++ beside_at (faulting_target (graph_of model.now) (location_of target.now)) (map expression_of values.now) place) }
-{
-    match values.get(place) {
-        Some(value) => add_faulting_target(out, model, target, value),
-        None => Ok(()),
-    }
-}
-
 /// Adds the variables of targets whose index, right side or store may fault.
 fn add_faulting_targets(
     out: &mut Vec<usize>,
@@ -90,8 +74,8 @@ fn add_faulting_targets(
 ) -> Result<(), NoMemory>
     ensures { OnOk result (out.new.items ≡ out.old.items ++ flat_map (λ ((l, e) : Location × Expression). faulting_target (graph_of model.now) l e) (zip (map location_of targets.now) (map expression_of values.now))) }
 {
-    for (place, target) in targets.iter().enumerate() {
-        add_faulting_target_at(out, model, target, values, place)?;
+    for (target, value) in targets.iter().zip(values) {
+        add_faulting_target(out, model, target, value)?;
     }
     Ok(())
 }
@@ -111,22 +95,6 @@ fn add_target_needs(
     add_beside(pairs, target.var, reads.as_slice())
 }
 
-/// The same for the right side at a place, if there is one.
-fn add_target_needs_at(
-    alloc: Global,
-    pairs: &mut Vec<(usize, usize)>,
-    target: &Target,
-    values: &[Expr],
-    place: usize,
-) -> Result<(), NoMemory>
-    ensures { OnOk result (pairs.new.items ≡ pairs.old.items ++ beside_at (λ (e : Expression). each_beside target.now.var (location_reads (location_of target.now) ++ variables_in e)) (map expression_of values.now) place) }
-{
-    match values.get(place) {
-        Some(value) => add_target_needs(alloc, pairs, target, value),
-        None => Ok(()),
-    }
-}
-
 /// Adds what targets need.
 fn add_all_target_needs(
     alloc: Global,
@@ -136,8 +104,8 @@ fn add_all_target_needs(
 ) -> Result<(), NoMemory>
     ensures { OnOk result (pairs.new.items ≡ pairs.old.items ++ flat_map (λ ((l, e) : Location × Expression). each_beside l.variable (location_reads l ++ variables_in e)) (zip (map location_of targets.now) (map expression_of values.now))) }
 {
-    for (place, target) in targets.iter().enumerate() {
-        add_target_needs_at(alloc, pairs, target, values, place)?;
+    for (target, value) in targets.iter().zip(values) {
+        add_target_needs(alloc, pairs, target, value)?;
     }
     Ok(())
 }
@@ -214,22 +182,6 @@ fn add_faulting_value(
     Ok(())
 }
 
-/// The same for the value at a place, if there is one.
-fn add_faulting_value_at(
-    out: &mut Vec<usize>,
-    model: &Model,
-    param: usize,
-    values: &[Expr],
-    place: usize,
-) -> Result<(), NoMemory>
-    ensures { OnOk result (out.new.items ≡ out.old.items ++ beside_at (faulting_target (graph_of model.now) (scalar_location param)) (map expression_of values.now) place) }
-{
-    match values.get(place) {
-        Some(value) => add_faulting_value(out, model, param, value),
-        None => Ok(()),
-    }
-}
-
 /// Adds the parameters for which values that may fault are carried, or whose stores may.
 fn add_faulting_values(
     out: &mut Vec<usize>,
@@ -239,8 +191,8 @@ fn add_faulting_values(
 ) -> Result<(), NoMemory>
     ensures { OnOk result (out.new.items ≡ out.old.items ++ flat_map (λ ((v, x) : ℕ × Expression). faulting_target (graph_of model.now) (scalar_location v) x) (zip params.now (map expression_of values.now))) }
 {
-    for (place, param) in params.iter().enumerate() {
-        add_faulting_value_at(out, model, *param, values, place)?;
+    for (param, value) in params.iter().zip(values) {
+        add_faulting_value(out, model, *param, value)?;
     }
     Ok(())
 }
@@ -275,22 +227,6 @@ fn add_value_needs(
     add_beside(pairs, param, reads.as_slice())
 }
 
-/// The same for the value at a place, if there is one.
-fn add_value_needs_at(
-    alloc: Global,
-    pairs: &mut Vec<(usize, usize)>,
-    param: usize,
-    values: &[Expr],
-    place: usize,
-) -> Result<(), NoMemory>
-    ensures { OnOk result (pairs.new.items ≡ pairs.old.items ++ beside_at (λ (e : Expression). each_beside param (variables_in e)) (map expression_of values.now) place) }
-{
-    match values.get(place) {
-        Some(value) => add_value_needs(alloc, pairs, param, value),
-        None => Ok(()),
-    }
-}
-
 /// Adds what parameters need.
 fn add_all_value_needs(
     alloc: Global,
@@ -300,8 +236,8 @@ fn add_all_value_needs(
 ) -> Result<(), NoMemory>
     ensures { OnOk result (pairs.new.items ≡ pairs.old.items ++ flat_map (λ ((v, x) : ℕ × Expression). each_beside v (variables_in x)) (zip params.now (map expression_of values.now))) }
 {
-    for (place, param) in params.iter().enumerate() {
-        add_value_needs_at(alloc, pairs, *param, values, place)?;
+    for (param, value) in params.iter().zip(values) {
+        add_value_needs(alloc, pairs, *param, value)?;
     }
     Ok(())
 }

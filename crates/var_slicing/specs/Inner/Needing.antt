@@ -1,6 +1,5 @@
 -- What is collected from a model, part by part.
-use Rattle.std.specs.Prelude.{ℕ, cond, List, [], ◌∷◌, ◌++◌, slice_get}
-use Rattle.std.specs.Option.{option_map_or}
+use Rattle.std.specs.Prelude.{ℕ, cond, List, [], ◌∷◌, ◌++◌}
 use Rattle.model_core.specs.EventGraph.{EventGraph, EventVertex, EventEdge, StateChange}
 use Rattle.model_core.specs.Run.Step.{vertex_at}
 use Rattle.model_core.specs.Rules.MarkedPlaces.{is_among}
@@ -21,10 +20,6 @@ abbrev pub nothing : Collected
 nothing = record { first = []; pairs = []; draws = []; delays = [] }
 
 -- ---- one value beside each target or parameter
-
--- what f gives for the element at a place, if there is one
-abbrev pub beside_at : {B C : Type 0} → (B → List C) → List B → ℕ → List C
-beside_at f bs k = option_map_or f (slice_get bs k) []
 
 -- what f gives for each two that stand side by side, added one by one
 abbrev pub along : {A B C : Type 0} → (A → B → List C) → List A → List B → List C → List C

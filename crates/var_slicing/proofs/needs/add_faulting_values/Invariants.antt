@@ -1,11 +1,11 @@
-use Rattle.std.proofs.Common.{◌≡◌, ℕ, map, drop}
+use Rattle.std.proofs.Common.{◌≡◌, ℕ, map, drop, length}
 use Rattle.model_core.specs.EventGraph.{Expression, scalar_location}
 use Rattle.model_core.specs.Rules.Needed.{faulting_target}
 use Rattle.model_core.specs.Code.Views.{graph_of, expression_of}
 use Rattle.var_slicing.specs.Inner.Needing.{along}
 use Rattle.var_slicing.proofs.needs.add_faulting_values.Given as goal
 
-abbrev pub invariant-loop-place : goal.invariant-loop-place
-invariant-loop-place l =
+abbrev pub invariant-loop-param : goal.invariant-loop-param
+invariant-loop-param l =
     let f = (λ (v : ℕ) (e : Expression). faulting_target (graph_of l.model) (scalar_location v) e) in
-    along f (drop l.place l.params) (drop l.place (map expression_of l.values)) l.out.items ≡ along f l.params (map expression_of l.values) l.initial.out.items
+    along f (drop (length l.yielded) l.params) (drop (length l.yielded) (map expression_of l.values)) l.out.items ≡ along f l.params (map expression_of l.values) l.initial.out.items
