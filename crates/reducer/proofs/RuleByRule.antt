@@ -57,6 +57,10 @@ pub answer_of : {P Q : Bool → Type 0} (answer : Result Bool NoMemory) → ((ma
 answer_of (Ok made) to holds = to made holds
 answer_of (Err e) to holds = tt
 
+pub both_on_ok : {T E P Q R : Type 0} (r : Result T E) → (P → Q → R) → OnOk r P → OnOk r Q → OnOk r R
+both_on_ok (Ok x) joined p q = joined p q
+both_on_ok (Err e) joined p q = tt
+
 -- what is known of any answer is so of this one
 pub of_answer : (P : Bool → Type 0) (answer : Result Bool NoMemory) (made : Bool) → answer ≡ Ok made → IfOk answer P → P made
 of_answer P answer made is holds = subst (λ (r : Result Bool NoMemory). IfOk r P) is holds

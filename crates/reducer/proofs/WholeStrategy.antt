@@ -79,17 +79,17 @@ whole_strategy keep one_valid leaves takes g valid =
     (_, h, with_sweeps keep g valid later h strategy)
 
 -- the same of what the parts are known to give: the graph after each, and the applications noted so far
-pub strategy_made : ChainsKeep → (g pruned settled left : EventGraph) (at_first after_prunes after_settles all : List RuleApplication) → {made : List RuleApplication} → IsValid g
+pub strategy_made : ChainsKeep → (g pruned settled left : EventGraph) (at_first after_prunes after_settles all : List RuleApplication) → IsValid g
     → pruned ≡ after_prune g → settled ≡ after_settle pruned
-    → at_first ≡ [] → after_prunes ≡ at_first ++ applied_to_all rules.Prune g g.vertices → after_settles ≡ after_prunes ++ applied_to_all rules.Settle pruned pruned.vertices → Finished settled left after_settles all → made ≡ all
-    → Strategy g made left
-strategy_made keep g pruned settled left at_first after_prunes after_settles all {made} valid is_pruned is_settled none prunes_noted settles_noted (later, later_noted, strategy) is_all =
+    → at_first ≡ [] → after_prunes ≡ at_first ++ applied_to_all rules.Prune g g.vertices → after_settles ≡ after_prunes ++ applied_to_all rules.Settle pruned pruned.vertices → Finished settled left after_settles all
+    → Strategy g all left
+strategy_made keep g pruned settled left at_first after_prunes after_settles all valid is_pruned is_settled none prunes_noted settles_noted (later, later_noted, strategy) =
     let prunes = applied_to_all rules.Prune g g.vertices in
     let settles = applied_to_all rules.Settle (after_prune g) (after_prune g).vertices in
     let last = after_settle (after_prune g) in
     let settled_is : settled ≡ last = is_settled ∙ ap after_settle is_pruned in
-    let applications : made ≡ prunes ++ (settles ++ later) =
-    is_all ∙ later_noted
+    let applications : all ≡ prunes ++ (settles ++ later) =
+    later_noted
     ∙ ap (λ (xs : List RuleApplication). xs ++ later)
     (settles_noted ∙ ap₂ (λ (xs : List RuleApplication) (h : EventGraph). xs ++ applied_to_all rules.Settle h h.vertices) (prunes_noted ∙ ap (λ (xs : List RuleApplication). xs ++ prunes) none) is_pruned)
     ∙ append_assoc prunes settles later in

@@ -2,3 +2,4 @@
 pub mod Sweep
 pub mod LaterRules
 pub mod Progress
+pub mod Underway

@@ -31,9 +31,5 @@ pub fn reduce(alloc: Global, model: Model) -> Result<Reduced, NoMemory>
     let mut applications = Vec::new(alloc);
     sweep(alloc, EdgeRule::Prune, &mut reduced, &mut applications)?;
     sweep(alloc, EdgeRule::Settle, &mut reduced, &mut applications)?;
-    apply_later_rules(alloc, &mut reduced, &mut applications)?;
-    Ok(Reduced {
-        model: reduced,
-        applications: List::from_vec(applications),
-    })
+    apply_later_rules(alloc, reduced, applications)
 }

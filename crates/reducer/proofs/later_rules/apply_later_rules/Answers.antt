@@ -1,13 +1,17 @@
 -- Each turn leaves less, and leads on by the first rule.
+use Rattle.std.proofs.Common.{List, map, subst, sym}
+use Rattle.model_core.specs.declared.application.Application.{Application}
+use Rattle.model_core.specs.Code.Views.{graph_of, application_of}
+use Rattle.reducer.specs.Inner.LaterRules.{Finished}
 use Rattle.reducer.proofs.NoEdgeRuleAnew.{LeavesEdges}
 use Rattle.reducer.proofs.RuleByRule.{led_on, leaves_less, led_to_the_end}
 use Rattle.reducer.proofs.later_rules.apply_later_rules.Goals as goal
 
-pub loop-progress-smaller : goal.loop-progress-smaller
-loop-progress-smaller c = leaves_less c.merging_takes_an_urgent_edge.ensures _ _ _ _ _ c.if-branch.true c.loop-progress.invariant.led.none c.in_ok-apply_one.ensures.made
+pub loop-underway-smaller : goal.loop-underway-smaller
+loop-underway-smaller c = leaves_less c.merging_takes_an_urgent_edge.ensures _ _ _ _ _ c.if-branch.true c.loop-underway.invariant.led.none c.in_ok-apply_one.ensures.made
 
-pub loop-progress-preserved : goal.loop-progress-preserved
-loop-progress-preserved c =
+pub loop-underway-preserved : goal.loop-underway-preserved
+loop-underway-preserved c =
     let leaves : LeavesEdges = record {
       prune_dropped = c.dropping_brings_no_rule_of_edges.ensures.prune;
       settle_dropped = c.dropping_brings_no_rule_of_edges.ensures.settle;
@@ -17,9 +21,12 @@ loop-progress-preserved c =
       settle_sliced = c.slicing_leaves_the_rules_of_edges.ensures.settle;
     } in
     record {
-      led = led_on leaves c.chains_keep_the_meaning.ensures.one_valid _ _ _ _ _ _ _ c.if-branch.true c.loop-progress.invariant.led c.in_ok-apply_one.ensures.made;
+      led = led_on leaves c.chains_keep_the_meaning.ensures.one_valid _ _ _ _ _ _ _ c.if-branch.true c.loop-underway.invariant.led c.in_ok-apply_one.ensures.made;
       known = c.in_ok-apply_one.ensures.known;
     }
 
 pub returns : goal.returns
-returns c = led_to_the_end _ _ _ _ _ _ _ c.if-branch.false c.loop-progress.invariant.led c.in_ok-apply_one.ensures.made
+returns c =
+    let left = graph_of c.apply_one.new.self.model in
+    subst (λ (noted : List Application). Finished (graph_of c.args.model) left (map application_of c.args.applications.items) (map application_of noted)) (sym c.from_vec.ensures)
+    (led_to_the_end _ _ _ _ _ _ _ c.if-branch.false c.loop-underway.invariant.led c.in_ok-apply_one.ensures.made)

@@ -5,11 +5,11 @@ use Rattle.reducer.proofs.RuleByRule.{Led}
 use Rattle.reducer.proofs.StrategyEnds.{measure}
 use Rattle.reducer.proofs.later_rules.apply_later_rules.Given as goal
 
-abbrev pub invariant-loop-progress : goal.invariant-loop-progress
-invariant-loop-progress l = record {
-  led : Led (graph_of l.initial.model) (graph_of l.model) (map application_of l.initial.applications.items) (map application_of l.applications.items);
-  known : IsProgress (graph_of l.model) l.progress;
+abbrev pub invariant-loop-underway : goal.invariant-loop-underway
+invariant-loop-underway l = record {
+  led : Led (graph_of l.initial.underway.model) (graph_of l.underway.model) (map application_of l.initial.underway.applications.items) (map application_of l.underway.applications.items);
+  known : IsProgress (graph_of l.underway.model) l.underway.progress;
 }
 
-abbrev pub decreases-loop-progress : goal.decreases-loop-progress
-decreases-loop-progress l = measure (graph_of l.model)
+abbrev pub decreases-loop-underway : goal.decreases-loop-underway
+decreases-loop-underway l = measure (graph_of l.underway.model)

@@ -13,32 +13,36 @@ use Rattle.merge_rules.specs.NothingCounted.{NothingCounted}
 use Rattle.merge_rules.specs.KeptPairs.{ArePairs}
 use Rattle.reducer.proofs.CountsServe.{counts_for_code}
 use Rattle.reducer.proofs.RuleByRule.{noted_more, not_refused}
-use Rattle.reducer.proofs.later_rules.merge_first.Goals as goal
+use Rattle.reducer.proofs.later_rules.Underway.merge_first.Goals as goal
 
-pub returns-in-Ok-clause-made : goal.returns-in-Ok-clause-made
-returns-in-Ok-clause-made c =
-    let g = graph_of c.args.model.now in
+pub returns-in-Ok : goal.returns-in-Ok
+returns-in-Ok c =
+    let g = graph_of c.args.self.now.model in
     let is : first_merge g ≡ Some (c.in-Some.first, c.in-Some.second) = sym c.in-Some.ensures.found in
-    merge_made g _ _ _ _ _ c.requires.valid is c.in-Ok.ensures.done.1 (noted_more _ _ _ c.in_ok-push.ensures.items ∙ ap₂ (λ (name other : List ℕ). map application_of c.args.applications.now.items ++ Merge name other ∷ []) c.in_ok-vertex.ensures c.in_ok-target.ensures)
+    let done = c.in-Ok.ensures.done in record {
+      made = merge_made g _ _ _ _ _ c.requires.underway.valid is done.1
+          (noted_more _ _ _ c.in_ok-push.ensures.items ∙ ap₂ (λ (name other : List ℕ). map application_of c.args.self.now.applications.items ++ Merge name other ∷ []) c.in_ok-vertex.ensures c.in_ok-target.ensures);
+      known = record {
+        known = c.merge_measured.ensures.known;
+        counts = subst (λ (h : EventGraph). NothingCounted (length h.variables) c.merge_measured.new.counts) (sym done.1)
+            (subst (NothingCounted (length g.variables)) (sym (c.merge_measured.ensures.counts ∙ c.first_merge.ensures.counts)) c.requires.underway.known.counts);
+        unreached = c.unreached_by_merge-progress.ensures g c.in-Some.first c.requires.all done.0 done.1;
+        pairs = subst (λ (h : EventGraph). ArePairs h c.tell_merge.new.self) (sym done.1) c.in_ok-tell_merge.ensures;
+      };
+    }
 
-pub returns-in-Err-Refused-clause-made : goal.returns-in-Err-Refused-clause-made
-returns-in-Err-Refused-clause-made c =
-    let g = graph_of c.args.model.now in
-    let is : c.merge_measured.result ≡ Err (errors.Refused c.in-Err-Refused.field-0-0) = c.in-Err-Refused.is ∙ ap Err c.in-Err-Refused.field-0-is in
-    absurd (not_refused c.merge_measured.result _ _ is c.merge_measured.ensures.refused (merge_holds g c.in-Some.first c.in-Some.second (sym c.in-Some.ensures.found)))
-
-pub returns-in-Err-Refused-clause-known : goal.returns-in-Err-Refused-clause-known
-returns-in-Err-Refused-clause-known c =
-    let g = graph_of c.args.model.now in
+pub returns-in-Err-Refused : goal.returns-in-Err-Refused
+returns-in-Err-Refused c =
+    let g = graph_of c.args.self.now.model in
     let is : c.merge_measured.result ≡ Err (errors.Refused c.in-Err-Refused.field-0-0) = c.in-Err-Refused.is ∙ ap Err c.in-Err-Refused.field-0-is in
     absurd (not_refused c.merge_measured.result _ _ is c.merge_measured.ensures.refused (merge_holds g c.in-Some.first c.in-Some.second (sym c.in-Some.ensures.found)))
 
 pub tell_merge-requires-clause-holds : goal.tell_merge-requires-clause-holds
-tell_merge-requires-clause-holds c = merge_holds (graph_of c.args.model.now) c.in-Some.first c.in-Some.second (sym c.in-Some.ensures.found)
+tell_merge-requires-clause-holds c = merge_holds (graph_of c.args.self.now.model) c.in-Some.first c.in-Some.second (sym c.in-Some.ensures.found)
 
 pub unreached_by_merge-progress-requires-clause-there : goal.unreached_by_merge-progress-requires-clause-there
 unreached_by_merge-progress-requires-clause-there c =
-    let g = graph_of c.args.model.now in
+    let g = graph_of c.args.self.now.model in
     let first = c.in-Some.first in
     let second = c.in-Some.second in
     let there : second < length g.vertices = below second (length g.vertices) (both_exist g first second (merge_holds g first second (sym c.in-Some.ensures.found))).1 in
@@ -47,16 +51,4 @@ unreached_by_merge-progress-requires-clause-there c =
     omega (arith, there, long, same, length-map c.merge_measured.new.model.vertices vertex_of)
 
 pub first_merge-requires-clause-counts : goal.first_merge-requires-clause-counts
-first_merge-requires-clause-counts c = counts_for_code c.args.model.now _ c.requires.known.counts
-
-pub returns-in-Ok-clause-known : goal.returns-in-Ok-clause-known
-returns-in-Ok-clause-known c =
-    let g = graph_of c.args.model.now in
-    let done = c.in-Ok.ensures.done in
-    record {
-      known = c.merge_measured.ensures.known;
-      counts = subst (λ (h : EventGraph). NothingCounted (length h.variables) c.merge_measured.new.counts) (sym done.1)
-          (subst (NothingCounted (length g.variables)) (sym (c.merge_measured.ensures.counts ∙ c.first_merge.ensures.counts)) c.requires.known.counts);
-      unreached = c.unreached_by_merge-progress.ensures g c.in-Some.first c.requires.all done.0 done.1;
-      pairs = subst (λ (h : EventGraph). ArePairs h c.tell_merge.new.self) (sym done.1) c.in_ok-tell_merge.ensures;
-    }
+first_merge-requires-clause-counts c = counts_for_code c.args.self.now.model _ c.requires.underway.known.counts

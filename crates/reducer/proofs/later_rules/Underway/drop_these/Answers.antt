@@ -8,19 +8,19 @@ use Rattle.model_core.specs.Rules.Reduction.{Drop}
 use Rattle.model_core.specs.Text.Canonical.{vertex_name}
 use Rattle.reducer.proofs.FirstLaterRule.{drop_holds, drop_made}
 use Rattle.reducer.proofs.RuleByRule.{noted_more}
-use Rattle.reducer.proofs.later_rules.drop_these.Goals as goal
+use Rattle.reducer.proofs.later_rules.Underway.drop_these.Goals as goal
 
 pub returns-clause-made : goal.returns-clause-made
 returns-clause-made c =
-    let g = graph_of c.args.model.now in
+    let g = graph_of c.args.self.now.model in
     on_ok_weaker c.drop_unreached.result
     (λ done. drop_made g _ _ _ _ c.requires.valid c.requires.some c.requires.unreached done
-    (noted_more _ _ _ c.in_ok-push.ensures.items ∙ ap (λ (names : List (List ℕ)). map application_of c.args.applications.now.items ++ Drop names ∷ []) (c.from_vec.ensures ∙ c.in_ok-names.ensures ∙ ap (map (vertex_name g)) c.as_slice.ensures)))
+    (noted_more _ _ _ c.in_ok-push.ensures.items ∙ ap (λ (names : List (List ℕ)). map application_of c.args.self.now.applications.items ++ Drop names ∷ []) (c.from_vec.ensures ∙ c.in_ok-names.ensures ∙ ap (map (vertex_name g)) c.as_slice.ensures)))
     c.drop_unreached.ensures.done
 
 pub returns-clause-all : goal.returns-clause-all
 returns-clause-all c =
-    let g = graph_of c.args.model.now in
+    let g = graph_of c.args.self.now.model in
     on_ok_weaker c.drop_unreached.result
     (λ done. subst (λ (h : EventGraph). unreached h ≡ []) (sym done) (c.dropping_keeps_the_meaning.ensures.all_reached g c.args.vertices.now c.requires.valid (drop_holds g c.args.vertices.now c.requires.some c.requires.unreached)))
     c.drop_unreached.ensures.done

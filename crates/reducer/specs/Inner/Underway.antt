@@ -1,0 +1,37 @@
+-- A model under way: what is right of it, and what one rule makes of it.
+use Rattle.std.specs.Prelude.{Bool, Option, map}
+use Rattle.model_core.specs.EventGraph.{EventGraph}
+use Rattle.model_core.specs.Static.Reading.{IsValid}
+use Rattle.model_core.specs.Code.Views.{graph_of, application_of}
+use Rattle.model_core.specs.Rules.Reached.{unreached}
+use Rattle.model_core.specs.Rules.Merge.{first_merge}
+use Rattle.model_core.specs.Rules.Needed.{unneeded}
+use Rattle.model_core.specs.Rules.Reduction.{RuleApplication, drop_of, merge_of, slice_of}
+use Rattle.reducer.specs.declared.later_rules.Underway.{Underway}
+use Rattle.reducer.specs.Inner.LaterRules.{Made}
+use Rattle.reducer.specs.Inner.Progress.{IsProgress}
+
+-- the model is valid, and what is known of it is right
+pub record IsUnderway (u : Underway) : Type 0 where
+  pub valid : IsValid (graph_of u.model)
+  pub known : IsProgress (graph_of u.model) u.progress
+
+-- ---- the application that a rule gives of a graph, if there is one
+
+abbrev pub drop_rule : EventGraph → Option RuleApplication
+drop_rule g = drop_of g (unreached g)
+
+abbrev pub merge_rule : EventGraph → Option RuleApplication
+merge_rule g = merge_of g (first_merge g)
+
+abbrev pub slice_rule : EventGraph → Option RuleApplication
+slice_rule g = slice_of g (unneeded g)
+
+-- it is made and noted, if there is one
+abbrev pub MadeUnderway : (EventGraph → Option RuleApplication) → Bool → Underway → Underway → Type 0
+MadeUnderway rule made old new = Made (rule (graph_of old.model)) made (graph_of old.model) (graph_of new.model) (map application_of old.applications.items) (map application_of new.applications.items)
+
+-- and what is known then is right
+pub record ByRule (rule : EventGraph → Option RuleApplication) (some : Bool) (old new : Underway) : Type 0 where
+  pub made : MadeUnderway rule some old new
+  pub known : IsProgress (graph_of new.model) new.progress
