@@ -1,5 +1,6 @@
 -- What `clap` makes of one word more, and of the end of the words.
-use Rattle.std.proofs.Common.{◌≡◌, ◌∙◌, ◌&&◌, ℕ, Bool, true, false, bytes_eq, refl, List, [], ◌∷◌, Option, Some, None, codes}
+use Rattle.std.proofs.Common.{◌≡◌, ◌∙◌, ℕ, Bool, true, false, bytes_eq, refl, List, [], ◌∷◌, Option, Some, None, codes}
+use Rattle.std.proofs.Math.Bool.{and-false}
 use Rattle.clap.specs.Lexer.{long_of}
 use Rattle.clap.specs.Walk.{Held, Row, Text, Walk, Waiting, finished, idle, is_pending, option, positional, pushed, reacted, settled, subcommand_met, walked}
 use Rattle.clap.specs.Kinds.{Kinds, or_else}
@@ -91,17 +92,13 @@ GoesToCommand waiting true word = Unit {0}
 GoesToCommand idle false word = IsPlain word
 GoesToCommand waiting false word = ⊥
 
-and_false : (b : Bool) → (b && false) ≡ false
-and_false true = refl
-and_false false = refl
-
 -- the first of them
 pub turn_command : (names : List (List ℕ)) (held : Held) (waiting : Waiting) (is_behind : Bool) (word : Text) (words : List Text) → GoesToCommand waiting is_behind word
     → taken names (standing held waiting 1 is_behind) (word ∷ words)
     ≡ unless (settle_fault (built_rules names) false held) (taken names (standing (pushed (codes "command") word (settled (built_rules names) held)) idle 2 is_behind) words)
 unfolding walked
-turn_command names held waiting true word words goes = rw (and_false (is_pending built_word held.pending)) refl
-turn_command names held idle false word words is_plain = rw (is_plain.no_dashes, is_plain.no_long, is_plain.no_short, and_false (is_pending built_word held.pending)) refl
+turn_command names held waiting true word words goes = rw (and-false (is_pending built_word held.pending)) refl
+turn_command names held idle false word words is_plain = rw (is_plain.no_dashes, is_plain.no_long, is_plain.no_short, and-false (is_pending built_word held.pending)) refl
 turn_command names held (option name) false word words goes = absurd goes
 turn_command names held positional false word words goes = absurd goes
 

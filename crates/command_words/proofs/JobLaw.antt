@@ -16,7 +16,7 @@ use Rattle.command_words.proofs.JoinedArguments.{Arguments, fits, joined, rows_f
 use Rattle.command_words.proofs.ClapTakes.{rows_with}
 use Rattle.command_words.proofs.ClapLaw.{clap_answers}
 use Rattle.command_words.proofs.FittingArguments.{command_once, option_once, options_known}
-use Rattle.command_words.proofs.JobOptions.{Keeps, Sound, asks, asks_fits, not_given, options_sound}
+use Rattle.command_words.proofs.JobOptions.{Keeps, IsLawful, asks, asks_fits, not_given, options_lawful}
 use Rattle.command_words.proofs.HyphenWords.{begins_with_hyphen, has_hyphen, no_hyphen-whole, one_dash-hyphen, whole-given}
 use Rattle.command_words.proofs.WholeArguments.{whole}
 
@@ -109,11 +109,11 @@ only_is options given fit = go (has_only_options options given) (has_only option
         (λ name here some. test (first_of name (rows_for given)) (known options name) (all_at passing option_names name e here) (λ none. some (values name here ∙ none)))
 
 -- the job of the arguments, by the rows of those that join
-asked_is : (given : Arguments) → fits option_names [] given ≡ true → (o : Option (OptionsFor Job)) → IfSome o (λ options. Sound options Keeps) → job_asked given o ≡ asked_by o (rows_for given)
-asked_is given fit None sound = refl
-asked_is given fit (Some options) sound =
+asked_is : (given : Arguments) → fits option_names [] given ≡ true → (o : Option (OptionsFor Job)) → IfSome o (λ options. IsLawful options Keeps) → job_asked given o ≡ asked_by o (rows_for given)
+asked_is given fit None lawful = refl
+asked_is given fit (Some options) lawful =
     ap₂ (λ b j. cond b j None) (only_is options.names given fit)
-    (sound.same _ _ (λ name here. option_once option_names name refl here [] given fit))
+    (lawful.same _ _ (λ name here. option_once option_names name refl here [] given fit))
 
 -- the options that the arguments' word names
 abbrev named : Arguments → Option (OptionsFor Job)
@@ -122,15 +122,15 @@ named given = option_and_then options_of (only_word (command_words given))
 fit_job : (given : Arguments) → fits option_names [] given ≡ true → job_asked given (named given) ≡ matched_job (rows_for given)
 fit_job given fit =
     ap (job_asked given) (ap (option_and_then options_of) (ap only_word (command_once option_names refl [] given fit) ∙ only (first_of (codes "command") (rows_for given))))
-    ∙ asked_is given fit _ (sound (first_of (codes "command") (rows_for given)))
+    ∙ asked_is given fit _ (lawful (first_of (codes "command") (rows_for given)))
   where
     only : (o : Option Text) → only_word (option_to_list o) ≡ o
     only None = refl
     only (Some word) = refl
 
-    sound : (o : Option Text) → IfSome (option_and_then options_of o) (λ options. Sound options Keeps)
-    sound None = tt
-    sound (Some word) = options_sound word
+    lawful : (o : Option Text) → IfSome (option_and_then options_of o) (λ options. IsLawful options Keeps)
+    lawful None = tt
+    lawful (Some word) = options_lawful word
 
 -- arguments that don't join ask for no job
 no_fit_job : (given : Arguments) → fits option_names [] given ≡ false → job_asked given (named given) ≡ None

@@ -14,7 +14,7 @@ use Rattle.command_words.specs.declared.run_options.TheConstants.{ROOM_MAX, ROOM
 use Rattle.command_words.specs.declared.trial_options.TheConstants.{VERTICES_MADE_MAX}
 use Rattle.command_words.specs.Arguments.{CommandWord, Setting, arguments_of, command_words, has_only_options, values_of}
 use Rattle.command_words.specs.ArgumentValues.{besides, needed, starting_values}
-use Rattle.command_words.specs.Jobs.{OptionsFor, Values, always, applied, ◌⊛◌, commands, job_asked, job_of, number_option, only_word, options_of, usual_option}
+use Rattle.command_words.specs.Jobs.{OptionsFor, Values, simply, function_value, ◌⊛◌, commands, job_asked, job_of, number_option, only_word, options_of, usual_option}
 use Rattle.command_words.specs.KeptLimits.{KeepsLimits}
 use Rattle.command_words.specs.Readings.{reading_of}
 use Rattle.command_words.specs.Inner.ClapCommand.{option_names}
@@ -63,15 +63,15 @@ abbrev pub SameValues : Values → Values → Type 0
 SameValues v w = (name : Text) → known option_names name ≡ true → v name ≡ w name
 
 -- There are such options; each is given once where they give something; what they give is seen of their values; and it is such.
-pub record Sound {A : Type 0} (options : OptionsFor A) (IsSuch : A → Type 0) : Type 0 where
+pub record IsLawful {A : Type 0} (options : OptionsFor A) (IsSuch : A → Type 0) : Type 0 where
   pub are_known : Among options.names option_names
   pub once : (values : Values) (a : A) → options.gives values ≡ Some a → (name : Text) → known options.names name ≡ true → Once (values name)
   pub same : (v w : Values) → SameValues v w → options.gives v ≡ options.gives w
   pub such : (values : Values) → IfSome (options.gives values) IsSuch
 
 -- options of which this is so
-abbrev SoundOptions : (A : Type 0) → (A → Type 0) → Type 0
-SoundOptions A IsSuch = (options : OptionsFor A) × Sound options IsSuch
+abbrev LawfulOptions : (A : Type 0) → (A → Type 0) → Type 0
+LawfulOptions A IsSuch = (options : OptionsFor A) × IsLawful options IsSuch
 
 once_needed : {A : Type 0} (read : Text → Option A) (values : List Text) (a : A) → needed read values ≡ Some a → Once values
 once_needed read [] a e = absurd (let wrong : None ≡ Some a = e in cc)
@@ -83,8 +83,8 @@ once_besides usual read [] a e = omega arith
 once_besides usual read (v ∷ []) a e = omega arith
 once_besides usual read (v ∷ w ∷ values) a e = absurd (let wrong : None ≡ Some a = e in cc)
 
-sound_number : (option : Text) (lowest highest : ℕ) → known option_names option ≡ true → SoundOptions ℕ (IsFrom lowest highest)
-sound_number option lowest highest there = (
+lawful_number : (option : Text) (lowest highest : ℕ) → known option_names option ≡ true → LawfulOptions ℕ (IsFrom lowest highest)
+lawful_number option lowest highest there = (
   number_option option lowest highest,
   record {
     are_known = λ name here. subst (λ n. known option_names n ≡ true) (sym (alone option name here)) there;
@@ -94,9 +94,9 @@ sound_number option lowest highest there = (
   },
 )
 
-sound_usual : {A : Type 0} (option : Text) (usual : A) (read : Text → Option A) (IsSuch : A → Type 0) → known option_names option ≡ true
-    → ((values : List Text) → IfSome (besides usual read values) IsSuch) → SoundOptions A IsSuch
-sound_usual option usual read IsSuch there such = (
+lawful_usual : {A : Type 0} (option : Text) (usual : A) (read : Text → Option A) (IsSuch : A → Type 0) → known option_names option ≡ true
+    → ((values : List Text) → IfSome (besides usual read values) IsSuch) → LawfulOptions A IsSuch
+lawful_usual option usual read IsSuch there such = (
   usual_option option usual read,
   record {
     are_known = λ name here. subst (λ n. known option_names n ≡ true) (sym (alone option name here)) there;
@@ -107,9 +107,9 @@ sound_usual option usual read IsSuch there such = (
 )
 
 -- no option at all
-sound_always : {A : Type 0} (IsSuch : A → Type 0) (a : A) → IsSuch a → SoundOptions A IsSuch
-sound_always IsSuch a such = (
-  always a,
+lawful_without : {A : Type 0} (IsSuch : A → Type 0) (a : A) → IsSuch a → LawfulOptions A IsSuch
+lawful_without IsSuch a such = (
+  simply a,
   record {
     are_known = λ name here. absurd (cc here);
     once = λ values b e name here. absurd (cc here);
@@ -122,25 +122,25 @@ sound_always IsSuch a such = (
 abbrev IsThere : {A : Type 0} → Option A → Type 0
 IsThere {A} o = (a : A) × (o ≡ Some a)
 
-both_there : {A B : Type 0} (f : Option (A → B)) (a : Option A) (b : B) → applied f a ≡ Some b → IsThere f × IsThere a
+both_there : {A B : Type 0} (f : Option (A → B)) (a : Option A) (b : B) → function_value f a ≡ Some b → IsThere f × IsThere a
 both_there (Some f) (Some a) b e = ((f, refl), (a, refl))
 both_there None a b e = absurd (let wrong : None ≡ Some b = e in cc)
 both_there (Some f) None b e = absurd (let wrong : None ≡ Some b = e in cc)
 
 both_such : {A B : Type 0} (IsSuch : B → Type 0) (IsPart : A → Type 0) (f : Option (A → B)) (a : Option A)
-    → IfSome f (λ g. (x : A) → IsPart x → IsSuch (g x)) → IfSome a IsPart → IfSome (applied f a) IsSuch
+    → IfSome f (λ g. (x : A) → IsPart x → IsSuch (g x)) → IfSome a IsPart → IfSome (function_value f a) IsSuch
 both_such IsSuch IsPart (Some g) (Some x) whole part = whole x part
 both_such IsSuch IsPart None a whole part = tt
 both_such IsSuch IsPart (Some g) None whole part = tt
 
 -- one option behind others
-behind : {A B : Type 0} {IsPart : A → Type 0} {IsSuch : B → Type 0} → SoundOptions A IsPart → SoundOptions (A → B) (λ g. (x : A) → IsPart x → IsSuch (g x)) → SoundOptions B IsSuch
+behind : {A B : Type 0} {IsPart : A → Type 0} {IsSuch : B → Type 0} → LawfulOptions A IsPart → LawfulOptions (A → B) (λ g. (x : A) → IsPart x → IsSuch (g x)) → LawfulOptions B IsSuch
 behind {A} {B} {IsPart} {IsSuch} (a, second) (f, first) = (
   f ⊛ a,
   record {
     are_known = λ name here. known_in name (by_part name here);
     once = λ values b e name here. once values (both_there (f.gives values) (a.gives values) b e) name (by_part name here);
-    same = λ v w e. ap₂ applied (first.same v w e) (second.same v w e);
+    same = λ v w e. ap₂ function_value (first.same v w e) (second.same v w e);
     such = λ values. both_such IsSuch IsPart (f.gives values) (a.gives values) (first.such values) (second.such values);
   },
 )
@@ -159,57 +159,57 @@ behind {A} {B} {IsPart} {IsSuch} (a, second) (f, first) = (
 
 -- ---- the options of each command
 
-abbrev until : SoundOptions ℕ (IsFrom 0 STOP_MAX)
-until = sound_number (codes "until") 0 STOP_MAX refl
+abbrev until : LawfulOptions ℕ (IsFrom 0 STOP_MAX)
+until = lawful_number (codes "until") 0 STOP_MAX refl
 
-abbrev seed : SoundOptions ℕ (IsFrom 0 (2 ^ 64 - 1))
-seed = sound_number (codes "seed") 0 (2 ^ 64 - 1) refl
+abbrev seed : LawfulOptions ℕ (IsFrom 0 (2 ^ 64 - 1))
+seed = lawful_number (codes "seed") 0 (2 ^ 64 - 1) refl
 
-abbrev events : SoundOptions ℕ (IsFrom 1 EVENTS_MAX)
-events = sound_number (codes "events") 1 EVENTS_MAX refl
+abbrev events : LawfulOptions ℕ (IsFrom 1 EVENTS_MAX)
+events = lawful_number (codes "events") 1 EVENTS_MAX refl
 
-abbrev runs : SoundOptions ℕ (IsFrom 1 RUNS_MAX)
-runs = sound_number (codes "runs") 1 RUNS_MAX refl
+abbrev runs : LawfulOptions ℕ (IsFrom 1 RUNS_MAX)
+runs = lawful_number (codes "runs") 1 RUNS_MAX refl
 
-abbrev vertices : SoundOptions ℕ (IsFrom 1 VERTICES_MADE_MAX)
-vertices = sound_number (codes "vertices") 1 VERTICES_MADE_MAX refl
+abbrev vertices : LawfulOptions ℕ (IsFrom 1 VERTICES_MADE_MAX)
+vertices = lawful_number (codes "vertices") 1 VERTICES_MADE_MAX refl
 
-abbrev room : SoundOptions ℕ (IsFrom 0 ROOM_MAX)
-room = sound_usual (codes "room") ROOM_USUAL _ _ refl (λ values. besides_lies ROOM_USUAL ROOM_MAX values (omega arith))
+abbrev room : LawfulOptions ℕ (IsFrom 0 ROOM_MAX)
+room = lawful_usual (codes "room") ROOM_USUAL _ _ refl (λ values. besides_lies ROOM_USUAL ROOM_MAX values (omega arith))
 
 anything : {A : Type 0} (o : Option A) → IfSome o (λ a. Unit {0})
 anything (Some a) = tt
 anything None = tt
 
-abbrev start : SoundOptions (List ℤ) (λ starts. Unit {0})
-start = sound_usual (codes "start") [] starting_values _ refl (λ values. anything _)
+abbrev start : LawfulOptions (List ℤ) (λ starts. Unit {0})
+start = lawful_usual (codes "start") [] starting_values _ refl (λ values. anything _)
 
 -- what a job asks for keeps its limits
 abbrev pub Keeps : Job → Type 0
 Keeps job = KeepsLimits (reading_of job)
 
-bare : (job : Job) → Keeps job → Sound (always job) Keeps
-unfolding sound_always
-bare job keeps = (sound_always Keeps job keeps).1
+bare : (job : Job) → Keeps job → IsLawful (simply job) Keeps
+unfolding lawful_without
+bare job keeps = (lawful_without Keeps job keeps).1
 
-abbrev run : SoundOptions Job Keeps
-run = behind room (behind start (behind events (behind seed (behind until (sound_always _ jobs.Run (λ _ soon _ _ _ few _ _ _ _. (soon.1, few.1)))))))
+abbrev run : LawfulOptions Job Keeps
+run = behind room (behind start (behind events (behind seed (behind until (lawful_without _ jobs.Run (λ _ soon _ _ _ few _ _ _ _. (soon.1, few.1)))))))
 
-abbrev replicate : SoundOptions Job Keeps
-replicate = behind start (behind runs (behind events (behind seed (behind until (sound_always _ jobs.Replicate (λ _ soon _ _ _ few _ many _ _. (soon.1, few.1, many.0, many.1)))))))
+abbrev replicate : LawfulOptions Job Keeps
+replicate = behind start (behind runs (behind events (behind seed (behind until (lawful_without _ jobs.Replicate (λ _ soon _ _ _ few _ many _ _. (soon.1, few.1, many.0, many.1)))))))
 
-abbrev save : SoundOptions Job Keeps
-save = behind start (behind events (behind seed (behind until (sound_always _ jobs.Save (λ _ soon seed wide _ few _ _. (soon.1, omega (arith, wide.1), few.1))))))
+abbrev save : LawfulOptions Job Keeps
+save = behind start (behind events (behind seed (behind until (lawful_without _ jobs.Save (λ _ soon seed wide _ few _ _. (soon.1, omega (arith, wide.1), few.1))))))
 
-abbrev resume : SoundOptions Job Keeps
-resume = behind room (behind events (behind until (sound_always _ jobs.Resume (λ _ soon _ few _ roomy. (soon.1, few.1, roomy.1)))))
+abbrev resume : LawfulOptions Job Keeps
+resume = behind room (behind events (behind until (lawful_without _ jobs.Resume (λ _ soon _ few _ roomy. (soon.1, few.1, roomy.1)))))
 
-abbrev trial : SoundOptions Job Keeps
-trial = behind events (behind until (behind vertices (behind seed (sound_always _ jobs.Trial (λ _ _ _ made _ soon _ few. (made.0, made.1, soon.1, few.1))))))
+abbrev trial : LawfulOptions Job Keeps
+trial = behind events (behind until (behind vertices (behind seed (lawful_without _ jobs.Trial (λ _ _ _ made _ soon _ few. (made.0, made.1, soon.1, few.1))))))
 
-commands_sound : AllByRecursion (λ command. Sound command.1 Keeps) commands
-unfolding behind sound_always sound_number sound_usual
-commands_sound = (
+commands_lawful : AllByRecursion (λ command. IsLawful command.1 Keeps) commands
+unfolding behind lawful_without lawful_number lawful_usual
+commands_lawful = (
   bare jobs.Check tt,
   (
     bare jobs.Print tt,
@@ -242,25 +242,25 @@ commands_sound = (
 abbrev named : Text → List (Text × OptionsFor Job) → Option (OptionsFor Job)
 named word table = option_map (λ command. command.1) (find (λ command. pointwise nat_eq word command.0) table)
 
-named_sound : (word : Text) (table : List (Text × OptionsFor Job)) → AllByRecursion (λ command. Sound command.1 Keeps) table → IfSome (named word table) (λ options. Sound options Keeps)
-named_sound word [] each = tt
-named_sound word (command ∷ table) each = by (pointwise nat_eq word command.0) (named_sound word table each.1)
+named_lawful : (word : Text) (table : List (Text × OptionsFor Job)) → AllByRecursion (λ command. IsLawful command.1 Keeps) table → IfSome (named word table) (λ options. IsLawful options Keeps)
+named_lawful word [] each = tt
+named_lawful word (command ∷ table) each = by (pointwise nat_eq word command.0) (named_lawful word table each.1)
   where
-    by : (b : Bool) → IfSome (named word table) (λ options. Sound options Keeps)
-        → IfSome (option_map (λ c. c.1) (cond b (Some command) (find (λ c. pointwise nat_eq word c.0) table))) (λ options. Sound options Keeps)
+    by : (b : Bool) → IfSome (named word table) (λ options. IsLawful options Keeps)
+        → IfSome (option_map (λ c. c.1) (cond b (Some command) (find (λ c. pointwise nat_eq word c.0) table))) (λ options. IsLawful options Keeps)
     by true rest = each.0
     by false rest = rest
 
-pub options_sound : (word : Text) → IfSome (options_of word) (λ options. Sound options Keeps)
-options_sound word = named_sound word commands commands_sound
+pub options_lawful : (word : Text) → IfSome (options_of word) (λ options. IsLawful options Keeps)
+options_lawful word = named_lawful word commands commands_lawful
 
 -- no option is given twice
-given_once : (options : OptionsFor Job) (given : Arguments) (job : Job) (name : Text) → Sound options Keeps → has_only_options options.names given ≡ true
+given_once : (options : OptionsFor Job) (given : Arguments) (job : Job) (name : Text) → IsLawful options Keeps → has_only_options options.names given ≡ true
     → options.gives (λ name. values_of name given) ≡ Some job → Once (values_of name given)
-given_once options given job name sound only e = go (known options.names name) refl
+given_once options given job name lawful only e = go (known options.names name) refl
   where
     go : (b : Bool) → known options.names name ≡ b → Once (values_of name given)
-    go true here = sound.once (λ name. values_of name given) job e name here
+    go true here = lawful.once (λ name. values_of name given) job e name here
     go false none = subst Once (sym (not_given options.names name given only none)) (omega arith)
 
 -- ---- arguments that ask for a job join
@@ -290,22 +290,22 @@ asks given job e = by_words (command_words given) refl e
     by_words (word ∷ []) same is = with_word word (options_of word) refl (ap length same) is
     by_words (word ∷ other ∷ words) same is = absurd (let wrong : None ≡ Some job = is in cc)
 
-sound_asked : (given : Arguments) (job : Job) (asked : Asks given job) → Sound asked.options Keeps
-sound_asked given job asked = subst (λ o. IfSome o (λ options. Sound options Keeps)) asked.named (options_sound asked.word)
+lawful_asked : (given : Arguments) (job : Job) (asked : Asks given job) → IsLawful asked.options Keeps
+lawful_asked given job asked = subst (λ o. IfSome o (λ options. IsLawful options Keeps)) asked.named (options_lawful asked.word)
 
 pub asks_fits : (given : Arguments) (job : Job) → Asks given job → fits option_names [] given ≡ true
 asks_fits given job asked = fit-fits option_names refl given [] (record {
-  known_options = wider option_names asked.options.names given sound.are_known asked.only;
-  once = λ name here. given_once asked.options given job name sound asked.only asked.asked;
+  known_options = wider option_names asked.options.names given lawful.are_known asked.only;
+  once = λ name here. given_once asked.options given job name lawful asked.only asked.asked;
   new = λ name here wrong. absurd (cc wrong);
   no_other = λ wrong. absurd (cc wrong);
   needed = λ _. asked.one;
 })
   where
-    sound : Sound asked.options Keeps
-    sound = sound_asked given job asked
+    lawful : IsLawful asked.options Keeps
+    lawful = lawful_asked given job asked
 
 pub job_in_limits : (words : List Text) (job : Job) → job_of words ≡ Some job → KeepsLimits (reading_of job)
 job_in_limits words job e =
     let asked = asks (arguments_of words) job e in
-    subst (λ o. IfSome o Keeps) asked.asked ((sound_asked (arguments_of words) job asked).such (λ name. values_of name (arguments_of words)))
+    subst (λ o. IfSome o Keeps) asked.asked ((lawful_asked (arguments_of words) job asked).such (λ name. values_of name (arguments_of words)))

@@ -21,18 +21,18 @@ pub record OptionsFor (A : Type 0) : Type 0 where
   pub gives : Values → Option A
 
 -- what is given without any option
-abbrev pub always : {A : Type 0} → A → OptionsFor A
-always a = record { names = []; gives = λ values. Some a }
+abbrev pub simply : {A : Type 0} → A → OptionsFor A
+simply a = record { names = []; gives = λ values. Some a }
 
 -- the value of a function, where both are there
-abbrev pub applied : {A B : Type 0} → Option (A → B) → Option A → Option B
-applied (Some f) (Some a) = Some (f a)
-applied f a = None
+abbrev pub function_value : {A B : Type 0} → Option (A → B) → Option A → Option B
+function_value (Some f) (Some a) = Some (f a)
+function_value f a = None
 
 infixl 40 ◌⊛◌
 -- the value of a function that some options give, at what others give
 abbrev pub ◌⊛◌ : {A B : Type 0} → OptionsFor (A → B) → OptionsFor A → OptionsFor B
-f ⊛ a = record { names = f.names ++ a.names; gives = λ values. applied (f.gives values) (a.gives values) }
+f ⊛ a = record { names = f.names ++ a.names; gives = λ values. function_value (f.gives values) (a.gives values) }
 
 -- a number that has to be given, from the lowest to the highest
 abbrev pub number_option : List ℕ → ℕ → ℕ → OptionsFor ℕ
@@ -78,20 +78,20 @@ room_option = usual_option (codes "room") ROOM_USUAL (number_within 0 ROOM_MAX)
 -- each command: its word, and its options, which give its job
 abbrev pub commands : List (List ℕ × OptionsFor Job)
 commands =
-    (codes "check", always jobs.Check)
-    ∷ (codes "print", always jobs.Print)
-    ∷ (codes "reduce", always jobs.Reduce)
-    ∷ (codes "certify", always jobs.Certify)
-    ∷ (codes "uses", always jobs.Uses)
-    ∷ (codes "conflicts", always jobs.Conflicts)
-    ∷ (codes "fuse", always jobs.Fuse)
-    ∷ (codes "narrow", always jobs.Narrow)
-    ∷ (codes "describe", always jobs.Describe)
-    ∷ (codes "run", always jobs.Run ⊛ until_option ⊛ seed_option ⊛ events_option ⊛ start_option ⊛ room_option)
-    ∷ (codes "replicate", always jobs.Replicate ⊛ until_option ⊛ seed_option ⊛ events_option ⊛ runs_option ⊛ start_option)
-    ∷ (codes "save", always jobs.Save ⊛ until_option ⊛ seed_option ⊛ events_option ⊛ start_option)
-    ∷ (codes "resume", always jobs.Resume ⊛ until_option ⊛ events_option ⊛ room_option)
-    ∷ (codes "trial", always jobs.Trial ⊛ seed_option ⊛ vertices_option ⊛ until_option ⊛ events_option)
+    (codes "check", simply jobs.Check)
+    ∷ (codes "print", simply jobs.Print)
+    ∷ (codes "reduce", simply jobs.Reduce)
+    ∷ (codes "certify", simply jobs.Certify)
+    ∷ (codes "uses", simply jobs.Uses)
+    ∷ (codes "conflicts", simply jobs.Conflicts)
+    ∷ (codes "fuse", simply jobs.Fuse)
+    ∷ (codes "narrow", simply jobs.Narrow)
+    ∷ (codes "describe", simply jobs.Describe)
+    ∷ (codes "run", simply jobs.Run ⊛ until_option ⊛ seed_option ⊛ events_option ⊛ start_option ⊛ room_option)
+    ∷ (codes "replicate", simply jobs.Replicate ⊛ until_option ⊛ seed_option ⊛ events_option ⊛ runs_option ⊛ start_option)
+    ∷ (codes "save", simply jobs.Save ⊛ until_option ⊛ seed_option ⊛ events_option ⊛ start_option)
+    ∷ (codes "resume", simply jobs.Resume ⊛ until_option ⊛ events_option ⊛ room_option)
+    ∷ (codes "trial", simply jobs.Trial ⊛ seed_option ⊛ vertices_option ⊛ until_option ⊛ events_option)
     ∷ []
 
 -- the options of the command that a word names

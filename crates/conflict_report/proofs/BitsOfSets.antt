@@ -11,6 +11,7 @@ use Rattle.std.proofs.lemmas.Nat.{one_shl, pow_pos}
 use Rattle.std.proofs.lemmas.Nat.Bits.{bit_at-zero, bit_at-lt, bit_at_or, and_pow, bit_at_set_same, bit_at_set_other}
 use Rattle.model_core.proofs.Among.{first_true}
 use Rattle.model_core.proofs.PlacesChanged.{same_number}
+use Rattle.run_laws.proofs.InRange.{replicate-get}
 use Rattle.conflict_report.specs.Inner.NumberHolders.{has_vertex}
 
 -- no words have none
@@ -25,13 +26,8 @@ same-has old new same place = ap (λ word. bit_at word (place % 64) == 1) (same 
 
 -- ---- words of no bits behind the others
 
-fills : {A : Type 0} (d : A) (n i : ℕ) → get_or (replicate n d) i d ≡ d
-fills d zero i = refl
-fills d (suc n) zero = refl
-fills d (suc n) (suc i) = fills d n i
-
 pub padded : {A : Type 0} (d : A) (xs : List A) (n i : ℕ) → get_or (xs ++ replicate n d) i d ≡ get_or xs i d
-padded d [] n i = fills d n i
+padded d [] n i = replicate-get n i d
 padded d (x ∷ xs) n zero = refl
 padded d (x ∷ xs) n (suc i) = padded d xs n i
 

@@ -7,7 +7,8 @@ use Rattle.model_core.specs.Run.Pending.{Entry}
 use Rattle.model_core.specs.Rules.MarkedPlaces.{is_among}
 use Rattle.model_core.specs.Rules.Merge.{is_cancelling}
 use Rattle.model_core.specs.Rules.Uses.{vertex_reads, vertex_writes, vertex_streams}
-use Rattle.model_core.specs.Conflicts.Priorities.{HasOwnPriority, priorities_of}
+use Rattle.model_core.specs.Conflicts.Priorities.{priorities_of}
+use Rattle.model_core.specs.Conflicts.Orders.{HasOwnPriority}
 use Rattle.model_core.specs.Conflicts.Conflict.{in_common, over_variables, over_streams, over_events, in_conflict, named_vertices, edge_cancelled, cancelled_vertices}
 use Rattle.model_core.specs.Run.Changes.{Changed}
 use Rattle.model_core.proofs.EachOne.{either_false, every-fails, every-map}

@@ -1,9 +1,9 @@
 -- Priorities that are noted edge by edge are those of the vertices.
-use Rattle.std.proofs.Common.{◌≡◌, ℕ, ◌==◌, Bool, true, false, cond, List, [], ◌∷◌, refl, sym, ap, subst, ◌∙◌, arith}
+use Rattle.std.proofs.Common.{◌≡◌, ℕ, ◌==◌, Bool, true, false, cond, List, [], ◌∷◌, refl, sym, ap, subst, ◌∙◌}
 use Rattle.std.specs.List.{flat_map}
-use Rattle.std.proofs.lemmas.Bool.Decides.{nat_tests}
 use Rattle.model_core.specs.EventGraph.{EventGraph, EventVertex, EventEdge}
 use Rattle.model_core.specs.Conflicts.Priorities.{kind_priorities, edge_priorities, vertex_priorities, begin_priorities, priorities_of}
+use Rattle.run_laws.proofs.MappedVertices.{turned}
 use Rattle.conflict_report.specs.Inner.NumberHolders.{HoldExactly, HoldMore, only_at}
 use Rattle.conflict_report.proofs.NumbersNoted.{hold-more, hold-alike, hold-no_more, hold-first}
 
@@ -20,9 +20,6 @@ pub edge-holds_none : (e : EventEdge) (old : List (List ℕ)) → kind_prioritie
 edge-holds_none e old none = hold-no_more (λ j. edge_priorities j e) old (λ j. either_none (e.target == j) (kind_priorities e.kind) none)
 
 -- ---- all
-
-turned : (a b : ℕ) → (a == b) ≡ (b == a)
-turned a b = grind (arith, nat_tests)
 
 pub priorities-held : (g : EventGraph) (none begun all : List (List ℕ)) (five : ℕ) (vs : List EventVertex) → none ≡ [] → five ≡ 5 → vs ≡ g.vertices → HoldMore (only_at 0 (five ∷ [])) none begun → HoldMore (λ j. flat_map (vertex_priorities j) vs) begun all → HoldExactly (priorities_of g) all
 priorities-held g none begun all five vs empty is of_all first then =

@@ -1,11 +1,12 @@
 -- The deeds of edges that read none of the variables that are set, and that draw from none of the streams that are: the same.
 use Rattle.std.proofs.Common.{◌≡◌, ℕ, ◌+◌, ℤ, Bool, true, false, cond, List, [], ◌∷◌, ◌++◌, Ok, refl, sym, ◌∙◌, ap}
 use Rattle.std.specs.List.{AllByRecursion, flat_map}
-use Rattle.model_core.specs.EventGraph.{EventGraph, EventEdge, Delay, EdgeKind, Schedule, Urgent, CancelNext, CancelEqual, CancelAll}
+use Rattle.std.specs.Option.{option_map_or}
+use Rattle.model_core.specs.EventGraph.{EventGraph, EventEdge, Delay, EdgeKind, Schedule, Urgent, CancelNext, CancelEqual, CancelAll, delay_given}
 use Rattle.model_core.specs.Run.State.{State}
 use Rattle.model_core.specs.Run.Value.{OrFault, ◌>>=◌, in_turn, value_of, is_one}
 use Rattle.model_core.specs.Run.Edges.{Waiting, delay_of, carried_values}
-use Rattle.model_core.specs.Rules.Uses.{variables_in, delay_reads, timing_reads, edge_reads, delay_streams, timing_streams, edge_streams}
+use Rattle.model_core.specs.Rules.Uses.{variables_in, delay_reads, edge_reads, delay_streams, edge_streams}
 use Rattle.model_core.proofs.EachOne.{every-map, every-front, every-behind, every-flat_map}
 use Rattle.run_laws.proofs.Spared.SetPlaces.{sets, Spares, sets-spared, sets-set}
 use Rattle.run_laws.proofs.Spared.HeldEdges.{delay-held}
@@ -33,7 +34,7 @@ module _ (g : EventGraph) (us : List (ℕ × List ℤ)) (ws : List (ℕ × ℕ))
       sym (delay-held g seed s (sets us s) clk delay (held g clk us s (delay_reads delay) reads) (sets ws taken)) ∙
       delay-apart g seed s clk (sets ws) delay (every-map (Spares ws) (WordsApart (sets ws)) (λ k spared. sets-apart ws k spared) (delay_streams delay) streams) taken
 
-  act-spared : (e : EventEdge) (kind : EdgeKind) → AllByRecursion (Spares us) (timing_reads kind) → AllByRecursion (λ e. AllByRecursion (Spares us) (variables_in e)) e.values → AllByRecursion (Spares ws) (timing_streams kind) → (p : Plan) → plan_act g seed (sets us s) clk e kind (plan_beside ws p) ≡ result_by (plan_beside ws) (plan_act g seed s clk e kind p)
+  act-spared : (e : EventEdge) (kind : EdgeKind) → AllByRecursion (Spares us) (option_map_or delay_reads (delay_given kind) []) → AllByRecursion (λ e. AllByRecursion (Spares us) (variables_in e)) e.values → AllByRecursion (Spares ws) (option_map_or delay_streams (delay_given kind) []) → (p : Plan) → plan_act g seed (sets us s) clk e kind (plan_beside ws p) ≡ result_by (plan_beside ws) (plan_act g seed s clk e kind p)
   act-spared e (Schedule delay priority) reads values streams p =
       let next : Waiting → OrFault Plan = λ wait. carried_values g (sets us s) clk e >>= λ values. Ok (and_deed p.deeds (AddsEvent (record { time = clk + wait.ticks; priority = priority; vertex = e.target; values = values })) wait.taken) in
       ap (λ (r : OrFault Waiting). r >>= next) (delay-spared delay reads streams p.taken) ∙
@@ -51,10 +52,10 @@ module _ (g : EventGraph) (us : List (ℕ × List ℤ)) (ws : List (ℕ × ℕ))
 
   plan-spared : (e : EventEdge) → EdgeSpared us ws e → (p : Plan) → plan g seed (sets us s) clk e (plan_beside ws p) ≡ result_by (plan_beside ws) (plan g seed s clk e p)
   plan-spared e spared p =
-      let front = every-front (Spares us) (variables_in e.condition ++ timing_reads e.kind) (flat_map variables_in e.values) spared.reads in
-      let values = every-flat_map (Spares us) variables_in e.values (every-behind (Spares us) (variables_in e.condition ++ timing_reads e.kind) (flat_map variables_in e.values) spared.reads) in
-      let delay = every-behind (Spares us) (variables_in e.condition) (timing_reads e.kind) front in
-      ap (λ (r : OrFault ℤ). r >>= λ c. cond (is_one c) (plan_act g seed (sets us s) clk e e.kind (plan_beside ws p)) (Ok (plan_beside ws p))) (value-spared g clk us s e.condition (every-front (Spares us) (variables_in e.condition) (timing_reads e.kind) front)) ∙
+      let front = every-front (Spares us) (variables_in e.condition ++ option_map_or delay_reads (delay_given e.kind) []) (flat_map variables_in e.values) spared.reads in
+      let values = every-flat_map (Spares us) variables_in e.values (every-behind (Spares us) (variables_in e.condition ++ option_map_or delay_reads (delay_given e.kind) []) (flat_map variables_in e.values) spared.reads) in
+      let delay = every-behind (Spares us) (variables_in e.condition) (option_map_or delay_reads (delay_given e.kind) []) front in
+      ap (λ (r : OrFault ℤ). r >>= λ c. cond (is_one c) (plan_act g seed (sets us s) clk e e.kind (plan_beside ws p)) (Ok (plan_beside ws p))) (value-spared g clk us s e.condition (every-front (Spares us) (variables_in e.condition) (option_map_or delay_reads (delay_given e.kind) []) front)) ∙
       bind-within (plan_beside ws) (value_of g s clk e.condition) _ _ (λ c is. tested (is_one c) (act-spared e e.kind delay values spared.streams p)) where
         tested : (b : Bool) → plan_act g seed (sets us s) clk e e.kind (plan_beside ws p) ≡ result_by (plan_beside ws) (plan_act g seed s clk e e.kind p) → cond b (plan_act g seed (sets us s) clk e e.kind (plan_beside ws p)) (Ok (plan_beside ws p)) ≡ result_by (plan_beside ws) (cond b (plan_act g seed s clk e e.kind p) (Ok p))
         tested true same = same

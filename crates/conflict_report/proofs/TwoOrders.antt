@@ -1,6 +1,6 @@
 -- Two simultaneous events that aren't in conflict commute.
-use Rattle.std.proofs.Common.{◌≡◌, ◌≢◌, ℕ, ◌==◌, false, List, Some, Ok, Err, refl, sym, ◌∙◌, ap, arith}
-use Rattle.std.proofs.lemmas.Bool.Decides.{nat_tests}
+use Rattle.std.proofs.Common.{◌≡◌, ℕ, false, List, Some, Ok, Err, refl, sym, ◌∙◌, ap}
+use Rattle.std.proofs.lemmas.Bool.{ne_eqb}
 use Rattle.model_core.specs.EventGraph.{EventGraph}
 use Rattle.model_core.specs.Run.Changes.{Changed}
 use Rattle.model_core.specs.Run.Pending.{Entry}
@@ -52,12 +52,9 @@ module _ (g : EventGraph) (seed t : ℕ) where
 
 -- ---- the law
 
-apart-by : (i j : ℕ) → i ≢ j → (i == j) ≡ false
-apart-by i j apart = grind (arith, nat_tests)
-
 module _ (g : EventGraph) (seed : ℕ) (c : Configuration) (first second : ℕ) (a b : Entry) (s : Simultaneous g c.pending first second a b) (none : in_conflict g a.vertex b.vertex ≡ false) where
   two : TwoPending a.time c first second a b
-  two = record { first_there = s.first_there; second_there = s.second_there; apart = apart-by first second s.apart; first_due = refl; second_due = sym s.times }
+  two = record { first_there = s.first_there; second_there = s.second_there; apart = ne_eqb first second s.apart; first_due = refl; second_due = sym s.times }
 
   no-conflict : NoConflict g a.vertex b.vertex
   no-conflict = not-in-conflict g a b s.priorities s.first_own s.second_own none

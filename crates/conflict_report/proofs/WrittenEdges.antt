@@ -1,14 +1,15 @@
 -- Edges take words only from the streams from which they draw, and have deeds only on events of vertices that they name.
 use Rattle.std.proofs.Common.{◌≡◌, ℕ, ◌+◌, Bool, true, false, cond, List, [], ◌∷◌, inl, Ok, refl, sym, ap, subst}
 use Rattle.std.specs.List.{AllByRecursion}
+use Rattle.std.specs.Option.{option_map_or}
 use Rattle.sig_base.specs.Stream.{word}
-use Rattle.model_core.specs.EventGraph.{EventGraph, EventEdge, Delay, Fixed, Drawn, EdgeKind, Schedule, Urgent, CancelNext, CancelEqual, CancelAll}
+use Rattle.model_core.specs.EventGraph.{EventGraph, EventEdge, Delay, Fixed, Drawn, EdgeKind, Schedule, Urgent, CancelNext, CancelEqual, CancelAll, delay_given}
 use Rattle.model_core.specs.Run.State.{State}
 use Rattle.model_core.specs.Run.Value.{value_of, is_one}
 use Rattle.model_core.specs.Run.Changes.{taken_from, one_more, picked}
 use Rattle.model_core.specs.Run.Edges.{Waiting, delay_ticks, delay_of, carried_values}
 use Rattle.model_core.specs.Rules.Merge.{is_cancelling}
-use Rattle.model_core.specs.Rules.Uses.{delay_streams, timing_streams, edge_streams}
+use Rattle.model_core.specs.Rules.Uses.{delay_streams, edge_streams}
 use Rattle.model_core.specs.Conflicts.Conflict.{edge_cancelled}
 use Rattle.model_core.proofs.Results.{bind_ok}
 use Rattle.model_core.proofs.EachOne.{every-append}
@@ -50,7 +51,7 @@ module _ (g : EventGraph) (seed : ℕ) (s : State) (clk : ℕ) where
     undrawn : ChangedWithin [] p.taken p.taken
     undrawn = written-none [] p.taken p.taken refl
 
-    act-written : (kind : EdgeKind) → (is_cancelling kind ≡ true → Among e.target cuts) → (q : Plan) → plan_act g seed s clk e kind p ≡ Ok q → EdgeWritten (timing_streams kind) names cuts p q
+    act-written : (kind : EdgeKind) → (is_cancelling kind ≡ true → Among e.target cuts) → (q : Plan) → plan_act g seed s clk e kind p ≡ Ok q → EdgeWritten (option_map_or delay_streams (delay_given kind) []) names cuts p q
     act-written (Schedule delay priority) on_cancelled q done =
         let (wait, at_delay, after_delay) = bind_ok (delay_of g seed s clk delay p.taken) _ q done in
         let (values, at_values, end) = bind_ok (carried_values g s clk e) (λ values. Ok (and_deed p.deeds (AddsEvent (record { time = clk + wait.ticks; priority = priority; vertex = e.target; values = values })) wait.taken)) q after_delay in

@@ -11,17 +11,16 @@ use Rattle.model_core.specs.Conflicts.ConflictPairs.{conflict_pairs}
 abbrev pub reason_if : Bool → List ℕ → List (List ℕ)
 reason_if holds name = cond holds (name ∷ []) []
 
--- the names of the reasons that hold
-abbrev pub reason_names : Reasons → List (List ℕ)
-reason_names r = reason_if r.variables (codes "variables") ++ reason_if r.streams (codes "streams") ++ reason_if r.cancels (codes "cancels")
-
 -- with a comma between two
 abbrev pub with_commas : List (List ℕ) → List ℕ
 with_commas [] = []
 with_commas (name ∷ names) = name ++ flat_map (λ n. codes "," ++ n) names
 
+-- the names of the reasons that hold
 abbrev pub reasons_text : Reasons → List ℕ
-reasons_text r = with_commas (reason_names r)
+reasons_text r =
+    with_commas
+    (reason_if r.variables (codes "variables") ++ reason_if r.streams (codes "streams") ++ reason_if r.cancels (codes "cancels"))
 
 -- the names of both vertices, and the reasons
 abbrev pub conflict_line : EventGraph → Pair → List ℕ

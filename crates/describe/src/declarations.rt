@@ -6,9 +6,8 @@ ghost use Rattle.model_core.specs.Text.Canonical.{joined, after_commas, initial_
 ghost use Rattle.model_core.specs.Code.Views.{graph_of, variable_of, weighted_of, table_of, watched_of};
 ghost use Rattle.describe.specs.Description.{variable_phrase, kept_phrase, range_phrase, held_phrase, variable_sentence, row_phrase, table_sentence, watch_sentence};
 
-use crate::phrases::put_signed;
 use model_core::{Kind, Model, Var, Watch};
-use sig_base::{NoMemory, Row, Table, put_bytes, put_number};
+use sig_base::{NoMemory, Row, Table, put_bytes, put_number, put_signed};
 
 /// Adds what the sentence of a variable is about: the variable, or the array with its number of cells.
 fn put_subject(out: &mut Vec<u8>, var: &Var) -> Result<(), NoMemory>

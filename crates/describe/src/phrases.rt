@@ -1,24 +1,14 @@
 //! Phrases that sentences of several kinds have in common: numbers, expressions, locations and draws.
 
 ghost use Rattle.std.specs.Prelude.{◌≡◌, ◌++◌, map, option_map, OnOk};
-ghost use Rattle.std.specs.Fmt.{signed_decimal};
 ghost use Rattle.model_core.specs.Text.Canonical.{joined, after_commas, expression_text, expression_texts, index_text, location_text};
 ghost use Rattle.model_core.specs.Code.Views.{graph_of, expression_of, location_of, choice_of};
 ghost use Rattle.describe.specs.Description.{choice_phrase, drawn_phrase};
 
-use itoa::Buffer;
 use model_core::{Choice, Expr, Model, Target};
 use model_print::put_expr;
-use sig_base::{NoMemory, put_bytes, put_number};
+use sig_base::{NoMemory, put_bytes, put_number, put_signed};
 use std::alloc::Global;
-
-/// Adds a number in decimal, with a `-` where it is below 0.
-pub(crate) fn put_signed(out: &mut Vec<u8>, number: i64) -> Result<(), NoMemory>
-    ensures { OnOk result (out.new.items ≡ out.old.items ++ signed_decimal number) }
-{
-    let mut buffer = Buffer::new();
-    put_bytes(out, buffer.format(number).as_bytes())
-}
 
 /// Adds an expression.
 pub(crate) fn put_expression(

@@ -1,12 +1,13 @@
 -- Where the vertices that can't be reached are gone, all others can be reached.
-use Rattle.std.proofs.Common.{◌≡◌, ℕ, zero, suc, ◌<◌, Bool, true, false, List, [], ◌∷◌, length, map, refl, sym, ap, subst, arith, ◌∙◌}
+use Rattle.std.proofs.Common.{◌≡◌, ℕ, ◌<◌, Bool, List, [], length, map, sym, ap, subst, arith, ◌∙◌}
 use Rattle.std.proofs.lemmas.List.{length-map}
 use Rattle.model_core.specs.EventGraph.{EventGraph, EventVertex, EventEdge, WatchedVertex}
 use Rattle.model_core.specs.Run.Step.{no_vertex, vertex_at}
 use Rattle.model_core.specs.Rules.MarkedPlaces.{rank, marked_of}
-use Rattle.model_core.specs.Rules.Reached.{Reachable, reach_first, reach_watched, reach_over, reached_marks, unreached}
+use Rattle.model_core.specs.Rules.Reached.{reached_marks, unreached}
+use Rattle.model_core.specs.Rules.LeastRelations.{Reachable, reach_first, reach_watched, reach_over}
 use Rattle.model_core.specs.Rules.Drop.{edge_renumbered, vertex_renumbered, watched_renumbered, only_marked}
-use Rattle.mark_laws.proofs.Marks.{Marked, marked-placed}
+use Rattle.mark_laws.proofs.Marks.{Marked, marked-placed, old_place}
 use Rattle.model_core.proofs.Among.{Among, among-contained, contained-among, among-map, of-among}
 use Rattle.mark_laws.proofs.ReachedLong.{reached_marks-long}
 use Rattle.edge_pruning.proofs.ReachedMarks.{has_edges, reachable-marked, reached_marks-hold, reached_marks-reachable}
@@ -14,14 +15,6 @@ use Rattle.mark_laws.proofs.Ranks.{rank-none}
 use Rattle.mark_laws.proofs.UnmarkedPlaces.{none_unmarked}
 use Rattle.model_core.proofs.Images.{at-map}
 use Rattle.edge_pruning.proofs.DropSame.{NamesVertices}
-
--- each place of what is left is the new place of a marked one
-old_place : {A : Type 0} (marks : List Bool) (xs : List A) (i : ℕ) → i < length (marked_of marks xs) → (k : ℕ) × Marked marks k × (rank marks k ≡ i) × (k < length xs)
-old_place [] xs i below = absurd (omega arith)
-old_place (b ∷ bs) [] i below = absurd (omega arith)
-old_place (true ∷ bs) (x ∷ xs) zero below = (zero, refl, refl, omega arith)
-old_place (true ∷ bs) (x ∷ xs) (suc i) below = let (k, marked, e, within) = old_place bs xs i (omega arith) in (suc k, marked, ap suc e, omega arith)
-old_place (false ∷ bs) (x ∷ xs) i below = let (k, marked, e, within) = old_place bs xs i below in (suc k, marked, e, omega arith)
 
 module _ (g : EventGraph) (names : NamesVertices g) where
   abbrev marks : List Bool

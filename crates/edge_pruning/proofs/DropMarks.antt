@@ -2,6 +2,7 @@
 use Rattle.std.proofs.Common.{◌≡◌, ℕ, zero, suc, ◌+◌, ◌<◌, ◌≤◌, Bool, true, false, cond, add-one, List, [], ◌∷◌, ◌++◌, map, drop, length, refl, sym, ap, arith, ◌∙◌, append_assoc, append-nil}
 use Rattle.model_core.specs.Rules.MarkedPlaces.{rank, marked_of, is_marked}
 use Rattle.mark_laws.proofs.LeastSets.{marked_count}
+use Rattle.mark_laws.proofs.Marks.{marked_of-drop}
 
 -- ---- one mark after the other
 
@@ -9,13 +10,6 @@ marked_of-none : {A : Type 0} (marks : List Bool) (xs : List A) → xs ≡ [] �
 marked_of-none [] xs none = refl
 marked_of-none (b ∷ bs) [] none = refl
 marked_of-none (b ∷ bs) (x ∷ xs) none = cc
-
-marked_of-drop : {A : Type 0} (marks : List Bool) (k : ℕ) (x : A) (xs : List A) → marked_of (drop k marks) (x ∷ xs) ≡ cond (is_marked marks k) (x ∷ []) [] ++ marked_of (drop (suc k) marks) xs
-marked_of-drop [] zero x xs = refl
-marked_of-drop [] (suc k) x xs = refl
-marked_of-drop (true ∷ bs) zero x xs = refl
-marked_of-drop (false ∷ bs) zero x xs = refl
-marked_of-drop (b ∷ bs) (suc k) x xs = marked_of-drop bs k x xs
 
 count-drop : (marks : List Bool) (k : ℕ) → marked_count (drop k marks) ≡ cond (is_marked marks k) 1 0 + marked_count (drop (suc k) marks)
 count-drop [] zero = refl

@@ -5,19 +5,20 @@ use Rattle.std.specs.Prelude.{filter, nat_lt, slice_get, slice_index_or, Option}
 use Rattle.std.specs.List.{list_any, range_with_len, remove}
 use Rattle.std.specs.Option.{option_map_or, option_and_then}
 use Rattle.std.proofs.lemmas.Bool.Decides.{nat_tests}
+use Rattle.std.proofs.lemmas.Bool.{ltb-true, eqb-false, not-true, cases_Bool}
 use Rattle.model_core.specs.EventGraph.{EventGraph, EventVertex, EventEdge, WatchedVertex, Watched}
 use Rattle.model_core.specs.Run.Step.{no_vertex, vertex_at}
 use Rattle.model_core.specs.Run.History.{watches}
 use Rattle.model_core.specs.Rules.Conditions.{first_failed}
 use Rattle.model_core.specs.Rules.MarkedPlaces.{is_marked, unmarked_places}
-use Rattle.model_core.specs.Rules.PlacedEdges.{with_place}
-use Rattle.model_core.specs.Rules.Reached.{Reachable, reach_first, reach_watched, reach_over, reached_marks, unreached}
+use Rattle.model_core.specs.Rules.Reached.{reached_marks, unreached}
+use Rattle.model_core.specs.Rules.LeastRelations.{Reachable, reach_first, reach_watched, reach_over}
 use Rattle.model_core.specs.Rules.UrgentEdges.{plain_urgent, plain_urgent_edge}
 use Rattle.model_core.specs.Rules.Merge.{leads_to, is_watched_vertex, merged_vertex, values_at_once, merged_with, merged, merge_conditions}
 use Rattle.model_core.proofs.AllHold.{every-holds}
 use Rattle.model_core.proofs.BothTrue.{and_first, and_second}
 use Rattle.model_core.proofs.Among.{Among, among-contained, contained-among, among-front, among-back, any-among, among-any}
-use Rattle.model_core.proofs.PlacesChanged.{length_placed, same_number}
+use Rattle.model_core.proofs.PlacesChanged.{length_placed, same_number, apart-turned, placed-elsewhere, placed-there}
 use Rattle.mark_laws.proofs.Marks.{Marked}
 use Rattle.mark_laws.proofs.EntailedMarks.{same-place}
 use Rattle.mark_laws.proofs.ReachedLong.{reached_marks-long}
@@ -27,18 +28,6 @@ use Rattle.edge_pruning.proofs.ReachedMarks.{has_edges, reachable-marked, reache
 -- ---- lists with one element changed or taken out
 
 module _ {A : Type 0} where
-  placed-elsewhere : (f : A → A) (j k : ℕ) (xs : List A) (d : A) → (k == j) ≡ false → slice_index_or (with_place f j xs) k d ≡ slice_index_or xs k d
-  placed-elsewhere f j k [] d apart = refl
-  placed-elsewhere f zero zero (x ∷ xs) d apart = cc
-  placed-elsewhere f zero (suc k) (x ∷ xs) d apart = refl
-  placed-elsewhere f (suc j) zero (x ∷ xs) d apart = refl
-  placed-elsewhere f (suc j) (suc k) (x ∷ xs) d apart = placed-elsewhere f j k xs d (let e : (k == j) ≡ false = grind (arith, nat_tests) in e)
-
-  placed-there : (f : A → A) (k : ℕ) (xs : List A) (d : A) → k < length xs → slice_index_or (with_place f k xs) k d ≡ f (slice_index_or xs k d)
-  placed-there f k [] d below = absurd (omega arith)
-  placed-there f zero (x ∷ xs) d below = refl
-  placed-there f (suc k) (x ∷ xs) d below = placed-there f k xs d (omega (arith, below))
-
   -- an element is the one at a place, or is left without it
   among-left : (xs : List A) (place : ℕ) (x : A) → Among x xs → (slice_get xs place ≡ Some x) ⊎ Among x (remove xs place)
   among-left [] place x h = absurd h
@@ -58,9 +47,6 @@ module _ {A : Type 0} where
   left-among (y ∷ ys) (suc place) x (inl e) = inl e
   left-among (y ∷ ys) (suc place) x (inr h) = inr (left-among ys place x h)
 
-turned : (a b : ℕ) → (a == b) ≡ false → (b == a) ≡ false
-turned a b apart = grind (arith, nat_tests)
-
 among-at : (vs : List EventVertex) (v : EventVertex) → Among v vs → (k : ℕ) × (slice_index_or vs k no_vertex ≡ v)
 among-at [] v h = absurd h
 among-at (w ∷ vs) v (inl e) = (zero, e)
@@ -71,18 +57,7 @@ at-among [] k below = absurd (omega arith)
 at-among (v ∷ vs) zero below = inl refl
 at-among (v ∷ vs) (suc k) below = inr (at-among vs k (omega (arith, below)))
 
-differ : (a b : ℕ) → (a == b) ≡ false → a ≡ b → ⊥
-differ a b apart same = let e : (a == b) ≡ true = same_number a b same in let no : false ≡ true = sym apart ∙ e in cc
-
-not_true : (b : Bool) → not b ≡ true → b ≡ false
-not_true true e = cc
-not_true false e = refl
-
 -- ---- places that aren't marked
-
-marked-or-not : (b : Bool) → (b ≡ true) ⊎ (b ≡ false)
-marked-or-not true = inl refl
-marked-or-not false = inr refl
 
 module _ (test : ℕ → Bool) (b : ℕ) where
   none-behind : (a n : ℕ) → b < a → ((k : ℕ) → k < a + n → (k == b) ≡ false → test k ≡ false) → filter test (range_with_len a n) ≡ []
@@ -128,9 +103,6 @@ led-at v second leads = by (plain_urgent v) refl leads where
   by None is h = cc
   by (Some place) is h = (place, is, λ e there. same-place e.target second (ap (λ o. option_map_or (leads_to second) o false) (sym there) ∙ h))
 
-is-below : (a b : ℕ) → nat_lt a b ≡ true → a < b
-is-below a b e = grind (arith, nat_tests)
-
 pub joined : (g : EventGraph) (first second : ℕ) → first_failed (merge_conditions g first second) ≡ None → Joined g first second
 joined g first second none =
     let all = every-holds (merge_conditions g first second) none in
@@ -138,13 +110,13 @@ joined g first second none =
     let two = and_first (nat_lt first (length g.vertices) && nat_lt second (length g.vertices)) _ three in
     let (place, at, leads) = led-at (vertex_at g first) second (and_second (nat_lt first (length g.vertices) && nat_lt second (length g.vertices) && not (first == second)) _ all.0) in
     record {
-      there = is-below first (length g.vertices) (and_first (nat_lt first (length g.vertices)) _ two);
-      second_there = is-below second (length g.vertices) (and_second (nat_lt first (length g.vertices)) _ two);
-      apart = not_true (first == second) (and_second (nat_lt first (length g.vertices) && nat_lt second (length g.vertices)) _ three);
+      there = ltb-true first (length g.vertices) (and_first (nat_lt first (length g.vertices)) _ two);
+      second_there = ltb-true second (length g.vertices) (and_second (nat_lt first (length g.vertices)) _ two);
+      apart = not-true (first == second) (and_second (nat_lt first (length g.vertices) && nat_lt second (length g.vertices)) _ three);
       place = place;
       at = at;
       leads = leads;
-      unwatched = not_true _ all.1.1.1.0;
+      unwatched = not-true _ all.1.1.1.0;
     }
 
 module _ (g : EventGraph) (first second : ℕ) (j : Joined g first second) (all : unreached g ≡ []) where
@@ -202,7 +174,7 @@ module _ (g : EventGraph) (first second : ℕ) (j : Joined g first second) (all 
   reached k below apart = by (still (was k below)) where
     by : Still k → Reachable h k
     by (inl reached) = reached
-    by (inr (is, r)) = absurd (differ k second apart is)
+    by (inr (is, r)) = absurd (eqb-false k second apart is)
 
   marked : (k : ℕ) → k < length g.vertices → Reachable h k → Marked (reached_marks h) k
   marked k below r = reachable-marked h (reached_marks h) (reached_marks-hold h) r (omega (arith, below, long))
@@ -226,7 +198,7 @@ module _ (g : EventGraph) (first second : ℕ) (j : Joined g first second) (all 
     from : (k : ℕ) (e : EventEdge) → Among e (vertex_at h k).edges → e.target ≡ second → k < length g.vertices → (k ≡ second) ⊎ ((k == second) ≡ false) → Reachable h second
     from k e there leads below (inr apart) = subst (Reachable h) leads (reach_over k e (reached k below apart) (contained-among (vertex_at h k).edges e there))
     from k e there leads below (inl is) =
-        let own : Among e b.edges = subst (λ (w : EventVertex). Among e w.edges) (elsewhere second (turned first second j.apart)) (subst (λ k. Among e (vertex_at h k).edges) is there) in
+        let own : Among e b.edges = subst (λ (w : EventVertex). Among e w.edges) (elsewhere second (apart-turned first second j.apart)) (subst (λ k. Among e (vertex_at h k).edges) is there) in
         subst (Reachable h) leads (reach_over first e (reached first j.there j.apart) (contained-among (vertex_at h first).edges e (takes-over e own)))
 
     by : (v : EventVertex) × Among v h.vertices × (list_any (leads_to second) v.edges ≡ true) → Reachable h second
@@ -257,7 +229,7 @@ module _ (g : EventGraph) (first second : ℕ) (j : Joined g first second) (all 
   one-if-unled later unled = one_unmarked (reached_marks h) second (omega (arith, j.second_there, reached_marks-long h, long)) unmarked
       (λ k below apart. let within : k < length g.vertices = omega (arith, below, reached_marks-long h, long) in marked k within (reached k within apart)) where
         unmarked : is_marked (reached_marks h) second ≡ false
-        unmarked = by (marked-or-not (is_marked (reached_marks h) second)) where
+        unmarked = by (cases_Bool (is_marked (reached_marks h) second)) where
           by : (is_marked (reached_marks h) second ≡ true) ⊎ (is_marked (reached_marks h) second ≡ false) → is_marked (reached_marks h) second ≡ false
           by (inl marked) = absurd (never later unled (reached_marks-reachable h second marked) refl)
           by (inr unmarked) = unmarked

@@ -1,19 +1,20 @@
 -- The vertices that are marked by passes are those that can be reached: those that the first and the watched vertices entail
 -- over the pairs of a vertex and a target of its edges.
-use Rattle.std.proofs.Common.{◌≡◌, inl, inr, ℕ, zero, suc, ◌<◌, ◌==◌, Bool, true, false, ◌||◌, List, [], ◌∷◌, length, slice_index_or, refl, sym, ap, ap₂, subst, arith, ◌∙◌}
+use Rattle.std.proofs.Common.{◌≡◌, inl, inr, ℕ, zero, suc, ◌<◌, ◌==◌, Bool, true, ◌||◌, List, [], ◌∷◌, length, slice_index_or, refl, sym, ap, ap₂, subst, arith, ◌∙◌}
 use Rattle.std.specs.List.{list_any}
 use Rattle.model_core.specs.EventGraph.{EventGraph, EventVertex, EventEdge, Watched, WatchedVariable, WatchedVertex}
 use Rattle.model_core.specs.Run.Step.{no_vertex, vertex_at}
 use Rattle.model_core.specs.Run.History.{watches}
 use Rattle.model_core.specs.Rules.MarkedPlaces.{marked_of, is_marked, is_among, passes}
-use Rattle.model_core.specs.Rules.Entailed.{Entailed, from_first, over_pair, is_entailed_by, one_pair_further, entailed_marks}
-use Rattle.model_core.specs.Rules.Reached.{Reachable, reach_first, reach_watched, reach_over, begins_reached, is_led_to, one_edge_further, reached_marks}
+use Rattle.model_core.specs.Rules.Entailed.{is_entailed_by, one_pair_further, entailed_marks}
+use Rattle.model_core.specs.Rules.Reached.{begins_reached, is_led_to, one_edge_further, reached_marks}
+use Rattle.model_core.specs.Rules.LeastRelations.{Reachable, reach_first, reach_watched, reach_over, Entailed, from_first, over_pair}
 use Rattle.mark_laws.specs.PlacePairs.{places_behind, pairs_from}
 use Rattle.mark_laws.proofs.Marks.{Marked}
 use Rattle.model_core.proofs.PlacesChanged.{same_number, same_on_range}
 use Rattle.mark_laws.proofs.EntailedMarks.{same-place, among-place, entailed-by, by-entailed, HoldEntailed, entailed_marks-entailed, entailed_marks-hold}
 use Rattle.model_core.proofs.Among.{Among, among-contained, contained-among, among-map, among-of_map, second_true, any-among, among-any}
-use Rattle.mark_laws.proofs.MarksBelow.{among-marked, marked-among}
+use Rattle.mark_laws.proofs.MarksBelow.{among-marked, marked-among, same_mark}
 use Rattle.mark_laws.proofs.PairsBehind.{behind-pairs, pairs-behind}
 use Rattle.edge_pruning.specs.Inner.Walk.{targets_of, targets_behind, watched_vertices}
 
@@ -36,13 +37,8 @@ watches-alike [] k = refl
 watches-alike (WatchedVariable v ∷ watch) k = watches-alike watch k
 watches-alike (WatchedVertex v ∷ watch) k = ap (λ b. (v == k) || b) (watches-alike watch k)
 
-same-tests : (a b : Bool) → (a ≡ true → b ≡ true) → (b ≡ true → a ≡ true) → a ≡ b
-same-tests true b to from = sym (to refl)
-same-tests false true to from = from refl
-same-tests false false to from = refl
-
 zero-alike : (k : ℕ) → (k == 0) ≡ (0 == k)
-zero-alike k = same-tests (k == 0) (0 == k) (λ e. same_number 0 k (sym (same-place k 0 e))) (λ e. same_number k 0 (sym (same-place 0 k e)))
+zero-alike k = same_mark (k == 0) (0 == k) (λ e. same_number 0 k (sym (same-place k 0 e))) (λ e. same_number k 0 (sym (same-place 0 k e)))
 
 -- ---- one edge, and one pair
 
@@ -86,7 +82,7 @@ leads-to vs marks k entails =
 further-alike : (vs : List EventVertex) (marks : List Bool) → one_edge_further vs marks ≡ one_pair_further (pairs_from 0 (targets_behind vs)) marks
 further-alike vs marks =
     same_on_range (λ k. is_marked marks k || is_led_to marks vs k) (λ k. is_marked marks k || is_entailed_by marks (pairs_from 0 (targets_behind vs)) k) 0 (length marks)
-    (λ k from. ap (λ b. is_marked marks k || b) (same-tests _ _ (led-by vs marks k) (leads-to vs marks k)))
+    (λ k from. ap (λ b. is_marked marks k || b) (same_mark _ _ (led-by vs marks k) (leads-to vs marks k)))
 
 -- ---- what can be reached is what is entailed
 

@@ -21,6 +21,7 @@ use Rattle.mark_laws.proofs.MarksBelow.{marked-among}
 use Rattle.model_core.proofs.SomeOfAList.{some-marked_of}
 use Rattle.edge_pruning.proofs.DropMarks.{marked_of-map}
 use Rattle.model_core.proofs.NoLongerTexts.{NoLonger, no_longer-before, no_longer-same, no_longer-both}
+use Rattle.model_core.proofs.NotEmpty.{has_one-length}
 use Rattle.edge_pruning.proofs.ReachedMarks.{watched-begins, HoldReached}
 use Rattle.edge_pruning.proofs.DropSame.{NamesVertices}
 
@@ -130,13 +131,9 @@ edges_within [] n x same all k = tt
 edges_within (v ∷ vs) n x same all zero = each-among (λ (e : EventEdge). e.target < n) v.edges (λ e among. subst (λ m. e.target < m) same (of-among (SpellableEdge x) v.edges e all.0.edges among).target)
 edges_within (v ∷ vs) n x same all (suc k) = edges_within vs n x same all.1 k
 
-some_vertex : (vs : List EventVertex) → HasOne vs → 0 < length vs
-some_vertex [] one = absurd one
-some_vertex (v ∷ vs) one = omega arith
-
 pub names_vertices : (g : EventGraph) → IsSpellable g → NamesVertices g
 names_vertices g s = record {
-  some = some_vertex g.vertices s.has_vertex;
+  some = has_one-length g.vertices s.has_vertex;
   edges = edges_within g.vertices (length g.vertices) (extent g) refl s.vertices;
   watch = λ k among. of-among (SpellableWatched (extent g)) g.watch (WatchedVertex k) s.watch among;
 }

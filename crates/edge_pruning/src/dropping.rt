@@ -2,7 +2,8 @@
 
 ghost use Rattle.std.specs.Prelude.{◌≡◌, ◌≤◌, ◌<◌, ◌+◌, ◌++◌, map, length, cond, true, false, None, OnOk, OnErr, IfOk, IfErr, [], ◌∷◌};
 ghost use Rattle.std.specs.Vec.{vec_len, vec_capacity};
-ghost use Rattle.model_core.specs.Rules.Conditions.{first_failed, TellsCondition};
+ghost use Rattle.model_core.specs.Rules.Conditions.{first_failed};
+ghost use Rattle.model_core.specs.Rules.ConditionTold.{TellsCondition};
 ghost use Rattle.model_core.specs.Rules.MarkedPlaces.{rank, marked_of};
 ghost use Rattle.model_core.specs.Rules.Reached.{unreached};
 ghost use Rattle.model_core.specs.Rules.PlacedEdges.{with_place};

@@ -12,7 +12,8 @@ ghost use Rattle.model_core.specs.Rules.Conditions.{first_failed};
 ghost use Rattle.model_core.specs.Rules.Prune.{prune_conditions, pruned, first_prune};
 ghost use Rattle.model_core.specs.Rules.Settle.{settle_conditions, settled, first_settle};
 ghost use Rattle.model_core.specs.Rules.MarkedPlaces.{is_marked};
-ghost use Rattle.model_core.specs.Rules.Reached.{Reachable, reached_marks, unreached};
+ghost use Rattle.model_core.specs.Rules.Reached.{reached_marks, unreached};
+ghost use Rattle.model_core.specs.Rules.LeastRelations.{Reachable};
 ghost use Rattle.model_core.specs.Rules.Drop.{drop_conditions, dropped};
 ghost use Rattle.model_core.specs.Rules.Merge.{leads_to, merged, merge_conditions};
 

@@ -5,6 +5,7 @@ use Rattle.std.proofs.Math.Nat.{pow-suc}
 use Rattle.std.specs.List.{AllByRecursion}
 use Rattle.event_list.specs.KeyOrder.{KeyParts, comes_before}
 use Rattle.model_core.specs.Run.Pending.{Entry, TakenOff, is_of, or_behind, next_among, next_entry, without_next}
+use Rattle.model_core.proofs.EachOne.{every-map}
 use Rattle.event_list.specs.Told.{first_of}
 use Rattle.event_heap.specs.declared.node.Item.{Item}
 use Rattle.event_heap.specs.Inner.Tree.{key_of, precedes}
@@ -13,9 +14,9 @@ use Rattle.event_heap.specs.Inner.Next.{IsNextOf, IsNext, IsWithoutNext}
 use Rattle.event_heap.specs.Inner.Held.{Held, top_of, IsQuickFor}
 use Rattle.event_heap.specs.Inner.Kept.{IsNextVertex}
 use Rattle.event_heap.specs.BinaryLength.{digits_within, digits}
-use Rattle.tournament.specs.Top.{IsTop}
+use Rattle.event_heap.specs.Inner.Top.{IsTop}
 use Rattle.event_heap.proofs.TreeLaws.{first_along}
-use Rattle.event_heap.proofs.ListedLaws.{length-placed, next-placed, none-passes, placed-last, each-placed, each-weaker}
+use Rattle.event_heap.proofs.ListedLaws.{length-placed, next-placed, none-passes, placed-last, each-placed}
 use Rattle.event_heap.proofs.HeldLaws.{one-less}
 use Rattle.event_heap.proofs.Arriving.{each-of_placed}
 
@@ -49,11 +50,11 @@ late keys tops x games top u z e = top u (key_of z) (games u ∙ ap (option_map 
 -- so no event comes before x
 each_late : (events : List Item) (tops : ℕ → Option Item) (x : Item) → ((u : ℕ) → IsNext (is_of u) events (tops u)) → ((u : ℕ) (z : Item) → tops u ≡ Some z → precedes z x ≡ false) → (u : ℕ) (o : Option Item) → tops u ≡ o → AllByRecursion (λ y. is_of u y.entry ≡ true → precedes y x ≡ false) events
 each_late events tops x firsts first u None e =
-    each-weaker (λ (y : Item). is_of u y.entry ≡ false) (λ (y : Item). is_of u y.entry ≡ true → precedes y x ≡ false) (λ y n p. cc) events (subst (IsNext (is_of u) events) e (firsts u))
+    every-map (λ (y : Item). is_of u y.entry ≡ false) (λ (y : Item). is_of u y.entry ≡ true → precedes y x ≡ false) (λ y n p. cc) events (subst (IsNext (is_of u) events) e (firsts u))
 each_late events tops x firsts first u (Some z) e =
     let (rest, n) = subst (IsNext (is_of u) events) e (firsts u) in
     let z_late : precedes z x ≡ false = first u z e in
-    let others = each-weaker (λ (y : Item). (y.number ≢ z.number) × (is_of u y.entry ≡ true → precedes y z ≡ false)) (λ (y : Item). is_of u y.entry ≡ true → precedes y x ≡ false) (λ y h p. first_along x z y z_late (h.1 p)) rest n.first in
+    let others = every-map (λ (y : Item). (y.number ≢ z.number) × (is_of u y.entry ≡ true → precedes y z ≡ false)) (λ (y : Item). is_of u y.entry ≡ true → precedes y x ≡ false) (λ y h p. first_along x z y z_late (h.1 p)) rest n.first in
     subst (AllByRecursion (λ (y : Item). is_of u y.entry ≡ true → precedes y x ≡ false)) (sym n.is) (each-placed (λ y. is_of u y.entry ≡ true → precedes y x ≡ false) z rest (λ p. z_late) others)
 
 -- what holds of each event by its vertex holds of each
@@ -75,7 +76,7 @@ module _ (events : List Item) (keys : List (Option KeyParts)) (tops : ℕ → Op
       record {
         is = n.is;
         passes = refl;
-        first = both (λ y. y.number ≢ x.number) (λ y. true ≡ true → precedes y x ≡ false) rest (each-weaker (λ (y : Item). (y.number ≢ x.number) × (is_of v y.entry ≡ true → precedes y x ≡ false)) (λ (y : Item). y.number ≢ x.number) (λ y h. h.0) rest n.first) (each-weaker (λ (y : Item). precedes y x ≡ false) (λ (y : Item). true ≡ true → precedes y x ≡ false) (λ y h p. h) rest late_rest);
+        first = both (λ y. y.number ≢ x.number) (λ y. true ≡ true → precedes y x ≡ false) rest (every-map (λ (y : Item). (y.number ≢ x.number) × (is_of v y.entry ≡ true → precedes y x ≡ false)) (λ (y : Item). y.number ≢ x.number) (λ y h. h.0) rest n.first) (every-map (λ (y : Item). precedes y x ≡ false) (λ (y : Item). true ≡ true → precedes y x ≡ false) (λ y h p. h) rest late_rest);
         rising = n.rising;
       }
     where
@@ -91,7 +92,7 @@ module _ (events : List Item) (keys : List (Option KeyParts)) (tops : ℕ → Op
     empty (x ∷ xs) h = absurd h.0
 
     by : (u : ℕ) (o : Option Item) → tops u ≡ o → AllByRecursion (λ y. is_of u y.entry ≡ true → ⊥) events
-    by u None e = each-weaker (λ (y : Item). is_of u y.entry ≡ false) (λ (y : Item). is_of u y.entry ≡ true → ⊥) (λ y n p. cc) events (subst (IsNext (is_of u) events) e (firsts u))
+    by u None e = every-map (λ (y : Item). is_of u y.entry ≡ false) (λ (y : Item). is_of u y.entry ≡ true → ⊥) (λ y n p. cc) events (subst (IsNext (is_of u) events) e (firsts u))
     by u (Some z) e = let there : Some (key_of z) ≡ None = sym (games u ∙ ap (option_map key_of) e) ∙ none u in cc
 
   -- the vertex at the top has an event
@@ -163,10 +164,10 @@ numbers-rest test n events rest None h all = subst (AllByRecursion (λ (y : Item
 numbers-rest test n events rest (Some x) h all = (each-of_placed (λ y. y.number < n) x rest (subst (AllByRecursion (λ (y : Item). y.number < n)) h.is all)).1
 
 pub numbers-more : (x : Item) (n : ℕ) (events : List Item) → x.number ≡ n → AllByRecursion (λ y. y.number < n) events → AllByRecursion (λ y. y.number < n + 1) (placed x events)
-numbers-more x n events e all = each-placed (λ y. y.number < n + 1) x events (omega arith) (each-weaker (λ (y : Item). y.number < n) (λ (y : Item). y.number < n + 1) (λ y l. omega arith) events all)
+numbers-more x n events e all = each-placed (λ y. y.number < n + 1) x events (omega arith) (every-map (λ (y : Item). y.number < n) (λ (y : Item). y.number < n + 1) (λ y l. omega arith) events all)
 
 pub new-numbers : (n m : ℕ) (events : List Item) → m ≡ n → AllByRecursion (λ y. y.number < n) events → AllByRecursion (λ y. y.number ≢ m) events
-new-numbers n m events e all = each-weaker (λ (y : Item). y.number < n) (λ (y : Item). y.number ≢ m) (λ y l. omega arith) events all
+new-numbers n m events e all = every-map (λ (y : Item). y.number < n) (λ (y : Item). y.number ≢ m) (λ y l. omega arith) events all
 
 pub fewer-entries : (test : Entry → Bool) (events rest : List Item) (o : Option Item) → IsWithoutNext test events rest o → length (option_to_list o) + length (entries_of rest) ≡ length (entries_of events)
 fewer-entries test events rest o h =

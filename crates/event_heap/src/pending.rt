@@ -9,12 +9,12 @@ ghost use Rattle.event_heap.specs.Inner.Kept.{IsNextVertex};
 ghost use Rattle.event_heap.specs.BinaryLength.{digits};
 
 use crate::heaps::Heaps;
+use crate::tournament::Tournament;
 use event_list::{Entry, First, Key, Pending};
 use sig_base::{Carried, NoMemory, Steps};
 use std::alloc::Global;
 use std::marker::Model;
 use std::sync::ledger::Ledger;
-use tournament::Tournament;
 
 /// The pending events in one heap for each vertex, with a tournament over the first events of all vertices.
 #[derive(Drop)]

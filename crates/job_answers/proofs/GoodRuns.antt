@@ -1,8 +1,8 @@
 -- A snapshot of which no part is bad stands for a good saved run.
-use Rattle.std.proofs.Common.{◌≡◌, ◌∙◌, ◌&&◌, ◌+◌, ◌-◌, ◌^◌, ◌<◌, ◌≤◌, ℕ, zero, suc, ℤ, pos, neg_ℤ, Bool, true, false, not, cond, nat_lt, List, [], ◌∷◌, ◌++◌, length, map, Option, Some, None, refl, ap, ap₂, subst, arith}
+use Rattle.std.proofs.Common.{◌≡◌, ◌∙◌, ◌&&◌, ◌+◌, ◌-◌, ◌^◌, ◌<◌, ◌≤◌, ℕ, zero, suc, ℤ, pos, neg_ℤ, Bool, true, false, not, cond, nat_lt, List, [], ◌∷◌, ◌++◌, length, map, Option, Some, None, refl, ap, subst, arith}
 use Rattle.std.specs.Prelude.{IsTrue, IfSome, replicate, slice_set, unwrap_or}
 use Rattle.std.specs.List.{AllByRecursion, flat_map, list_all}
-use Rattle.std.specs.Option.{option_map}
+use Rattle.std.specs.Option.{option_map, option_map_or}
 use Rattle.std.proofs.lemmas.Bool.Decides.{nat_tests}
 use Rattle.std.proofs.lemmas.List.{length-map}
 use Rattle.model_core.specs.EventGraph.{EventGraph, EventVertex, Variable}
@@ -15,8 +15,9 @@ use Rattle.model_core.specs.Text.Numbering as numbering
 use Rattle.model_core.specs.Text.SnapshotGrammar.{WrittenStream, WrittenValue, WrittenNoted, WrittenCarried, WrittenPending, WrittenSnapshot}
 use Rattle.model_core.specs.Saved.Cells.{cell_variables, variables_watched}
 use Rattle.model_core.specs.Saved.SavedRun.{SavedRun, IsWide, IsGoodEntry, IsGood}
-use Rattle.model_core.specs.Saved.GoodSnapshots.{number_or_zero, known_and, is_at_most, from_one_to, signed_values, all_known, fit_variables, carried_of, is_wide, JudgedPart, stream_parts, value_parts, noted_parts, has_parameters, pending_part, snapshot_parts, first_bad_part, bad_at, with_taken, saved_entry, saved_run}
+use Rattle.model_core.specs.Saved.GoodSnapshots.{number_or_zero, is_at_most, from_one_to, signed_values, all_known, fit_variables, carried_of, is_wide, JudgedPart, stream_parts, value_parts, noted_parts, has_parameters, pending_part, snapshot_parts, first_bad_part, bad_at, with_taken, saved_entry, saved_run}
 use Rattle.model_core.proofs.BothTrue.{and_first, and_second}
+use Rattle.model_core.proofs.RangesTogether.{in_ranges-append}
 use Rattle.bound_laws.proofs.Soundness.Ends.{le_of}
 use Rattle.job_answers.specs.SavedReading.{ReadsSaved}
 
@@ -25,7 +26,7 @@ use Rattle.job_answers.specs.SavedReading.{ReadsSaved}
 abbrev pub AllGood : List JudgedPart → Type 0
 AllGood parts = AllByRecursion (λ (p : JudgedPart). p.good ≡ true) parts
 
-pub none_bad : (parts : List JudgedPart) → first_bad_part parts ≡ None → AllGood parts
+none_bad : (parts : List JudgedPart) → first_bad_part parts ≡ None → AllGood parts
 none_bad [] none = tt
 none_bad (p ∷ parts) none = by p.good refl (none_bad parts) none
   where
@@ -33,7 +34,7 @@ none_bad (p ∷ parts) none = by p.good refl (none_bad parts) none
     by true good rest none = (good, rest none)
     by false bad rest none = absurd cc
 
-pub in_two : (xs ys : List JudgedPart) → AllGood (xs ++ ys) → AllGood xs × AllGood ys
+in_two : (xs ys : List JudgedPart) → AllGood (xs ++ ys) → AllGood xs × AllGood ys
 in_two [] ys all = (tt, all)
 in_two (x ∷ xs) ys all = let rest = in_two xs ys all.1 in ((all.0, rest.0), rest.1)
 
@@ -42,14 +43,14 @@ in_two (x ∷ xs) ys all = let rest = in_two xs ys all.1 in ((all.0, rest.0), re
 at_most : (most : ℕ) (n : WrittenNumber) → is_at_most most n ≡ true → number_or_zero n ≤ most
 at_most most n is = by (numbering.natural n) is
   where
-    by : (o : Option ℕ) → known_and (λ k. nat_lt k (suc most)) o ≡ true → unwrap_or o 0 ≤ most
+    by : (o : Option ℕ) → option_map_or (λ k. nat_lt k (suc most)) o false ≡ true → unwrap_or o 0 ≤ most
     by (Some k) e = let less : k < suc most = grind (arith, nat_tests, e) in omega (arith, less)
     by None e = absurd cc
 
 one_to : (most : ℕ) (n : WrittenNumber) → from_one_to most n ≡ true → number_or_zero n ≤ most
 one_to most n is = by (numbering.natural n) is
   where
-    by : (o : Option ℕ) → known_and (λ k. nat_lt 0 k && nat_lt k (suc most)) o ≡ true → unwrap_or o 0 ≤ most
+    by : (o : Option ℕ) → option_map_or (λ k. nat_lt 0 k && nat_lt k (suc most)) o false ≡ true → unwrap_or o 0 ≤ most
     by (Some k) e = let less : k < suc most = (let f = and_second (nat_lt 0 k) (nat_lt k (suc most)) e in grind (arith, nat_tests, f)) in omega (arith, less)
     by None e = absurd cc
 
@@ -77,12 +78,6 @@ none_taken (suc n) = (omega arith, none_taken n)
 
 -- ---- values
 
-ranges_of_both : (vs ws : List Variable) (xs ys : List ℤ) → in_ranges vs xs ≡ true → in_ranges ws ys ≡ true → in_ranges (vs ++ ws) (xs ++ ys) ≡ true
-ranges_of_both [] ws [] ys e h = h
-ranges_of_both [] ws (x ∷ xs) ys e h = cc
-ranges_of_both (v ∷ vs) ws [] ys e h = cc
-ranges_of_both (v ∷ vs) ws (x ∷ xs) ys e h = ap₂ (λ a b. a && b) (and_first (within v.lo v.hi x) _ e) (ranges_of_both vs ws xs ys (and_second (within v.lo v.hi x) _ e) h)
-
 values_fit : (variables : List Variable) (values : List WrittenValue) → AllGood (value_parts variables values) → length variables ≤ length values
     → in_ranges (cell_variables variables) (flat_map (λ (v : WrittenValue). signed_values v.values) values) ≡ true
 values_fit [] [] good long = refl
@@ -90,7 +85,7 @@ values_fit [] (w ∷ values) good long = absurd (let wrong : false ≡ true = go
 values_fit (v ∷ variables) [] good long = absurd (omega (arith, long))
 values_fit (v ∷ variables) (w ∷ values) good long =
     let fits = and_second (same_bytes w.variable.name v.name) (fit_variables (replicate (cell_count v) v) w.values) good.0 in
-    ranges_of_both (replicate (cell_count v) v) (cell_variables variables) (signed_values w.values) (flat_map (λ (v : WrittenValue). signed_values v.values) values)
+    in_ranges-append (replicate (cell_count v) v) (cell_variables variables) (signed_values w.values) (flat_map (λ (v : WrittenValue). signed_values v.values) values)
     (and_second (all_known w.values) (in_ranges (replicate (cell_count v) v) (signed_values w.values)) fits) (values_fit variables values good.1 (omega (arith, long)))
 
 noted_fit : (g : EventGraph) (noted : Option WrittenNoted) → AllGood (noted_parts g noted)
@@ -143,15 +138,27 @@ entries_good g clock (w ∷ pending) good = (entry_good g clock w good.0, entrie
 
 -- ---- the snapshot
 
-pub all_values : (n m : ℕ) → not (nat_lt n m) ≡ true → m ≤ n
-all_values n m e = by (nat_lt n m) refl e
+enough_values : (n m : ℕ) → not (nat_lt n m) ≡ true → m ≤ n
+enough_values n m e = by (nat_lt n m) refl e
   where
     by : (b : Bool) → nat_lt n m ≡ b → not b ≡ true → m ≤ n
     by false f e = grind (arith, nat_tests, f)
     by true f e = absurd cc
 
-pub good_run : (g : EventGraph) (w : WrittenSnapshot) → bad_at g w ≡ None → IsGood g (saved_run g w)
-good_run g w none =
+-- each part is good
+pub record GoodParts (g : EventGraph) (w : WrittenSnapshot) : Type 0 where
+  pub seed : is_at_most (2 ^ 32 - 1) w.seed ≡ true
+  pub seed_rest : is_at_most (2 ^ 32 - 1) w.seed_rest ≡ true
+  pub clock : is_at_most (2 ^ 48) w.clock ≡ true
+  pub events : is_at_most (2 ^ 40) w.events ≡ true
+  pub streams : AllGood (stream_parts 0 w.streams)
+  pub values : AllGood (value_parts g.variables w.values)
+  pub noted : AllGood (noted_parts g w.noted)
+  pub pending : AllGood (map (pending_part g) w.pending)
+  pub enough : length g.variables ≤ length w.values
+
+pub good_parts : (g : EventGraph) (w : WrittenSnapshot) → bad_at g w ≡ None → GoodParts g w
+good_parts g w none =
     let parts = none_bad (snapshot_parts g w) none in
     let streams = stream_parts 0 w.streams in
     let values = value_parts g.variables w.values in
@@ -162,18 +169,33 @@ good_run g w none =
     let all_noted = in_two (streams ++ values ++ noted) pending all_pending.0 in
     let all_valued = in_two (streams ++ values) noted all_noted.0 in
     let all_streams = in_two streams values all_valued.0 in
-    let quotient = at_most (2 ^ 32 - 1) w.seed (and_first (is_at_most (2 ^ 32 - 1) w.seed) (is_at_most (2 ^ 32 - 1) w.seed_rest) parts.0) in
-    let rest = at_most (2 ^ 32 - 1) w.seed_rest (and_second (is_at_most (2 ^ 32 - 1) w.seed) (is_at_most (2 ^ 32 - 1) w.seed_rest) parts.0) in
-    let taken = with_all 0 w.streams (replicate 64 0) all_streams.0 (none_taken 64) in
+    record {
+      seed = and_first (is_at_most (2 ^ 32 - 1) w.seed) (is_at_most (2 ^ 32 - 1) w.seed_rest) parts.0;
+      seed_rest = and_second (is_at_most (2 ^ 32 - 1) w.seed) (is_at_most (2 ^ 32 - 1) w.seed_rest) parts.0;
+      clock = parts.1.0;
+      events = parts.1.1.0;
+      streams = all_streams.0;
+      values = all_streams.1;
+      noted = all_valued.1;
+      pending = all_noted.1;
+      enough = enough_values (length w.values) (length g.variables) all_pending.1.0;
+    }
+
+pub good_run : (g : EventGraph) (w : WrittenSnapshot) → bad_at g w ≡ None → IsGood g (saved_run g w)
+good_run g w none =
+    let parts = good_parts g w none in
+    let quotient = at_most (2 ^ 32 - 1) w.seed parts.seed in
+    let rest = at_most (2 ^ 32 - 1) w.seed_rest parts.seed_rest in
+    let taken = with_all 0 w.streams (replicate 64 0) parts.streams (none_taken 64) in
     record {
       seed = omega (arith, quotient, rest);
-      clock = at_most (2 ^ 48) w.clock parts.1.0;
-      events = at_most (2 ^ 40) w.events parts.1.1.0;
+      clock = at_most (2 ^ 48) w.clock parts.clock;
+      events = at_most (2 ^ 40) w.events parts.events;
       streams = taken.0;
       words = taken.1;
-      values = values_fit g.variables w.values all_streams.1 (all_values (length w.values) (length g.variables) all_pending.1.0);
-      noted = noted_fit g w.noted all_valued.1;
-      pending = entries_good g (number_or_zero w.clock) w.pending all_noted.1;
+      values = values_fit g.variables w.values parts.values parts.enough;
+      noted = noted_fit g w.noted parts.noted;
+      pending = entries_good g (number_or_zero w.clock) w.pending parts.pending;
     }
 
 pub good_reading : (text : List ℕ) (g : EventGraph) (s : SavedRun) → ReadsSaved text g s → IsGood g s

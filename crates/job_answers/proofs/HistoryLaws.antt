@@ -17,19 +17,17 @@ use Rattle.watch_trace.specs.declared.outcome.Outcome.TheVariants as outcomes
 use Rattle.watch_trace.specs.Tracing.{Tracing, moment_of}
 use Rattle.watch_trace.specs.Following.{outcome_of, seen_from, Writes, WritesAll, Stands}
 use Rattle.run_laws.proofs.HistoryBytes.{history_has_bytes}
-use Rattle.job_answers.specs.declared.answer.Answer.{Answer}
 use Rattle.job_answers.specs.declared.answer.Answer.TheVariants.{Given}
 use Rattle.job_answers.specs.declared.delivering.Said.{Said}
 use Rattle.job_answers.specs.declared.status.End.{End}
 use Rattle.job_answers.specs.declared.status.Failure.{Failure}
 use Rattle.job_answers.specs.declared.status.Failure.TheVariants as failures
 use Rattle.job_answers.specs.declared.status.Status.TheVariants as statuses
-use Rattle.job_answers.specs.Delivery.{DeliversSome}
 use Rattle.job_answers.specs.FrontWritten.{GrowsByFront}
 use Rattle.job_answers.specs.RunAnswer.{end_of, told_of, refused_or, ExceedsRoomFrom}
 use Rattle.job_answers.specs.Statuses.{status_of_answer}
 use Rattle.job_answers.specs.Inner.WritingSteps.{Streamed, Closed}
-use Rattle.job_answers.specs.Inner.RunSteps.{ending, StreamsFrom}
+use Rattle.job_answers.specs.Inner.RunSteps.{ending, DeliversHistory}
 use Rattle.job_answers.proofs.GivenAnswers.{given_is_no_refusal, some_bytes, end_unrefused}
 use Rattle.job_answers.proofs.Streaming.{closed, closed_in_memory, unstreamed, stopped_short}
 
@@ -93,46 +91,50 @@ exceeds until events room r later t after roomy h = record {
   exceeds = omega (arith, h.stands.2.lacks, roomy);
 }
 
+-- the text of the history from this moment on is written as it comes
+abbrev pub StreamsFrom : {K : Type 0} → (K → Outlet) → EventGraph → ℕ → ℕ → ℕ → Moment → ℕ → Result End Failure → K → K → Type 0
+StreamsFrom sight g until seed events m room r o p =
+    let seen = look_from g seed until events m in
+    Streamed sight (end_of seen.standing) (history_text g until events seen) (ExceedsRoomFrom g until seed events m room) r o p
+
 -- What following a run wrote is its history from where it stood.
 pub streamed_from : {K : Type 0} (sight : K → Outlet) (until events room : ℕ) (r later : Running) (t after : Tracing) (outcome : Outcome) (o p : K) → room ≤ r.spare + length r.now.pending
     → Writes (graph_of r.model) until events (seen_from until events r t) outcome (sight o) (sight p)
-    → Stands until events r t outcome later after → StreamsFrom sight (graph_of r.model) until r.seed events (moment_of r t) room (ending outcome) o p
-streamed_from sight until events room r later t after outcome o p roomy writes stands =
+    → Stands until events r t outcome later after → (ended : Result End Failure) → ended ≡ ending outcome → StreamsFrom sight (graph_of r.model) until r.seed events (moment_of r t) room ended o p
+streamed_from sight until events room r later t after outcome o p roomy writes stands ended is =
     let Short : Type 0 = ExceedsRoomFrom (graph_of r.model) until r.seed events (moment_of r t) room in
     let short : outcome ≡ outcomes.NoMemory → Short = λ is. exceeds until events room r later t after roomy (subst (λ (x : Outcome). Stands until events r t x later after) is stands) in
-    history_streamed sight (graph_of r.model) until events (seen_from until events r t) o p Short outcome writes short
+    subst (λ (e : Result End Failure). StreamsFrom sight (graph_of r.model) until r.seed events (moment_of r t) room e o p) (sym is) (history_streamed sight (graph_of r.model) until events (seen_from until events r t) o p Short outcome writes short)
 
 -- ---- the answer
 
 same_failure : (f g : Failure) → ◌≡◌ {A = Result Said Failure} (Err f) (Err g) → f ≡ g
 same_failure f g e = cc
 
-module _ {K : Type 0} (sight : K → Outlet) (g : EventGraph) (until seed events : ℕ) (m : Moment) (room : ℕ) (answer : Answer) (told : told_of g until events (look_from g seed until events m) ≡ answer) where
-  abbrev pub DeliversHistory : Result Said Failure → K → K → Type 0
-  DeliversHistory r o p = DeliversSome sight (λ a. a ≡ answer) (ExceedsRoomFrom g until seed events m room) r o p
+module _ {K : Type 0} (sight : K → Outlet) (g : EventGraph) (until seed events : ℕ) (m : Moment) (room : ℕ) where
+  abbrev Seen : Look
+  Seen = look_from g seed until events m
+
+  abbrev Short : Type 0
+  Short = ExceedsRoomFrom g until seed events m room
 
   -- the history could not be written
-  pub history_failed : (f : Failure) (o p : K) → StreamsFrom sight g until seed events m room (Err f) o p → DeliversHistory (Err f) o p
-  history_failed f o p h =
-      let seen = look_from g seed until events m in
-      let Short = ExceedsRoomFrom g until seed events m room in
-      inl (record {
-        answer = told_of g until events seen;
-        holds = told;
-        delivers = unstreamed sight o p (end_of seen.standing) (history_text g until events seen) Short f h;
-        short = λ e. stopped_short sight o p (end_of seen.standing) (history_text g until events seen) Short (Err f) h (ap (λ (x : Failure). Err x) (same_failure f failures.NoMemory e));
-      })
+  pub history_failed : (f : Failure) (o p : K) → StreamsFrom sight g until seed events m room (Err f) o p → DeliversHistory sight g until seed events m room (Err f) o p
+  history_failed f o p h = inl (record {
+    answer = told_of g until events Seen;
+    holds = refl;
+    delivers = unstreamed sight o p (end_of Seen.standing) (history_text g until events Seen) Short f h;
+    short = λ e. stopped_short sight o p (end_of Seen.standing) (history_text g until events Seen) Short (Err f) h (ap (λ (x : Failure). Err x) (same_failure f failures.NoMemory e));
+  })
 
   -- it is written, and the output is closed
-  pub history_told : (end : End) (r : Result Said Failure) (o n p : K) → StreamsFrom sight g until seed events m room (Ok end) o n → Closed end r (sight n) (sight p) → DeliversHistory r o p
-  history_told end r o n p h k =
-      let seen = look_from g seed until events m in
-      inl (record {
-        answer = told_of g until events seen;
-        holds = told;
-        delivers = closed sight o n p (end_of seen.standing) (history_text g until events seen) h.1 (λ some. h.2) h.3 r (subst (λ (e : End). Closed e r (sight n) (sight p)) h.0 k);
-        short = λ e. absurd (closed_in_memory end (sight n) (sight p) r k e);
-      })
+  pub history_told : (end : End) (r : Result Said Failure) (o n p : K) → StreamsFrom sight g until seed events m room (Ok end) o n → Closed end r (sight n) (sight p) → DeliversHistory sight g until seed events m room r o p
+  history_told end r o n p h k = inl (record {
+    answer = told_of g until events Seen;
+    holds = refl;
+    delivers = closed sight o n p (end_of Seen.standing) (history_text g until events Seen) h.1 (λ some. h.2) h.3 r (subst (λ (e : End). Closed e r (sight n) (sight p)) h.0 k);
+    short = λ e. absurd (closed_in_memory end (sight n) (sight p) r k e);
+  })
 
 -- ---- its laws
 

@@ -9,11 +9,7 @@ use Rattle.command_words.specs.declared.replicate_options.ReplicateOptions.{Repl
 use Rattle.sig_base.specs.Sink.{Outlet}
 use Rattle.model_core.specs.EventGraph.{EventGraph}
 use Rattle.model_core.specs.Run.History.{allowed}
-use Rattle.run_control.specs.Beginning.{RefusesStart}
 use Rattle.tally_report.specs.declared.run_tally.RunTally.{RunTally}
-use Rattle.tally_report.specs.declared.tally_error.TallyError.{TallyError}
-use Rattle.tally_report.specs.declared.tally_error.TallyError.TheVariants as errors
-use Rattle.tally_report.specs.TallyRefusals.{RefusesTally}
 use Rattle.tally_report.specs.ReportText.{header_row, run_rows, total_rows}
 use Rattle.tally_report.specs.Totalling.{RunTotals, no_totals, totals_from, with_run}
 use Rattle.job_answers.specs.declared.answer.Answer.TheVariants.{Given}
@@ -29,8 +25,7 @@ use Rattle.job_answers.specs.ReplicateAnswer.{seed_of_run, tally_numbered, rows_
 use Rattle.job_answers.specs.RunAnswer.{refused_or}
 use Rattle.job_answers.specs.StartingValues.{start_refusal}
 use Rattle.job_answers.specs.Statuses.{status_of_answer}
-use Rattle.job_answers.specs.Inner.ReportSteps.{begin_error_of, left_from, IsWrittenUpTo}
-use Rattle.job_answers.specs.Inner.StartSteps.{RefusalLine}
+use Rattle.job_answers.specs.Inner.ReportSteps.{left_from, IsWrittenUpTo}
 use Rattle.job_answers.specs.Inner.WritingSteps.{InPieces, Closed}
 use Rattle.job_answers.proofs.GivenAnswers.{given_is_no_refusal, some_bytes}
 use Rattle.job_answers.proofs.PiecesWritten.{all_left, further, broken_further, broken_answer}
@@ -98,12 +93,6 @@ module _ (g : EventGraph) (options : ReplicateOptions) where
         broken_further (rows_numbered g options number) (Left (with_run t (tally_numbered g options number)) (number + 1)) bytes f o m p here (subst (λ (b : List ℕ). InPieces b (Err f) m p) rows_are k)
 
 -- ---- the answer
-
--- what there is no tally of can't begin, where a line tells why
-pub can_not_begin : (g : EventGraph) (starts : List ℤ) (error : TallyError) → RefusesTally g starts error → (line : List ℕ) → RefusalLine (begin_error_of error) line → RefusesStart g starts (begin_error_of error)
-can_not_begin g starts (errors.StartCount needed given) h line told = h
-can_not_begin g starts (errors.StartOutside place value) h line told = h
-can_not_begin g starts errors.NoMemory h line told = absurd told
 
 given_report : (g : EventGraph) (o : ReplicateOptions) → IsTrue (allowed g o.starts) → done (report g o) ≡ replicate_answer g o
 given_report g o taken = ap (λ s. refused_or s (done (report g o))) (sym (taken_start g o.starts taken))

@@ -1,4 +1,4 @@
--- From a saved run that was followed to what is told of it, and the laws of the answer of `resume`.
+-- From a saved run that was resumed to what is told of it, and the laws of the answer of `resume`.
 use Rattle.std.proofs.Common.{◌≡◌, inl, inr, ℕ, ◌+◌, ◌≤◌, List, length, Some, None, Result, Ok, Err, refl, sym, ap, ◌∙◌, subst}
 use Rattle.std.specs.Prelude.{max}
 use Rattle.command_words.specs.declared.reading.Reading.TheVariants.{Saved as OfSaved}
@@ -13,10 +13,10 @@ use Rattle.model_core.specs.Saved.SavedRun.{SavedRun, saved_moment, history_from
 use Rattle.run_control.specs.Running.{Running}
 use Rattle.run_snapshot.specs.ResumedRun.{ResumedRun}
 use Rattle.watch_trace.specs.Tracing.{Tracing, moment_of}
+use Rattle.job_answers.specs.declared.answer.Answer.{Answer}
 use Rattle.job_answers.specs.declared.answer.Answer.TheVariants.{Refused}
 use Rattle.job_answers.specs.declared.delivering.Said.{Said}
 use Rattle.job_answers.specs.declared.delivering.Said.TheVariants as said
-use Rattle.job_answers.specs.declared.status.End.{End}
 use Rattle.job_answers.specs.declared.status.Failure.{Failure}
 use Rattle.job_answers.specs.declared.status.Refusal.TheVariants as refusals
 use Rattle.job_answers.specs.AnswerLaws.{KeepsAnswerLaws}
@@ -24,21 +24,8 @@ use Rattle.job_answers.specs.Delivery.{DeliversSome}
 use Rattle.job_answers.specs.RunAnswer.{told_of, refused_or}
 use Rattle.job_answers.specs.ResumeAnswer.{resume_refusal, resume_answer, ResumedExceedsRoom}
 use Rattle.job_answers.specs.Statuses.{status_of_answer}
-use Rattle.job_answers.specs.Inner.RunSteps.{StreamsFrom}
-use Rattle.job_answers.specs.Inner.WritingSteps.{Closed}
-use Rattle.job_answers.proofs.HistoryLaws.{history_failed, history_told, told_has_bytes, told_unrefused}
-
--- What was written of a run that was resumed is the history of the saved run from there on.
-abbrev pub StreamsResumed : {K : Type 0} → (K → Outlet) → EventGraph → SavedRun → ResumeOptions → Result End Failure → K → K → Type 0
-StreamsResumed sight g s o result p q = StreamsFrom sight g o.until s.seed o.events (saved_moment g s) (max o.room (length s.pending)) result p q
-
-pub resumed_streamed : {K : Type 0} (sight : K → Outlet) (m : Model) (s : SavedRun) (o : ResumeOptions) (r : Running) (t : Tracing) (result : Result End Failure) (p q : K) → ResumedRun m s o.room r t
-    → ((room : ℕ) → room ≤ r.spare + length r.now.pending → StreamsFrom sight (graph_of r.model) o.until r.seed o.events (moment_of r t) room result p q) → StreamsResumed sight (graph_of m) s o result p q
-resumed_streamed sight m s o r t result p q resumed streams =
-    let room = max o.room (length s.pending) in
-    subst (λ (n : Model). StreamsFrom sight (graph_of n) o.until s.seed o.events (saved_moment (graph_of m) s) room result p q) resumed.model
-    (subst (λ (seed : ℕ). StreamsFrom sight (graph_of r.model) o.until seed o.events (saved_moment (graph_of m) s) room result p q) resumed.seeded
-    (subst (λ (here : Moment). StreamsFrom sight (graph_of r.model) o.until r.seed o.events here room result p q) resumed.stands (streams room resumed.roomy)))
+use Rattle.job_answers.specs.Inner.RunSteps.{DeliversHistory}
+use Rattle.job_answers.proofs.HistoryLaws.{told_has_bytes, told_unrefused}
 
 module _ {K : Type 0} (sight : K → Outlet) (g : EventGraph) (s : SavedRun) (o : ResumeOptions) where
   abbrev pub DeliversResumed : Result Said Failure → K → K → Type 0
@@ -53,17 +40,16 @@ module _ {K : Type 0} (sight : K → Outlet) (g : EventGraph) (s : SavedRun) (o 
     short = λ e. absurd cc;
   })
 
-  module _ (allowed : resume_refusal s o.until o.events ≡ None) where
-    given : told_of g o.until o.events (history_from g s o.until o.events) ≡ resume_answer g s o.until o.events
-    given = ap (λ x. refused_or x (told_of g o.until o.events (history_from g s o.until o.events))) (sym allowed)
-
-    -- its history could not be written
-    pub resume_failed : (f : Failure) (p q : K) → StreamsResumed sight g s o (Err f) p q → DeliversResumed (Err f) p q
-    resume_failed = history_failed sight g o.until s.seed o.events (saved_moment g s) (max o.room (length s.pending)) (resume_answer g s o.until o.events) given
-
-    -- it is written, and the output is closed
-    pub resume_told : (end : End) (r : Result Said Failure) (p n q : K) → StreamsResumed sight g s o (Ok end) p n → Closed end r (sight n) (sight q) → DeliversResumed r p q
-    resume_told = history_told sight g o.until s.seed o.events (saved_moment g s) (max o.room (length s.pending)) (resume_answer g s o.until o.events) given
+-- What is told of a run that was resumed is what `resume` answers.
+pub resume_delivered : {K : Type 0} (sight : K → Outlet) (m : Model) (s : SavedRun) (o : ResumeOptions) (r : Running) (t : Tracing) (result : Result Said Failure) (p q : K) → resume_refusal s o.until o.events ≡ None → ResumedRun m s o.room r t
+    → ((room : ℕ) → room ≤ r.spare + length r.now.pending → DeliversHistory sight (graph_of r.model) o.until r.seed o.events (moment_of r t) room result p q) → DeliversResumed sight (graph_of m) s o result p q
+resume_delivered sight m s o r t result p q allowed resumed delivers =
+    let room = max o.room (length s.pending) in
+    let here = saved_moment (graph_of m) s in
+    subst (λ (x : Answer). DeliversSome sight (λ a. a ≡ x) (ResumedExceedsRoom (graph_of m) s o) result p q) (ap (λ x. refused_or x (told_of (graph_of m) o.until o.events (history_from (graph_of m) s o.until o.events))) (sym allowed))
+    (subst (λ (n : Model). DeliversHistory sight (graph_of n) o.until s.seed o.events here room result p q) resumed.model
+    (subst (λ (seed : ℕ). DeliversHistory sight (graph_of r.model) o.until seed o.events here room result p q) resumed.seeded
+    (subst (λ (here : Moment). DeliversHistory sight (graph_of r.model) o.until r.seed o.events here room result p q) resumed.stands (delivers room resumed.roomy))))
 
 pub resume_laws : (options : ResumeOptions) → KeepsAnswerLaws (OfSaved (Resume options))
 resume_laws o = record {

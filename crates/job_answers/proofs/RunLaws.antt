@@ -13,17 +13,16 @@ use Rattle.model_core.specs.Run.Step.{Configuration}
 use Rattle.run_control.specs.Beginning.{BegunRun}
 use Rattle.run_control.specs.Running.{Running}
 use Rattle.watch_trace.specs.Tracing.{Tracing, moment_of}
+use Rattle.job_answers.specs.declared.answer.Answer.{Answer}
 use Rattle.job_answers.specs.declared.delivering.Said.{Said}
-use Rattle.job_answers.specs.declared.status.End.{End}
 use Rattle.job_answers.specs.declared.status.Failure.{Failure}
 use Rattle.job_answers.specs.AnswerLaws.{KeepsAnswerLaws}
 use Rattle.job_answers.specs.Delivery.{DeliversSome}
 use Rattle.job_answers.specs.RunAnswer.{told_of, refused_or, run_answer, ExceedsRoom}
 use Rattle.job_answers.specs.StartingValues.{start_refusal}
 use Rattle.job_answers.specs.Statuses.{status_of_answer}
-use Rattle.job_answers.specs.Inner.WritingSteps.{Closed}
-use Rattle.job_answers.specs.Inner.RunSteps.{StreamsFrom, StreamsRun}
-use Rattle.job_answers.proofs.HistoryLaws.{history_failed, history_told, told_has_bytes, told_unrefused}
+use Rattle.job_answers.specs.Inner.RunSteps.{DeliversHistory}
+use Rattle.job_answers.proofs.HistoryLaws.{told_has_bytes, told_unrefused}
 use Rattle.job_answers.proofs.StartLaws.{taken_start}
 
 -- ---- the run
@@ -34,32 +33,21 @@ at_start g starts r t now noted =
     let moment : Configuration → Option (List (List ℤ)) → Moment = λ c n. record { now = c; noted = n } in
     ap₂ moment now noted
 
--- What was written of a run from its beginning is its history.
-pub run_streamed : {K : Type 0} (sight : K → Outlet) (m : Model) (until events room : ℕ) (starts : List ℤ) (r : Running) (t : Tracing) (result : Result End Failure) (o p : K) → BegunRun m r.seed starts room r → t.noted ≡ None
-    → ((room : ℕ) → room ≤ r.spare + length r.now.pending → StreamsFrom sight (graph_of r.model) until r.seed events (moment_of r t) room result o p)
-    → StreamsRun sight (graph_of m) until r.seed events starts room result o p
-run_streamed sight m until events room starts r t result o p begun noted streams =
-    let roomy : room ≤ r.spare + length r.now.pending = omega (arith, begun.roomy) in
-    let here : moment_of r t ≡ start (graph_of r.model) starts = at_start (graph_of r.model) starts r t (begun.now ∙ ap (λ n. (start (graph_of n) starts).now) (sym begun.model)) noted in
-    subst (λ (n : Model). StreamsRun sight (graph_of n) until r.seed events starts room result o p) begun.model
-    (subst (λ (here : Moment). StreamsFrom sight (graph_of r.model) until r.seed events here room result o p) here (streams room roomy))
-
 -- ---- the answer
 
-given_run : (g : EventGraph) (until seed events : ℕ) (starts : List ℤ) → IsTrue (allowed g starts) → told_of g until events (look g seed starts until events) ≡ run_answer g until seed events starts
-given_run g until seed events starts taken = ap (λ s. refused_or s (told_of g until events (look g seed starts until events))) (sym (taken_start g starts taken))
-
-module _ {K : Type 0} (sight : K → Outlet) (g : EventGraph) (until seed events : ℕ) (starts : List ℤ) (room : ℕ) (taken : IsTrue (allowed g starts)) where
-  abbrev DeliversRun : Result Said Failure → K → K → Type 0
-  DeliversRun r o p = DeliversSome sight (λ a. a ≡ run_answer g until seed events starts) (ExceedsRoom g until seed events starts room) r o p
-
-  -- its history could not be written
-  pub run_failed : (f : Failure) (o p : K) → StreamsRun sight g until seed events starts room (Err f) o p → DeliversRun (Err f) o p
-  run_failed = history_failed sight g until seed events (start g starts) room (run_answer g until seed events starts) (given_run g until seed events starts taken)
-
-  -- it is written, and the output is closed
-  pub run_told : (end : End) (r : Result Said Failure) (o m p : K) → StreamsRun sight g until seed events starts room (Ok end) o m → Closed end r (sight m) (sight p) → DeliversRun r o p
-  run_told = history_told sight g until seed events (start g starts) room (run_answer g until seed events starts) (given_run g until seed events starts taken)
+-- What is told of a run from its beginning is what `run` answers.
+pub run_delivered : {K : Type 0} (sight : K → Outlet) (m : Model) (until seed events room : ℕ) (starts : List ℤ) (r : Running) (t : Tracing) (result : Result Said Failure) (o p : K) → BegunRun m seed starts room r → t.noted ≡ None
+    → ((room : ℕ) → room ≤ r.spare + length r.now.pending → DeliversHistory sight (graph_of r.model) until r.seed events (moment_of r t) room result o p)
+    → DeliversSome sight (λ a. a ≡ run_answer (graph_of m) until seed events starts) (ExceedsRoom (graph_of m) until seed events starts room) result o p
+run_delivered sight m until seed events room starts r t result o p begun noted delivers =
+    let roomy : room ≤ r.spare + length r.now.pending = omega (arith, begun.roomy) in
+    let here : moment_of r t ≡ start (graph_of r.model) starts = at_start (graph_of r.model) starts r t (begun.now ∙ ap (λ n. (start (graph_of n) starts).now) (sym begun.model)) noted in
+    let told : told_of (graph_of m) until events (look (graph_of m) seed starts until events) ≡ run_answer (graph_of m) until seed events starts =
+    ap (λ s. refused_or s (told_of (graph_of m) until events (look (graph_of m) seed starts until events))) (sym (taken_start (graph_of m) starts begun.accepted)) in
+    subst (λ (x : Answer). DeliversSome sight (λ a. a ≡ x) (ExceedsRoom (graph_of m) until seed events starts room) result o p) told
+    (subst (λ (s : ℕ). DeliversHistory sight (graph_of m) until s events (start (graph_of m) starts) room result o p) begun.seeded
+    (subst (λ (n : Model). DeliversHistory sight (graph_of n) until r.seed events (start (graph_of n) starts) room result o p) begun.model
+    (subst (λ (here : Moment). DeliversHistory sight (graph_of r.model) until r.seed events here room result o p) here (delivers room roomy))))
 
 -- ---- its laws
 

@@ -15,7 +15,8 @@ use Rattle.model_core.specs.Run.Step.{Configuration}
 use Rattle.model_core.specs.Text.Canonical.{canonical}
 use Rattle.model_core.specs.Text.SnapshotText.{snapshot_text}
 use Rattle.model_core.specs.Saved.SavedRun.{SavedRun, saved, IsGood}
-use Rattle.model_core.specs.Saved.Resuming.{GoesOn, Resumes}
+use Rattle.model_core.specs.Saved.Resuming.{Resumes}
+use Rattle.model_core.specs.Saved.GoingOn.{GoesOn}
 use Rattle.run_control.specs.Beginning.{BegunRun}
 use Rattle.run_control.specs.Running.{Running}
 use Rattle.watch_trace.specs.declared.outcome.Outcome.{Outcome}

@@ -22,7 +22,8 @@ use Rattle.model_core.specs.Static.ModelFaults.{Accepted}
 use Rattle.model_core.specs.Static.Reading.{IsValid, Reads}
 use Rattle.model_core.specs.Saved.SavedRun.{SavedRun, IsGood, saved, history_from}
 use Rattle.model_core.specs.Saved.GoodSnapshots.{bad_at, saved_run}
-use Rattle.model_core.specs.Saved.Resuming.{GoesOn, Resumes}
+use Rattle.model_core.specs.Saved.Resuming.{Resumes}
+use Rattle.model_core.specs.Saved.GoingOn.{GoesOn}
 use Rattle.job_answers.specs.declared.answer.Answer.{Answer}
 use Rattle.job_answers.specs.declared.answer.Answer.TheVariants.{Given, Refused}
 use Rattle.job_answers.specs.declared.complaint.Complaint.{Complaint}

@@ -1,6 +1,6 @@
 -- The model that a saved document reads as is valid: it stands up to its word `end` as it would stand alone; and its vertices
 -- have few parameters.
-use Rattle.std.proofs.Common.{List, ℕ, ◌≤◌, [], ◌∷◌, ◌++◌, length, subst}
+use Rattle.std.proofs.Common.{List, ℕ, ◌≤◌, [], ◌∷◌, length, subst}
 use Rattle.std.specs.List.{AllByRecursion}
 use Rattle.model_core.specs.EventGraph.{EventGraph, EventVertex, Variable}
 use Rattle.sig_base.specs.declared.limits.TheConstants.{PARAMETERS_MAX}
@@ -10,6 +10,7 @@ use Rattle.model_core.specs.Static.ModelFaults.{Accepted}
 use Rattle.model_core.specs.Static.OwnRules.{KeepsVertex, parameters_of}
 use Rattle.model_core.specs.Static.Reading.{IsValid}
 use Rattle.model_core.specs.Saved.SavedRun.{SavedRun}
+use Rattle.model_core.proofs.EachOne.{every-front}
 use Rattle.text_laws.proofs.Formats.EndWord.{front-is_text}
 use Rattle.static_laws.proofs.StaticTwins.ModelTwin.{accepted_by_itself}
 use Rattle.round_trip.proofs.TokensOfTexts.{GoodTokens, tokens_good}
@@ -17,16 +18,12 @@ use Rattle.round_trip.proofs.ModelTold.{derived-spellable}
 use Rattle.round_trip.proofs.ByParts.{by_parts}
 use Rattle.job_answers.specs.SavedReading.{ReadsSaved}
 
-all_of_front : {X : Type 0} (P : X → Type 0) (xs ys : List X) → AllByRecursion P (xs ++ ys) → AllByRecursion P xs
-all_of_front P [] ys all = tt
-all_of_front P (x ∷ xs) ys all = (all.0, all_of_front P xs ys all.1)
-
 pub saved_model_valid : (text : List ℕ) (g : EventGraph) (s : SavedRun) → ReadsSaved text g s → IsValid g
 saved_model_valid text g s reads =
     let spells = reads.spells in
     let tokens = spells.tokens in
     let front = front-is_text tokens reads.model spells.behind spells.begins.derived in
-    let good = all_of_front _ (front_to_end tokens) spells.behind (subst GoodTokens front.0 (tokens_good text tokens spells.cut)) in
+    let good = every-front _ (front_to_end tokens) spells.behind (subst GoodTokens front.0 (tokens_good text tokens spells.cut)) in
     let by_itself = (accepted_by_itself reads.model g).0 reads.accepted in
     (by_parts g).1 (by_itself.1, derived-spellable (front_to_end tokens) reads.model g good front.1 spells.begins.few_openings by_itself.0)
 

@@ -10,6 +10,7 @@ use Rattle.model_core.specs.Text.Grammar.{many}
 use Rattle.model_core.specs.Text.Written.{WrittenName, WrittenNumber}
 use Rattle.model_core.specs.Text.Format.{TokenSort, AName, ASpelled, ANumber, AWord, ASymbol, sort_of, sort_as, Yields, Single, Apply, Either, Many, Spells, name_bytes, number_value, any_name, any_number, this_name, mark, reserved, number_exact, ◌<*◌, ◌*>◌, maybe}
 use Rattle.model_core.specs.Text.Expressions.{LanguageFormat, level_format}
+use Rattle.round_trip.proofs.Telling.{reserved_kind, mark_kind}
 use Rattle.job_answers.specs.PlainKinds.{before_kinds, plain_kinds}
 
 -- ---- numbers as they stand in a text
@@ -182,18 +183,6 @@ spelled_kind (NameOf b) bytes e = let h : b ≡ bytes = cc in ap NameOf h
 spelled_kind (Reserved v) bytes e = cc
 spelled_kind (NumberOf n m) bytes e = cc
 spelled_kind (Mark s) bytes e = cc
-
-reserved_kind : (k : LexemeKind) (w : Word) → sort_of k ≡ AWord w → k ≡ Reserved w
-reserved_kind (NameOf b) w e = cc
-reserved_kind (Reserved v) w e = let h : v ≡ w = cc in ap Reserved h
-reserved_kind (NumberOf n m) w e = cc
-reserved_kind (Mark s) w e = cc
-
-mark_kind : (k : LexemeKind) (s : Symbol) → sort_of k ≡ ASymbol s → k ≡ Mark s
-mark_kind (NameOf b) s e = cc
-mark_kind (Reserved v) s e = cc
-mark_kind (NumberOf n m) s e = cc
-mark_kind (Mark v) s e = let h : v ≡ s = cc in ap Mark h
 
 pub shows-this_name : (bytes : List ℕ) → Shows (this_name bytes) (AWordSo (NameOf bytes))
 shows-this_name bytes = shows-token (ASpelled bytes) _ (AWordSo (NameOf bytes)) (λ t exact same j. ap (λ x. before_kinds x j) (spelled_kind t.kind bytes same))

@@ -19,11 +19,11 @@ use Rattle.model_core.specs.Text.Numbering as numbering
 use Rattle.model_core.specs.Text.Numbering.{◌>>=◌, natural_of}
 use Rattle.model_core.specs.Text.Format.{separated}
 use Rattle.model_core.specs.Text.Language.{signed_format}
-use Rattle.model_core.specs.Text.SnapshotGrammar.{WrittenStream, WrittenValue, WrittenNoted, WrittenCarried, WrittenPending, or_none, stream_format, value_format, noted_format, exact_format, carried_format, carries_format, pending_format}
+use Rattle.model_core.specs.Text.SnapshotGrammar.{WrittenStream, WrittenValue, WrittenNoted, WrittenCarried, WrittenPending, stream_format, value_format, noted_format, exact_format, carried_format, carries_format, pending_format}
 use Rattle.model_core.specs.Rules.Reduction.{place_of_vertex}
 use Rattle.model_core.specs.Saved.Cells.{cell_variables, variables_watched}
 use Rattle.model_core.specs.Saved.SavedRun.{SavedRun}
-use Rattle.model_core.specs.Saved.GoodSnapshots.{number_or_zero, known_and, is_at_most, from_one_to, signed_values, all_known, fit_variables, carried_of, is_wide, stream_parts, value_parts, noted_parts, has_parameters, pending_part, with_taken, saved_entry}
+use Rattle.model_core.specs.Saved.GoodSnapshots.{number_or_zero, is_at_most, from_one_to, signed_values, all_known, fit_variables, carried_of, is_wide, stream_parts, value_parts, noted_parts, has_parameters, pending_part, with_taken, saved_entry}
 use Rattle.model_core.proofs.BothTrue.{and_first, and_second}
 use Rattle.job_answers.specs.PlainKinds.{before_kinds}
 use Rattle.job_answers.proofs.GoodRuns.{AllGood}
@@ -89,22 +89,22 @@ known-natural w m e = by w.value e
     by (Some (negsuc n)) h = absurd cc
 
 -- a number that a test knows stands as its token
-pub tested-number : (test : ℕ → Bool) (w : WrittenNumber) (k j : List LexemeKind) → ANumberSo k w j → known_and test (numbering.natural w) ≡ true → k ≡ number (number_or_zero w) ∷ j
+pub tested-number : (test : ℕ → Bool) (w : WrittenNumber) (k j : List LexemeKind) → ANumberSo k w j → option_map_or test (numbering.natural w) false ≡ true → k ≡ number (number_or_zero w) ∷ j
 tested-number test w k j so good = by (numbering.natural w) refl good
   where
     same_pos : (x : ℤ) (n m : ℕ) → pos m ≡ x → x ≡ pos n → n ≡ m
     same_pos x n m e h = cc
 
-    by : (o : Option ℕ) → numbering.natural w ≡ o → known_and test o ≡ true → k ≡ number (unwrap_or o 0) ∷ j
+    by : (o : Option ℕ) → numbering.natural w ≡ o → option_map_or test o false ≡ true → k ≡ number (unwrap_or o 0) ∷ j
     by None e h = absurd cc
     by (Some m) e h =
         let s = so (pos m) (known-natural w m e) in
         s.2 ∙ ap (λ n. number n ∷ j) (same_pos (pos m) s.0 m refl s.1)
 
-pub tested-value : (test : ℕ → Bool) (w : WrittenNumber) → known_and test (numbering.natural w) ≡ true → test (number_or_zero w) ≡ true
+pub tested-value : (test : ℕ → Bool) (w : WrittenNumber) → option_map_or test (numbering.natural w) false ≡ true → test (number_or_zero w) ≡ true
 tested-value test w good = by (numbering.natural w) good
   where
-    by : (o : Option ℕ) → known_and test o ≡ true → test (unwrap_or o 0) ≡ true
+    by : (o : Option ℕ) → option_map_or test o false ≡ true → test (unwrap_or o 0) ≡ true
     by None h = absurd cc
     by (Some m) h = h
 
@@ -334,16 +334,16 @@ pub record ANotedSo (k : List LexemeKind) (w : WrittenNoted) (j : List LexemeKin
   pub behind_word : List LexemeKind
   pub word : k ≡ NameOf (codes "noted") ∷ behind_word
   pub listed : Option (List WrittenSigned)
-  pub are : or_none listed ≡ w.values
+  pub are : unwrap_or listed [] ≡ w.values
   pub values : Maybe (Listed ASignedSo) behind_word listed j
 
 pub shows-noted : Shows noted_format ANotedSo
 unfolding noted_format
 shows-noted =
-    shows-then (shows-made (λ at values. record { at = at; values = or_none values }) (Makes (Maybe (Listed ASignedSo)) ANotedSo) (shows-this_name (codes "noted"))
+    shows-then (shows-made (λ at values. record { at = at; values = unwrap_or values [] }) (Makes (Maybe (Listed ASignedSo)) ANotedSo) (shows-this_name (codes "noted"))
     (λ k at i word. makes (λ o j values. record { behind_word = i; word = word; listed = o; are = refl; values = values }))) (shows-maybe (Listed ASignedSo) (shows-listed ASignedSo shows-signed))
 
-maybe-listed : (k : List LexemeKind) (o : Option (List WrittenSigned)) (j : List LexemeKind) → Maybe (Listed ASignedSo) k o j → all_known (or_none o) ≡ true → k ≡ list_kinds (signed_values (or_none o)) ++ j
+maybe-listed : (k : List LexemeKind) (o : Option (List WrittenSigned)) (j : List LexemeKind) → Maybe (Listed ASignedSo) k o j → all_known (unwrap_or o []) ≡ true → k ≡ list_kinds (signed_values (unwrap_or o [])) ++ j
 maybe-listed k None j h known = h
 maybe-listed k (Some ws) j h known = listed-signed k ws j h known
 
@@ -373,7 +373,7 @@ first-carried k w between ws i j begins each closes =
     let whole : k ≡ list_kinds (map carried_of (w ∷ ws)) ++ i = begins ∙ ap (λ l. signed_kinds (carried_of w) ++ l) (others-carried between ws i each) ∙ sym (append_assoc (signed_kinds (carried_of w)) (others_kinds (map carried_of ws)) i) in
     ap (λ l. Mark symbols.OpenParenthesis ∷ l) (whole ∙ ap (λ l. list_kinds (map carried_of (w ∷ ws)) ++ l) closes ∙ sym (append_assoc (list_kinds (map carried_of (w ∷ ws))) (Mark symbols.CloseParenthesis ∷ []) j))
 
-carries-shown : (k : List LexemeKind) (o : Option (List WrittenCarried)) (j : List LexemeKind) → Maybe ACarriesSo k o j → k ≡ carried_kinds (map carried_of (or_none o)) ++ j
+carries-shown : (k : List LexemeKind) (o : Option (List WrittenCarried)) (j : List LexemeKind) → Maybe ACarriesSo k o j → k ≡ carried_kinds (map carried_of (unwrap_or o [])) ++ j
 carries-shown k None j h = h
 carries-shown k (Some ws) j h =
     subst (λ (l : List WrittenCarried). k ≡ carried_kinds (map carried_of l) ++ j) h.listed.are
@@ -394,7 +394,7 @@ pub shows-pending : Shows pending_format APendingSo
 unfolding pending_format
 shows-pending =
     shows-then (shows-then (shows-then (shows-then
-    (shows-made (λ at ticks priority vertex values. record { at = at; ticks = ticks; priority = priority; vertex = vertex; values = or_none values }) (Makes ANumberSo (Makes ANumberSo (Makes ANameSo (Makes (Maybe ACarriesSo) APendingSo)))) (shows-this_name (codes "pending"))
+    (shows-made (λ at ticks priority vertex values. record { at = at; ticks = ticks; priority = priority; vertex = vertex; values = unwrap_or values [] }) (Makes ANumberSo (Makes ANumberSo (Makes ANameSo (Makes (Maybe ACarriesSo) APendingSo)))) (shows-this_name (codes "pending"))
     (λ k at i word. makes (λ t j ticks. makes (λ p l priority. makes (λ n m name. makes (λ o q values. record { behind_word = i; behind_ticks = j; behind_priority = l; behind_name = m; word = word; ticks = ticks; priority = priority; vertex = name; values = carries-shown m o q values })))))) shows-number) shows-number) shows-name) (shows-maybe ACarriesSo shows-carries)
 
 -- the vertex that a name places has that name

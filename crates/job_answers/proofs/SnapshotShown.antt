@@ -15,7 +15,7 @@ use Rattle.model_core.specs.Saved.SavedRun.{SavedRun, IsGood}
 use Rattle.model_core.specs.Saved.GoodSnapshots.{number_or_zero, is_at_most, signed_values, JudgedPart, stream_parts, value_parts, noted_parts, pending_part, snapshot_parts, bad_at, with_taken, saved_entry, saved_run}
 use Rattle.model_core.proofs.BothTrue.{and_first, and_second}
 use Rattle.job_answers.specs.PlainKinds.{plain_kinds}
-use Rattle.job_answers.proofs.GoodRuns.{none_bad, in_two, all_values, good_run}
+use Rattle.job_answers.proofs.GoodRuns.{good_parts, good_run}
 use Rattle.job_answers.proofs.Showing.{number, AreExact, tokens-exact, exact-behind, Showing, Shows, Makes, makes, Stays, stays, Maybe, Each, AWordSo, ANumberSo, shows-yields, shows-then, shows-past, shows-maybe, shows-many, shows-this_name, shows-reserved, shows-number}
 use Rattle.job_answers.proofs.SnapshotKinds.{streams_kinds, values_kinds, noted_kinds, events_kinds, run_kinds, tested-number, tested-value, AStreamSo, shows-stream, streams-shown, AValueSo, shows-value, values-shown, ANotedSo, shows-noted, noted-shown, APendingSo, shows-pending, events-shown}
 
@@ -65,28 +65,17 @@ remainder a b less = omega (arith, less)
 
 snapshot-kinds : (g : EventGraph) (k : List LexemeKind) (w : WrittenSnapshot) (j : List LexemeKind) → SnapshotSo k w j → bad_at g w ≡ None → j ≡ [] → k ≡ run_kinds g (saved_run g w)
 snapshot-kinds g k w j h none nothing =
-    let parts = none_bad (snapshot_parts g w) none in
-    let streams = stream_parts 0 w.streams in
-    let values = value_parts g.variables w.values in
-    let noted = noted_parts g w.noted in
-    let pending = map (pending_part g) w.pending in
-    let last : List JudgedPart = record { good = not (nat_lt (length w.values) (length g.variables)); at = w.end_at } ∷ [] in
-    let all_pending = in_two (streams ++ values ++ noted ++ pending) last parts.1.1.1 in
-    let all_noted = in_two (streams ++ values ++ noted) pending all_pending.0 in
-    let all_valued = in_two (streams ++ values) noted all_noted.0 in
-    let all_streams = in_two streams values all_valued.0 in
-    let seed_good = and_first (is_at_most (2 ^ 32 - 1) w.seed) (is_at_most (2 ^ 32 - 1) w.seed_rest) parts.0 in
-    let rest_good = and_second (is_at_most (2 ^ 32 - 1) w.seed) (is_at_most (2 ^ 32 - 1) w.seed_rest) parts.0 in
-    let rest_below : number_or_zero w.seed_rest < 2 ^ 32 = (let e = tested-value (λ n. nat_lt n (2 ^ 32)) w.seed_rest rest_good in grind (arith, nat_tests, e)) in
+    let parts = good_parts g w none in
+    let rest_below : number_or_zero w.seed_rest < 2 ^ 32 = (let e = tested-value (λ n. nat_lt n (2 ^ 32)) w.seed_rest parts.seed_rest in grind (arith, nat_tests, e)) in
     let from_end = h.end ∙ ap (λ l. Reserved words.End ∷ l) nothing in
-    let from_pending = events-shown g (number_or_zero w.clock) h.after_noted w.pending h.after_pending h.pending all_noted.1 ∙ ap (λ l. events_kinds g (number_or_zero w.clock) (map (saved_entry g (number_or_zero w.clock)) w.pending) ++ l) from_end in
-    let from_noted = noted-shown g h.after_values w.noted h.after_noted h.noted all_valued.1 ∙ ap (λ l. noted_kinds (option_map (λ (n : WrittenNoted). signed_values n.values) w.noted) ++ l) from_pending in
-    let from_values = values-shown h.after_streams g.variables w.values h.after_values h.values all_streams.1 (all_values (length w.values) (length g.variables) all_pending.1.0) ∙ ap (λ l. values_kinds g.variables (flat_map (λ (v : WrittenValue). signed_values v.values) w.values) ++ l) from_noted in
-    let from_streams = streams-shown h.after_events w.streams h.after_streams h.streams all_streams.0 ∙ ap (λ l. streams_kinds 0 (with_taken w.streams (replicate 64 0)) ++ l) from_values in
-    let from_events = h.events_word ∙ ap (λ l. NameOf (codes "events") ∷ l) (tested-number _ w.events h.after_events_word h.after_events h.events parts.1.1.0 ∙ ap (λ l. number (number_or_zero w.events) ∷ l) from_streams) in
-    let from_clock = h.clock_word ∙ ap (λ l. Reserved words.Clk ∷ l) (tested-number _ w.clock h.after_clock_word h.after_clock h.clock parts.1.0 ∙ ap (λ l. number (number_or_zero w.clock) ∷ l) from_events) in
-    let from_rest = tested-number _ w.seed_rest h.after_seed h.after_rest h.rest rest_good ∙ ap₂ (λ n l. number n ∷ l) (remainder (number_or_zero w.seed) (number_or_zero w.seed_rest) rest_below) from_clock in
-    let from_seed = tested-number _ w.seed h.after_seed_word h.after_seed h.seed seed_good ∙ ap₂ (λ n l. number n ∷ l) (quotient (number_or_zero w.seed) (number_or_zero w.seed_rest) rest_below) from_rest in
+    let from_pending = events-shown g (number_or_zero w.clock) h.after_noted w.pending h.after_pending h.pending parts.pending ∙ ap (λ l. events_kinds g (number_or_zero w.clock) (map (saved_entry g (number_or_zero w.clock)) w.pending) ++ l) from_end in
+    let from_noted = noted-shown g h.after_values w.noted h.after_noted h.noted parts.noted ∙ ap (λ l. noted_kinds (option_map (λ (n : WrittenNoted). signed_values n.values) w.noted) ++ l) from_pending in
+    let from_values = values-shown h.after_streams g.variables w.values h.after_values h.values parts.values parts.enough ∙ ap (λ l. values_kinds g.variables (flat_map (λ (v : WrittenValue). signed_values v.values) w.values) ++ l) from_noted in
+    let from_streams = streams-shown h.after_events w.streams h.after_streams h.streams parts.streams ∙ ap (λ l. streams_kinds 0 (with_taken w.streams (replicate 64 0)) ++ l) from_values in
+    let from_events = h.events_word ∙ ap (λ l. NameOf (codes "events") ∷ l) (tested-number _ w.events h.after_events_word h.after_events h.events parts.events ∙ ap (λ l. number (number_or_zero w.events) ∷ l) from_streams) in
+    let from_clock = h.clock_word ∙ ap (λ l. Reserved words.Clk ∷ l) (tested-number _ w.clock h.after_clock_word h.after_clock h.clock parts.clock ∙ ap (λ l. number (number_or_zero w.clock) ∷ l) from_events) in
+    let from_rest = tested-number _ w.seed_rest h.after_seed h.after_rest h.rest parts.seed_rest ∙ ap₂ (λ n l. number n ∷ l) (remainder (number_or_zero w.seed) (number_or_zero w.seed_rest) rest_below) from_clock in
+    let from_seed = tested-number _ w.seed h.after_seed_word h.after_seed h.seed parts.seed ∙ ap₂ (λ n l. number n ∷ l) (quotient (number_or_zero w.seed) (number_or_zero w.seed_rest) rest_below) from_rest in
     h.word ∙ ap (λ l. NameOf (codes "snapshot") ∷ l) (h.seed_word ∙ ap (λ l. NameOf (codes "seed") ∷ l) from_seed)
 
 kinds-of : (g : EventGraph) (tokens : List Lexeme) (w : WrittenSnapshot) → AreExact tokens → IsSnapshot tokens w → bad_at g w ≡ None → plain_kinds tokens ≡ run_kinds g (saved_run g w)

@@ -1,17 +1,17 @@
 -- Which starting values are taken: a run begins with exactly those that aren't refused, and of others the line tells why.
 use Rattle.std.proofs.Common.{◌≡◌, ◌≢◌, ◌==◌, Bool, inl, inr, ℕ, zero, suc, add-zero, ◌+◌, ◌<◌, ℤ, pos, true, false, List, [], ◌∷◌, length, get_or, Some, None, Result, Ok, Err, refl, sym, ap, ap₂, ◌∙◌, subst, arith}
 use Rattle.std.specs.Prelude.{IsTrue, cond}
-use Rattle.std.proofs.lemmas.Bool.{eq-eqb}
-use Rattle.std.proofs.lemmas.Bool.Decides.{eqb_tells, nat_tests}
+use Rattle.std.proofs.lemmas.Bool.{eq-eqb, ne_eqb}
+use Rattle.std.proofs.lemmas.Bool.Decides.{nat_tests}
 use lib.Pointwise.{pointwise}
 use Rattle.model_core.specs.EventGraph.{EventGraph, Variable}
 use Rattle.model_core.proofs.BothTrue.{and_first, and_second}
 use Rattle.model_core.specs.Run.State.{within, no_variable}
-use Rattle.model_core.specs.Run.History.{allowed}
+use Rattle.model_core.specs.Run.History.{allowed, start_parameters}
 use Rattle.sig_base.specs.Sink.{Outlet}
 use Rattle.run_control.specs.declared.begin_error.BeginError.{BeginError}
 use Rattle.run_control.specs.declared.begin_error.BeginError.TheVariants as errors
-use Rattle.run_control.specs.Beginning.{parameters, fits_at, RefusesStart}
+use Rattle.run_control.specs.Beginning.{fits_at, RefusesStart}
 use Rattle.job_answers.specs.declared.answer.Answer.{Answer}
 use Rattle.job_answers.specs.declared.answer.Answer.TheVariants.{Refused}
 use Rattle.job_answers.specs.declared.delivering.Said.{Said}
@@ -45,14 +45,11 @@ none_told place (v ∷ vs) (x ∷ xs) all =
     let (long, none) = none_told (suc place) vs xs (and_second (within v.lo v.hi x) (pointwise (λ v x. within v.lo v.hi x) vs xs) all) in
     (omega (arith, long), rw inside none)
 
-not_equal : (a b : ℕ) → a ≢ b → (a == b) ≡ false
-not_equal a b differ = elim (eqb_tells a b) [ inl same ↦ absurd (differ same.1) | inr other ↦ other.0 ]
-
 -- a run that begins has starting values that are taken
 pub taken_start : (g : EventGraph) (starts : List ℤ) → IsTrue (allowed g starts) → start_refusal g starts ≡ None
 taken_start g starts all =
-    let (long, none) = none_told 1 (parameters g) starts all in
-    ap (λ b. cond b (first_outside 1 (parameters g) starts) (Some (count_line (length (parameters g)) (length starts)))) (eq-eqb _ _ long) ∙ none
+    let (long, none) = none_told 1 (start_parameters g) starts all in
+    ap (λ b. cond b (first_outside 1 (start_parameters g) starts) (Some (count_line (length (start_parameters g)) (length starts)))) (eq-eqb _ _ long) ∙ none
 
 -- of values of which none is told each lies in its range
 none_outside : (place : ℕ) (vs : List Variable) (xs : List ℤ) → length vs ≡ length xs → first_outside place vs xs ≡ None → pointwise (λ v x. within v.lo v.hi x) vs xs ≡ true
@@ -68,23 +65,23 @@ none_outside place (v ∷ vs) (x ∷ xs) long none = by (within v.lo v.hi x) ref
 
 -- a run begins with starting values that aren't refused
 pub unrefused_start : (g : EventGraph) (starts : List ℤ) → start_refusal g starts ≡ None → IsTrue (allowed g starts)
-unrefused_start g starts none = by (length (parameters g) == length starts) refl none
+unrefused_start g starts none = by (length (start_parameters g) == length starts) refl none
   where
-    by : (b : Bool) → (length (parameters g) == length starts) ≡ b → cond b (first_outside 1 (parameters g) starts) (Some (count_line (length (parameters g)) (length starts))) ≡ None → IsTrue (allowed g starts)
-    by true same none = none_outside 1 (parameters g) starts (grind (arith, nat_tests, same)) none
+    by : (b : Bool) → (length (start_parameters g) == length starts) ≡ b → cond b (first_outside 1 (start_parameters g) starts) (Some (count_line (length (start_parameters g)) (length starts))) ≡ None → IsTrue (allowed g starts)
+    by true same none = none_outside 1 (start_parameters g) starts (grind (arith, nat_tests, same)) none
     by false other none = absurd cc
 
 -- a run that can't begin is refused with the line that is told
 pub refused_start : (g : EventGraph) (starts : List ℤ) (error : BeginError) (line : List ℕ) → RefusesStart g starts error → RefusalLine error line → start_refusal g starts ≡ Some line
 refused_start g starts (errors.StartCount needed given) line refuses told =
-    let differ : length (parameters g) ≢ length starts = λ same. refuses.differ (refuses.needs ∙ same ∙ sym refuses.has) in
-    ap (λ b. cond b (first_outside 1 (parameters g) starts) (Some (count_line (length (parameters g)) (length starts)))) (not_equal _ _ differ)
+    let differ : length (start_parameters g) ≢ length starts = λ same. refuses.differ (refuses.needs ∙ same ∙ sym refuses.has) in
+    ap (λ b. cond b (first_outside 1 (start_parameters g) starts) (Some (count_line (length (start_parameters g)) (length starts)))) (ne_eqb _ _ differ)
     ∙ ap₂ (λ n m. Some (count_line n m)) (sym refuses.needs) (sym refuses.has) ∙ ap (λ l. Some l) (sym told)
 refused_start g starts (errors.StartOutside place value) line refuses told =
     let found = refuses.2 in
-    let first = first_told 1 refuses.0 (parameters g) starts found.matched found.below (subst (λ x. within (get_or (parameters g) refuses.0 no_variable).lo (get_or (parameters g) refuses.0 no_variable).hi x ≡ false) found.is found.outside) found.first in
+    let first = first_told 1 refuses.0 (start_parameters g) starts found.matched found.below (subst (λ x. within (get_or (start_parameters g) refuses.0 no_variable).lo (get_or (start_parameters g) refuses.0 no_variable).hi x ≡ false) found.is found.outside) found.first in
     let one_more : 1 + refuses.0 ≡ place = omega (arith, refuses.1) in
-    ap (λ b. cond b (first_outside 1 (parameters g) starts) (Some (count_line (length (parameters g)) (length starts)))) (eq-eqb _ _ (sym found.matched))
+    ap (λ b. cond b (first_outside 1 (start_parameters g) starts) (Some (count_line (length (start_parameters g)) (length starts)))) (eq-eqb _ _ (sym found.matched))
     ∙ first ∙ ap₂ (λ n x. Some (outside_line n x)) one_more (sym found.is) ∙ ap (λ l. Some l) (sym told)
 refused_start g starts errors.NoMemory line refuses told = absurd told
 

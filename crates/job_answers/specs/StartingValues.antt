@@ -3,7 +3,7 @@ use Rattle.std.specs.Prelude.{ℕ, suc, ◌==◌, ℤ, if◌then◌else◌, List
 use Rattle.std.specs.Fmt.{signed_decimal}
 use Rattle.model_core.specs.EventGraph.{EventGraph, Variable}
 use Rattle.model_core.specs.Run.State.{within}
-use Rattle.run_control.specs.Beginning.{parameters}
+use Rattle.model_core.specs.Run.History.{start_parameters}
 
 -- the line for another number of starting values than the first vertex has parameters
 abbrev pub count_line : ℕ → ℕ → List ℕ
@@ -23,5 +23,5 @@ first_outside place (v ∷ vs) (x ∷ values) = if within v.lo v.hi x then first
 -- outside its parameter's range. Places count from 1
 abbrev pub start_refusal : EventGraph → List ℤ → Option (List ℕ)
 start_refusal g starts =
-    if length (parameters g) == length starts then first_outside 1 (parameters g) starts
-    else Some (count_line (length (parameters g)) (length starts))
+    if length (start_parameters g) == length starts then first_outside 1 (start_parameters g) starts
+    else Some (count_line (length (start_parameters g)) (length starts))

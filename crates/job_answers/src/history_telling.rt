@@ -1,17 +1,17 @@
 //! The history of a run from where it stands, written as it happens.
 
-ghost use Rattle.std.specs.Prelude.{◌≡◌, ◌+◌, ◌≤◌, ◌<◌, ◌^◌, ℕ, length, None};
+ghost use Rattle.std.specs.Prelude.{◌≡◌, ◌+◌, ◌≤◌, ◌^◌, ℕ, length, None};
 ghost use Rattle.model_core.specs.Code.Views.{graph_of};
 ghost use Rattle.watch_trace.specs.Tracing.{moment_of};
-ghost use Rattle.job_answers.specs.Inner.RunSteps.{ending, StreamsFrom};
+ghost use Rattle.job_answers.specs.Inner.RunSteps.{ending, DeliversHistory};
 
+use crate::delivering::{Said, close};
 use crate::status::{End, Failure};
 use event_list::Pending;
 use run_control::Run;
-use sig_base::{Sink, Steps};
+use sig_base::Sink;
 use std::mem::forget;
-use std::sync::ledger::{Blank, Ledger};
-use watch_trace::{Outcome, Tracer, follow};
+use watch_trace::{Outcome, Tracer, write_history};
 
 /// How a job ends whose run came to the outcome.
 fn ending(outcome: Outcome) -> Result<End, Failure>
@@ -26,31 +26,29 @@ fn ending(outcome: Outcome) -> Result<End, Failure>
     }
 }
 
-/// Writes the history of a run from where it and its tracer stand, and answers how the job ends. Its steps are counted by
-/// nobody. The program ends behind it, so the run isn't taken apart.
-pub(crate) fn tell_from<'m, P: Pending + Drop, K: Sink, L: Ledger>(
+/// Writes the history of a run from where it and its tracer stand, and finishes the output. The program ends behind it, so
+/// the run isn't taken apart.
+pub(crate) fn tell_from<'m, P: Pending + Drop, K: Sink>(
     run: Run<'m, P>,
     tracer: Tracer<'m>,
     until: u64,
     events: u64,
     output: &mut K,
-    blank: Blank,
-) -> Result<End, Failure>
-    requires name { blank.name ≡ L.name }
-    requires parts { blank.parts ≡ L.parts }
-    requires some { 0 < blank.parts }
+) -> Result<Said, Failure>
     requires soon { until ≤ 2 ^ 48 }
     requires budget { run.turns + events ≤ 2 ^ 40 }
     requires one_model { tracer.model ≡ run.model }
     requires goes_on { run.faulted ≡ None }
     ensures { (room : ℕ) → room ≤ run.entry.spare + length run.entry.now.pending
-        → StreamsFrom K.seen (graph_of run.entry.model) until run.entry.seed events (moment_of run.entry tracer.entry) room result output.old output.new }
+        → DeliversHistory K.seen (graph_of run.entry.model) until run.entry.seed events (moment_of run.entry tracer.entry) room result output.old output.new }
 {
     let mut run = run;
     let mut tracer = tracer;
-    let mut steps: Steps<L> = Steps::begin(blank);
-    let outcome = follow(&mut tracer, &mut run, until, events, output, &mut steps);
+    let outcome = write_history(&mut tracer, &mut run, until, events, output);
     forget(tracer);
     forget(run);
-    ending(outcome)
+    match ending(outcome) {
+        Ok(end) => close(output, end),
+        Err(failure) => Err(failure),
+    }
 }

@@ -1,17 +1,15 @@
 //! `replicate`: the report of many runs of a model, written run by run, or why they can't begin.
 
-ghost use Rattle.std.specs.Prelude.{◌≡◌, ◌-◌, ◌≤◌, ◌<◌, ◌^◌, All, IfOk, IfErr, IsTrue};
+ghost use Rattle.std.specs.Prelude.{◌≡◌, ◌≤◌, ◌<◌, ◌^◌, All, IfOk};
 ghost use Rattle.sig_base.specs.declared.limits.TheConstants.{RUNS_MAX};
 ghost use Rattle.model_core.specs.Static.Reading.{IsValid};
-ghost use Rattle.model_core.specs.Run.History.{allowed};
 ghost use Rattle.model_core.specs.Code.Views.{graph_of};
-ghost use Rattle.tally_report.specs.TallyRefusals.{RefusesTally};
 ghost use Rattle.tally_report.specs.SmallAreas.{IsOfRuns};
 ghost use Rattle.tally_report.specs.Totalling.{with_run};
 ghost use Rattle.tally_report.specs.ReportText.{run_rows};
 ghost use Rattle.job_answers.specs.ReplicateAnswer.{seed_of_run, tally_numbered, report, replicate_answer};
 ghost use Rattle.job_answers.specs.Delivery.{DeliversSome};
-ghost use Rattle.job_answers.specs.Inner.ReportSteps.{begin_error_of, left_from};
+ghost use Rattle.job_answers.specs.Inner.ReportSteps.{left_from};
 ghost use Rattle.job_answers.specs.Inner.WritingSteps.{InPieces};
 
 use crate::beginning::refuse_start;
@@ -20,7 +18,7 @@ use crate::status::{End, Failure};
 use command_words::ReplicateOptions;
 use model_core::Model;
 use round_trip::validity_is_by_parts;
-use run_control::{BeginError, kept_models_can_be_run};
+use run_control::{check_starts, kept_models_can_be_run};
 use sig_base::Sink;
 use std::alloc::Global;
 use tally_report::{RunTally, TallyError, Totals, header_csv, run_csv, tally_one, totals_csv};
@@ -44,10 +42,8 @@ fn tally_numbered(
     requires soon { options.now.until ≤ 2 ^ 48 }
     requires budget { options.now.events ≤ 2 ^ 40 }
     requires first { 0 < number }
-    ensures accepted { IfOk result (λ tally. IsTrue (allowed (graph_of model.now) options.now.starts)) }
     ensures told { IfOk result (λ tally. tally ≡ tally_numbered (graph_of model.now) options.now number) }
     ensures small { IfOk result (λ tally. All (IsOfRuns 1) tally.items) }
-    ensures err { IfErr result (RefusesTally (graph_of model.now) options.now.starts) }
 {
     validity_is_by_parts();
     kept_models_can_be_run();
@@ -59,17 +55,6 @@ fn tally_numbered(
         options.events,
         &options.starts,
     )
-}
-
-/// Why the run can't begin of which there is no tally.
-fn begin_error_of(error: TallyError) -> BeginError
-    ensures { result ≡ begin_error_of error }
-{
-    match error {
-        TallyError::StartCount { needed, given } => BeginError::StartCount { needed, given },
-        TallyError::StartOutside { place, value } => BeginError::StartOutside { place, value },
-        TallyError::NoMemory => BeginError::NoMemory,
-    }
 }
 
 /// Writes the rows of a run, and adds it to the totals.
@@ -93,8 +78,8 @@ fn tell_run<K: Sink>(
     Ok(())
 }
 
-/// Writes the rows of the runs from the second one on, and those of the totals, which begin with the first run's.
-fn tell_further<K: Sink>(
+/// Writes the rows of the runs, and those of the totals.
+fn tell_runs<K: Sink>(
     alloc: Global,
     model: &Model,
     options: &ReplicateOptions,
@@ -104,16 +89,15 @@ fn tell_further<K: Sink>(
     requires valid { IsValid (graph_of model.now) }
     requires soon { options.now.until ≤ 2 ^ 48 }
     requires budget { options.now.events ≤ 2 ^ 40 }
-    requires some { 0 < options.now.runs }
     requires few { options.now.runs ≤ RUNS_MAX }
-    requires one { totals.runs ≡ 1 }
-    ensures { InPieces (left_from (graph_of model.now) options.now totals 2 (options.now.runs - 1)) result (K.seen output.old) (K.seen output.new) }
+    requires none { totals.runs ≡ 0 }
+    ensures { InPieces (left_from (graph_of model.now) options.now totals 1 options.now.runs) result (K.seen output.old) (K.seen output.new) }
 {
     let mut totals = totals;
-    for number in 2..options.runs + 1 {
+    for number in 1..options.runs + 1 {
         let tally = match tally_numbered(alloc, model, options, number) {
             Ok(tally) => tally,
-            // The first run took the starting values, so that it is memory that lacks.
+            // The starting values were taken, so that it is memory that lacks.
             Err(_) => return Err(Failure::NoMemory),
         };
         let seed = seed_of_run(options.seed, number);
@@ -122,28 +106,22 @@ fn tell_further<K: Sink>(
     write_all(output, totals_csv(alloc, model, &totals)?.as_slice())
 }
 
-/// Writes the report whose first run has this tally.
+/// Writes the report of a model that takes the starting values.
 fn tell_report<K: Sink>(
     alloc: Global,
     model: &Model,
     options: &ReplicateOptions,
-    first: &RunTally,
     output: &mut K,
 ) -> Result<(), Failure>
     requires valid { IsValid (graph_of model.now) }
     requires soon { options.now.until ≤ 2 ^ 48 }
     requires budget { options.now.events ≤ 2 ^ 40 }
-    requires some { 0 < options.now.runs }
     requires few { options.now.runs ≤ RUNS_MAX }
-    requires told { first.now ≡ tally_numbered (graph_of model.now) options.now 1 }
-    requires small { All (IsOfRuns 1) first.now.items }
     ensures { InPieces (report (graph_of model.now) options.now) result (K.seen output.old) (K.seen output.new) }
 {
-    let mut totals = Totals::begin(alloc, model)?;
+    let totals = Totals::begin(alloc, model)?;
     write_all(output, header_csv(alloc)?.as_slice())?;
-    let seed = seed_of_run(options.seed, 1);
-    tell_run(alloc, model, 1, seed, first, &mut totals, output)?;
-    tell_further(alloc, model, options, totals, output)
+    tell_runs(alloc, model, options, totals, output)
 }
 
 /// Writes the report of the runs, each run's rows as it is done.
@@ -160,10 +138,13 @@ pub fn replicate<K: Sink>(
     requires few { options.now.runs ≤ RUNS_MAX }
     ensures { DeliversSome K.seen (λ a. a ≡ replicate_answer (graph_of model.now) options.now) (Unit {0}) result output.old output.new }
 {
-    let first = match tally_numbered(alloc, model, options, 1) {
-        Ok(tally) => tally,
-        Err(error) => return refuse_start(alloc, begin_error_of(error)),
-    };
-    tell_report(alloc, model, options, &first, output)?;
-    close(output, End::Done)
+    validity_is_by_parts();
+    kept_models_can_be_run();
+    match check_starts(model, options.starts.as_slice()) {
+        Ok(()) => {
+            tell_report(alloc, model, options, output)?;
+            close(output, End::Done)
+        }
+        Err(error) => refuse_start(alloc, error),
+    }
 }

@@ -8,7 +8,7 @@ ghost use Rattle.job_answers.specs.RunAnswer.{told_of};
 ghost use Rattle.job_answers.specs.ResumeAnswer.{below_clock_line, too_many_events, resume_refusal, resume_answer, ResumedExceedsRoom};
 ghost use Rattle.job_answers.specs.Delivery.{DeliversSome};
 
-use crate::delivering::{Said, close};
+use crate::delivering::Said;
 use crate::history_telling::tell_from;
 use crate::status::{Failure, Refusal};
 use command_words::ResumeOptions;
@@ -20,8 +20,6 @@ use run_control::kept_models_can_be_run;
 use run_snapshot::{Snapshot, resume};
 use sig_base::{EVENTS_MAX, NoMemory, Sink, Text, put_bytes, put_number};
 use std::alloc::Global;
-use std::marker::Brand;
-use std::sync::ledger::Blank;
 
 /// As many pending events as a run can't count.
 const PENDING_COUNTED: usize = 1 << 61;
@@ -90,18 +88,13 @@ fn resume_over<P: Pending + Drop, K: Sink>(
         Ok(resumed) => resumed,
         Err(_) => return Err(Failure::NoMemory),
     };
-    let blank = Blank::new(1);
-    match tell_from::<P, K, Brand>(
+    tell_from(
         resumed.run,
         resumed.tracer,
         options.until,
         options.events,
         output,
-        blank,
-    ) {
-        Ok(end) => close(output, end),
-        Err(failure) => Err(failure),
-    }
+    )
 }
 
 /// Goes on with a saved run, and writes the history from there on as it happens.

@@ -1,6 +1,6 @@
 //! `save`: a run of a model, stopped while it goes on, as a document of the model and of what is kept of the run.
 
-ghost use Rattle.std.specs.Prelude.{◌≡◌, ◌<◌, ◌≤◌, ◌^◌, ℕ, ℤ, List, IfOk};
+ghost use Rattle.std.specs.Prelude.{◌≡◌, ◌<◌, ◌≤◌, ◌^◌, ℕ, IfOk};
 ghost use Rattle.model_core.specs.Saved.SavedRun.{IsGood};
 ghost use Rattle.model_core.specs.Static.Reading.{IsValid};
 ghost use Rattle.model_core.specs.Code.Views.{graph_of};
@@ -9,7 +9,6 @@ ghost use Rattle.job_answers.specs.Delivery.{DeliversSome};
 ghost use Rattle.job_answers.specs.SaveAnswer.{run_finished, snapshot_too_long, saved_document, unless_too_long, saving_answer, save_answer};
 ghost use Rattle.job_answers.specs.declared.answer.Answer.TheVariants.{Refused as IsRefused};
 ghost use Rattle.job_answers.specs.declared.status.Refusal.TheVariants.{Finished, TooLarge};
-ghost use Rattle.job_answers.specs.Inner.RunSteps.{IsFresh};
 ghost use Rattle.job_answers.specs.Inner.SaveSteps.{SavedOrFinished};
 
 use crate::answer::Answer;
@@ -24,49 +23,37 @@ use model_print::print;
 use round_trip::validity_is_by_parts;
 use run_control::Run;
 use run_snapshot::{Snapshot, print_snapshot, save, saved_runs_resume};
-use sig_base::{DOCUMENT_MAX, NoMemory, Sink, Steps, Text, put_bytes};
+use sig_base::{DOCUMENT_MAX, NoMemory, Sink, Text, put_bytes};
 use std::alloc::Global;
-use std::marker::Brand;
-use std::sync::ledger::{Blank, Ledger};
 use watch_trace::{Outcome, Tracer, observe};
 
 /// The pending events for which a run has room from its beginning.
 const ROOM: usize = 4_096;
 
-/// What is kept of a run that has begun, after so many events: `None` where it doesn't go on then. Its steps are counted by
-/// nobody, and its notes are dropped.
-fn saved_part<'m, P: Pending + Drop, L: Ledger>(
+/// What is kept of a run that has begun, after so many events: `None` where it doesn't go on then. Its notes are dropped.
+fn saved_part<'m, P: Pending + Drop>(
     alloc: Global,
     run: Run<'m, P>,
     model: &'m Model,
-    seed: u64,
-    until: u64,
-    events: u64,
-    blank: Blank,
+    options: &SaveOptions,
 ) -> Result<Option<Snapshot>, NoMemory>
-    requires name { blank.name ≡ L.name }
-    requires parts { blank.parts ≡ L.parts }
-    requires some { 0 < blank.parts }
-    requires soon { until ≤ 2 ^ 48 }
-    requires budget { events ≤ 2 ^ 40 }
-    requires fresh { IsFresh model.now run }
-    ensures { (starts : List ℤ) (room : ℕ) → BegunRun model.now seed starts room run.entry
-        → IfOk result (SavedOrFinished (graph_of model.now) until seed events starts) }
+    requires soon { options.now.until ≤ 2 ^ 48 }
+    requires budget { options.now.events ≤ 2 ^ 40 }
+    requires begun { (room : ℕ) × BegunRun model.now options.now.seed options.now.starts room run }
+    ensures { IfOk result (SavedOrFinished (graph_of model.now) options.now.until options.now.seed options.now.events options.now.starts) }
 {
     let mut run = run;
     let mut tracer = Tracer::begin(alloc, model)?;
-    let mut steps: Steps<L> = Steps::begin(blank);
     let outcome = observe(
         &mut tracer,
         &mut run,
-        until,
-        events,
+        options.until,
+        options.events,
         &mut NotesDropped,
         &mut (),
-        &mut steps,
     );
     match outcome {
-        Outcome::Budget => Ok(Some(save(alloc, model, run, &tracer, seed)?)),
+        Outcome::Budget => Ok(Some(save(alloc, model, run, &tracer, options.seed)?)),
         Outcome::Ended { .. } | Outcome::Stopped | Outcome::Faulted { .. } => Ok(None),
         Outcome::NoMemory | Outcome::WriteFault => Err(NoMemory),
     }
@@ -128,16 +115,7 @@ fn saving<'m, P: Pending + Drop>(
 {
     validity_is_by_parts();
     saved_runs_resume();
-    let blank = Blank::new(1);
-    match saved_part::<P, Brand>(
-        alloc,
-        run,
-        model,
-        options.seed,
-        options.until,
-        options.events,
-        blank,
-    )? {
+    match saved_part(alloc, run, model, options)? {
         Some(snapshot) => document(alloc, model, &snapshot),
         None => finished(alloc),
     }

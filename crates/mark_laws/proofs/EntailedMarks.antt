@@ -1,10 +1,12 @@
 -- The places that are marked by passes over pairs are those that are entailed.
-use Rattle.std.proofs.Common.{◌≡◌, ◌⊎◌, inl, inr, ℕ, zero, suc, ◌<◌, ◌==◌, Bool, true, false, ◌&&◌, ◌||◌, List, length, map, refl, sym, subst, arith, ◌∙◌}
+use Rattle.std.proofs.Common.{◌≡◌, ◌⊎◌, inl, inr, ℕ, zero, suc, ◌<◌, ◌==◌, Bool, true, ◌&&◌, ◌||◌, List, length, map, refl, sym, subst, arith, ◌∙◌}
 use Rattle.std.proofs.lemmas.Bool.Decides.{nat_tests}
 use Rattle.std.specs.List.{range_with_len}
 use Rattle.std.proofs.lemmas.List.FromFn.{length-map-range_with_len}
+use Rattle.std.proofs.lemmas.Bool.{and_from, and_parts}
 use Rattle.model_core.specs.Rules.MarkedPlaces.{is_marked, is_among, passes}
-use Rattle.model_core.specs.Rules.Entailed.{Entailed, from_first, over_pair, is_entailed_by, one_pair_further, entailed_marks}
+use Rattle.model_core.specs.Rules.Entailed.{is_entailed_by, one_pair_further, entailed_marks}
+use Rattle.model_core.specs.Rules.LeastRelations.{Entailed, from_first, over_pair}
 use Rattle.mark_laws.proofs.Marks.{Marked}
 use Rattle.mark_laws.proofs.LeastSets.{Below, passes-close, passes-long}
 use Rattle.model_core.proofs.PlacesChanged.{same_number}
@@ -13,14 +15,6 @@ use Rattle.mark_laws.proofs.MarksBelow.{marked-within, below-by_places, equal-by
 
 pub same-place : (a b : ℕ) → (a == b) ≡ true → a ≡ b
 same-place a b e = grind (arith, nat_tests)
-
-both_true : (a b : Bool) → (a && b) ≡ true → (a ≡ true) × (b ≡ true)
-both_true true b e = (refl, e)
-both_true false b e = cc
-
-both_hold : (a b : Bool) → a ≡ true → b ≡ true → (a && b) ≡ true
-both_hold true b here there = there
-both_hold false b here there = cc
 
 pub among-place : (places : List ℕ) (k : ℕ) → is_among places k ≡ true → Among k places
 among-place places k e = let (j, among, is) = any-among (λ j. j == k) places e in subst (λ (i : ℕ). Among i places) (same-place j k is) among
@@ -31,11 +25,11 @@ place-among places k among = among-any (λ j. j == k) places k among (same_numbe
 pub entailed-by : (marks : List Bool) (pairs : List (ℕ × ℕ)) (k : ℕ) → is_entailed_by marks pairs k ≡ true → (j : ℕ) × Marked marks j × Among (j, k) pairs
 entailed-by marks pairs k e =
     let ((i, j), among, passes) = any-among (λ ((i, j) : ℕ × ℕ). is_marked marks i && (j == k)) pairs e in
-    let (marked, same) = both_true (is_marked marks i) (j == k) passes in
+    let (marked, same) = and_parts (is_marked marks i) (j == k) passes in
     (i, marked, subst (λ (n : ℕ). Among (i, n) pairs) (same-place j k same) among)
 
 pub by-entailed : (marks : List Bool) (pairs : List (ℕ × ℕ)) (j k : ℕ) → Marked marks j → Among (j, k) pairs → is_entailed_by marks pairs k ≡ true
-by-entailed marks pairs j k marked among = among-any (λ ((i, n) : ℕ × ℕ). is_marked marks i && (n == k)) pairs (j, k) among (both_hold (is_marked marks j) (k == k) marked (same_number k k refl))
+by-entailed marks pairs j k marked among = among-any (λ ((i, n) : ℕ × ℕ). is_marked marks i && (n == k)) pairs (j, k) among (and_from (is_marked marks j) (k == k) marked (same_number k k refl))
 
 -- ---- marks that hold the first places and are closed under the pairs
 

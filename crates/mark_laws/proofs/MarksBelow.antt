@@ -18,7 +18,7 @@ below-by_places [] (y ∷ b) long h = cc
 below-by_places (x ∷ a) [] long h = cc
 below-by_places (x ∷ a) (y ∷ b) long h = (h zero, below-by_places a b (omega (arith, long)) (λ k. h (suc k)))
 
-same_mark : (x y : Bool) → (x ≡ true → y ≡ true) → (y ≡ true → x ≡ true) → x ≡ y
+pub same_mark : (x y : Bool) → (x ≡ true → y ≡ true) → (y ≡ true → x ≡ true) → x ≡ y
 same_mark true true to from = refl
 same_mark true false to from = let no : false ≡ true = to refl in cc
 same_mark false true to from = let no : false ≡ true = from refl in cc

@@ -4,11 +4,12 @@ use Rattle.std.specs.Prelude.{filter}
 use Rattle.std.specs.List.{range_with_len, list_any}
 use lib.Pointwise.{pointwise}
 use Rattle.std.proofs.lemmas.List.FromFn.{length-map-range_with_len}
+use Rattle.std.proofs.lemmas.Bool.{not-true, cases_Bool}
 use Rattle.model_core.specs.Rules.Conditions.{first_failed}
 use Rattle.model_core.specs.Rules.MarkedPlaces.{is_marked, unmarked_places}
 use Rattle.model_core.specs.Rules.Drop.{lists_some, lists_exactly, staying_marks}
 use Rattle.mark_laws.proofs.Marks.{Marked}
-use Rattle.model_core.proofs.Among.{Among, any-among, among-any}
+use Rattle.model_core.proofs.Among.{Among, any-among, among-any, among-filter}
 use Rattle.mark_laws.proofs.MarksBelow.{marked-within, equal-by_places, tested-marked, marked-tested}
 use Rattle.model_core.proofs.PlacesChanged.{same_number}
 use Rattle.mark_laws.proofs.EntailedMarks.{same-place}
@@ -21,15 +22,6 @@ among-range a (suc n) (suc k) below = inr (subst (λ j. Among j (range_with_len 
 among-all : (n k : ℕ) → k < n → Among k (range_with_len 0 n)
 among-all n k below = subst (λ j. Among j (range_with_len 0 n)) (let e : 0 + k ≡ k = omega arith in e) (among-range 0 n k below)
 
-among-filter : {A : Type 0} (test : A → Bool) (xs : List A) (x : A) → Among x xs → test x ≡ true → Among x (filter test xs)
-among-filter test [] x h passes = absurd h
-among-filter {A} test (y ∷ ys) x h passes = tested (test y) refl h (λ there. among-filter test ys x there passes) where
-  tested : (b : Bool) → test y ≡ b → Among x (y ∷ ys) → (Among x ys → Among x (filter test ys)) → Among x (cond b (y ∷ filter test ys) (filter test ys))
-  tested true is (inl e) go = inl e
-  tested true is (inr there) go = inr (go there)
-  tested false is (inl e) go = let no : false ≡ true = sym is ∙ ap test e ∙ passes in cc
-  tested false is (inr there) go = go there
-
 filter-passes : {A : Type 0} (test : A → Bool) (xs : List A) (x : A) → Among x (filter test xs) → test x ≡ true
 filter-passes test [] x h = absurd h
 filter-passes {A} test (y ∷ ys) x h = tested (test y) refl h (filter-passes test ys x) where
@@ -37,14 +29,6 @@ filter-passes {A} test (y ∷ ys) x h = tested (test y) refl h (filter-passes te
   tested true is (inl e) go = ap test (sym e) ∙ is
   tested true is (inr there) go = go there
   tested false is there go = go there
-
-not_true : (b : Bool) → not b ≡ true → b ≡ false
-not_true true e = cc
-not_true false e = refl
-
-true_or_false : (b : Bool) → (b ≡ true) ⊎ (b ≡ false)
-true_or_false true = inl refl
-true_or_false false = inr refl
 
 not_both : (b : Bool) → b ≡ true → b ≡ false → ⊥
 not_both true e f = cc
@@ -60,7 +44,7 @@ staying-unmarked marks = equal-by_places (staying_marks (unmarked_places marks) 
   stays k = not (goes k)
 
   to : (k : ℕ) → Marked (staying_marks (unmarked_places marks) (length marks)) k → Marked marks k
-  to k marked = by (true_or_false (is_marked marks k)) where
+  to k marked = by (cases_Bool (is_marked marks k)) where
     long : length (staying_marks (unmarked_places marks) (length marks)) ≡ length marks
     long = length-map-range_with_len stays 0 (length marks)
 
@@ -71,15 +55,15 @@ staying-unmarked marks = equal-by_places (staying_marks (unmarked_places marks) 
     by (inl marked) = marked
     by (inr unmarked) =
         let there : Among k (unmarked_places marks) = among-filter (λ k. not (is_marked marks k)) (range_with_len 0 (length marks)) k (among-all (length marks) k below) (ap not unmarked) in
-        absurd (not_both (goes k) (among-any (λ v. v == k) (unmarked_places marks) k there (same_number k k refl)) (not_true (goes k) (marked-tested stays (length marks) k marked)))
+        absurd (not_both (goes k) (among-any (λ v. v == k) (unmarked_places marks) k there (same_number k k refl)) (not-true (goes k) (marked-tested stays (length marks) k marked)))
 
   from : (k : ℕ) → Marked marks k → Marked (staying_marks (unmarked_places marks) (length marks)) k
-  from k marked = by (true_or_false (goes k)) where
+  from k marked = by (cases_Bool (goes k)) where
     by : (goes k ≡ true) ⊎ (goes k ≡ false) → Marked (staying_marks (unmarked_places marks) (length marks)) k
     by (inl gone) =
         let (v, there, is) = any-among (λ v. v == k) (unmarked_places marks) gone in
         let unmarked = filter-passes (λ k. not (is_marked marks k)) (range_with_len 0 (length marks)) v there in
-        absurd (not_both (is_marked marks k) marked (not_true (is_marked marks k) (ap (λ j. not (is_marked marks j)) (sym (same-place v k is)) ∙ unmarked)))
+        absurd (not_both (is_marked marks k) marked (not-true (is_marked marks k) (ap (λ j. not (is_marked marks j)) (sym (same-place v k is)) ∙ unmarked)))
     by (inr stay) = tested-marked stays (length marks) k (marked-within marks k marked) (ap not stay)
 
 -- ---- equal lists of places

@@ -1,7 +1,8 @@
 -- What finding adds, and that where none waits exactly what is entailed is found.
 use Rattle.std.proofs.Common.{◌≡◌, ◌⊎◌, inl, inr, ℕ, zero, suc, ◌+◌, ◌<◌, Bool, true, false, cond, List, [], ◌∷◌, ◌++◌, length, drop, replicate, slice_set, Contains, refl, sym, ap, subst, arith, add-one, ◌∙◌}
 use Rattle.std.proofs.lemmas.List.{length-append, length-set, length-replicate}
-use Rattle.model_core.specs.Rules.Entailed.{Entailed, from_first, over_pair, entailed_marks}
+use Rattle.model_core.specs.Rules.Entailed.{entailed_marks}
+use Rattle.model_core.specs.Rules.LeastRelations.{Entailed, from_first, over_pair}
 use Rattle.mark_laws.proofs.Marks.{Marked}
 use Rattle.model_core.proofs.Among.{Among, among-contained, contained-among, among-front, among-back, among-either}
 use Rattle.mark_laws.proofs.MarksBelow.{marked-within}

@@ -2,7 +2,8 @@
 
 ghost use Rattle.std.specs.Prelude.{◌≡◌, ◌↔◌, ℕ, true, List};
 ghost use Rattle.model_core.specs.Rules.MarkedPlaces.{is_marked};
-ghost use Rattle.model_core.specs.Rules.Entailed.{Entailed, entailed_marks};
+ghost use Rattle.model_core.specs.Rules.Entailed.{entailed_marks};
+ghost use Rattle.model_core.specs.Rules.LeastRelations.{Entailed};
 
 /// The places that passes over pairs mark are exactly those of the least set that holds the first ones, and with the first
 /// place of a pair the second.

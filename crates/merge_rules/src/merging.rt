@@ -2,7 +2,8 @@
 
 ghost use Rattle.std.specs.Prelude.{◌≡◌, true, Some, None, length, OnOk, OnErr, IfErr};
 ghost use Rattle.model_core.specs.Text.Canonical.{canonical};
-ghost use Rattle.model_core.specs.Rules.Conditions.{first_failed, TellsCondition};
+ghost use Rattle.model_core.specs.Rules.Conditions.{first_failed};
+ghost use Rattle.model_core.specs.Rules.ConditionTold.{TellsCondition};
 ghost use Rattle.model_core.specs.Rules.Merge.{merge_conditions, merged};
 ghost use Rattle.model_core.specs.Code.Views.{graph_of};
 ghost use Rattle.merge_rules.specs.Known.{IsKnown};

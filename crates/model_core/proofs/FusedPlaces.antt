@@ -6,6 +6,8 @@ use Rattle.model_core.specs.EventGraph.{EventEdge}
 use Rattle.model_core.specs.Rules.Drop.{edge_renumbered}
 use Rattle.model_core.specs.Rules.MarkedPlaces.{place_without}
 use Rattle.model_core.specs.Rules.Fuse.{standing_for, fused_place}
+use Rattle.model_core.proofs.PlacesChanged.{suc-apart, apart-turned}
+use Rattle.model_core.proofs.PlacesTakenOff.{without-first, without-behind, get-without}
 
 -- ---- without one place
 
@@ -28,33 +30,13 @@ beside gone v apart = by (which_side gone v apart) where
   by (inl below) = before below (below_without gone v below)
   by (inr above) = behind above (behind_without gone v above)
 
-without-suc : (gone v : ℕ) → (v == gone) ≡ false → place_without (suc gone) (suc v) ≡ suc (place_without gone v)
-without-suc gone v apart = by (beside gone v apart) where
-  by : BesideIt gone v → place_without (suc gone) (suc v) ≡ suc (place_without gone v)
-  by (before below is) = below_without (suc gone) (suc v) (omega (arith, below)) ∙ ap suc (sym is)
-  by (behind above is) = behind_without (suc gone) (suc v) (omega (arith, above)) ∙ (let e : suc v - 1 ≡ suc (v - 1) = omega (arith, above) in e) ∙ ap suc (sym is)
-
-apart-before : (gone v : ℕ) → (suc v == suc gone) ≡ false → (v == gone) ≡ false
-apart-before gone v apart = grind (arith, nat_tests)
-
-front_without : (v : ℕ) → place_without zero (suc v) ≡ v
-front_without v = behind_without zero (suc v) (omega arith) ∙ (let e : suc v - 1 ≡ v = omega arith in e)
-
 pub at-without : {A : Type 0} (xs : List A) (gone v : ℕ) (d : A) → (v == gone) ≡ false → slice_index_or (remove xs gone) (place_without gone v) d ≡ slice_index_or xs v d
 at-without [] zero v d apart = refl
 at-without [] (suc gone) v d apart = refl
 at-without (x ∷ xs) zero zero d apart = cc
-at-without (x ∷ xs) zero (suc v) d apart = ap (λ k. slice_index_or xs k d) (front_without v)
+at-without (x ∷ xs) zero (suc v) d apart = ap (λ k. slice_index_or xs k d) (without-first v)
 at-without (x ∷ xs) (suc gone) zero d apart = ap (λ k. slice_index_or (x ∷ remove xs gone) k d) (below_without (suc gone) zero (omega arith))
-at-without (x ∷ xs) (suc gone) (suc v) d apart = ap (λ k. slice_index_or (x ∷ remove xs gone) k d) (without-suc gone v (apart-before gone v apart)) ∙ at-without xs gone v d (apart-before gone v apart)
-
-pub get-without : {A : Type 0} (xs : List A) (gone v : ℕ) → (v == gone) ≡ false → slice_get (remove xs gone) (place_without gone v) ≡ slice_get xs v
-get-without [] zero v apart = refl
-get-without [] (suc gone) v apart = refl
-get-without (x ∷ xs) zero zero apart = cc
-get-without (x ∷ xs) zero (suc v) apart = ap (λ k. slice_get xs k) (front_without v)
-get-without (x ∷ xs) (suc gone) zero apart = ap (λ k. slice_get (x ∷ remove xs gone) k) (below_without (suc gone) zero (omega arith))
-get-without (x ∷ xs) (suc gone) (suc v) apart = ap (λ k. slice_get (x ∷ remove xs gone) k) (without-suc gone v (apart-before gone v apart)) ∙ get-without xs gone v (apart-before gone v apart)
+at-without (x ∷ xs) (suc gone) (suc v) d apart = ap (λ k. slice_index_or (x ∷ remove xs gone) k d) (without-behind gone v (apart-turned v gone (suc-apart v gone apart))) ∙ at-without xs gone v d (suc-apart v gone apart)
 
 -- ---- with one place standing for another
 
@@ -91,7 +73,7 @@ module _ (keep gone : ℕ) (first : keep < gone) where
   fused-at xs v d = at-without xs gone (s v) d (standing-apart v)
 
   pub fused-get : {A : Type 0} (xs : List A) (v : ℕ) → slice_get (remove xs gone) (f v) ≡ slice_get xs (s v)
-  fused-get xs v = get-without xs gone (s v) (standing-apart v)
+  fused-get xs v = get-without xs gone (s v) (apart-turned (s v) gone (standing-apart v))
 
   pub fused-first : f 0 ≡ 0
   fused-first = ap (place_without gone) (standing-itself 0 (let e : (0 == gone) ≡ false = grind (arith, nat_tests) in e)) ∙ below_without gone 0 (omega (arith, first))

@@ -5,13 +5,13 @@ use Rattle.std.specs.List.{remove}
 use Rattle.model_core.specs.Rules.MarkedPlaces.{place_without}
 use Rattle.model_core.proofs.PlacesChanged.{suc-apart, apart-turned}
 
-without-first : (j : ℕ) → place_without zero (suc j) ≡ j
+pub without-first : (j : ℕ) → place_without zero (suc j) ≡ j
 without-first j = grind (arith, nat_tests)
 
-without-later : (i : ℕ) → place_without (suc i) zero ≡ zero
+pub without-later : (i : ℕ) → place_without (suc i) zero ≡ zero
 without-later i = grind (arith, nat_tests)
 
-without-behind : (i j : ℕ) → (i == j) ≡ false → place_without (suc i) (suc j) ≡ suc (place_without i j)
+pub without-behind : (i j : ℕ) → (i == j) ≡ false → place_without (suc i) (suc j) ≡ suc (place_without i j)
 without-behind i j apart = grind (arith, nat_tests)
 
 module _ {A : Type 0} where

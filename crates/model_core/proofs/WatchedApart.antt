@@ -9,10 +9,10 @@ use Rattle.model_core.specs.Rules.Drop.{watched_renumbered}
 vertex_apart : (n a b i j : ℕ) → nat_eq (n + a) (n + b) ≡ false → (i == j) ≡ (a == b) → nat_eq (n + i) (n + j) ≡ false
 vertex_apart n a b i j e same = grind (arith, nat_tests)
 
-variable_apart : (n v i : ℕ) → v < n → nat_eq v (n + i) ≡ false
+pub variable_apart : (n v i : ℕ) → v < n → nat_eq v (n + i) ≡ false
 variable_apart n v i below = grind (arith, nat_tests)
 
-vertex_from_variable : (n v i : ℕ) → v < n → nat_eq (n + i) v ≡ false
+pub vertex_from_variable : (n v i : ℕ) → v < n → nat_eq (n + i) v ≡ false
 vertex_from_variable n v i below = grind (arith, nat_tests)
 
 -- one of n variables, or a vertex of this kind

@@ -3,4 +3,5 @@ pub mod Cells
 pub mod DueOrder
 pub mod SavedRun
 pub mod GoodSnapshots
+pub mod GoingOn
 pub mod Resuming

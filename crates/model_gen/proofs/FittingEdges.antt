@@ -4,8 +4,8 @@ use Rattle.std.specs.Prelude.{codes, decimal}
 use Rattle.std.specs.List.{AllByRecursion, range_with_len}
 use Rattle.std.specs.Option.{option_map_or}
 use Rattle.std.proofs.Math.Nat.{mod-lt}
-use Rattle.std.proofs.lemmas.Bool.Decides.{nat_tests}
 use Rattle.std.proofs.lemmas.List.FromFn.{length-map-range_with_len}
+use Rattle.std.proofs.lemmas.Bool.{ltb-true}
 use Rattle.model_core.specs.declared.model.Kind.TheVariants as kinds
 use Rattle.model_core.specs.EventGraph.{EventGraph, EventVertex, EventEdge, Variable, WatchedVariable, Operator, Below, Above, AtLeast, Expression, Number, Truth, Scalar, Fixed}
 use Rattle.model_core.specs.Text.Canonical.{variable_name, vertex_name, delay_text, condition_text, edge_line}
@@ -22,9 +22,6 @@ use Rattle.model_gen.proofs.NumberedNames.{few_digits}
 pub of_chosen : {A : Type 0} (P : A → Type 0) (b : Bool) (x y : A) → (b ≡ true → P x) → P y → P (if b then x else y)
 of_chosen P true x y first second = first refl
 of_chosen P false x y first second = second
-
-below_told : (i n : ℕ) → nat_lt i n ≡ true → i < n
-below_told i n e = grind (arith, nat_tests)
 
 -- ---- lengths of lines, by those of their parts
 
@@ -146,7 +143,7 @@ module _ (vertices : ℕ) (few : vertices ≤ 500) (made : ℕ → EventVertex) 
 
   module _ (i z : ℕ) (place : i < vertices) (target : z < vertices) where
     onward_fits : FitsEdge (edge_onward vertices i)
-    onward_fits = of_chosen FitsEdge (nat_lt (i + 1) vertices) (immediate_edge (i + 1)) (timed_edge 0 (Number (pos 2)) (Truth true)) (λ next. at_once_fits (i + 1) (below_told (i + 1) vertices next)) (timed_fits 0 (Number (pos 2)) (Truth true) (omega arith) (ticks_fit 1 (omega arith)) always_fits)
+    onward_fits = of_chosen FitsEdge (nat_lt (i + 1) vertices) (immediate_edge (i + 1)) (timed_edge 0 (Number (pos 2)) (Truth true)) (λ next. at_once_fits (i + 1) (ltb-true (i + 1) vertices next)) (timed_fits 0 (Number (pos 2)) (Truth true) (omega arith) (ticks_fit 1 (omega arith)) always_fits)
 
     by_half_fit : AllByRecursion FitsEdge (edges_by_half z)
     by_half_fit = (

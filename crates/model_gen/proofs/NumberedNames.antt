@@ -4,6 +4,7 @@ use Rattle.std.specs.Prelude.{codes, decimal}
 use Rattle.std.specs.List.{AllByRecursion, IsDistinct, range_with_len}
 use Rattle.std.proofs.lemmas.Grind.{common_steps}
 use Rattle.std.proofs.lemmas.Fmt.{decimal_injective, decimal_by_steps, length-decimal-le}
+use Rattle.std.proofs.lemmas.Bool.{false_from_ne_true}
 use lib.Pointwise.{bytes_decides}
 use Rattle.model_core.specs.Text.Lexing.{is_word_byte, same_bytes}
 use Rattle.model_core.specs.Text.Spellable.{IsName}
@@ -33,13 +34,9 @@ made_vertex_named n small = record { begins = refl; all = (refl, digit_bytes n (
 
 -- ---- no two are the same
 
-never_true : (b : Bool) → (b ≡ true → ⊥) → b ≡ false
-never_true true denied = absurd (denied refl)
-never_true false denied = refl
-
 pub digits_apart : (m n : ℕ) → m < n → n < 1000 → same_bytes (decimal m) (decimal n) ≡ false
 digits_apart m n below small =
-    never_true (same_bytes (decimal m) (decimal n))
+    false_from_ne_true (same_bytes (decimal m) (decimal n))
     (λ same. let equal : m ≡ n = decimal_injective m n (omega arith) (omega arith) ((bytes_decides (decimal m) (decimal n)).0 same) in omega arith)
 
 -- behind one letter, by what the numbers are tested to

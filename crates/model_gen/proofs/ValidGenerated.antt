@@ -1,13 +1,12 @@
 -- The model that a number makes keeps the static rules, and a text can write it.
-use Rattle.std.proofs.Common.{◌≡◌, ℕ, zero, suc, ◌+◌, ◌*◌, ◌/◌, ◌^◌, ◌≤◌, ◌<◌, Bool, true, false, List, [], ◌∷◌, ◌++◌, map, length, refl, sym, ap₂, subst, arith, length-append}
+use Rattle.std.proofs.Common.{◌≡◌, ℕ, zero, suc, ◌+◌, ◌*◌, ◌≤◌, ◌<◌, Bool, true, false, List, [], ◌∷◌, ◌++◌, map, length, refl, sym, ap₂, subst, arith, length-append}
 use Rattle.std.specs.Prelude.{codes, decimal}
 use Rattle.std.specs.List.{AllByRecursion, IsDistinct, flat_map, range_with_len}
-use Rattle.std.proofs.Math.Nat.{div-lt_iff_lt-mul, mul_comm, mul-lt-mul_of_pos_left}
 use Rattle.std.proofs.lemmas.Int.{ints}
 use Rattle.std.proofs.lemmas.List.FromFn.{length-map-range_with_len}
 use Rattle.sig_base.specs.declared.limits.TheConstants.{TEXT_MAX}
-use Rattle.sig_base.specs.Stream.{word, share}
-use Rattle.bound_laws.proofs.Soundness.DrawnValues.{word_small}
+use Rattle.sig_base.specs.Stream.{word}
+use Rattle.bound_laws.proofs.Soundness.DrawnValues.{word_small, share_small}
 use Rattle.model_core.specs.EventGraph.{EventGraph, EventVertex, Variable}
 use Rattle.model_core.specs.Text.Lexing.{same_bytes}
 use Rattle.model_core.specs.Text.Canonical.{canonical, variable_line, vertex_lines, version_line, watch_line, variable_name}
@@ -150,15 +149,9 @@ module _ (vertices : ℕ) (some : 1 ≤ vertices) (few : vertices ≤ 500) (made
 
 -- ---- the model that a number makes
 
--- a picked_below is below its count
-below_its_count : (w k : ℕ) → w < 2 ^ 32 → 0 < k → share w k < k
-below_its_count w k small some = part_below w k (2 ^ 32) small some where
-  part_below : (w k whole : ℕ) → w < whole → 0 < k → w * k / whole < k
-  part_below w k whole small some = (div-lt_iff_lt-mul (omega arith)).1 (subst (λ n. n < k * whole) (mul_comm k w) (mul-lt-mul_of_pos_left small some))
-
 module _ (seed vertices : ℕ) (some : 1 ≤ vertices) (few : vertices ≤ 500) where
   picked_small : (place k : ℕ) → 0 < k → picked_below seed place k < k
-  picked_small place k more = below_its_count (word seed 54 place) k (word_small seed 54 place) more
+  picked_small place k more = share_small (word seed 54 place) k (word_small seed 54 place) more
 
   made_in_turn : IsMadeInTurn (generated_vertex seed vertices)
   made_in_turn = record { named = λ i. refl; bare = λ i. refl }

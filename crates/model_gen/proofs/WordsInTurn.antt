@@ -1,14 +1,9 @@
 -- Words that are taken of one stream, one after another.
-use Rattle.std.proofs.Common.{◌≡◌, ◌∙◌, ℕ, zero, suc, ◌+◌, ◌*◌, ◌<◌, List, [], ◌∷◌, length, replicate, refl, ap, arith}
+use Rattle.std.proofs.Common.{◌≡◌, ◌∙◌, ℕ, ◌+◌, ◌*◌, ◌<◌, length, replicate, ap, arith}
 use Rattle.std.specs.Prelude.{slice_index_or, slice_set}
-use Rattle.std.proofs.lemmas.List.{get_or-set_same}
+use Rattle.std.proofs.lemmas.List.{get_or-set_same, set-set}
 use Rattle.random_streams.specs.Draws.{WordsTaken, after_words}
 use Rattle.model_gen.specs.Generated.{picked_below, vertex_by, generated_vertex}
-
-set-twice : (xs : List ℕ) (i a b : ℕ) → slice_set (slice_set xs i a) i b ≡ slice_set xs i b
-set-twice [] i a b = refl
-set-twice (x ∷ xs) zero a b = refl
-set-twice (x ∷ xs) (suc i) a b = ap (λ ys. x ∷ ys) (set-twice xs i a b)
 
 -- words and then more words are so many together
 pub taken-together : (s : WordsTaken) (a b : ℕ) → 54 < length s.taken → after_words (after_words s 54 a) 54 b ≡ after_words s 54 (a + b)
@@ -16,7 +11,7 @@ taken-together s a b there =
     let n = slice_index_or s.taken 54 0 in
     let sum : n + a + b ≡ n + (a + b) = omega arith in
     ap (λ k. record s { taken = slice_set (slice_set s.taken 54 (n + a)) 54 (k + b) }) (get_or-set_same s.taken 54 (n + a) 0 there)
-    ∙ ap (λ ys. record s { taken = ys }) (set-twice s.taken 54 (n + a) (n + a + b)) ∙ ap (λ k. record s { taken = slice_set s.taken 54 k }) sum
+    ∙ ap (λ ys. record s { taken = ys }) (set-set s.taken 54 (n + a) (n + a + b)) ∙ ap (λ k. record s { taken = slice_set s.taken 54 k }) sum
 
 -- the streams of a seed of which so many words of stream 54 were taken, and of the others none
 abbrev pub moved_on : ℕ → ℕ → WordsTaken

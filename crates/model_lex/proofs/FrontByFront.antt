@@ -2,7 +2,8 @@
 use Rattle.std.proofs.Common.{◌≡◌, ◌↔◌, ℕ, zero, suc, ◌+◌, ◌≤◌, List, [], ◌∷◌, length, drop, refl, sym, ◌∙◌, ap, subst, arith}
 use Rattle.std.specs.Prelude.{Result}
 use Rattle.std.proofs.lemmas.List.{length-drop}
-use Rattle.model_core.specs.Text.Lexing.{Lexeme, front, front_length, after_front, IsCut, at_end, at_front, tokens_from, tokens_of}
+use Rattle.model_core.specs.Text.Lexing.{Lexeme, front, front_length, after_front, tokens_from, tokens_of}
+use Rattle.model_lex.specs.TextCut.{IsCut, at_end, at_front}
 use Rattle.model_lex.proofs.FrontLemmas.{Fits, front-front_at, front_at-fits}
 use Rattle.model_lex.proofs.Cutting.{after_byte}
 

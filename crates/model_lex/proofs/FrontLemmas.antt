@@ -1,5 +1,5 @@
 -- What bytes begin with, and how long it is.
-use Rattle.std.proofs.Common.{◌≡◌, ℕ, ◌<◌, ◌≤◌, Bool, true, false, cond, ◌&&◌, List, [], ◌∷◌, length, take, drop, refl, ap, ◌∙◌, arith, slice_index}
+use Rattle.std.proofs.Common.{◌≡◌, ℕ, ◌<◌, ◌≤◌, Bool, true, false, cond, List, [], ◌∷◌, length, take, drop, refl, ap, ◌∙◌, arith, slice_index}
 use Rattle.std.specs.Prelude.{◌==◌, nat_eq, nat_lt}
 use Rattle.std.specs.List.{prefix_len, take_while, starts_with, list_all}
 use Rattle.std.specs.Char.{is_ascii_digit, is_ascii_alphabetic}
@@ -7,7 +7,7 @@ use Rattle.std.proofs.lemmas.List.{length-take-le}
 use Rattle.std.proofs.lemmas.List.Prefix.{front_fits}
 use Rattle.std.proofs.lemmas.List.Sums.{prefix_len-le-length}
 use Rattle.std.proofs.lemmas.Slice.Eq.{starts_is}
-use Rattle.std.proofs.lemmas.Bool.{false≢true}
+use Rattle.std.proofs.lemmas.Bool.{and_parts}
 use Rattle.std.proofs.lemmas.Bool.Decides.{Decides-eqb, nat_tests}
 use Rattle.model_core.specs.declared.token.Symbol.{Symbol}
 use Rattle.model_core.specs.Text.Lexing.{Mark, NumberOf, Front, Between, Longest, front, front_length, is_blank, is_word_byte, is_comment_byte, reserved_words, all_symbols, word_among, symbol_among, digits_value, literal_value}
@@ -40,10 +40,6 @@ by_test : (b : Bool) (x y : Front) (bytes : List ℕ) → (b ≡ true → Fits b
 by_test true x y bytes at_true at_false = at_true refl
 by_test false x y bytes at_true at_false = at_false refl
 
-both_true : (a b : Bool) → (a && b) ≡ true → (a ≡ true) × (b ≡ true)
-both_true true b e = (refl, e)
-both_true false b e = absurd (false≢true e)
-
 -- a run that the first byte begins
 pub prefix_len-first : (p : ℕ → Bool) (c : ℕ) (s : List ℕ) → p c ≡ true → (1 ≤ prefix_len p (c ∷ s)) × (prefix_len p (c ∷ s) ≤ length (c ∷ s))
 prefix_len-first p c s passes =
@@ -65,7 +61,7 @@ each_has_byte ss = list_all (λ s. nat_lt 0 (length s.0)) ss
 symbol_among-fits : (ss : List (List ℕ × Symbol)) (bytes : List ℕ) → each_has_byte ss ≡ true → 0 < length bytes → Fits bytes (symbol_among ss bytes)
 symbol_among-fits [] bytes each some = (omega arith, omega arith)
 symbol_among-fits (x ∷ ss) bytes each some =
-    let parts = both_true (nat_lt 0 (length x.0)) (each_has_byte ss) each in
+    let parts = and_parts (nat_lt 0 (length x.0)) (each_has_byte ss) each in
     let has_byte : 0 < length x.0 = grind (arith, nat_tests) in
     by_test (starts_with nat_eq bytes x.0) (Longest (length x.0) (Mark x.1)) (symbol_among ss bytes) bytes
     (λ begins. (has_byte, front_fits bytes x.0 (drop (length x.0) bytes) ((starts_is Decides-eqb bytes x.0 (starts_with nat_eq bytes x.0) refl).0 begins)))

@@ -1,7 +1,8 @@
 //! Laws of the tokens of a text: how it is cut into them, and where they stand.
 
 ghost use Rattle.std.specs.Prelude.{◌≡◌, ◌↔◌, ◌<◌, ◌≤◌, ℕ, List, Result, Ok, All, length};
-ghost use Rattle.model_core.specs.Text.Lexing.{Lexeme, IsCut, tokens_of};
+ghost use Rattle.model_core.specs.Text.Lexing.{Lexeme, tokens_of};
+ghost use Rattle.model_lex.specs.TextCut.{IsCut};
 ghost use Rattle.model_lex.specs.TokenOrder.{StandInOrder};
 ghost use Rattle.model_lex.specs.declared.token_list.Tokens.{Tokens};
 

@@ -5,6 +5,7 @@ use Rattle.std.proofs.lemmas.List.Folds.{list_any-append}
 use Rattle.std.specs.Prelude.{codes}
 use Rattle.std.specs.List.{flat_map, list_any, remove}
 use Rattle.std.specs.Option.{option_map_or}
+use Rattle.std.proofs.Math.Bool.{or_comm}
 use Rattle.sig_base.specs.declared.limits.TheConstants.{PARAMETERS_MAX_VERSION_1}
 use Rattle.model_core.specs.EventGraph.{EventGraph, EventVertex}
 use Rattle.model_core.specs.Text.Canonical.{variable_line, table_line, watched_name, watch_names_line, version_line}
@@ -22,12 +23,6 @@ use Rattle.model_core.proofs.Images.{map-remove}
 any_mapped : {A : Type 0} (test : A → Bool) (f : A → A) → ((x : A) → test (f x) ≡ test x) → (xs : List A) → list_any test (map f xs) ≡ list_any test xs
 any_mapped test f same [] = refl
 any_mapped test f same (x ∷ xs) = ap₂ (λ b c. b || c) (same x) (any_mapped test f same xs)
-
-either_way : (a b : Bool) → (a || b) ≡ (b || a)
-either_way true true = refl
-either_way true false = refl
-either_way false true = refl
-either_way false false = refl
 
 together : (a b c : Bool) → ((a || b) || c) ≡ (a || (b || c))
 together true b c = refl
@@ -51,7 +46,7 @@ module _ {X Y : Type 0} (view : X → Y) (test : Y → Bool) (xs : List X) (k j 
 any_changed : {A : Type 0} (test : A → Bool) (f : A → A) (k : ℕ) (xs : List A) → (list_any test (remove xs k) || option_map_or (λ x. test (f x)) (slice_get xs k) false) ≡ list_any test (with_place f k xs)
 any_changed test f zero [] = refl
 any_changed test f (suc k) [] = refl
-any_changed test f zero (x ∷ xs) = either_way (list_any test xs) (test (f x))
+any_changed test f zero (x ∷ xs) = or_comm (list_any test xs) (test (f x))
 any_changed test f (suc k) (x ∷ xs) = together (test x) (list_any test (remove xs k)) (option_map_or (λ y. test (f y)) (slice_get xs k) false) ∙ ap (λ b. test x || b) (any_changed test f k xs)
 
 -- the model without an edge: what needs a later version is in another vertex, or else in the one that lacks the edge

@@ -3,3 +3,4 @@ mod LevelCalls
 mod OpeningSteps
 mod WholeText
 mod PlacedReads
+mod NamesInTables

@@ -4,4 +4,5 @@ pub mod ReadCalls
 pub mod Infixes
 pub mod Spelled
 pub mod Sources
+pub mod NamesPlaced
 pub mod Inner

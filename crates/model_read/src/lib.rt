@@ -1,4 +1,4 @@
-//! Reads a model text from its tokens.
+//! Reads a model text from its tokens; and the places of names, in a table, for what is read of a model that is there already.
 #![tactic(auto)]
 
 mod changes;
@@ -9,6 +9,7 @@ mod expressions;
 mod openings;
 mod operators;
 mod phrase;
+mod places;
 mod signed;
 mod stop;
 mod text;
@@ -19,6 +20,7 @@ pub use cursor::{Cursor, Spelling};
 pub use openings::first_too_deep;
 pub use operators::{CONJUNCTIONS, Infix, LEVELS, next_level};
 pub use phrase::{Phrase, Repeated, many, packed, separated};
+pub use places::Places;
 pub use stop::{Stop, placed};
 pub use text::{begun_model, parse, parse_front};
 pub use vertices::begun_vertex;

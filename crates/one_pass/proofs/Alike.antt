@@ -2,7 +2,7 @@
 use Rattle.std.proofs.Common.{◌≡◌, ℕ, ◌+◌, List, [], ◌∷◌, ◌++◌, map, Option, refl, ap, ◌∙◌}
 use Rattle.model_core.specs.Text.Written.{WrittenVertex, WrittenModel}
 use Rattle.model_core.specs.Static.Meanings.{Meaning, declarations, declarations_from, vertex_declaration, meaning_of}
-use Rattle.model_core.specs.Static.PartFaults.{kinds_taken, vertex_word_place}
+use Rattle.model_core.specs.Static.PartFaults.{kinds_taken}
 use Rattle.model_core.specs.Static.ModelFaults.{model_meaning, model_takes}
 use Rattle.model_read.specs.Beginnings.{with_vertices}
 use Rattle.static_laws.specs.DeclaredFaults.{faults_of_declared}
@@ -26,7 +26,7 @@ same-taken means [] (w ∷ ws) a = absurd a
 same-taken means (v ∷ vs) [] a = absurd a
 same-taken means (v ∷ vs) (w ∷ ws) a = rw (a.0.parameters, same-taken means vs ws a.1) refl
 
-same-places : (vs ws : List WrittenVertex) → AllBeginAlike vs ws → map vertex_word_place vs ≡ map vertex_word_place ws
+same-places : (vs ws : List WrittenVertex) → AllBeginAlike vs ws → map (λ (v : WrittenVertex). v.at) vs ≡ map (λ (v : WrittenVertex). v.at) ws
 same-places [] [] a = refl
 same-places [] (w ∷ ws) a = absurd a
 same-places (v ∷ vs) [] a = absurd a

@@ -17,7 +17,7 @@ use Rattle.model_core.specs.Text.Numbering as numbering
 use Rattle.model_core.specs.Text.Numbering.{each_numbered, location}
 use Rattle.model_core.specs.Static.Meanings.{Meaning}
 use Rattle.model_core.specs.Static.RuleTable.{value_count, too_many}
-use Rattle.model_core.specs.Static.PartFaults.{target_place, target_kind, target_faults, values_faults, change_faults}
+use Rattle.model_core.specs.Static.PartFaults.{target_kind, target_faults, values_faults, change_faults}
 use Rattle.text_laws.specs.FormatReader.{took}
 use Rattle.text_laws.specs.LanguageReader.{language_reader}
 use Rattle.model_core.proofs.EmptyLists.{left_empty, right_empty}
@@ -55,10 +55,10 @@ module _ (means : List ℕ → Option Meaning) where
       → change_faults means (written.Set at ts es) ≡ []
   set_unbroken at ts es same some targets values =
       let counted : value_count (length ts) (length es) at ≡ [] = (same_count (length ts) (length es) at).1 same in
-      let short : too_many TARGETS_MAX (map target_place ts) ≡ [] = (few TARGETS_MAX (map target_place ts)).1 (subst (λ n. n ≤ TARGETS_MAX) (sym (length-map ts target_place)) some) in
-      both_empty (value_count (length ts) (length es) at ++ too_many TARGETS_MAX (map target_place ts) ++ flat_map (target_faults means) ts) (values_faults means (map (target_kind means) ts) es)
-      (both_empty (value_count (length ts) (length es) at ++ too_many TARGETS_MAX (map target_place ts)) (flat_map (target_faults means) ts)
-      (both_empty (value_count (length ts) (length es) at) (too_many TARGETS_MAX (map target_place ts)) counted short) targets) values
+      let short : too_many TARGETS_MAX (map (λ (t : WrittenTarget). t.at) ts) ≡ [] = (few TARGETS_MAX (map (λ (t : WrittenTarget). t.at) ts)).1 (subst (λ n. n ≤ TARGETS_MAX) (sym (length-map ts (λ (t : WrittenTarget). t.at))) some) in
+      both_empty (value_count (length ts) (length es) at ++ too_many TARGETS_MAX (map (λ (t : WrittenTarget). t.at) ts) ++ flat_map (target_faults means) ts) (values_faults means (map (target_kind means) ts) es)
+      (both_empty (value_count (length ts) (length es) at ++ too_many TARGETS_MAX (map (λ (t : WrittenTarget). t.at) ts)) (flat_map (target_faults means) ts)
+      (both_empty (value_count (length ts) (length es) at) (too_many TARGETS_MAX (map (λ (t : WrittenTarget). t.at) ts)) counted short) targets) values
 
   pub set_read : (at b s : ℕ) (before c1 c2 c3 c4 after : List Lexeme) (xs : List graph.Location) (ys : List graph.Expression) (ks : List (Option Kind))
       → language_reader (reserved words.Set) before ≡ took at c1 → ReadRow (separated target_format) (IsTarget means) c1 c2 xs ks → language_reader (mark symbols.Becomes) c2 ≡ took b c3

@@ -8,14 +8,14 @@ use Rattle.model_core.specs.declared.model.Kind.{Kind}
 use Rattle.model_core.specs.EventGraph as graph
 use Rattle.model_core.specs.Text.Lexing.{Lexeme}
 use Rattle.model_core.specs.Text.Format.{Many, at_least_one}
-use Rattle.model_core.specs.Text.Written.{WrittenVertex}
+use Rattle.model_core.specs.Text.Written.{WrittenVertex, WrittenEdge}
 use Rattle.model_core.specs.Text.Language.{vertex_format}
 use Rattle.model_core.specs.Text.Numbering as numbering
 use Rattle.model_core.specs.Text.Numbering.{each_numbered}
 use Rattle.model_core.specs.Static.FaultOrder.{StaticFault, earliest_fault}
 use Rattle.model_core.specs.Static.Meanings.{Meaning}
 use Rattle.model_core.specs.Static.RuleTable.{name_too_long, too_many}
-use Rattle.model_core.specs.Static.PartFaults.{written_items, change_place, edge_place, change_faults, edge_faults, parameters_faults, vertex_faults}
+use Rattle.model_core.specs.Static.PartFaults.{written_items, change_place, change_faults, edge_faults, parameters_faults, vertex_faults}
 use Rattle.text_laws.specs.FormatReader.{took}
 use Rattle.text_laws.specs.LanguageReader.{language_reader}
 use Rattle.model_read.specs.Beginnings.{with_body, vertex_beginning}
@@ -68,7 +68,7 @@ module _ (means : List ℕ → Option Meaning) (taken : List (List (Option Kind)
       (checked_surely means None (parameters_faults means [] (written_items v.parameters)) (λ d. each_numbered (numbering.numbered_parameter d) (written_items v.parameters)) ps unbroken numbers)
       (few-told CHANGES_MAX change_place changes.written None (subst (λ n. n ≤ CHANGES_MAX) (sym changes.counted) body.some))
       (checked_surely means None (flat_map (change_faults means) changes.written) (λ d. each_numbered (numbering.change d) changes.written) xs changes.unbroken changes.numbers)
-      (few-told EDGES_MAX edge_place edges.written None (subst (λ n. n ≤ EDGES_MAX) (sym edges.counted) body.few))
+      (few-told EDGES_MAX (λ (e : WrittenEdge). e.at) edges.written None (subst (λ n. n ≤ EDGES_MAX) (sym edges.counted) body.few))
       (checked_surely means None (flat_map (edge_faults means taken) edges.written) (λ d. each_numbered (numbering.edge d) edges.written) ys edges.unbroken edges.numbers) in
       let none : vertex_faults means taken whole ≡ [] = none_told (vertex_faults means taken whole) (sym checked.told) in
       record {

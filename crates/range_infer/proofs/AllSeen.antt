@@ -1,14 +1,14 @@
 -- Where all parts are looked at, variables take all that they can take.
 use Rattle.std.proofs.Common.{◌≡◌, ℕ, Bool, true, false, ◌&&◌, cond, List, [], ◌∷◌, ◌++◌, map, refl, sym, ap, ap₂}
 use Rattle.std.specs.List.{list_any, flat_map}
-use Rattle.model_core.specs.EventGraph.{EventGraph, EventVertex, EventEdge, StateChange, Set, Draw, Variable, Expression, Location}
+use Rattle.model_core.specs.EventGraph.{EventGraph, EventVertex, EventEdge, StateChange, Set, Draw, Variable, Expression, Location, is_scheduling}
 use Rattle.model_core.specs.Run.Step.{vertex_at}
 use Rattle.model_core.specs.Rules.BoundsOf.{bounds_under}
 use Rattle.model_core.specs.declared.incoming.Incoming.{Incoming}
 use Rattle.model_core.specs.declared.var_range.VarRange.{VarRange}
 use Rattle.model_core.specs.Ranges.OtherRanges.{with_ranges}
 use Rattle.model_core.specs.Ranges.Refined.{refined}
-use Rattle.model_core.specs.Ranges.Incoming.{assigned, can_schedule, into_change, into_edge, into_vertex, incoming}
+use Rattle.model_core.specs.Ranges.Incoming.{assigned, into_change, into_edge, into_vertex, incoming}
 use Rattle.range_infer.specs.Inner.PartReads.{each_reads}
 use Rattle.range_infer.specs.Inner.LookedAt.{looks_at, assigned_seen, change_seen, values_seen, edge_seen, vertex_seen, incoming_seen}
 
@@ -31,7 +31,7 @@ module _ (g : EventGraph) (moved : List Bool) where
   none_assigned rs (v ∷ vs) = refl
 
   pub all_values : (rs : List Variable) (e : EventEdge) → values_seen g true moved rs e ≡ into_edge g rs e
-  all_values rs e = by (can_schedule e.kind) (bounds_under refined rs e.condition).can_true (refined e.condition true rs) (vertex_at g e.target).parameters e.values where
+  all_values rs e = by (is_scheduling e.kind) (bounds_under refined rs e.condition).can_true (refined e.condition true rs) (vertex_at g e.target).parameters e.values where
     by : (k t : Bool) (left : List Variable) (vs : List ℕ) (es : List Expression) → cond (k && list_any (looks_at true moved) (each_reads es)) (cond t (assigned_seen true moved left vs es) []) [] ≡ cond (k && t) (assigned left vs es) []
     by false t left vs es = refl
     by true false left vs es = nothing (list_any (looks_at true moved) (each_reads es))

@@ -1,9 +1,9 @@
 -- What the tests of ranges tell.
-use Rattle.std.proofs.Common.{◌≡◌, ℕ, ◌<◌, ℤ, int_le, Bool, true, false, not, ◌&&◌, ◌||◌, List, length, map, slice_index_or, Option, Some, None, refl, sym, ◌∙◌, ap, ap₂, arith}
+use Rattle.std.proofs.Common.{◌≡◌, ℕ, ◌<◌, ℤ, int_le, Bool, true, false, not, ◌&&◌, ◌||◌, List, length, map, slice_index_or, Option, Some, None, refl, sym, ◌∙◌, ap, ap₂}
 use Rattle.std.specs.Prelude.{IfSome}
 use Rattle.std.specs.Ordering.{int_eq}
-use Rattle.std.proofs.lemmas.Int.{ints}
 use Rattle.std.proofs.lemmas.List.{get_or-map}
+use Rattle.std.proofs.lemmas.Bool.{and_from}
 use Rattle.model_core.specs.declared.model.Var.{Var}
 use Rattle.model_core.specs.EventGraph.{EventGraph, Variable}
 use Rattle.model_core.specs.Run.State.{no_variable, variable_at}
@@ -13,20 +13,15 @@ use Rattle.bound_laws.proofs.Soundness.Ends.{le_of, of_le}
 use Rattle.model_core.specs.declared.var_range.VarRange.{VarRange}
 use Rattle.model_core.specs.Ranges.OtherRanges.{declared_range}
 use Rattle.model_core.specs.Ranges.Inductive.{is_fixed, Encloses, FitsVariable}
+use Rattle.model_core.proofs.SameExpressions.{number_told}
 use Rattle.range_infer.specs.Inner.RangeTests.{range_fits, encloses_kept}
-
-equal_of : (a b : ℤ) → int_eq a b ≡ true → a ≡ b
-equal_of a b e = grind (arith, ints)
-
-both : (a b : Bool) → a ≡ true → b ≡ true → (a && b) ≡ true
-both a b e f = ap₂ (λ (x y : Bool). x && y) e f
 
 module _ (g : EventGraph) (v : ℕ) (r : VarRange) where
   abbrev w : Variable
   w = variable_at g v
 
   stays_told : (fixed : Bool) → (not fixed || int_eq r.lo w.lo && int_eq r.hi w.hi) ≡ true → fixed ≡ true → r ≡ declared_range w
-  stays_told true e is = ap₂ (λ (x y : ℤ). record { lo = x; hi = y }) (equal_of r.lo w.lo (and_first (int_eq r.lo w.lo) _ e)) (equal_of r.hi w.hi (and_second (int_eq r.lo w.lo) _ e))
+  stays_told true e is = ap₂ (λ (x y : ℤ). record { lo = x; hi = y }) (number_told r.lo w.lo (and_first (int_eq r.lo w.lo) _ e)) (number_told r.hi w.hi (and_second (int_eq r.lo w.lo) _ e))
   stays_told false e is = cc
 
   pub fits_told : range_fits (is_fixed g v) w r ≡ true → FitsVariable g v r
@@ -49,4 +44,4 @@ holds_told r (Some k) e = record { low = le_of r.lo k.lo (and_first (int_le r.lo
 
 pub told_holds : (r : VarRange) (o : Option VarRange) → IfSome o (Encloses r) → encloses_kept r o ≡ true
 told_holds r None h = refl
-told_holds r (Some k) h = both (int_le r.lo k.lo) (int_le k.hi r.hi) (of_le r.lo k.lo h.low) (of_le k.hi r.hi h.high)
+told_holds r (Some k) h = and_from (int_le r.lo k.lo) (int_le k.hi r.hi) (of_le r.lo k.lo h.low) (of_le k.hi r.hi h.high)

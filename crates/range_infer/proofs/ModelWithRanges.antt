@@ -4,9 +4,9 @@ use Rattle.sig_base.specs.declared.fault.FaultKind.TheVariants as faults
 use Rattle.model_core.specs.declared.model.Kind.{Kind}
 use Rattle.model_core.specs.declared.model.Kind.TheVariants as kinds
 use Rattle.model_core.specs.EventGraph.{EventGraph, Variable, Expression, Number, Truth, Clock, Scalar, Cell, Negative, Not, Binary, If}
-use Rattle.model_core.specs.Run.State.{State, Place, no_variable, variable_at, cell_count, cell_at, initial_state}
+use Rattle.model_core.specs.Run.State.{State, Place, no_variable, variable_at, cell_count, cell_at, initial_state, is_array}
 use Rattle.model_core.specs.Run.Value.{OrFault, ◌>>=◌, is_one, exact, decided, operate, indexed, value_of, place_at}
-use Rattle.model_core.specs.Static.HasKind.{is_array, IsVariable, FitOperands, HasKind}
+use Rattle.model_core.specs.Static.HasKind.{IsVariable, FitOperands, HasKind}
 use Rattle.model_core.specs.Static.Kinds.{operand_kind}
 use Rattle.model_core.specs.declared.var_range.VarRange.{VarRange}
 use Rattle.model_core.specs.Ranges.OtherRanges.{with_range, with_ranges, model_with_ranges, range_at}

@@ -2,6 +2,7 @@
 use Rattle.std.proofs.Common.{◌≡◌, ℕ, ◌-◌, ◌^◌, ℤ, pos, neg_ℤ, ◌+ℤ◌, ◌-ℤ◌, ◌≤ℤ◌, int_le, int_lt, Bool, true, false, not, cond, Some, Ok, Err, refl, ap, arith}
 use Rattle.std.specs.Ordering.{int_eq}
 use Rattle.std.proofs.lemmas.Int.{ints, clamps}
+use Rattle.std.specs.Int.Signed.{≤ℤ_refl}
 use Rattle.sig_base.specs.declared.fault.FaultKind.TheVariants as faults
 use Rattle.model_core.specs.EventGraph.{EventGraph, Expression, Number, Negative, Operator, Add, Subtract, Multiply, Divide, Remainder, Least, Greatest, Equal, NotEqual, Below, AtMost, Above, AtLeast, And, Or}
 use Rattle.model_core.specs.Run.State.{State, within}
@@ -11,6 +12,7 @@ use Rattle.bound_laws.proofs.Soundness.Ends.{le_of, lt_of, of_not_lt, of_not_le}
 use Rattle.model_core.specs.declared.var_range.VarRange.{VarRange}
 use Rattle.model_core.specs.Ranges.OtherRanges.{LiesIn}
 use Rattle.model_core.specs.Ranges.Refined.{numbers_left, opposite_comparison}
+use Rattle.model_core.proofs.SameExpressions.{number_told}
 
 pub number_of-injective : (a b : Bool) → number_of a ≡ number_of b → a ≡ b
 number_of-injective true true e = refl
@@ -31,9 +33,6 @@ moved_high : (b : Bool) (n hi x : ℤ) → int_eq hi n ≡ b → int_eq x n ≡ 
 moved_high true n hi x at other le = grind (arith, ints)
 moved_high false n hi x at other le = le
 
-eq_of : (x n : ℤ) → int_eq x n ≡ true → x ≡ n
-eq_of x n e = grind (arith, ints)
-
 -- of one comparison
 below_left : (n x : ℤ) (r : VarRange) → LiesIn r x → int_lt x n ≡ true → LiesIn (numbers_left Below n r) x
 below_left n x r i e = record { low = i.low; high = omega (arith, ints, clamps, lt_of x n e, i.high) }
@@ -48,7 +47,7 @@ at_least_left : (n x : ℤ) (r : VarRange) → LiesIn r x → int_lt x n ≡ fal
 at_least_left n x r i e = record { low = omega (arith, ints, clamps, of_not_lt x n e, i.low); high = i.high }
 
 equal_left : (n x : ℤ) (r : VarRange) → LiesIn r x → int_eq x n ≡ true → LiesIn (numbers_left Equal n r) x
-equal_left n x r i e = let same : x ≡ n = eq_of x n e in record { low = omega (arith, ints, clamps, i.low); high = omega (arith, ints, clamps, i.high) }
+equal_left n x r i e = let same : x ≡ n = number_told x n e in record { low = omega (arith, ints, clamps, i.low); high = omega (arith, ints, clamps, i.high) }
 
 not_equal_left : (n x : ℤ) (r : VarRange) → LiesIn r x → int_eq x n ≡ false → LiesIn (numbers_left NotEqual n r) x
 not_equal_left n x r i e = record { low = moved_low _ n r.lo x refl e i.low; high = moved_high _ n r.hi x refl e i.high }
@@ -62,42 +61,39 @@ down_by : (b : Bool) (hi : ℤ) → cond b (hi -ℤ pos 1) hi ≤ℤ hi
 down_by true hi = omega (arith, ints)
 down_by false hi = omega (arith, ints)
 
-same : (x : ℤ) → x ≤ℤ x
-same x = omega (arith, ints)
-
 pub low_left : (op : Operator) (n : ℤ) (r : VarRange) → r.lo ≤ℤ (numbers_left op n r).lo
-low_left Below n r = same r.lo
-low_left AtMost n r = same r.lo
+low_left Below n r = ≤ℤ_refl r.lo
+low_left AtMost n r = ≤ℤ_refl r.lo
 low_left Above n r = omega (arith, ints, clamps)
 low_left AtLeast n r = omega (arith, ints, clamps)
 low_left Equal n r = omega (arith, ints, clamps)
 low_left NotEqual n r = up_by (int_eq r.lo n) r.lo
-low_left Add n r = same r.lo
-low_left Subtract n r = same r.lo
-low_left Multiply n r = same r.lo
-low_left Divide n r = same r.lo
-low_left Remainder n r = same r.lo
-low_left Least n r = same r.lo
-low_left Greatest n r = same r.lo
-low_left And n r = same r.lo
-low_left Or n r = same r.lo
+low_left Add n r = ≤ℤ_refl r.lo
+low_left Subtract n r = ≤ℤ_refl r.lo
+low_left Multiply n r = ≤ℤ_refl r.lo
+low_left Divide n r = ≤ℤ_refl r.lo
+low_left Remainder n r = ≤ℤ_refl r.lo
+low_left Least n r = ≤ℤ_refl r.lo
+low_left Greatest n r = ≤ℤ_refl r.lo
+low_left And n r = ≤ℤ_refl r.lo
+low_left Or n r = ≤ℤ_refl r.lo
 
 pub high_left : (op : Operator) (n : ℤ) (r : VarRange) → (numbers_left op n r).hi ≤ℤ r.hi
 high_left Below n r = omega (arith, ints, clamps)
 high_left AtMost n r = omega (arith, ints, clamps)
-high_left Above n r = same r.hi
-high_left AtLeast n r = same r.hi
+high_left Above n r = ≤ℤ_refl r.hi
+high_left AtLeast n r = ≤ℤ_refl r.hi
 high_left Equal n r = omega (arith, ints, clamps)
 high_left NotEqual n r = down_by (int_eq r.hi n) r.hi
-high_left Add n r = same r.hi
-high_left Subtract n r = same r.hi
-high_left Multiply n r = same r.hi
-high_left Divide n r = same r.hi
-high_left Remainder n r = same r.hi
-high_left Least n r = same r.hi
-high_left Greatest n r = same r.hi
-high_left And n r = same r.hi
-high_left Or n r = same r.hi
+high_left Add n r = ≤ℤ_refl r.hi
+high_left Subtract n r = ≤ℤ_refl r.hi
+high_left Multiply n r = ≤ℤ_refl r.hi
+high_left Divide n r = ≤ℤ_refl r.hi
+high_left Remainder n r = ≤ℤ_refl r.hi
+high_left Least n r = ≤ℤ_refl r.hi
+high_left Greatest n r = ≤ℤ_refl r.hi
+high_left And n r = ≤ℤ_refl r.hi
+high_left Or n r = ≤ℤ_refl r.hi
 
 -- above and at least are told with their operands the other way round
 lt_swapped : (x n : ℤ) (b : Bool) → int_lt n x ≡ b → int_le x n ≡ not b

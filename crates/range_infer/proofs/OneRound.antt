@@ -7,6 +7,7 @@ use Rattle.std.proofs.lemmas.Int.{ints, clamps}
 use Rattle.std.proofs.lemmas.Bool.Decides.{nat_tests}
 use Rattle.std.proofs.lemmas.List.{get_or_past}
 use Rattle.std.proofs.lemmas.List.FromFn.{get_or-map-range_with_len, length-map-range_with_len}
+use Rattle.std.proofs.lemmas.Bool.{eq-eqb}
 use Rattle.model_core.specs.declared.bounds.Bounds.{Bounds}
 use Rattle.model_core.specs.EventGraph.{EventGraph, Variable}
 use Rattle.model_core.specs.Run.State.{no_variable, variable_at}
@@ -31,9 +32,6 @@ holds-trans a b c i j = record { low = omega (arith, ints, i.low, j.low); high =
 pub wider : (o : Option VarRange) (a b : VarRange) → Encloses b a → IfSome o (Encloses a) → IfSome o (Encloses b)
 wider None a b h i = tt
 wider (Some k) a b h i = holds-trans b a k h i
-
-same_number : (a b : ℕ) → a ≡ b → (a == b) ≡ true
-same_number a b e = grind (arith, nat_tests)
 
 -- ---- what a variable keeps lies in its declared range
 
@@ -85,7 +83,7 @@ module _ (g : EventGraph) (v : ℕ) (ordered : (variable_at g v).lo ≤ℤ (vari
 
   grown_range-takes : (r : VarRange) (i : Incoming) → i.variable ≡ v → IfSome (kept_range (variable_at g v) i.bounds) (Encloses (grown_range g v r i))
   grown_range-takes r i same =
-      subst (λ (b : Bool). IfSome (kept_range (variable_at g v) i.bounds) (Encloses (cond b (hull r (kept_range (variable_at g v) i.bounds)) r))) (sym (same_number i.variable v same))
+      subst (λ (b : Bool). IfSome (kept_range (variable_at g v) i.bounds) (Encloses (cond b (hull r (kept_range (variable_at g v) i.bounds)) r))) (sym (eq-eqb i.variable v same))
       (hull-holds r (kept_range (variable_at g v) i.bounds)).1
 
   -- a range that holds the grown one holds what the variable keeps of all that it takes

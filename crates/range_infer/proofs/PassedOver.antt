@@ -6,7 +6,7 @@ use Rattle.std.proofs.lemmas.Int.{ints, clamps}
 use Rattle.std.proofs.lemmas.Bool.Decides.{nat_tests}
 use Rattle.std.proofs.lemmas.List.{ext_get_or}
 use Rattle.std.proofs.lemmas.List.Sums.{fold-append}
-use Rattle.model_core.specs.EventGraph.{EventGraph, EventVertex, EventEdge, StateChange, Set, Draw, Variable, Expression, Location}
+use Rattle.model_core.specs.EventGraph.{EventGraph, EventVertex, EventEdge, StateChange, Set, Draw, Variable, Expression, Location, is_scheduling}
 use Rattle.model_core.specs.Run.Step.{vertex_at}
 use Rattle.model_core.specs.Rules.Uses.{variables_in}
 use Rattle.model_core.specs.Rules.BoundsOf.{bounds_under}
@@ -16,7 +16,7 @@ use Rattle.model_core.specs.Run.State.{variable_at}
 use Rattle.model_core.specs.declared.incoming.Incoming.{Incoming}
 use Rattle.model_core.specs.declared.var_range.VarRange.{VarRange}
 use Rattle.model_core.specs.Ranges.OtherRanges.{declared_range, with_range, with_ranges, no_range, range_at}
-use Rattle.model_core.specs.Ranges.Incoming.{kept_range, assigned, can_schedule, into_change, into_edge, into_vertex, incoming}
+use Rattle.model_core.specs.Ranges.Incoming.{kept_range, assigned, into_change, into_edge, into_vertex, incoming}
 use Rattle.model_core.specs.Ranges.Inductive.{is_fixed, Encloses}
 use Rattle.model_core.specs.Ranges.Inference.{hull, grown_range, ends_moved, each_variable, next_range, round}
 use Rattle.model_core.proofs.EachOne.{either_false, every-front, every-behind, every-flat_map, every-map, every-fails}
@@ -125,8 +125,8 @@ module _ (g : EventGraph) (v : ℕ) (in_order : (variable_at g v).lo ≤ℤ (var
       unread none held =
           let still : Unmoved moved (variables_in e.condition) = every-fails (is_moved moved) (variables_in e.condition) none in
           let same : gives old ≡ gives new = ap (λ (b : Bounds). b.can_true) (bounds_stay moved e.condition old new stay still) in
-          by_values (known moved e.condition true old new stay still) (can_schedule e.kind) (gives new) (list_any (looks_at false moved) (each_reads e.values)) (nothing_seen moved known_new params e.values)
-          (subst (λ (t : Bool). AllByRecursion IsHeld (cond (can_schedule e.kind && t) (assigned known_old params e.values) [])) same held)
+          by_values (known moved e.condition true old new stay still) (is_scheduling e.kind) (gives new) (list_any (looks_at false moved) (each_reads e.values)) (nothing_seen moved known_new params e.values)
+          (subst (λ (t : Bool). AllByRecursion IsHeld (cond (is_scheduling e.kind && t) (assigned known_old params e.values) [])) same held)
 
       edge_alike : AllByRecursion IsHeld (into_edge g old e) → GrowAlike (edge_seen g false moved new e) (into_edge g new e)
       edge_alike held = by (list_any (is_moved moved) (variables_in e.condition)) refl where

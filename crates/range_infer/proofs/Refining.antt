@@ -2,12 +2,13 @@
 use Rattle.std.proofs.Common.{◌≡◌, ℕ, ◌<◌, zero, suc, ℤ, pos, ◌-ℤ◌, ◌≤ℤ◌, int_le, Bool, true, false, not, cond, List, [], ◌∷◌, slice_set, Option, Some, None, Ok, Err, refl, sym, ◌∙◌, ap, subst, arith}
 use Rattle.std.proofs.lemmas.Int.{ints}
 use Rattle.std.proofs.lemmas.Bool.Decides.{nat_tests}
+use Rattle.std.proofs.lemmas.Bool.{not-true}
 use Rattle.model_core.specs.declared.model.Kind.{Kind}
 use Rattle.model_core.specs.declared.model.Kind.TheVariants as kinds
 use Rattle.model_core.specs.EventGraph.{EventGraph, Variable, Expression, Scalar, Not, Binary, Operator, And, Or}
-use Rattle.model_core.specs.Run.State.{State, scalar, cell_count, cell_at, variable_at}
+use Rattle.model_core.specs.Run.State.{State, scalar, cell_count, cell_at, variable_at, is_array}
 use Rattle.model_core.specs.Run.Value.{OrFault, ◌>>=◌, number_of, decided, operate, value_of}
-use Rattle.model_core.specs.Static.HasKind.{is_array, FitOperands, HasKind}
+use Rattle.model_core.specs.Static.HasKind.{FitOperands, HasKind}
 use Rattle.model_core.specs.Static.Kinds.{operand_kind}
 use Rattle.model_core.specs.Rules.BoundsOf.{ranged_at}
 use Rattle.model_core.specs.Rules.BoundsOfParts.{is_truth_kind}
@@ -89,14 +90,10 @@ truth_is_no_number : (k : Kind) → is_truth_kind k ≡ false → k ≡ kinds.Tr
 truth_is_no_number kinds.Truth e same = cc
 truth_is_no_number kinds.Range e same = cc
 
-not_true : (b : Bool) → not b ≡ true → b ≡ false
-not_true true e = cc
-not_true false e = refl
-
 with_range-holds : (s : State) (v : ℕ) (w : Variable) (r : VarRange) → is_number_scalar w ≡ true → LiesIn r (cell_at s (scalar v)) → HoldsCells s v (with_range w r)
 with_range-holds s v w r number lies =
-    let no_array = not_true (is_array w) (and_first (not (is_array w)) (not (is_truth_kind w.kind)) number) in
-    let no_truth = not_true (is_truth_kind w.kind) (and_second (not (is_array w)) (not (is_truth_kind w.kind)) number) in
+    let no_array = not-true (is_array w) (and_first (not (is_array w)) (not (is_truth_kind w.kind)) number) in
+    let no_truth = not-true (is_truth_kind w.kind) (and_second (not (is_array w)) (not (is_truth_kind w.kind)) number) in
     record {
       cells = λ i small. subst (λ (i : ℕ). (r.lo ≤ℤ cell_at s (record { variable = v; index = i })) × (cell_at s (record { variable = v; index = i }) ≤ℤ r.hi)) (sym (one_cell w i no_array small)) (lies.low, lies.high);
       truth = λ same. absurd (truth_is_no_number w.kind no_truth same);

@@ -4,7 +4,7 @@ use Rattle.std.proofs.lemmas.Int.{ints}
 use Rattle.std.specs.List.{AllByRecursion}
 use Rattle.model_core.specs.declared.model.Kind.{Kind}
 use Rattle.model_core.specs.declared.model.Kind.TheVariants as kinds
-use Rattle.model_core.specs.EventGraph.{EventGraph, EventEdge, Uniform, ByTable, Delay, Fixed, Drawn, EdgeKind, Schedule, Urgent, CancelNext, CancelEqual, CancelAll, Expression}
+use Rattle.model_core.specs.EventGraph.{EventGraph, EventEdge, Uniform, ByTable, Delay, Fixed, Drawn, EdgeKind, Schedule, Urgent, CancelNext, CancelEqual, CancelAll, Expression, is_scheduling}
 use Rattle.model_core.specs.Run.State.{State, Place, scalar, in_range}
 use Rattle.model_core.specs.Run.Value.{OrFault, ◌>>=◌, number_of, is_one, each, value_of}
 use Rattle.model_core.specs.Run.Pending.{Entry, is_of, is_with, without_next, without_all}
@@ -21,7 +21,7 @@ use Rattle.model_core.specs.Rules.RangesHold.{TruthsAreDeclared}
 use Rattle.model_core.specs.declared.var_range.VarRange.{VarRange}
 use Rattle.model_core.specs.Ranges.OtherRanges.{model_with_ranges}
 use Rattle.model_core.specs.Ranges.Refined.{refined}
-use Rattle.model_core.specs.Ranges.Incoming.{assigned, can_schedule, into_edge}
+use Rattle.model_core.specs.Ranges.Incoming.{assigned, into_edge}
 use Rattle.model_core.specs.Ranges.Inductive.{Fitting, HoldsIncoming}
 use Rattle.range_infer.proofs.ModelWithRanges.{has_kind, same_value}
 use Rattle.range_infer.proofs.BoundsInHold.{left_alike, left_within, can_be_true, between}
@@ -75,7 +75,7 @@ module _ (g : EventGraph) (ranges : List VarRange) (fitting : Fitting g ranges) 
     scalars_named (v ∷ vs) = ap (λ (ns : List ℕ). v ∷ ns) (scalars_named vs)
 
     -- what an edge takes that schedules where its condition can be true
-    taken_into : (e : EventEdge) → can_schedule e.kind ≡ true → (bounds_under refined h.variables e.condition).can_true ≡ true → into_edge g h.variables e ≡ assigned (refined e.condition true h.variables) (vertex_at g e.target).parameters e.values
+    taken_into : (e : EventEdge) → is_scheduling e.kind ≡ true → (bounds_under refined h.variables e.condition).can_true ≡ true → into_edge g h.variables e ≡ assigned (refined e.condition true h.variables) (vertex_at g e.target).parameters e.values
     taken_into e is can = ap₂ (λ (a b : Bool). cond (a && b) (assigned (refined e.condition true h.variables) (vertex_at g e.target).parameters e.values) []) is can
 
     module _ (e : EventEdge) (known : EdgeKnown g ranges e) (taken : value_of g s clk e.condition ≡ Ok (number_of true)) where
@@ -92,7 +92,7 @@ module _ (g : EventGraph) (ranges : List VarRange) (fitting : Fitting g ranges) 
       values_between x k y is done =
           between h truths s inside clk early x k (refined e.condition true h.variables) y (has_kind g.variables ranges x k is) (left_alike h truths s inside clk early e.condition) (left_within h truths s inside clk early e.condition condition_kind taken_too) (sym (same_value g ranges s clk x) ∙ done)
 
-      carried_fits : (parameters : List ℕ) (values : List ℤ) → TakeCarried g.variables (length g.tables) (parameters_of g) parameters e.values → can_schedule e.kind ≡ true → each (value_of g s clk) e.values ≡ Ok values → CarriedFits e.target values
+      carried_fits : (parameters : List ℕ) (values : List ℤ) → TakeCarried g.variables (length g.tables) (parameters_of g) parameters e.values → is_scheduling e.kind ≡ true → each (value_of g s clk) e.values ≡ Ok values → CarriedFits e.target values
       carried_fits parameters values carries is done =
           let into = taken_into e is (can_be_true h truths s inside clk early e.condition condition_kind taken_too) in
           let takes = subst (AllByRecursion (HoldsIncoming g ranges)) into known.takes in
@@ -104,13 +104,13 @@ module _ (g : EventGraph) (ranges : List VarRange) (fitting : Fitting g ranges) 
           let (wait, at_delay, later) = bind_ok (delay_of g seed s clk delay p.taken) _ q done in
           let (values, at_values, end) = bind_ok (carried_values g s clk e) _ q later in
           let carries : TakeCarried g.variables (length g.tables) (parameters_of g) known.keeps.parameters e.values = subst (λ (k : EdgeKind). CarriesValues g.variables (length g.tables) (parameters_of g) k known.keeps.parameters e.values) is known.keeps.carries in
-          let new = carried_fits known.keeps.parameters values carries (ap can_schedule is) at_values in
+          let new = carried_fits known.keeps.parameters values carries (ap is_scheduling is) at_values in
           let same : scheduled (clk + wait.ticks) priority e.target p.pending values ≡ q.pending = cc in
           subst (AllByRecursion EntryFits) same (every-append EntryFits p.pending (record { time = clk + wait.ticks; priority = priority; vertex = e.target; values = values }) fits new)
       act_fits seed Urgent p q is fits done =
           let (values, at_values, end) = bind_ok (carried_values g s clk e) _ q done in
           let carries : TakeCarried g.variables (length g.tables) (parameters_of g) known.keeps.parameters e.values = subst (λ (k : EdgeKind). CarriesValues g.variables (length g.tables) (parameters_of g) k known.keeps.parameters e.values) is known.keeps.carries in
-          let new = carried_fits known.keeps.parameters values carries (ap can_schedule is) at_values in
+          let new = carried_fits known.keeps.parameters values carries (ap is_scheduling is) at_values in
           let same : scheduled clk 0 e.target p.pending values ≡ q.pending = cc in
           subst (AllByRecursion EntryFits) same (every-append EntryFits p.pending (record { time = clk; priority = 0; vertex = e.target; values = values }) fits new)
       act_fits seed CancelNext p q is fits done =

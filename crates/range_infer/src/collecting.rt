@@ -3,12 +3,12 @@
 
 ghost use Rattle.std.specs.Prelude.{◌≡◌, length, cond, true, [], ◌∷◌, ◌++◌, map, drop, OnOk, IfOk};
 ghost use Rattle.std.specs.List.{flat_map};
-ghost use Rattle.model_core.specs.EventGraph.{Location};
+ghost use Rattle.model_core.specs.EventGraph.{Location, is_scheduling};
 ghost use Rattle.model_core.specs.Run.Step.{vertex_at};
 ghost use Rattle.model_core.specs.Rules.BoundsOf.{bounds_under};
 ghost use Rattle.model_core.specs.Code.Views.{graph_of, expression_of, location_of, change_of, edge_kind_of, edge_of, vertex_of};
 ghost use Rattle.model_core.specs.Ranges.Refined.{refined};
-ghost use Rattle.model_core.specs.Ranges.Incoming.{assigned, can_schedule, incoming};
+ghost use Rattle.model_core.specs.Ranges.Incoming.{assigned, incoming};
 ghost use Rattle.range_infer.specs.Inner.RangesLeft.{variables_left, StaysLeft};
 ghost use Rattle.range_infer.specs.Inner.PartReads.{each_reads, set_reads, carried_reads, parts_read};
 ghost use Rattle.range_infer.specs.Inner.LookedAt.{assigned_seen, change_seen, values_seen, edge_seen, vertex_seen, incoming_seen, TakesAgain};
@@ -134,7 +134,7 @@ fn add_change(
 }
 
 fn can_schedule(form: &EdgeForm) -> bool
-    ensures { result ≡ can_schedule (edge_kind_of form.now) }
+    ensures { result ≡ is_scheduling (edge_kind_of form.now) }
 {
     match form {
         EdgeForm::Schedule {

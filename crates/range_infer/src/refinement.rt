@@ -69,8 +69,8 @@ pub(crate) fn forget(left: &mut RangesLeft, replaced: usize)
     }
 }
 
-/// Replaces the range of the variable at this place, if there is one, by what is left of it where a comparison of it with `n`
-/// holds.
+/// Replaces the range of the variable at this place, if there is one, by what is left of it where a comparison of it with
+/// `n` holds.
 fn refine_scalar(left: &mut RangesLeft, op: Op, var: usize, n: i128) -> Result<(), NoMemory>
     requires near { IsNear n }
     ensures left { OnOk result (variables_left left.new

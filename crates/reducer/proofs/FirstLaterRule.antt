@@ -1,10 +1,11 @@
 -- Drop, merge and slice where no rule of edges is applicable: each application that the code makes is the first rule's.
 use Rattle.std.proofs.Common.{◌≡◌, ℕ, zero, suc, ◌+◌, ◌<◌, ◌≤◌, ◌==◌, Bool, true, false, not, cond, nat_eq, eq-eqb, ◌&&◌, List, [], ◌∷◌, ◌++◌, map, length, Option, Some, None, refl, sym, ap, ◌∙◌, subst, arith}
-use Rattle.std.proofs.lemmas.Bool.Decides.{nat_tests}
-use Rattle.std.specs.Prelude.{filter, slice_get, is_none, nat_lt}
-use Rattle.std.specs.List.{AllByRecursion, range_with_len, filter_map, cons_option}
+use Rattle.std.specs.Prelude.{filter, is_none, nat_lt}
+use Rattle.std.specs.List.{AllByRecursion, range_with_len}
 use Rattle.std.specs.Option.{option_map, option_map_or, option_and_then, option_or}
+use Rattle.std.proofs.lemmas.Bool.{ltb-true}
 use lib.Pointwise.{pointwise}
+use Rattle.sig_base.proofs.Lists.{first_found-of}
 use Rattle.model_core.specs.Text.Canonical.{variable_name, vertex_name}
 use Rattle.model_core.specs.EventGraph.{EventEdge, EventVertex, Variable, EventGraph}
 use Rattle.model_core.specs.Static.Reading.{IsValid}
@@ -99,9 +100,6 @@ exactly_itself : (ks : List ℕ) → lists_exactly ks ks ≡ true
 exactly_itself [] = refl
 exactly_itself (k ∷ ks) = ap (λ b. b && pointwise nat_eq ks ks) (eq-eqb k k refl) ∙ exactly_itself ks
 
-pub below : (a b : ℕ) → nat_lt a b ≡ true → a < b
-below a b e = grind (arith, nat_tests)
-
 -- ---- drop
 
 pub drop_holds : (g : EventGraph) (ks : List ℕ) → (length ks ≡ 0 → ⊥) → ks ≡ unreached g → first_failed (drop_conditions g ks) ≡ None
@@ -150,14 +148,6 @@ slice_not_made g h (k ∷ ks) before after none is left noted = cc
 
 -- ---- merge
 
--- the first of what is given of a list is given of one of its elements
-head_given : {A B : Type 0} (f : A → Option B) (xs : List A) (y : B) → slice_get (filter_map f xs) 0 ≡ Some y → (x : A) × (f x ≡ Some y)
-head_given f [] y e = cc
-head_given f (x ∷ xs) y e = one (f x) refl e (head_given f xs y) where
-  one : (o : Option _) → f x ≡ o → slice_get (cons_option o (filter_map f xs)) 0 ≡ Some y → (slice_get (filter_map f xs) 0 ≡ Some y → (x : _) × (f x ≡ Some y)) → (x : _) × (f x ≡ Some y)
-  one (Some z) is e later = (x, is ∙ e)
-  one None is e later = later e
-
 merge_at-holds : (g : EventGraph) (place first second : ℕ) → merge_at g place ≡ Some (first, second) → first_failed (merge_conditions g first second) ≡ None
 merge_at-holds g place first second e = one (plain_urgent_edge (vertex_at g place)) e where
   one : (o : Option EventEdge) → option_map_or (λ (e : EventEdge). cond {A = Option (ℕ × ℕ)} (is_none (first_failed (merge_conditions g place e.target))) (Some (place, e.target)) None) o None ≡ Some (first, second) → first_failed (merge_conditions g first second) ≡ None
@@ -172,7 +162,7 @@ merge_at-holds g place first second e = one (plain_urgent_edge (vertex_at g plac
 
 pub merge_holds : (g : EventGraph) (first second : ℕ) → first_merge g ≡ Some (first, second) → first_failed (merge_conditions g first second) ≡ None
 merge_holds g first second is =
-    let (place, at_place) = head_given (merge_at g) (range_with_len 0 (length g.vertices)) (first, second) is in
+    let (place, at_place) = first_found-of (merge_at g) (range_with_len 0 (length g.vertices)) (first, second) is in
     merge_at-holds g place first second at_place
 
 -- the two vertices of a merge are there
@@ -188,8 +178,8 @@ merge_made g h first second before after valid is left noted =
     let holds = merge_holds g first second is in
     let (exist, targets) = both_exist g first second holds in
     let distinct = vertices_distinct g valid in
-    let at_first : place_of_vertex (vertex_name g first) g.vertices ≡ Some first = place_of_its_name (λ (v : EventVertex). v.name) g.vertices first (below first (length g.vertices) exist) distinct in
-    let at_second : place_of_vertex (vertex_name g second) g.vertices ≡ Some second = place_of_its_name (λ (v : EventVertex). v.name) g.vertices second (below second (length g.vertices) targets) distinct in
+    let at_first : place_of_vertex (vertex_name g first) g.vertices ≡ Some first = place_of_its_name (λ (v : EventVertex). v.name) g.vertices first (ltb-true first (length g.vertices) exist) distinct in
+    let at_second : place_of_vertex (vertex_name g second) g.vertices ≡ Some second = place_of_its_name (λ (v : EventVertex). v.name) g.vertices second (ltb-true second (length g.vertices) targets) distinct in
     let named : two_vertices_named g (vertex_name g first) (vertex_name g second) ≡ Some (first, second) =
     ap (option_and_then (λ first. option_map (λ second. (first, second)) (place_of_vertex (vertex_name g second) g.vertices))) at_first ∙ ap (option_map (λ second. (first, second))) at_second in (
       Merge (vertex_name g first) (vertex_name g second),

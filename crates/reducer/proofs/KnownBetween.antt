@@ -1,5 +1,6 @@
 -- What is known of a model behind a merge, and behind a drop.
-use Rattle.std.proofs.Common.{◌≡◌, ℕ, Bool, true, false, not, List, [], ◌∷◌, length, None, Result, Ok, Err, OnOk, refl, sym, ap, ◌∙◌, subst}
+use Rattle.std.proofs.Common.{◌≡◌, ℕ, false, List, [], ◌∷◌, length, None, Result, Ok, Err, OnOk, sym, ap, ◌∙◌, subst}
+use Rattle.std.proofs.lemmas.Bool.{not-true}
 use Rattle.sig_base.specs.declared.no_memory.NoMemory.{NoMemory}
 use Rattle.model_core.specs.EventGraph.{EventGraph}
 use Rattle.model_core.specs.Rules.Conditions.{first_failed}
@@ -17,14 +18,10 @@ use Rattle.reducer.specs.Inner.Progress.{IsProgress}
 use Rattle.reducer.specs.declared.progress.Progress.{Progress}
 use Rattle.reducer.specs.declared.progress.Unreached.TheVariants as known
 
-not_true : (b : Bool) → not b ≡ true → b ≡ false
-not_true true e = cc
-not_true false e = refl
-
 -- its second vertex stays unwatched
 pub still_unwatched : (g h : EventGraph) (first second : ℕ) → first_failed (merge_conditions g first second) ≡ None → h ≡ merged g first second → is_watched_vertex h second ≡ false
 still_unwatched g h first second none is =
-    subst (λ (h : EventGraph). is_watched_vertex h second ≡ false) (sym is) (not_true (is_watched_vertex g second) (every-holds (merge_conditions g first second) none).1.1.1.0)
+    subst (λ (h : EventGraph). is_watched_vertex h second ≡ false) (sym is) (not-true (is_watched_vertex g second) (every-holds (merge_conditions g first second) none).1.1.1.0)
 
 -- ---- behind a drop
 

@@ -21,9 +21,10 @@ use Rattle.mark_laws.proofs.EntailedMarks.{entailed_marks-long}
 use Rattle.mark_laws.proofs.StayingMarks.{staying-unmarked, exactly-equal}
 use Rattle.mark_laws.proofs.ReachedLong.{reached_marks-long}
 use Rattle.model_core.proofs.AllHold.{every-holds}
+use Rattle.model_core.proofs.SomeOfAList.{some-few, some-marked_of}
 use Rattle.merge_rules.specs.UrgentVertices.{has_plain, plain_count}
 use Rattle.reducer.specs.Inner.LaterRules.{NoEdgeRule, Made}
-use Rattle.reducer.proofs.FirstLaterRule.{unmarked-within, below, drop_made, drop_not_made, merge_holds, merge_made, merge_not_made, slice_made, slice_not_made, drop_is_made, merge_is_made, slice_is_made}
+use Rattle.reducer.proofs.FirstLaterRule.{unmarked-within, drop_made, drop_not_made, merge_holds, merge_made, merge_not_made, slice_made, slice_not_made, drop_is_made, merge_is_made, slice_is_made}
 use Rattle.reducer.proofs.NoEdgeRuleAnew.{LeavesEdges, later_kept, none-applied}
 
 -- ---- the measure
@@ -71,19 +72,11 @@ filtered_head test (x ∷ xs) k ks e = one (test x) refl e (filtered_head test x
   one true is e later = subst (λ x. test x ≡ true) (let same : x ≡ k = cc in same) is
   one false is e later = later e
 
-marked_of-few : {A : Type 0} (marks : List Bool) (xs : List A) → length (marked_of marks xs) ≤ length xs
-marked_of-few [] xs = omega arith
-marked_of-few (b ∷ bs) [] = omega arith
-marked_of-few (b ∷ bs) (x ∷ xs) = one b (marked_of-few bs xs) where
-  one : (b : Bool) → length (marked_of bs xs) ≤ length xs → length (cond b (x ∷ marked_of bs xs) (marked_of bs xs)) ≤ suc (length xs)
-  one true few = omega (arith, few)
-  one false few = omega (arith, few)
-
 marked_of-fewer : {A : Type 0} (marks : List Bool) (xs : List A) (k : ℕ) → k < length marks → length marks ≡ length xs → not (is_marked marks k) ≡ true → length (marked_of marks xs) < length xs
 marked_of-fewer [] xs k below long e = absurd (omega (arith, below))
 marked_of-fewer (b ∷ bs) [] k below long e = absurd (omega (arith, long))
 marked_of-fewer (true ∷ bs) (x ∷ xs) zero below long e = cc
-marked_of-fewer (false ∷ bs) (x ∷ xs) zero below long e = let few = marked_of-few bs xs in omega (arith, few)
+marked_of-fewer (false ∷ bs) (x ∷ xs) zero below long e = let few = some-few (some-marked_of bs xs) in omega (arith, few)
 marked_of-fewer (b ∷ bs) (x ∷ xs) (suc k) below long e = one b (marked_of-fewer bs xs k (omega (arith, below)) (omega (arith, long)) e) where
   one : (b : Bool) → length (marked_of bs xs) < length xs → length (cond b (x ∷ marked_of bs xs) (marked_of bs xs)) < suc (length xs)
   one true few = omega (arith, few)

@@ -1,8 +1,9 @@
 -- One sweep of a rule makes the applications that the strategy makes, each time beginning again from the first vertex.
-use Rattle.std.proofs.Common.{◌≡◌, ℕ, ◌+◌, Bool, true, false, ◌&&◌, cond, add-one, List, [], ◌∷◌, ◌++◌, map, length, Option, Some, None, is_some, refl, sym, ap, ap₂, ◌∙◌, subst, append_assoc, length-append, arith}
+use Rattle.std.proofs.Common.{◌≡◌, ℕ, ◌+◌, Bool, true, false, cond, add-one, List, [], ◌∷◌, ◌++◌, map, length, Option, Some, None, is_some, refl, sym, ap, ap₂, ◌∙◌, subst, append_assoc, length-append, arith}
 use Rattle.std.specs.Prelude.{slice_get}
 use Rattle.std.specs.List.{IsDistinct, AllByRecursion, flat_map}
 use Rattle.std.specs.Option.{option_map, option_map_or, option_and_then, option_or}
+use Rattle.std.proofs.lemmas.Bool.{and_parts}
 use Rattle.sig_base.proofs.Lists.{get-behind, remove-behind}
 use Rattle.model_core.specs.Text.Lexing.{same_bytes}
 use Rattle.model_core.specs.Text.Canonical.{vertex_name}
@@ -87,10 +88,6 @@ is_first rules.Settle g vs vertex edge ready there =
     ap (λ (o : Option (ℕ × ℕ)). option_or (at_edge h Prune o) (option_or (at_edge h Settle (first_settle h)) (later_rule h))) (first_edge-none (has_refuted_condition g) 0 vs ready)
     ∙ ap (λ (o : Option (ℕ × ℕ)). option_or (at_edge h Settle o) (later_rule h)) there
 
-both_true : (a b : Bool) → (a && b) ≡ true → (a ≡ true) × (b ≡ true)
-both_true true b e = (refl, e)
-both_true false b e = cc
-
 module _ (g : EventGraph) (front : List EventVertex) (v : EventVertex) (later : List EventVertex) (unnamed : NotNamed v.name front) where
   -- the graph whose vertex behind the front has these edges
   abbrev at_edges : List EventEdge → EventGraph
@@ -122,7 +119,7 @@ module _ (g : EventGraph) (front : List EventVertex) (v : EventVertex) (later : 
 
     settle_holds : can_be_settled g e ≡ true → first_failed (settle_conditions h (length front) (length kept)) ≡ None
     settle_holds passes =
-        let both = both_true (is_conditional e) (has_proved_condition g e) passes in
+        let both = and_parts (is_conditional e) (has_proved_condition g e) passes in
         ap (λ (o : Option EventEdge). first_failed (is_some o ∷ option_map_or is_conditional o false ∷ option_map_or (has_proved_condition h) o false ∷ [])) edge_there ∙ ap₂ (λ a b. first_failed (true ∷ a ∷ b ∷ [])) both.0 both.1
 
     settle_leaves : settled h (length front) (length kept) ≡ at_edges (kept ++ unconditional e ∷ es)

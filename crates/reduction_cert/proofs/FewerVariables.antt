@@ -1,29 +1,21 @@
 -- An application leaves no more variables than there were, so counts of uses that served before it serve behind it.
-use Rattle.std.proofs.Common.{◌≡◌, ◌≤◌, ℕ, zero, suc, Bool, true, false, cond, List, [], ◌∷◌, length, replicate, Option, Some, None, refl, sym, ap, subst, arith}
+use Rattle.std.proofs.Common.{◌≡◌, ◌≤◌, ℕ, zero, suc, [], length, replicate, Option, Some, None, refl, sym, ap, subst, arith}
 use Rattle.std.specs.Prelude.{slice_index}
 use Rattle.std.specs.Option.{option_map_or}
 use Rattle.std.proofs.lemmas.List.{length-map, length-replicate}
 use Rattle.model_core.specs.declared.model.Model.{Model}
 use Rattle.model_core.specs.EventGraph.{EventGraph}
 use Rattle.model_core.specs.Code.Views.{graph_of, variable_of}
-use Rattle.model_core.specs.Rules.MarkedPlaces.{marked_of}
 use Rattle.model_core.specs.Rules.Prune.{pruned}
 use Rattle.model_core.specs.Rules.Settle.{settled}
 use Rattle.model_core.specs.Rules.Drop.{staying_marks, dropped}
 use Rattle.model_core.specs.Rules.Merge.{merged}
 use Rattle.model_core.specs.Rules.Slice.{sliced}
 use Rattle.model_core.specs.Rules.Reduction.{RuleApplication, Prune, Settle, Drop, Merge, Slice, edge_named, vertices_named, two_vertices_named, variables_named, result_of, applied}
+use Rattle.model_core.proofs.SomeOfAList.{some-few, some-marked_of}
 use Rattle.use_analysis.specs.UseNumbers.{UseNumbers, no_numbers}
 use Rattle.merge_rules.specs.NothingCounted.{NothingCounted}
 use Rattle.reduction_cert.proofs.Chains.{applied-is}
-
-fewer_marked : {A : Type 0} (marks : List Bool) (xs : List A) → length (marked_of marks xs) ≤ length xs
-fewer_marked [] xs = omega arith
-fewer_marked (b ∷ marks) [] = omega arith
-fewer_marked (b ∷ marks) (x ∷ xs) = one b (fewer_marked marks xs) where
-  one : (b : Bool) → length (marked_of marks xs) ≤ length xs → length (cond b (x ∷ marked_of marks xs) (marked_of marks xs)) ≤ length (x ∷ xs)
-  one true few = omega (arith, few)
-  one false few = omega (arith, few)
 
 few_or : {P : Type 0} (g : EventGraph) (o : Option P) (result : P → EventGraph) → ((p : P) → length (result p).variables ≤ length g.variables) → length (option_map_or result o g).variables ≤ length g.variables
 few_or g None result few = omega arith
@@ -34,7 +26,7 @@ few_left g (Prune name number) = few_or g (edge_named g name number) (λ (vertex
 few_left g (Settle name number) = few_or g (edge_named g name number) (λ (vertex, edge). settled g vertex edge) (λ (vertex, edge). omega arith)
 few_left g (Drop names) = few_or g (vertices_named g names) (λ vertices. dropped g vertices) (λ vertices. omega arith)
 few_left g (Merge name target) = few_or g (two_vertices_named g name target) (λ (first, second). merged g first second) (λ (first, second). omega arith)
-few_left g (Slice names) = few_or g (variables_named g names) (λ vars. sliced g vars) (λ vars. fewer_marked (staying_marks vars (length g.variables)) g.variables)
+few_left g (Slice names) = few_or g (variables_named g names) (λ vars. sliced g vars) (λ vars. some-few (some-marked_of (staying_marks vars (length g.variables)) g.variables))
 
 pub fewer_variables : (g h : EventGraph) (a : RuleApplication) → applied g a ≡ Some h → length h.variables ≤ length g.variables
 fewer_variables g h a made = let few = few_left g a in let same = ap (λ (k : EventGraph). length k.variables) ((applied-is g h a).0 made).1 in omega (arith, few, same)

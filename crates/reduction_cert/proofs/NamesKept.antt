@@ -12,7 +12,7 @@ use Rattle.model_core.specs.Rules.Merge.{values_at_once, merged_vertex, merged_w
 use Rattle.model_core.specs.Rules.Slice.{vertex_left, sliced}
 use Rattle.model_core.specs.Rules.Reduction.{RuleApplication, Prune, Settle, Drop, Merge, Slice, edge_named, two_vertices_named, variables_named, result_of, applied}
 use Rattle.model_core.proofs.PlacesChanged.{map_placed}
-use Rattle.name_places.specs.NamesPlaced.{HasPlaces, names_of_vertices}
+use Rattle.model_read.specs.NamesPlaced.{HasPlaces, names_of_vertices}
 use Rattle.reduction_cert.specs.Inner.DroppingOnes.{is_drop}
 use Rattle.reduction_cert.proofs.Chains.{applied-is}
 

@@ -1,5 +1,5 @@
 -- A loop over applications or names: what one more of them comes to, and what is left at the end.
-use Rattle.std.proofs.Common.{◌≡◌, ◌∙◌, ℕ, suc, ◌+◌, ◌<◌, ◌≤◌, List, [], ◌∷◌, ◌++◌, map, drop, length, get_or, Option, Some, None, option_map, refl, sym, ap, ap₂, arith, add-one, drop-cons}
+use Rattle.std.proofs.Common.{◌≡◌, ◌∙◌, ℕ, suc, ◌+◌, ◌≤◌, List, [], ◌∷◌, ◌++◌, map, drop, length, Option, Some, None, option_map, refl, sym, ap, arith}
 use Rattle.std.proofs.lemmas.List.{append_assoc, append-nil, drop_all}
 use Rattle.std.specs.Option.{option_map_or, option_and_then}
 use Rattle.model_core.specs.EventGraph.{EventGraph}
@@ -8,12 +8,6 @@ use Rattle.model_core.specs.Rules.Reduction.{RuleApplication, applied, first_bad
 use Rattle.model_core.specs.Rules.Verdict.{graph_reached}
 
 -- ---- what is left of a list
-
-pub left_here : {A : Type 0} (xs : List A) (i : ℕ) (x : A) → i < length xs → x ≡ get_or xs i x → drop i xs ≡ x ∷ drop (i + 1) xs
-left_here xs i x below is = drop-cons xs i x below ∙ ap₂ (λ y k. y ∷ drop k xs) (sym is) (sym (add-one i))
-
-pub left_more : {A B : Type 0} (view : A → B) (xs : List A) (i : ℕ) (x : A) → i < length xs → x ≡ get_or xs i x → map view (drop i xs) ≡ view x ∷ map view (drop (i + 1) xs)
-left_more view xs i x below is = ap (map view) (left_here xs i x below is)
 
 pub left_none : {A B : Type 0} (view : A → B) (xs : List A) (i : ℕ) → length xs ≤ i → map view (drop i xs) ≡ []
 left_none view xs i past = ap (map view) (drop_all i xs past)

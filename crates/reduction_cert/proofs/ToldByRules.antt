@@ -5,7 +5,8 @@ use Rattle.sig_base.specs.declared.no_memory.NoMemory.{NoMemory}
 use Rattle.model_core.specs.declared.rule_error.RuleError.{RuleError}
 use Rattle.model_core.specs.declared.rule_error.RuleError.TheVariants as errors
 use Rattle.model_core.specs.EventGraph.{EventGraph}
-use Rattle.model_core.specs.Rules.Conditions.{first_failed, TellsCondition}
+use Rattle.model_core.specs.Rules.Conditions.{first_failed}
+use Rattle.model_core.specs.Rules.ConditionTold.{TellsCondition}
 use Rattle.model_core.specs.Rules.Drop.{drop_conditions, dropped}
 use Rattle.model_core.specs.Rules.Merge.{merge_conditions, merged}
 use Rattle.model_core.specs.Rules.Reduction.{Drop, Merge, vertices_named, two_vertices_named, unless_failed, applied}

@@ -4,9 +4,9 @@ ghost use Rattle.std.specs.Prelude.{◌≡◌, IfOk};
 ghost use Rattle.model_core.specs.EventGraph.{EventGraph};
 ghost use Rattle.model_core.specs.Text.Numbering.{each_numbered};
 ghost use Rattle.model_core.specs.Rules.Reduction.{from_zero, edge_named, two_vertices_named};
-ghost use Rattle.name_places.specs.NamesPlaced.{listed_place, HasPlaces, names_of_vertices};
+ghost use Rattle.model_read.specs.NamesPlaced.{listed_place, HasPlaces, names_of_vertices};
 
-use name_places::Places;
+use model_read::Places;
 use sig_base::{List, Name, NoMemory};
 use std::alloc::Global;
 

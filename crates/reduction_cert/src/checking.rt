@@ -8,7 +8,7 @@ ghost use Rattle.model_core.specs.Rules.Verdict.{graph_reached, verdict};
 ghost use Rattle.merge_rules.specs.Known.{IsKnown};
 ghost use Rattle.merge_rules.specs.NothingCounted.{NothingCounted};
 ghost use Rattle.reduction_cert.specs.VerdictView.{verdict_of};
-ghost use Rattle.name_places.specs.NamesPlaced.{HasPlaces, names_of_vertices};
+ghost use Rattle.model_read.specs.NamesPlaced.{HasPlaces, names_of_vertices};
 ghost use Rattle.reduction_cert.specs.Inner.DroppingOnes.{is_drop};
 
 use crate::by_name::{all_named, edge_named, two_vertices_named};
@@ -17,7 +17,7 @@ use crate::without_vertices::known_without;
 use edge_pruning::{drop_vertices, prune, settle};
 use merge_rules::{Known, merge_measured};
 use model_core::{Application, Model, copy_model, same_model, was_made};
-use name_places::Places;
+use model_read::Places;
 use sig_base::{List, Name, NoMemory};
 use std::alloc::Global;
 use use_analysis::UseCounts;

@@ -1,6 +1,6 @@
 -- The model of some of a graph's vertices, whose edges and watch list name vertices by new places: it can be written, and its
 -- parts keep the static rules.
-use Rattle.std.proofs.Common.{◌≡◌, inl, inr, ℕ, ◌<◌, ◌≤◌, ◌==◌, List, [], ◌∷◌, ◌++◌, map, length, slice_get, Some, refl, sym, ap, subst, ◌∙◌, le_trans}
+use Rattle.std.proofs.Common.{◌≡◌, inl, inr, ℕ, ◌<◌, ◌≤◌, ◌==◌, List, ◌++◌, map, length, slice_get, Some, refl, sym, ap, subst, ◌∙◌, le_trans}
 use Rattle.std.specs.List.{AllByRecursion, IsDistinct}
 use Rattle.std.proofs.lemmas.List.{length-map}
 use Rattle.std.proofs.lemmas.Simd.{map-map}
@@ -14,6 +14,7 @@ use Rattle.model_core.proofs.Among.{Among, contained-among, of-among, each-among
 use Rattle.model_core.proofs.WatchedApart.{WatchedItem, watch_apart}
 use Rattle.model_core.proofs.SomeOfAList.{SomeOf, nothing, with_it, without, some-map, some-behind, some-distinct, some-few}
 use Rattle.model_core.proofs.OtherTakes.{change_still, carries_still, timing_still}
+use Rattle.model_core.proofs.NotEmpty.{has_one-map}
 use Rattle.round_trip.proofs.MadeAgain.{VertexFrom, EdgeFrom, ChangeFrom, made-spellable, same_change, same_edge}
 
 among-some : {A : Type 0} {xs ys : List A} (x : A) → SomeOf xs ys → Among x xs → Among x ys
@@ -21,10 +22,6 @@ among-some x nothing h = h
 among-some x (with_it y some) (inl e) = inl e
 among-some x (with_it y some) (inr h) = inr (among-some x some h)
 among-some x (without y some) h = inr (among-some x some h)
-
-has_one-map : {A B : Type 0} (f : A → B) (xs : List A) → HasOne xs → HasOne (map f xs)
-has_one-map f [] one = absurd one
-has_one-map f (x ∷ xs) one = tt
 
 -- some of a graph's vertices stay, and f tells the new place of each that edges or the watch list name. Named holds of those,
 -- and Told of those that are watched

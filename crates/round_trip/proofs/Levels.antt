@@ -1,7 +1,7 @@
 -- From one level of expressions to another, parentheses, and operands with operators between them: once for all operators.
 use Rattle.std.proofs.Common.{◌≡◌, ℕ, zero, suc, ◌+◌, ◌-◌, ◌≤◌, Bool, true, false, cond, List, [], ◌∷◌, ◌++◌, length, refl, sym, ap, ◌∙◌, subst, arith, append_assoc, append-nil}
 use Rattle.std.specs.Prelude.{Option, Some, None, nat_lt, codes}
-use Rattle.std.proofs.lemmas.Grind.{common_steps}
+use Rattle.std.proofs.lemmas.Bool.{ltb-false}
 use Rattle.model_core.specs.Text.Lexing.{Lexeme}
 use Rattle.model_core.specs.Text.Grammar.{Grammar, many}
 use Rattle.model_core.specs.EventGraph.{Operator, Expression}
@@ -67,9 +67,6 @@ enclosed {G = G} moves h =
     narrowed : {A : Type 0} {f : LanguageFormat A} {t : List ℕ} {i j : ℕ} {K : A → Type 0} → Writes f t Any i j K → Writes f t Ends i j K
     narrowed first = record { run = λ at. let x = first.run at in (x.0, x.1, x.2, x.3, λ rest left e lexed. x.4 rest left tt lexed) }
 
-not_below : (m n : ℕ) → nat_lt m n ≡ false → n ≤ m
-not_below m n e = grind (arith, common_steps)
-
 -- as an operand, in parentheses where its level is below the one asked for
 pub as_operand : {k : List ℕ} {G : WrittenExpression → Type 0} (n j : ℕ) → ((at : ℕ) (w : WrittenExpression) → G w → G (moved at w)) → (asked : ℕ) → asked ≤ 8 → (e : Expression)
     → Writes (ByRule (rule_of (level e))) k Ends (n + j) j G → Writes (ByRule (rule_of asked)) (operand asked e k) Ends (operand_openings asked e n + j) j G
@@ -78,7 +75,7 @@ as_operand {k} {G} n j moves asked most e h = pick (nat_lt (level e) asked) refl
   where
     pick : (b : Bool) → nat_lt (level e) asked ≡ b → Writes (ByRule (rule_of asked)) (cond b (codes "(" ++ k ++ codes ")") k) Ends (cond b (suc n) n + j) j G
     pick true t = lower 8 asked most (writes-room (omega arith) (enclosed moves (lower (level e) 0 (omega arith) h)))
-    pick false t = lower (level e) asked (not_below (level e) asked t) h
+    pick false t = lower (level e) asked (ltb-false (level e) asked t) h
 
 -- ---- chains group to the left
 

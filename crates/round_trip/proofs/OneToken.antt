@@ -1,5 +1,5 @@
 -- Texts of one token: a name, a number, a reserved word or a symbol, and which of them are tokens of their own side by side.
-use Rattle.std.proofs.Common.{◌≡◌, ℕ, suc, zero, ◌+◌, ◌-◌, ◌^◌, ◌<◌, ◌≤◌, Bool, true, false, List, [], ◌∷◌, ◌++◌, length, map, refl, sym, ap, ◌∙◌, subst, arith, get_or}
+use Rattle.std.proofs.Common.{◌≡◌, ℕ, suc, zero, ◌+◌, ◌-◌, ◌^◌, ◌<◌, ◌≤◌, true, false, List, [], ◌∷◌, ◌++◌, length, map, refl, sym, ap, ◌∙◌, subst, arith, get_or}
 use Rattle.std.specs.Prelude.{pos, Some, None, if◌then◌else◌, nat_lt, decimal, codes}
 use Rattle.std.specs.List.{AllByRecursion, list_all}
 use Rattle.std.specs.Char.{is_ascii_digit, is_ascii_alphabetic}
@@ -16,6 +16,7 @@ use Rattle.model_core.specs.Text.Lexing.{Lexeme, LexemeKind, NameOf, Reserved, N
 use Rattle.model_core.specs.Text.Openings.{ends_part, is_opening}
 use Rattle.model_core.specs.Text.Format.{Single, TokenSort, AName, ANumber, AWord, ASymbol, sort_as, mark, reserved, any_name, any_number}
 use Rattle.model_core.specs.Text.Spellable.{IsName}
+use Rattle.model_core.proofs.EachOne.{every-passes}
 use Rattle.text_laws.specs.OpeningCount.{deep_from}
 use Rattle.round_trip.proofs.TokenSteps.{Lexes-token, token}
 use Rattle.round_trip.proofs.LongestTokens.{Ends, front_name, front_digits, front_word, take_while_word}
@@ -49,14 +50,10 @@ pub writes-name : {i : ℕ} (n : List ℕ) → IsName n → Writes any_name n En
 writes-name [] h = absurd h.begins
 writes-name {i} (c ∷ w) h = writes-token AName _ (λ x. x.name ≡ c ∷ w) c w (NameOf (c ∷ w)) Ends (λ rest e. front_name c w rest h e) refl (neither (NameOf (c ∷ w)) i refl refl) (λ from to. refl)
 
-all_from : (p : ℕ → Bool) (s : List ℕ) → list_all p s ≡ true → AllByRecursion (λ c. p c ≡ true) s
-all_from p [] h = tt
-all_from p (c ∷ s) h = let a : p c ≡ true = grind arith in let b : list_all p s ≡ true = grind arith in (a, all_from p s b)
-
 front_reserved : (c : ℕ) (w rest : List ℕ) (k : Word) → is_ascii_alphabetic c ≡ true → list_all is_word_byte (c ∷ w) ≡ true → word_among reserved_words (c ∷ w) ≡ Reserved k → Ends rest
     → front c (w ++ rest) ≡ Longest (suc (length w)) (Reserved k)
 front_reserved c w rest k letter all is e =
-    front_word c (w ++ rest) letter ∙ ap word_front (take_while_word (c ∷ w) rest (all_from is_word_byte (c ∷ w) all) e) ∙ ap (Longest (suc (length w))) is
+    front_word c (w ++ rest) letter ∙ ap word_front (take_while_word (c ∷ w) rest (every-passes is_word_byte (c ∷ w) all) e) ∙ ap (Longest (suc (length w))) is
 
 -- these bytes are the reserved word
 pub record IsWord (c : ℕ) (w : List ℕ) (k : Word) : Type 0 where

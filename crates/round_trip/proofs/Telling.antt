@@ -2,8 +2,8 @@
 use Rattle.std.proofs.Common.{◌≡◌, ℕ, zero, suc, ◌+◌, ◌≤◌, Bool, true, false, List, [], ◌∷◌, refl, sym, ap, subst, inl, inr, arith}
 use Rattle.std.specs.Prelude.{Option, Some, None}
 use Rattle.std.specs.List.{AllByRecursion}
-use Rattle.std.specs.Option.{option_map, option_and_then}
-use Rattle.std.proofs.lemmas.Option.{option_and_then_some}
+use Rattle.std.specs.Option.{option_and_then}
+use Rattle.std.proofs.lemmas.Option.{option_and_then_some, same_Some}
 use Rattle.sig_base.specs.declared.limits.TheConstants.{OPENINGS_MAX}
 use Rattle.model_core.specs.declared.token.Word.{Word}
 use Rattle.model_core.specs.declared.token.Symbol.{Symbol}
@@ -80,13 +80,13 @@ tells-token {A} {levels} s f R makes = record { run = go }
           subst (Sound next.0) d.2 (record { good = sound.good.1; few = next.2 }),
         )
 
-reserved_kind : (k : LexemeKind) (w : Word) → sort_of k ≡ AWord w → k ≡ Reserved w
+pub reserved_kind : (k : LexemeKind) (w : Word) → sort_of k ≡ AWord w → k ≡ Reserved w
 reserved_kind (NameOf b) w e = cc
 reserved_kind (Reserved v) w e = let h : v ≡ w = cc in ap Reserved h
 reserved_kind (NumberOf n m) w e = cc
 reserved_kind (Mark s) w e = cc
 
-mark_kind : (k : LexemeKind) (s : Symbol) → sort_of k ≡ ASymbol s → k ≡ Mark s
+pub mark_kind : (k : LexemeKind) (s : Symbol) → sort_of k ≡ ASymbol s → k ≡ Mark s
 mark_kind (NameOf b) s e = cc
 mark_kind (Reserved v) s e = cc
 mark_kind (NumberOf n m) s e = cc
@@ -212,13 +212,6 @@ module _ {levels : Level → Grammar WrittenExpression} where
 pub bound : {A B : Type 0} (f : A → Option B) (o : Option A) (y : B) → option_and_then f o ≡ Some y → (x : A) × (o ≡ Some x) × (f x ≡ Some y)
 bound f o y e = option_and_then_some f o y e (λ x is makes. (x, is, makes))
 
-pub some_same : {A : Type 0} (x y : A) → Some x ≡ Some y → x ≡ y
-some_same x y e = cc
-
-pub mapped : {A B : Type 0} (f : A → B) (o : Option A) (y : B) → option_map f o ≡ Some y → (x : A) × (o ≡ Some x) × (f x ≡ y)
-mapped f None y e = cc
-mapped f (Some x) y e = (x, refl, some_same (f x) y e)
-
 pub none_some : {A : Type 0} {P : Type 0} (y : A) → None ≡ Some y → P
 none_some y e = absurd cc
 
@@ -231,10 +224,10 @@ abbrev pub Costs : {A B : Type 0} → (A → Option B) → (B → Type 0) → (B
 Costs {A} {B} f Good cost k w j = (e : B) → f w ≡ Some e → Fits Good cost k j e
 
 pub together : {A B : Type 0} (f : A → Option B) (Good : B → Type 0) (cost : B → ℕ) (k : ℕ) (ws : List A) (j : ℕ) → EachSo (Costs f Good cost) k ws j → (es : List B) → each_numbered f ws ≡ Some es → AllByRecursion Good es × (openings_together cost es + j ≤ k)
-together f Good cost k [] j h es e = subst (Fits (AllByRecursion Good) (openings_together cost) k j) (some_same [] es e) (tt, omega (arith, h))
+together f Good cost k [] j h es e = subst (Fits (AllByRecursion Good) (openings_together cost) k j) (same_Some [] es e) (tt, omega (arith, h))
 together f Good cost k (w ∷ ws) j h es e =
     let first = bound (λ y. option_and_then (λ ys. Some (y ∷ ys)) (each_numbered f ws)) (f w) es e in
     let later = bound (λ ys. Some (first.0 ∷ ys)) (each_numbered f ws) es first.2 in
     let a = h.1 first.0 first.1 in
     let b = together f Good cost h.0 ws j h.2 later.0 later.1 in
-    subst (Fits (AllByRecursion Good) (openings_together cost) k j) (some_same (first.0 ∷ later.0) es later.2) ((a.0, b.0), omega (arith, a.1, b.1))
+    subst (Fits (AllByRecursion Good) (openings_together cost) k j) (same_Some (first.0 ∷ later.0) es later.2) ((a.0, b.0), omega (arith, a.1, b.1))

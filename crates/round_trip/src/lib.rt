@@ -8,7 +8,7 @@ ghost use Rattle.model_core.specs.EventGraph.{EventGraph};
 ghost use Rattle.model_core.specs.Rules.Reduction.{RuleApplication};
 ghost use Rattle.model_core.specs.Rules.Certificate.{certificate};
 ghost use Rattle.model_core.specs.Text.Lexing.{Lexeme, tokens_from, tokens_of};
-ghost use Rattle.model_core.specs.Text.CertificateText.{SpellableApplication, IsCertificate};
+ghost use Rattle.model_core.specs.Text.CertificateText.{IsCertificate};
 ghost use Rattle.model_core.specs.Text.Written.{WrittenModel};
 ghost use Rattle.model_core.specs.Text.Numbering.{numbered};
 ghost use Rattle.model_core.specs.Text.Canonical.{canonical};
@@ -18,7 +18,7 @@ ghost use Rattle.model_core.specs.Static.ModelFaults.{Accepted};
 ghost use Rattle.model_core.specs.Static.OwnRules.{KeepsStaticRules};
 ghost use Rattle.model_core.specs.Static.Reading.{Reads, IsValid, ReadsDocument};
 ghost use Rattle.model_core.specs.Static.WrittenByKind.{VariablesByKind};
-ghost use Rattle.model_core.specs.Text.Spellable.{IsSpellable, ReadsBack};
+ghost use Rattle.model_core.specs.Text.Spellable.{IsSpellable, ReadsBack, SpellableApplication};
 ghost use Rattle.static_laws.specs.FitsVersion.{FitsVersion};
 
 /// The model that a text spells is one that a text can write, and keeps its limit on openings in its canonical text too.

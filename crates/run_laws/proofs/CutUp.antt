@@ -1,33 +1,18 @@
 -- Lists that are put into one list and cut up again.
-use Rattle.std.proofs.Common.{◌≡◌, ℕ, zero, suc, ◌+◌, ◌≤◌, ℤ, Bool, true, false, ◌&&◌, List, [], ◌∷◌, ◌++◌, length, take, drop, map, refl, sym, ap, ap₂, ◌∙◌, arith, length-append, length-drop}
+use Rattle.std.proofs.Common.{◌≡◌, ℕ, ◌+◌, ℤ, ◌&&◌, List, [], ◌∷◌, ◌++◌, length, take, drop, map, refl, sym, ap, ap₂, ◌∙◌, arith, length-append, length-drop}
 use Rattle.std.specs.Prelude.{sum}
 use Rattle.std.specs.Ordering.{int_eq}
 use Rattle.std.proofs.lemmas.List.Sums.{sum_by-cons}
+use Rattle.std.proofs.Math.Seq.{take-append_seam, drop-append_seam}
+use Rattle.std.proofs.lemmas.List.{take-append-drop, length-take-le}
+use Rattle.std.proofs.Math.Bool.{and_assoc}
 use lib.Pointwise.{pointwise}
 use Rattle.model_core.specs.Run.Pending.{same_values}
 use Rattle.model_core.specs.Saved.Cells.{cut_up, in_one_list}
 
-take-front : (xs ys : List ℤ) → take (length xs) (xs ++ ys) ≡ xs
-take-front [] ys = refl
-take-front (x ∷ xs) ys = ap (λ l. x ∷ l) (take-front xs ys)
-
-drop-front : (xs ys : List ℤ) → drop (length xs) (xs ++ ys) ≡ ys
-drop-front [] ys = refl
-drop-front (x ∷ xs) ys = drop-front xs ys
-
 pub cut_up-in_one_list : (lists : List (List ℤ)) → cut_up (map (λ values. length values) lists) (in_one_list lists) ≡ lists
 cut_up-in_one_list [] = refl
-cut_up-in_one_list (xs ∷ lists) = rw (take-front xs (in_one_list lists), drop-front xs (in_one_list lists)) (ap (λ l. xs ∷ l) (cut_up-in_one_list lists))
-
-pub take-and-drop : (n : ℕ) (xs : List ℤ) → take n xs ++ drop n xs ≡ xs
-take-and-drop zero xs = refl
-take-and-drop (suc n) [] = refl
-take-and-drop (suc n) (x ∷ xs) = ap (λ l. x ∷ l) (take-and-drop n xs)
-
-pub length-front : (n : ℕ) (xs : List ℤ) → n ≤ length xs → length (take n xs) ≡ n
-length-front zero xs enough = refl
-length-front (suc n) [] enough = absurd (omega arith)
-length-front (suc n) (x ∷ xs) enough = ap suc (length-front n xs (omega arith))
+cut_up-in_one_list (xs ∷ lists) = rw (take-append_seam xs (in_one_list lists), drop-append_seam xs (in_one_list lists)) (ap (λ l. xs ∷ l) (cut_up-in_one_list lists))
 
 nothing-left : (xs : List ℤ) → 0 ≡ length xs → [] ≡ xs
 nothing-left [] e = refl
@@ -38,13 +23,13 @@ pub in_one_list-cut_up : (sizes : List ℕ) (xs : List ℤ) → sum sizes ≡ le
 in_one_list-cut_up [] xs long = nothing-left xs long
 in_one_list-cut_up (n ∷ sizes) xs long =
     let both = sum_by-cons (λ (x : ℕ). x) n sizes in
-    ap (λ l. take n xs ++ l) (in_one_list-cut_up sizes (drop n xs) (omega (arith, both, long, length-drop n xs))) ∙ take-and-drop n xs
+    ap (λ l. take n xs ++ l) (in_one_list-cut_up sizes (drop n xs) (omega (arith, both, long, length-drop n xs))) ∙ take-append-drop n xs
 
 pub lengths-cut_up : (sizes : List ℕ) (xs : List ℤ) → sum sizes ≡ length xs → map (λ values. length values) (cut_up sizes xs) ≡ sizes
 lengths-cut_up [] xs long = refl
 lengths-cut_up (n ∷ sizes) xs long =
     let both = sum_by-cons (λ (x : ℕ). x) n sizes in
-    ap₂ (λ k ks. k ∷ ks) (length-front n xs (omega (arith, both, long))) (lengths-cut_up sizes (drop n xs) (omega (arith, both, long, length-drop n xs)))
+    ap₂ (λ k ks. k ∷ ks) (length-take-le n xs (omega (arith, both, long))) (lengths-cut_up sizes (drop n xs) (omega (arith, both, long, length-drop n xs)))
 
 pub length-in_one_list : (lists : List (List ℤ)) → length (in_one_list lists) ≡ sum (map (λ values. length values) lists)
 length-in_one_list [] = refl
@@ -52,15 +37,11 @@ length-in_one_list (xs ∷ lists) = length-append xs (in_one_list lists) ∙ ap 
 
 -- ---- comparing
 
-and-assoc : (a b c : Bool) → ((a && b) && c) ≡ (a && (b && c))
-and-assoc true b c = refl
-and-assoc false b c = refl
-
 pub same-append : (as_ bs cs ds : List ℤ) → length as_ ≡ length cs → same_values (as_ ++ bs) (cs ++ ds) ≡ (same_values as_ cs && same_values bs ds)
 same-append [] bs [] ds long = refl
 same-append [] bs (c ∷ cs) ds long = absurd (omega (arith, long))
 same-append (a ∷ as_) bs [] ds long = absurd (omega (arith, long))
-same-append (a ∷ as_) bs (c ∷ cs) ds long = ap (λ t. int_eq a c && t) (same-append as_ bs cs ds (omega (arith, long))) ∙ sym (and-assoc (int_eq a c) (same_values as_ cs) (same_values bs ds))
+same-append (a ∷ as_) bs (c ∷ cs) ds long = ap (λ t. int_eq a c && t) (same-append as_ bs cs ds (omega (arith, long))) ∙ sym (and_assoc (int_eq a c) (same_values as_ cs) (same_values bs ds))
 
 head-same : (n m : ℕ) (ns ms : List ℕ) → n ∷ ns ≡ m ∷ ms → (n ≡ m) × (ns ≡ ms)
 head-same n m ns ms e = (cc, cc)

@@ -1,7 +1,7 @@
 -- Two models in lock step: the second's moments are those of the first, with states, words, vertices and values mapped.
-use Rattle.std.proofs.Common.{◌≡◌, ℕ, ◌^◌, ◌≤◌, ℤ, Bool, true, false, cond, nat_lt, List, [], ◌++◌, map, Option, Some, None, option_map, refl, sym, ap, ap₂, subst, arith, le_trans}
-use Rattle.std.proofs.lemmas.Bool.Decides.{nat_tests}
+use Rattle.std.proofs.Common.{◌≡◌, ℕ, ◌^◌, ◌≤◌, ℤ, Bool, true, false, cond, nat_lt, List, [], ◌++◌, map, Option, Some, None, option_map, refl, sym, ap, ap₂, subst, le_trans}
 use Rattle.std.specs.Prelude.{option_to_list, position}
+use Rattle.std.proofs.lemmas.Bool.{ltb-false}
 use Rattle.model_core.specs.EventGraph.{EventGraph}
 use Rattle.model_core.specs.Run.State.{State}
 use Rattle.model_core.specs.Run.Value.{OrFault}
@@ -21,9 +21,6 @@ entry_mapped vertices values e = record { time = e.time; priority = e.priority; 
 
 abbrev pub configuration_mapped : (State → State) → (List ℕ → List ℕ) → (Entry → Entry) → Configuration → Configuration
 configuration_mapped states words entries c = record { clock = c.clock; state = states c.state; taken = words c.taken; pending = map entries c.pending }
-
-on_time : (until t : ℕ) → nat_lt until t ≡ false → t ≤ until
-on_time until t e = grind (arith, nat_tests)
 
 module _ (g h : EventGraph) (states : State → State) (words : List ℕ → List ℕ) (vertices : ℕ → ℕ) (values : Entry → List ℤ) (Sound : Configuration → Type 0) where
   abbrev pub entries : Entry → Entry
@@ -71,7 +68,7 @@ module _ (g h : EventGraph) (states : State → State) (words : List ℕ → Lis
     comes-answers m sound (Some n) next = chosen (nat_lt until n.entry.time) refl where
       chosen : (b : Bool) → nat_lt until n.entry.time ≡ b → Answers Level (cond b (Rests (leave g m).notes Stopped) (stepped g n.entry.vertex (leave_for g m n.entry.time) (step g seed m.now n))) (cond b (Rests (leave h (moment_mapped m)).notes Stopped) (stepped h (vertices n.entry.vertex) (leave_for h (moment_mapped m) n.entry.time) (step h seed (moment_mapped m).now (taken_off_mapped entries n))))
       chosen true late = rests-answers m Stopped
-      chosen false in_time = occurs-answers m n sound next (le_trans (on_time until n.entry.time in_time) early)
+      chosen false in_time = occurs-answers m n sound next (le_trans (ltb-false until n.entry.time in_time) early)
 
     level-step : (m k : Moment) → Level m k → Answers Level (next_move g seed until m) (next_move h seed until k)
     level-step m k (same, sound) =

@@ -2,7 +2,7 @@
 use Rattle.std.proofs.Common.{◌≡◌, List, ◌∷◌, Ok, Err, sym, ap, ◌∙◌}
 use Rattle.sig_base.specs.declared.fault.FaultKind.{FaultKind}
 use Rattle.model_core.specs.Run.Value.{OrFault, ◌>>=◌, in_turn}
-use Rattle.model_core.specs.Run.Changes.{or_left, left_in_turn}
+use Rattle.model_core.specs.Run.LeftByFaults.{or_left, left_in_turn}
 
 module _ {A S : Type 0} (f : A → S → OrFault S) (left : A → S → S) (all : List A) (first : S) where
   -- what remains to be made at s comes to what all come to at the start

@@ -56,7 +56,7 @@ watched_values-mapped f [] s = refl
 watched_values-mapped f (WatchedVariable v ∷ watch) s = ap (λ (vs : List (List ℤ)). cells_of s v ∷ vs) (watched_values-mapped f watch s)
 watched_values-mapped f (WatchedVertex v ∷ watch) s = watched_values-mapped f watch s
 
-turned : (a b : ℕ) → (a == b) ≡ (b == a)
+pub turned : (a b : ℕ) → (a == b) ≡ (b == a)
 turned a b = grind (arith, nat_tests)
 
 module _ (g : EventGraph) (f : ℕ → ℕ) (vertices : List EventVertex) (Live Told : ℕ → Type 0) (ok : Mapping g f vertices Live Told) where

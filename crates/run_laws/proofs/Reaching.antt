@@ -5,18 +5,15 @@ use Rattle.model_core.specs.Run.Pending.{TakenOff, next_entry}
 use Rattle.model_core.specs.Run.Step.{Configuration, Fault, step}
 use Rattle.model_core.specs.Run.Machine.{Note, Standing, Stopped, Going, finished, Look, Move, Rests, Fails, Goes, ahead, before, after, look_of, Reached, reached_behind, onward, reached}
 use Rattle.model_core.specs.Run.History.{Moment, Noting, leave, leave_for, stepped, comes, next_move, look_from, reached_from}
+use Rattle.model_core.proofs.Results.{option_map-some}
 use Rattle.run_laws.proofs.Simulation.{ahead_ahead}
-
-option_map-Some : {A B : Type 0} (f : A → B) (o : Option A) (b : B) → option_map f o ≡ Some b → (a : A) × (o ≡ Some a) × (f a ≡ b)
-option_map-Some f None b e = cc
-option_map-Some f (Some a) b e = (a, refl, cc)
 
 -- a moment reached by a first move and others
 onward-Some : {S : Type 0} (later : S → Option (Reached S)) (m : Move S) (r : Reached S) → onward later m ≡ Some r → (notes : List Note) × (s : S) × (q : Reached S) × (m ≡ Goes notes s) × (later s ≡ Some q) × (reached_behind notes q ≡ r)
 onward-Some later (Rests notes end) r e = cc
 onward-Some later (Fails notes end) r e = cc
 onward-Some later (Goes notes s) r e =
-    let (q, there, same) = option_map-Some (reached_behind notes) (later s) r e in
+    let (q, there, same) = option_map-some (reached_behind notes) (later s) r e in
     (notes, s, q, refl, there, same)
 
 -- the look after n moves and m more is the notes of the n moves, and then the look after m from where they lead

@@ -6,7 +6,8 @@ use Rattle.sig_base.specs.declared.fault.FaultKind.{FaultKind}
 use Rattle.model_core.specs.EventGraph.{EventGraph}
 use Rattle.model_core.specs.Run.State.{State, Place}
 use Rattle.model_core.specs.Run.Value.{in_turn}
-use Rattle.model_core.specs.Run.Changes.{store, left_by_stores}
+use Rattle.model_core.specs.Run.Changes.{store}
+use Rattle.model_core.specs.Run.LeftByFaults.{left_by_stores}
 use Rattle.run_laws.proofs.MadeSoFar.{MadeSoFar, Faults, made_more, made_fault}
 
 module _ (g : EventGraph) (places : List Place) (values : List ℤ) (first : State) where

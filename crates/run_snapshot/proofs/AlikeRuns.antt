@@ -8,7 +8,7 @@ use Rattle.model_core.specs.Run.Machine.{Note, Ended, Stopped, Rests, Goes}
 use Rattle.model_core.specs.Run.History.{Moment, Noting, leave, leave_for, completed, stepped, comes, next_move, look_from}
 use Rattle.model_core.proofs.Alongside.{Alongside, both_go, both_fail}
 use Rattle.run_laws.proofs.Simulation.{Answers, rests, fails, goes, lock_step}
-use Rattle.model_core.specs.Saved.DueOrder.{Alike}
+use Rattle.model_core.specs.Saved.GoingOn.{Alike}
 use Rattle.run_snapshot.proofs.DueSorted.{sorted}
 use Rattle.run_snapshot.proofs.InDueOrder.{sorted-front, sorted-none, due_order-sorted}
 use Rattle.run_snapshot.proofs.AlikeSteps.{AlikeSorted, occur-alike}

@@ -1,5 +1,5 @@
 -- The values of each variable and those of all cells say the same.
-use Rattle.std.proofs.Common.{◌≡◌, ℕ, zero, suc, ◌<◌, ℤ, Bool, true, ◌&&◌, List, [], ◌∷◌, ◌++◌, length, replicate, map, slice_index_or, refl, sym, ap₂, ◌∙◌, arith, IsTrue}
+use Rattle.std.proofs.Common.{◌≡◌, ℕ, zero, suc, ◌<◌, ℤ, Bool, true, ◌&&◌, List, [], ◌∷◌, length, replicate, map, slice_index_or, refl, sym, ap₂, ◌∙◌, arith, IsTrue}
 use Rattle.std.specs.Prelude.{slice_get}
 use Rattle.std.specs.Option.{option_map_or}
 use Rattle.std.specs.List.{AllByRecursion}
@@ -11,6 +11,7 @@ use Rattle.model_core.specs.Run.History.{watched_values}
 use Rattle.model_core.specs.Static.OwnRules.{IsWatchable}
 use Rattle.model_core.proofs.BothTrue.{and_first, and_second}
 use Rattle.model_core.specs.Saved.Cells.{watched_sizes, in_one_list, cell_variables, variables_watched}
+use Rattle.model_core.proofs.RangesTogether.{in_ranges-append}
 
 -- values in range, a list for each variable
 abbrev pub each_in_range : List Variable → List (List ℤ) → Bool
@@ -24,12 +25,6 @@ lengths-in_range (v ∷ variables) [] e = cc
 lengths-in_range (v ∷ variables) (xs ∷ values) e =
     let long = pointwise_long (λ (v : Variable) (x : ℤ). within v.lo v.hi x) (replicate (cell_count v) v) xs (and_first _ (each_in_range variables values) e) in
     ap₂ (λ n ns. n ∷ ns) (sym long ∙ length-replicate (cell_count v) v) (lengths-in_range variables values (and_second (in_ranges (replicate (cell_count v) v) xs) _ e))
-
-in_ranges-append : (vs ws : List Variable) (xs ys : List ℤ) → in_ranges vs xs ≡ true → in_ranges ws ys ≡ true → in_ranges (vs ++ ws) (xs ++ ys) ≡ true
-in_ranges-append [] ws [] ys e h = h
-in_ranges-append [] ws (x ∷ xs) ys e h = cc
-in_ranges-append (v ∷ vs) ws [] ys e h = cc
-in_ranges-append (v ∷ vs) ws (x ∷ xs) ys e h = ap₂ (λ a b. a && b) (and_first (within v.lo v.hi x) _ e) (in_ranges-append vs ws xs ys (and_second (within v.lo v.hi x) _ e) h)
 
 pub in_one_list-in_range : (variables : List Variable) (values : List (List ℤ)) → each_in_range variables values ≡ true → in_ranges (cell_variables variables) (in_one_list values) ≡ true
 in_one_list-in_range [] [] e = refl

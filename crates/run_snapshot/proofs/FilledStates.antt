@@ -1,19 +1,11 @@
 -- A state whose variables take their values one after the other.
-use Rattle.std.proofs.Common.{◌≡◌, ℕ, zero, suc, ◌+◌, ◌-◌, ◌<◌, ◌≤◌, ℤ, true, ◌&&◌, List, [], ◌∷◌, ◌++◌, length, map, take, drop, replicate, slice_index_or, slice_set, refl, sym, ap, ap₂, ◌∙◌, subst, arith, add-one, append-nil, append_assoc, drop-cons, length-drop}
-use Rattle.std.proofs.lemmas.List.{take_all, take_more_set, drop-drop, length-replicate, length-map}
+use Rattle.std.proofs.Common.{◌≡◌, ℕ, zero, suc, ◌+◌, ◌-◌, ◌<◌, ◌≤◌, ℤ, true, List, [], ◌∷◌, ◌++◌, length, map, take, drop, replicate, slice_index_or, slice_set, refl, sym, ap, ap₂, ◌∙◌, subst, arith, add-one, append-nil, append_assoc, drop-cons, length-drop}
+use Rattle.std.proofs.lemmas.List.{take_all, take_more_set, drop-drop, length-replicate, length-map, length-set, drop_all}
 use lib.Pointwise.{pointwise_long}
 use Rattle.model_core.specs.EventGraph.{Variable}
 use Rattle.model_core.specs.Run.State.{State, no_variable, cell_count, within, in_ranges}
-use Rattle.model_core.proofs.BothTrue.{and_first, and_second}
 use Rattle.model_core.specs.Saved.Cells.{cut_up, cell_variables}
-
--- values in the ranges of the first variables, and of those behind them
-pub split-ranges : (vs ws : List Variable) (xs : List ℤ) → in_ranges (vs ++ ws) xs ≡ true → (in_ranges vs (take (length vs) xs) ≡ true) × (in_ranges ws (drop (length vs) xs) ≡ true)
-split-ranges [] ws xs e = (refl, e)
-split-ranges (v ∷ vs) ws [] e = cc
-split-ranges (v ∷ vs) ws (x ∷ xs) e =
-    let (here, later) = split-ranges vs ws xs (and_second (within v.lo v.hi x) _ e) in
-    (ap₂ (λ a b. a && b) (and_first (within v.lo v.hi x) _ e) here, later)
+use Rattle.model_core.proofs.RangesTogether.{split-ranges}
 
 -- what each variable begins with
 abbrev beginnings : List Variable → State
@@ -23,11 +15,6 @@ drop-set : (s : State) (i : ℕ) (x : List ℤ) → drop (suc i) (slice_set s i 
 drop-set [] i x = refl
 drop-set (y ∷ s) zero x = refl
 drop-set (y ∷ s) (suc i) x = drop-set s i x
-
-length-set : (s : State) (i : ℕ) (x : List ℤ) → length (slice_set s i x) ≡ length s
-length-set [] i x = refl
-length-set (y ∷ s) zero x = refl
-length-set (y ∷ s) (suc i) x = ap suc (length-set s i x)
 
 module _ (variables : List Variable) (values : List ℤ) where
   -- the first i variables have their values, which end here
@@ -49,13 +36,8 @@ module _ (variables : List Variable) (values : List ℤ) where
 
   pub all_filled : (i from : ℕ) (s : State) → length variables ≤ i → Filled i from s → s ≡ cut_up (map cell_count variables) values
   all_filled i from s all f =
-      let no_more : drop i variables ≡ [] = drop_all-of i variables all in
-      sym (take_all i s (omega (arith, f.many, all))) ∙ sym (append-nil (take i s)) ∙ ap (λ vs. take i s ++ cut_up (map cell_count vs) (drop from values)) (sym no_more) ∙ sym f.filled where
-        drop_all-of : {A : Type 0} (i : ℕ) (xs : List A) → length xs ≤ i → drop i xs ≡ []
-        drop_all-of zero [] few = refl
-        drop_all-of zero (x ∷ xs) few = absurd (omega arith)
-        drop_all-of (suc i) [] few = refl
-        drop_all-of (suc i) (x ∷ xs) few = drop_all-of i xs (omega arith)
+      let no_more : drop i variables ≡ [] = drop_all i variables all in
+      sym (take_all i s (omega (arith, f.many, all))) ∙ sym (append-nil (take i s)) ∙ ap (λ vs. take i s ++ cut_up (map cell_count vs) (drop from values)) (sym no_more) ∙ sym f.filled
 
   module _ (i from : ℕ) (s : State) (below : i < length variables) (f : Filled i from s) where
     abbrev v : Variable

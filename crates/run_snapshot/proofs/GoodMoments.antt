@@ -1,5 +1,5 @@
 -- Each moment of a run of a valid model is good to save.
-use Rattle.std.proofs.Common.{◌≡◌, ℕ, suc, ◌+◌, ◌*◌, ◌^◌, ◌<◌, ◌≤◌, ℤ, Bool, true, false, cond, nat_lt, List, [], ◌∷◌, map, replicate, length, Option, Some, Ok, sym, ◌∙◌, subst, arith, IsTrue}
+use Rattle.std.proofs.Common.{◌≡◌, ℕ, suc, ◌+◌, ◌*◌, ◌^◌, ◌≤◌, ℤ, Bool, true, false, cond, nat_lt, List, [], ◌∷◌, map, replicate, length, Option, Some, Ok, sym, ◌∙◌, subst, arith, IsTrue}
 use Rattle.std.specs.Prelude.{IfSome}
 use Rattle.std.specs.List.{AllByRecursion}
 use Rattle.std.proofs.lemmas.List.{length-map, length-replicate}
@@ -11,7 +11,7 @@ use Rattle.model_core.specs.Run.Pending.{Entry}
 use Rattle.model_core.specs.Run.Step.{vertex_at, occur}
 use Rattle.model_core.specs.Run.Machine.{Note, Goes, Reached}
 use Rattle.model_core.specs.Run.History.{Moment, Noting, leave, leave_for, next_move, start, allowed, reached_from}
-use Rattle.model_core.specs.Text.Spellable.{IsSpellable, HasOne}
+use Rattle.model_core.specs.Text.Spellable.{IsSpellable}
 use Rattle.model_core.specs.Static.OwnRules.{IsWatchable, KeepsVertex, parameters_of, KeepsParts}
 use Rattle.model_core.proofs.EachOne.{every-both, every-map}
 use Rattle.model_core.proofs.BothTrue.{and_first, and_second}
@@ -23,6 +23,7 @@ use Rattle.run_laws.proofs.MappedPending.{next_among-every}
 use Rattle.run_laws.proofs.OnTime.{others_later}
 use Rattle.model_core.specs.Saved.Cells.{variables_watched}
 use Rattle.model_core.specs.Saved.SavedRun.{IsWide, IsGoodEntry}
+use Rattle.model_core.proofs.NotEmpty.{has_one-length}
 use Rattle.run_snapshot.proofs.CellLists.{each_in_range, watched-in_range}
 use Rattle.run_snapshot.proofs.GoodEntries.{every-place, ranges-wide, edges-good}
 use Rattle.run_snapshot.proofs.GoingMoves.{move-by, reached-keeps}
@@ -91,10 +92,6 @@ each-start g wide (p ∷ ps) (x ∷ xs) e =
     let v = variable_at g p in
     (between-wide v x (wide p) (and_first (within v.lo v.hi x) _ e), each-start g wide ps xs (and_second (within v.lo v.hi x) _ e))
 
-some-vertex : {A : Type 0} (xs : List A) → HasOne xs → 0 < length xs
-some-vertex [] one = absurd one
-some-vertex (x ∷ xs) one = omega arith
-
 none-taken : (n k : ℕ) → taken_from (replicate n 0) k ≤ 0
 none-taken n k = subst (λ (x : ℕ). x ≤ 0) (sym (replicate-get n k 0)) (omega arith)
 
@@ -110,7 +107,7 @@ start-sound g parts spelled starts ok = record {
       from_now = omega arith;
       near = omega arith;
       priority = omega arith;
-      vertex = some-vertex g.vertices spelled.has_vertex;
+      vertex = has_one-length g.vertices spelled.has_vertex;
       matched = sym (pointwise_long (λ (v : Variable) (x : ℤ). within v.lo v.hi x) (map (variable_at g) (vertex_at g 0).parameters) starts ok) ∙ length-map (vertex_at g 0).parameters (variable_at g);
       wide = each-start g (ranges-wide g spelled) (vertex_at g 0).parameters starts ok;
     },

@@ -14,9 +14,9 @@ use Rattle.model_core.specs.Static.OwnRules.{IsWatchable}
 use Rattle.model_core.proofs.EachOne.{every-map}
 use Rattle.model_core.specs.Saved.Cells.{cut_up, cell_variables, variables_watched}
 use Rattle.model_core.specs.Saved.SavedRun.{IsGoodEntry}
+use Rattle.model_core.proofs.RangesTogether.{split-ranges}
 use Rattle.run_snapshot.specs.Inner.NotedValues.{FitWatched}
 use Rattle.run_snapshot.proofs.CellLists.{each_in_range, sizes-declared}
-use Rattle.run_snapshot.proofs.FilledStates.{split-ranges}
 
 -- ---- the state
 

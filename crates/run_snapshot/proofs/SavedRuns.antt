@@ -10,8 +10,8 @@ use Rattle.model_core.specs.Run.Machine.{Note, Look, ahead}
 use Rattle.model_core.specs.Run.History.{Moment, look, look_from}
 use Rattle.model_core.specs.Text.HistoryText.{note_line, end_line, history_text}
 use Rattle.model_core.specs.Saved.SavedRun.{IsGoodEntry, IsGood, saved, saved_moment, history_from}
-use Rattle.model_core.specs.Saved.DueOrder.{Alike}
-use Rattle.model_core.specs.Saved.Resuming.{GoesOn, Resumes}
+use Rattle.model_core.specs.Saved.GoingOn.{Alike, GoesOn}
+use Rattle.model_core.specs.Saved.Resuming.{Resumes}
 use Rattle.run_snapshot.proofs.CellLists.{each_in_range, lengths-in_range, in_one_list-in_range, sizes-declared}
 use Rattle.model_core.specs.Saved.Cells.{watched_sizes, cut_up, in_one_list, cell_variables, variables_watched}
 use Rattle.run_laws.proofs.CutUp.{cut_up-in_one_list}

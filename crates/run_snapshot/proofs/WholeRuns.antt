@@ -3,7 +3,7 @@ use Rattle.std.proofs.Common.{◌≡◌, ℕ, ◌+◌, ℤ, List, Some, sym, ap,
 use Rattle.model_core.specs.EventGraph.{EventGraph}
 use Rattle.model_core.specs.Run.Machine.{Reached, ahead}
 use Rattle.model_core.specs.Run.History.{Moment, start, look, look_from, reached_from}
-use Rattle.model_core.specs.Saved.Resuming.{GoesOn}
+use Rattle.model_core.specs.Saved.GoingOn.{GoesOn}
 use Rattle.run_laws.proofs.OnTime.{starts-on_time}
 use Rattle.run_snapshot.proofs.OtherStops.{forwards, reached-too}
 

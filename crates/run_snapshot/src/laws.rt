@@ -7,8 +7,8 @@ ghost use Rattle.model_core.specs.Run.History.{Moment, allowed, look, look_from}
 ghost use Rattle.model_core.specs.Run.Machine.{Going};
 ghost use Rattle.model_core.specs.Text.Spellable.{IsSpellable};
 ghost use Rattle.model_core.specs.Static.OwnRules.{KeepsStaticRules};
-ghost use Rattle.model_core.specs.Saved.DueOrder.{Alike};
-ghost use Rattle.model_core.specs.Saved.Resuming.{GoesOn, Resumes};
+ghost use Rattle.model_core.specs.Saved.GoingOn.{Alike, GoesOn};
+ghost use Rattle.model_core.specs.Saved.Resuming.{Resumes};
 
 use run_laws::runs_go_on;
 

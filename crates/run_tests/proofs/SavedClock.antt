@@ -7,7 +7,8 @@ use Rattle.model_core.specs.Run.History.{Moment, start, allowed, look, look_from
 use Rattle.model_core.specs.Text.Spellable.{IsSpellable}
 use Rattle.model_core.specs.Static.OwnRules.{KeepsStaticRules}
 use Rattle.model_core.specs.Saved.SavedRun.{IsGood, saved}
-use Rattle.model_core.specs.Saved.Resuming.{GoesOn, Resumes}
+use Rattle.model_core.specs.Saved.Resuming.{Resumes}
+use Rattle.model_core.specs.Saved.GoingOn.{GoesOn}
 use Rattle.model_core.specs.Code.Views.{graph_of}
 use Rattle.run_control.specs.Beginning.{BegunRun}
 use Rattle.run_control.specs.Running.{Running}

@@ -1,7 +1,7 @@
 -- What is true of any list: the lemmas that std doesn't have.
-use Rattle.std.proofs.Common.{◌≡◌, ℕ, zero, suc, ◌<◌, ◌+◌, Bool, true, false, cond, List, [], ◌∷◌, ◌++◌, All, map, take, drop, length, get_or, Some, refl, sym, ap, ◌∙◌, subst, arith}
-use Rattle.std.specs.Prelude.{filter, slice_get}
-use Rattle.std.specs.List.{AllByRecursion, flat_map, remove}
+use Rattle.std.proofs.Common.{◌≡◌, ℕ, zero, suc, ◌<◌, ◌+◌, Bool, true, false, cond, List, [], ◌∷◌, ◌++◌, All, map, take, drop, length, get_or, Some, refl, sym, ap, ◌∙◌, subst, arith, Option, None}
+use Rattle.std.specs.Prelude.{filter, slice_get, filter_map}
+use Rattle.std.specs.List.{AllByRecursion, flat_map, remove, cons_option}
 use Rattle.std.proofs.Math.ListN.{set}
 use Rattle.std.proofs.lemmas.List.{get_or-map, length-map, drop_more, map_more, flat_map_more}
 
@@ -98,6 +98,20 @@ pub holds_of_each : {X Y : Type 0} (P : Y → Type 0) (view : X → Y) (xs : Lis
 holds_of_each P view xs i x all below is =
     subst P (get_or-map view xs i x (view x) below ∙ ap view (sym is)) (all i (view x) (omega (arith, below, length-map xs view)))
 
+-- what remains begins with the element
+pub one_left : {A : Type 0} (xs : List A) (i : ℕ) (x : A) → i < length xs → x ≡ get_or xs i x → drop i xs ≡ x ∷ drop (i + 1) xs
+one_left xs i x below is = drop_more xs i x below ∙ ap (λ y. y ∷ drop (i + 1) xs) (sym is)
+
 -- what remains begins with what the element stands for
 pub remaining_more : {X Y : Type 0} (view : X → Y) (xs : List X) (i : ℕ) (x : X) → i < length xs → x ≡ get_or xs i x → map view (drop i xs) ≡ view x ∷ map view (drop (i + 1) xs)
-remaining_more view xs i x below is = ap (map view) (drop_more xs i x below) ∙ ap (λ y. view y ∷ map view (drop (i + 1) xs)) (sym is)
+remaining_more view xs i x below is = ap (map view) (one_left xs i x below is)
+
+-- ---- what a test of each finds
+
+-- what is found comes of an element
+pub first_found-of : {A B : Type 0} (f : A → Option B) (xs : List A) (y : B) → slice_get (filter_map f xs) 0 ≡ Some y → (x : A) × (f x ≡ Some y)
+first_found-of f [] y e = cc
+first_found-of {A} {B} f (x ∷ xs) y e = by (f x) refl (first_found-of f xs y) e where
+  by : (o : Option B) → f x ≡ o → (slice_get (filter_map f xs) 0 ≡ Some y → (x : A) × (f x ≡ Some y)) → slice_get (cons_option o (filter_map f xs)) 0 ≡ Some y → (x : A) × (f x ≡ Some y)
+  by (Some z) found later is = (x, found ∙ is)
+  by None none later is = later is

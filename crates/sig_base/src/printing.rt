@@ -1,6 +1,7 @@
 //! Adding bytes and numbers to a text that grows in memory.
 
 ghost use Rattle.std.specs.Prelude.{◌≡◌, ◌++◌, OnOk, decimal};
+ghost use Rattle.std.specs.Fmt.{signed_decimal};
 
 use crate::no_memory::NoMemory;
 use itoa::Buffer;
@@ -16,6 +17,14 @@ pub fn put_bytes(out: &mut Vec<u8>, bytes: &[u8]) -> Result<(), NoMemory>
 /// Adds a number in decimal, without leading zeros.
 pub fn put_number(out: &mut Vec<u8>, number: u64) -> Result<(), NoMemory>
     ensures { OnOk result (out.new.items ≡ out.old.items ++ decimal number) }
+{
+    let mut buffer = Buffer::new();
+    put_bytes(out, buffer.format(number).as_bytes())
+}
+
+/// Adds a number in decimal, with a `-` where it is below 0.
+pub fn put_signed(out: &mut Vec<u8>, number: i64) -> Result<(), NoMemory>
+    ensures { OnOk result (out.new.items ≡ out.old.items ++ signed_decimal number) }
 {
     let mut buffer = Buffer::new();
     put_bytes(out, buffer.format(number).as_bytes())

@@ -3,7 +3,8 @@
 ghost use Rattle.std.specs.Prelude.{◌≡◌, ◌<◌, length, zip, All, IsTrue, OnErr};
 ghost use Rattle.model_core.specs.Run.State.{in_range, cells_of};
 ghost use Rattle.model_core.specs.Run.Value.{in_turn};
-ghost use Rattle.model_core.specs.Run.Changes.{kept, store, left_by_stores};
+ghost use Rattle.model_core.specs.Run.Changes.{kept, store};
+ghost use Rattle.model_core.specs.Run.LeftByFaults.{left_by_stores};
 ghost use Rattle.model_core.specs.Code.Views.{graph_of, variable_of};
 ghost use Rattle.sig_expr.specs.Outcomes.{with_ok};
 ghost use Rattle.sig_expr.specs.Inner.Placed.{DeclaredPlace};

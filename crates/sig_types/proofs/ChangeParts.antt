@@ -13,7 +13,7 @@ use Rattle.model_core.specs.Text.Numbering.{each_numbered, written_or, declared_
 use Rattle.model_core.specs.Static.FaultOrder.{StaticFault, earliest_fault}
 use Rattle.model_core.specs.Static.Meanings.{Meaning}
 use Rattle.model_core.specs.Static.RuleTable.{kind_mismatch, value_count, literal_too_large, empty_range, draw_outside, too_many}
-use Rattle.model_core.specs.Static.PartFaults.{if_written, use_faults, operand_faults, values_faults, target_place, target_role, target_kind, target_faults, choice_faults, source_faults, change_faults}
+use Rattle.model_core.specs.Static.PartFaults.{if_written, use_faults, operand_faults, values_faults, target_role, target_kind, target_faults, choice_faults, source_faults, change_faults}
 use Rattle.static_laws.specs.Checked.{Checked, NumberedAs, CheckedPart, CheckedPlain}
 use Rattle.static_laws.specs.Roles.{variable_role}
 use Rattle.sig_types.specs.Inner.Stored.{stored_faults}
@@ -58,13 +58,13 @@ module _ (means : List ℕ → Option Meaning) where
       stored_checked t2 t3 t4 (t ∷ []) es (x ∷ []) ys (k ∷ []) (ap (λ j. j ∷ []) kind) whole v
 
   pub set_checked : (t0 t1 t2 t3 : Option StaticFault) (at : ℕ) (ts : List WrittenTarget) (es : List WrittenExpression) (x : graph.StateChange)
-      → t1 ≡ earliest_fault t0 (value_count (length ts) (length es) at) → t2 ≡ earliest_fault t1 (too_many TARGETS_MAX (map target_place ts))
+      → t1 ≡ earliest_fault t0 (value_count (length ts) (length es) at) → t2 ≡ earliest_fault t1 (too_many TARGETS_MAX (map (λ (t : WrittenTarget). t.at) ts))
       → CheckedPart means t2 t3 (stored_faults means ts es) (λ d. numbering.change d (written.Set 0 ts es)) x
       → CheckedPart means t0 t3 (change_faults means (written.Set at ts es)) (λ d. numbering.change d (written.Set at ts es)) x
   set_checked t0 t1 t2 t3 at ts es x counted short c =
-      let lists = value_count (length ts) (length es) at ++ too_many TARGETS_MAX (map target_place ts) in
+      let lists = value_count (length ts) (length es) at ++ too_many TARGETS_MAX (map (λ (t : WrittenTarget). t.at) ts) in
       rw (append_assoc lists (flat_map (target_faults means) ts) (values_faults means (map (target_kind means) ts) es))
-      (behind t0 lists (told_both t0 t1 t2 (value_count (length ts) (length es) at) (too_many TARGETS_MAX (map target_place ts)) counted short) c)
+      (behind t0 lists (told_both t0 t1 t2 (value_count (length ts) (length es) at) (too_many TARGETS_MAX (map (λ (t : WrittenTarget). t.at) ts)) counted short) c)
 
   pub draw_checked : (t0 t1 t2 t3 : Option StaticFault) (at : ℕ) (t : WrittenTarget) (s : WrittenNumber) (from : WrittenChoice) (x : graph.Location) (n : ℕ) (y : graph.Choice)
       → CheckedPart means t0 t1 (target_faults means t) (λ d. location d t) x

@@ -14,6 +14,7 @@ use Rattle.model_core.specs.Static.PartFaults.{repeated_names}
 use Rattle.sig_types.specs.Seen.{bytes_of}
 use Rattle.static_laws.proofs.Checks.{told_both}
 use Rattle.std.proofs.lemmas.List.{append-nil}
+use Rattle.std.proofs.Math.Bool.{or-false, not-not}
 
 -- the names of a list before these, the last first
 abbrev pub names_before : List (List ℕ) → List WrittenName → List (List ℕ)
@@ -58,13 +59,9 @@ pub repeat_turn : (t0 t1 t2 : Option StaticFault) (keys : List (List ℕ)) (seen
     → t1 ≡ earliest_fault t0 (repeated_names [] seen) → t2 ≡ earliest_fault t1 (fault_where (not new) rules.DuplicateName n.at)
     → t2 ≡ earliest_fault t0 (repeated_names [] (seen ++ n ∷ []))
 repeat_turn t0 t1 t2 keys seen n new same is told later =
-    let found : not new ≡ list_any (same_bytes n.name) (names_before [] seen) = ap not is ∙ twice (list_any (same_bytes n.name) keys) ∙ same n.name in
+    let found : not new ≡ list_any (same_bytes n.name) (names_before [] seen) = ap not is ∙ not-not (list_any (same_bytes n.name) keys) ∙ same n.name in
     rw (repeated_names-push [] seen n)
     (told_both t0 t1 t2 (repeated_names [] seen) (duplicate_name (names_before [] seen) n) told (later ∙ ap (λ b. earliest_fault t1 (fault_where b rules.DuplicateName n.at)) found))
-  where
-    twice : (b : Bool) → not (not b) ≡ b
-    twice true = refl
-    twice false = refl
 
 -- ---- names that a set has as its keys
 
@@ -108,10 +105,6 @@ same_behind earlier (n ∷ ns) name =
     swap false true c = refl
     swap false false c = refl
 
-or_false : (b : Bool) → (b || false) ≡ b
-or_false true = refl
-or_false false = refl
-
 -- a turn of a loop that looks for each name among those before it
 pub few_turn : (t0 t1 t2 : Option StaticFault) (seen : List WrittenName) (n : WrittenName) (again : Bool)
     → again ≡ list_any (same_bytes n.name) (map (λ (m : WrittenName). m.name) seen)
@@ -119,7 +112,7 @@ pub few_turn : (t0 t1 t2 : Option StaticFault) (seen : List WrittenName) (n : Wr
     → t2 ≡ earliest_fault t0 (repeated_names [] (seen ++ n ∷ []))
 few_turn t0 t1 t2 seen n again is told later =
     let found : again ≡ list_any (same_bytes n.name) (names_before [] seen)
-    = is ∙ sym (same_behind [] seen n.name ∙ or_false (list_any (same_bytes n.name) (map (λ (m : WrittenName). m.name) seen))) in
+    = is ∙ sym (same_behind [] seen n.name ∙ or-false (list_any (same_bytes n.name) (map (λ (m : WrittenName). m.name) seen))) in
     rw (repeated_names-push [] seen n)
     (told_both t0 t1 t2 (repeated_names [] seen) (duplicate_name (names_before [] seen) n) told (later ∙ ap (λ b. earliest_fault t1 (fault_where b rules.DuplicateName n.at)) found))
 

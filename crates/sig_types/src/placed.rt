@@ -4,7 +4,7 @@ ghost use Rattle.std.specs.Prelude.{◌≡◌, ℕ, map};
 ghost use Rattle.model_core.specs.Code.WrittenViews.{written_name, written_variable, written_row, written_table, written_target, written_change, written_edge, written_vertex};
 ghost use Rattle.model_core.specs.Text.Written.{WrittenName, WrittenVariable, WrittenRow, WrittenTable, WrittenTarget, WrittenChange, WrittenEdge, WrittenVertex};
 ghost use Rattle.model_core.specs.Static.FaultOrder.{earliest_fault};
-ghost use Rattle.model_core.specs.Static.PartFaults.{name_place, variable_word_place, row_place, table_word_place, target_place, change_place, edge_place, vertex_word_place};
+ghost use Rattle.model_core.specs.Static.PartFaults.{change_place};
 ghost use Rattle.model_core.specs.Static.RuleTable.{too_many};
 
 use crate::told::Told;
@@ -42,7 +42,7 @@ impl Placed for RawName {
 
     ghost written = { written_name };
 
-    ghost begins = { name_place };
+    ghost begins = { λ n. n.at };
 
     fn place(&self) -> usize {
         self.at
@@ -54,7 +54,7 @@ impl Placed for RawVar {
 
     ghost written = { written_variable };
 
-    ghost begins = { variable_word_place };
+    ghost begins = { λ v. v.at };
 
     fn place(&self) -> usize {
         self.at
@@ -66,7 +66,7 @@ impl Placed for RawRow {
 
     ghost written = { written_row };
 
-    ghost begins = { row_place };
+    ghost begins = { λ r. r.at };
 
     fn place(&self) -> usize {
         self.at
@@ -78,7 +78,7 @@ impl Placed for RawTable {
 
     ghost written = { written_table };
 
-    ghost begins = { table_word_place };
+    ghost begins = { λ t. t.at };
 
     fn place(&self) -> usize {
         self.at
@@ -90,7 +90,7 @@ impl Placed for RawTarget {
 
     ghost written = { written_target };
 
-    ghost begins = { target_place };
+    ghost begins = { λ t. t.at };
 
     fn place(&self) -> usize {
         self.at
@@ -116,7 +116,7 @@ impl Placed for RawEdge {
 
     ghost written = { written_edge };
 
-    ghost begins = { edge_place };
+    ghost begins = { λ e. e.at };
 
     fn place(&self) -> usize {
         self.at
@@ -128,7 +128,7 @@ impl Placed for RawVertex {
 
     ghost written = { written_vertex };
 
-    ghost begins = { vertex_word_place };
+    ghost begins = { λ v. v.at };
 
     fn place(&self) -> usize {
         self.at

@@ -1,14 +1,15 @@
 //! The rules that depend on the version of a text.
 
-ghost use Rattle.std.specs.Prelude.{◌≡◌, ◌≤◌, map};
+ghost use Rattle.std.specs.Prelude.{◌≡◌, ◌≤◌, nat_le, cond, map};
 ghost use Rattle.std.specs.List.{flat_map};
-ghost use Rattle.std.specs.Option.{option_map, option_and_then};
+ghost use Rattle.std.specs.Option.{option_map, option_map_or, option_and_then};
 ghost use Rattle.sig_base.specs.declared.limits.TheConstants.{ARRAY_CELLS_MAX as cells_limit};
-ghost use Rattle.model_core.specs.Code.WrittenViews.{written_number, written_variable, written_change, written_delay, written_edge_kind, written_edge, written_vertex, written_model};
+ghost use Rattle.model_core.specs.Code.WrittenViews.{written_number, written_variable, written_change, written_edge_kind, written_edge, written_vertex, written_model};
+ghost use Rattle.model_core.specs.Text.Written.{WrittenEdge};
 ghost use Rattle.model_core.specs.Text.Numbering.{natural_of};
 ghost use Rattle.model_core.specs.Static.FaultOrder.{earliest_fault};
 ghost use Rattle.model_core.specs.Static.PartFaults.{if_written};
-ghost use Rattle.model_core.specs.Static.VersionFaults.{is_version_two, number_faults, size_faults_version_1, target_faults_version_1, delay_faults_version_1, timing_faults_version_1, edge_faults_version_1, vertex_faults_version_1, faults_version_1, cells_within, counted_cells, cells_faults, version_faults};
+ghost use Rattle.model_core.specs.Static.VersionFaults.{is_version_two, number_faults, size_faults_version_1, target_faults_version_1, delay_faults_version_1, vertex_faults_version_1, faults_version_1, counted_cells, cells_faults, version_faults};
 
 use crate::edges::items;
 use crate::numbers::{certain_number, lies_between};
@@ -84,35 +85,25 @@ fn tell_all_targets(raws: &[RawChange], told: &mut Told)
     }
 }
 
-/// Tells a delay that is drawn, at its word `draw`.
-fn tell_delay(raw: &RawDelay, told: &mut Told)
-    ensures { told.new ≡ earliest_fault told.old (delay_faults_version_1 (written_delay raw.now)) }
-{
-    match raw {
-        RawDelay::Fixed(_) => {}
-        RawDelay::Drawn { at, .. } => told.note(true, StaticKind::VersionNeeded, *at),
-    }
-}
-
-/// Tells it of the delay of an edge, if it has one.
-fn tell_timing(raw: &RawEdgeForm, told: &mut Told)
-    ensures { told.new ≡ earliest_fault told.old (timing_faults_version_1 (written_edge_kind raw.now)) }
+/// Tells the delay of an edge, at its word `draw`, where it is drawn.
+fn tell_delay(raw: &RawEdgeForm, told: &mut Told)
+    ensures { told.new ≡ earliest_fault told.old (delay_faults_version_1 (written_edge_kind raw.now)) }
 {
     if let RawEdgeForm::Schedule {
-        delay: Some(delay),
+        delay: Some(RawDelay::Drawn { at, .. }),
         ..
     } = raw
     {
-        tell_delay(delay, told);
+        told.note(true, StaticKind::VersionNeeded, *at);
     }
 }
 
 /// Tells it of each of these edges.
 fn tell_all_delays(raws: &[RawEdge], told: &mut Told)
-    ensures { told.new ≡ earliest_fault told.old (flat_map edge_faults_version_1 (map written_edge raws.now)) }
+    ensures { told.new ≡ earliest_fault told.old (flat_map (λ (e : WrittenEdge). delay_faults_version_1 e.kind) (map written_edge raws.now)) }
 {
     for raw in raws {
-        tell_timing(&raw.form, told);
+        tell_delay(&raw.form, told);
     }
 }
 
@@ -144,7 +135,7 @@ fn tell_version_1(raw: &RawModel, told: &mut Told)
 
 /// A size, where it is within the limit on one array, and else 0.
 fn size_within(value: Option<i64>) -> usize
-    ensures is { result ≡ cells_within (option_and_then natural_of value) }
+    ensures is { result ≡ option_map_or (λ n. cond (nat_le n cells_limit) n 0) (option_and_then natural_of value) 0 }
     ensures few { result ≤ cells_limit }
 {
     match value {

@@ -4,6 +4,7 @@ use Rattle.std.specs.List.{list_all}
 use Rattle.std.specs.Option.{is_some}
 use Rattle.std.proofs.lemmas.Bool.Decides.{nat_tests}
 use Rattle.std.proofs.lemmas.List.{length-map, take-map, drop-map, drop-drop, append-nil}
+use Rattle.std.proofs.lemmas.Bool.{le-ltb}
 use lib.Pointwise.{bytes_decides}
 use Rattle.model_core.specs.declared.raw.RawSigned.{RawSigned}
 use Rattle.model_core.specs.Code.WrittenViews.{written_signed}
@@ -39,15 +40,12 @@ same_so_far v w named count = sym (ap₂ (λ a b. a && b) ((bytes_decides w.vari
 pub cells-good : (v : Variable) (raws : List RawSigned) (b : Bool) (lo hi : ℤ) (n : ℕ) → n ≡ cell_count v → lo ≡ v.lo → hi ≡ v.hi → n ≤ length raws → b ≡ list_all (fits_between lo hi) (map written_signed (take n raws))
     → b ≡ cells_good v (map written_signed raws)
 cells-good v raws b lo hi n count low high some is =
-    let enough : nat_lt (length (map written_signed raws)) (cell_count v) ≡ false = unless (length (map written_signed raws)) (cell_count v) (omega (arith, length-map raws written_signed, count)) in
+    let enough : nat_lt (length (map written_signed raws)) (cell_count v) ≡ false = le-ltb (length (map written_signed raws)) (cell_count v) (omega (arith, length-map raws written_signed, count)) in
     is
     ∙ ap₂ (λ (x y : ℤ). list_all (fits_between x y) (map written_signed (take n raws))) low high
     ∙ ap (λ (k : ℕ). list_all (fits_between v.lo v.hi) (map written_signed (take k raws))) count
     ∙ ap (list_all (fits_between v.lo v.hi)) (sym (take-map written_signed (cell_count v) raws))
     ∙ ap (λ e. not e && list_all (fits_between v.lo v.hi) (take (cell_count v) (map written_signed raws))) (sym enough)
-  where
-    unless : (i j : ℕ) → j ≤ i → nat_lt i j ≡ false
-    unless i j le = grind (arith, nat_tests)
 
 -- ---- the cells of one variable, and then those of others
 

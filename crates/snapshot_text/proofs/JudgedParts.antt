@@ -1,7 +1,7 @@
 -- Parts one after the other: each good one is passed, and the first that isn't is told.
-use Rattle.std.proofs.Common.{◌≡◌, ℕ, suc, ◌+◌, ◌<◌, ◌≤◌, ◌∷◌, List, length, map, drop, get_or, slice_set, Bool, true, false, cond, ◌&&◌, [], ◌++◌, ℤ, pos, Option, Some, None, unwrap_or, refl, ap, ap₂, sym, ◌∙◌, arith, append_assoc}
+use Rattle.std.proofs.Common.{◌≡◌, ℕ, suc, ◌+◌, ◌<◌, ◌≤◌, ◌∷◌, List, length, map, slice_set, Bool, true, false, cond, ◌&&◌, [], ◌++◌, ℤ, pos, Option, Some, None, unwrap_or, refl, ap, ap₂, sym, ◌∙◌, arith, append_assoc}
 use Rattle.std.specs.List.{flat_map, list_all}
-use Rattle.std.proofs.lemmas.List.{length-set, drop_more}
+use Rattle.std.proofs.lemmas.List.{length-set}
 use Rattle.model_core.specs.Text.Written.{WrittenSigned}
 use Rattle.model_core.specs.Text.Numbering as numbering
 use Rattle.model_core.specs.EventGraph.{Variable}
@@ -22,9 +22,6 @@ passed p parts e = ap (λ b. cond b (first_bad_part parts) (Some p.at)) e
 
 pub told : (p : JudgedPart) (parts : List JudgedPart) → p.good ≡ false → first_bad_part (p ∷ parts) ≡ Some p.at
 told p parts e = ap (λ b. cond b (first_bad_part parts) (Some p.at)) e
-
-pub one_left : {A : Type 0} (xs : List A) (i : ℕ) (x : A) → i < length xs → x ≡ get_or xs i x → drop i xs ≡ x ∷ drop (i + 1) xs
-one_left xs i x below is = drop_more xs i x below ∙ ap (λ y. y ∷ drop (i + 1) xs) (sym is)
 
 -- ---- parts of one kind
 

@@ -1,5 +1,5 @@
 -- Parts of the text of a snapshot, each read back wherever it stands.
-use Rattle.std.proofs.Common.{◌≡◌, ℕ, ◌+◌, Bool, true, List, [], ◌∷◌, ◌++◌, refl, arith}
+use Rattle.std.proofs.Common.{◌≡◌, ℕ, ◌+◌, true, List, [], ◌∷◌, ◌++◌, refl, arith}
 use Rattle.std.specs.Prelude.{codes}
 use Rattle.std.specs.List.{AllByRecursion, flat_map, list_all}
 use Rattle.std.specs.Char.{is_ascii_alphabetic}
@@ -8,6 +8,7 @@ use Rattle.model_core.specs.Text.Lexing.{NameOf, is_word_byte, word_among, reser
 use Rattle.model_core.specs.Text.Spellable.{IsName, openings_together}
 use Rattle.model_core.specs.Text.Format.{ASpelled, Many, this_name, mark, separated, ◌*>◌}
 use Rattle.model_core.specs.Text.Expressions.{LanguageFormat}
+use Rattle.model_core.proofs.EachOne.{every-passes}
 use Rattle.round_trip.proofs.LongestTokens.{Ends, front_name}
 use Rattle.round_trip.proofs.Writing.{Writes, Any, Takes, takes, writes-then, writes-made, writes-after, writes-room, writes-none, writes-more}
 use Rattle.round_trip.proofs.OneToken.{writes-token, neither, a_mark}
@@ -15,14 +16,10 @@ use Rattle.round_trip.proofs.ListText.{Pairs}
 
 -- ---- words that are names
 
-all_from : (p : ℕ → Bool) (s : List ℕ) → list_all p s ≡ true → AllByRecursion (λ c. p c ≡ true) s
-all_from p [] h = tt
-all_from p (c ∷ s) h = let a : p c ≡ true = grind arith in let b : list_all p s ≡ true = grind arith in (a, all_from p s b)
-
 -- a name with this spelling
 pub writes-this_name : {i : ℕ} (c : ℕ) (w : List ℕ) → is_ascii_alphabetic c ≡ true → list_all is_word_byte (c ∷ w) ≡ true → word_among reserved_words (c ∷ w) ≡ NameOf (c ∷ w) → Writes (this_name (c ∷ w)) (c ∷ w) Ends i i (λ at. Unit {0})
 writes-this_name {i} c w letter all free =
-    let name : IsName (c ∷ w) = record { begins = letter; all = all_from is_word_byte (c ∷ w) all; free = free } in
+    let name : IsName (c ∷ w) = record { begins = letter; all = every-passes is_word_byte (c ∷ w) all; free = free } in
     writes-token (ASpelled (c ∷ w)) (λ t. t.from) (λ at. Unit {0}) c w (NameOf (c ∷ w)) Ends (λ rest e. front_name c w rest name e) refl (neither (NameOf (c ∷ w)) i refl refl) (λ from to. tt)
 
 -- ---- lists with commas

@@ -1,6 +1,6 @@
 -- Passing over a format leaves what reading it leaves, and a loop that passes over a part again and again passes over all.
 use Rattle.std.proofs.Common.{◌≡◌, ℕ, suc, ◌≤◌, ◌<◌, Bool, true, false, cond, List, [], ◌∷◌, length, refl, sym, ap, ◌∙◌, arith}
-use Rattle.std.specs.Prelude.{Some, Ok, Err}
+use Rattle.std.specs.Prelude.{Ok, Err}
 use Rattle.model_core.specs.Text.Lexing.{Lexeme}
 use Rattle.model_core.specs.Text.Format.{Yields, Single, Apply, Either, Many, ByRule}
 use Rattle.model_core.specs.Text.Expressions.{LanguageFormat}
@@ -106,6 +106,3 @@ whole-is_snapshot tokens left e =
 pub stuck-is_none : (text : List ℕ) (tokens left : List Lexeme) → skims_whole snapshot_format tokens ≡ stuck left → IsNoSnapshotAt text tokens (told_place text left)
 stuck-is_none text tokens left e =
     all-is_wrong snapshot_format snapshot-fine text tokens left (was-stuck (and_next whole_read (language_reader snapshot_format tokens)) left (sym (skims_whole-is snapshot_format tokens) ∙ e))
-
-pub one_place : (i j : ℕ) → Some i ≡ Some j → i ≡ j
-one_place i j e = cc

@@ -19,7 +19,7 @@ use Rattle.round_trip.proofs.Writing.{Writes, Any, Takes, takes, writes-then, wr
 use Rattle.round_trip.proofs.OneToken.{open_text, close_text, writes-name, writes-number}
 use Rattle.round_trip.proofs.ListText.{Pairs, signed-writes}
 use Rattle.model_core.specs.Saved.SavedRun.{IsWide}
-use Rattle.model_core.specs.Text.SnapshotGrammar.{WrittenStream, WrittenValue, WrittenNoted, WrittenCarried, WrittenPending, or_none, stream_format, value_format, noted_format, carries_format, pending_format}
+use Rattle.model_core.specs.Text.SnapshotGrammar.{WrittenStream, WrittenValue, WrittenNoted, WrittenCarried, WrittenPending, stream_format, value_format, noted_format, carries_format, pending_format}
 use Rattle.model_core.specs.Text.SnapshotText.{comma_values, stream_lines, value_lines, noted_values, noted_line, carried_text, pending_line}
 use Rattle.model_core.specs.Saved.GoodSnapshots.{signed_values, all_known, carried_of}
 use Rattle.snapshot_text.proofs.NamesSpelled.{writes-this_name, commas-write}
@@ -138,7 +138,7 @@ abbrev pub noted_cost : Option (List ℤ) → ℕ
 noted_cost None = 0
 noted_cost (Some values) = openings_together sign_openings values
 
-noted-values-write : (values : List ℤ) → AllByRecursion IsSigned values → (j : ℕ) → Writes (maybe (separated signed_format)) (noted_values values) Ends (openings_together sign_openings values + j) j (λ o. AreSigned values (or_none o))
+noted-values-write : (values : List ℤ) → AllByRecursion IsSigned values → (j : ℕ) → Writes (maybe (separated signed_format)) (noted_values values) Ends (openings_together sign_openings values + j) j (λ o. AreSigned values (unwrap_or o []))
 noted-values-write [] h j = writes-room (omega arith) (writes-nothing (record { are = refl; known = refl }))
 noted-values-write (x ∷ xs) h j = writes-some (blank_before (signed-list-writes x xs h j)) (λ ws e. e)
 
@@ -150,7 +150,7 @@ noted-line-writes : (values : List ℤ) → AllByRecursion IsSigned values → (
 unfolding noted_format
 noted-line-writes values h j =
     feed_behind (λ rest. refl) (writes-then
-    (writes-made (λ at values. record { at = at; values = or_none values }) {J = Takes (λ o. AreSigned values (or_none o)) (NotedIs values)} (writes-this_name 110 (codes "oted") refl refl refl) (λ at u. takes (λ o e. record { values = e })))
+    (writes-made (λ at values. record { at = at; values = unwrap_or values [] }) {J = Takes (λ o. AreSigned values (unwrap_or o [])) (NotedIs values)} (writes-this_name 110 (codes "oted") refl refl refl) (λ at u. takes (λ o e. record { values = e })))
     (noted-follows values) (noted-values-write values h j))
 
 pub noted-writes : (o : Option (List ℤ)) → IfSome o (λ values. AllByRecursion IsSigned values) → (j : ℕ) → Writes (maybe noted_format) (noted_line o) Any (noted_cost o + j) j (MaybeNoted o)
@@ -173,7 +173,7 @@ abbrev pub carried_cost : List ℤ → ℕ
 carried_cost [] = 0
 carried_cost (x ∷ xs) = suc (openings_together sign_openings (x ∷ xs))
 
-carries-write : (values : List ℤ) → AllByRecursion IsWide values → (j : ℕ) → Writes (maybe carries_format) (carried_text values) Ends (carried_cost values + j) j (λ o. map carried_of (or_none o) ≡ values)
+carries-write : (values : List ℤ) → AllByRecursion IsWide values → (j : ℕ) → Writes (maybe carries_format) (carried_text values) Ends (carried_cost values + j) j (λ o. map carried_of (unwrap_or o []) ≡ values)
 unfolding carries_format
 carries-write [] h j = writes-room (omega arith) (writes-nothing refl)
 carries-write (x ∷ xs) h j =
@@ -203,5 +203,5 @@ pub pending-writes : (g : EventGraph) (clock : ℕ) (e : Entry) → IsTellable g
 unfolding pending_format
 pending-writes g clock e h j =
     feed_behind (λ rest. refl) (writes-then (writes-then (blank_behind (λ rest. refl) (writes-then (blank_behind (λ rest. refl) (writes-then
-    (writes-made (λ at ticks priority vertex values. record { at = at; ticks = ticks; priority = priority; vertex = vertex; values = or_none values }) {J = Takes (IsNumber (e.time - clock)) (Takes (IsNumber e.priority) (Takes (λ n. n.name ≡ (vertex_name g e.vertex)) (Takes (λ o. map carried_of (or_none o) ≡ e.values) (PendingIs g clock e))))} (blank_behind (λ rest. refl) (writes-this_name 112 (codes "ending") refl refl refl))
+    (writes-made (λ at ticks priority vertex values. record { at = at; ticks = ticks; priority = priority; vertex = vertex; values = unwrap_or values [] }) {J = Takes (IsNumber (e.time - clock)) (Takes (IsNumber e.priority) (Takes (λ n. n.name ≡ (vertex_name g e.vertex)) (Takes (λ o. map carried_of (unwrap_or o []) ≡ e.values) (PendingIs g clock e))))} (blank_behind (λ rest. refl) (writes-this_name 112 (codes "ending") refl refl refl))
     (λ at u. takes (λ a i. takes (λ b k. takes (λ n l. takes (λ o m. record { ticks = i; priority = k; vertex = l; values = m })))))) (λ rest i. tt) (writes-number (e.time - clock) h.near))) (λ rest i. tt) (writes-number e.priority h.low))) (λ rest i. tt) (writes-name (vertex_name g e.vertex) h.named)) (carries-follow e.values) (carries-write e.values h.wide j))

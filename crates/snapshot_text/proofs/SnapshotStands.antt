@@ -1,10 +1,12 @@
 -- What the written snapshot of a good saved run stands for: that run, and no part of it is bad.
-use Rattle.std.proofs.Common.{◌≡◌, ℕ, zero, suc, ◌+◌, ◌-◌, ◌*◌, ◌/◌, ◌%◌, ◌^◌, ◌<◌, ◌≤◌, ℤ, pos, neg_ℤ, ◌≤ℤ◌, Bool, true, false, not, ◌&&◌, cond, nat_lt, List, [], ◌∷◌, ◌++◌, length, map, take, drop, replicate, slice_set, Option, Some, None, option_map, unwrap_or, refl, sym, ap, ap₂, ◌∙◌, subst, arith, IsTrue, append_assoc}
+use Rattle.std.proofs.Common.{◌≡◌, ℕ, zero, suc, ◌+◌, ◌-◌, ◌*◌, ◌/◌, ◌%◌, ◌^◌, ◌<◌, ◌≤◌, ℤ, pos, neg_ℤ, ◌≤ℤ◌, true, false, not, ◌&&◌, cond, nat_lt, List, [], ◌∷◌, ◌++◌, length, map, take, drop, replicate, slice_set, Option, Some, None, option_map, unwrap_or, refl, sym, ap, ap₂, ◌∙◌, subst, arith, IsTrue, append_assoc}
 use Rattle.std.specs.Prelude.{IfSome, ◌==◌, int_le}
 use Rattle.std.specs.List.{AllByRecursion, flat_map, list_all}
 use Rattle.std.proofs.lemmas.Bool.Decides.{nat_tests}
 use Rattle.std.proofs.lemmas.Int.{ints}
-use Rattle.std.proofs.lemmas.List.{length-replicate, length-map}
+use Rattle.std.proofs.lemmas.List.{length-replicate, length-map, take-append-drop}
+use Rattle.std.proofs.lemmas.Bool.{and_from}
+use Rattle.std.specs.Option.{option_map_or}
 use lib.Pointwise.{bytes_decides}
 use Rattle.model_core.specs.Run.Step.{vertex_at}
 use Rattle.model_core.specs.Text.Lexing.{same_bytes}
@@ -15,12 +17,12 @@ use Rattle.model_core.specs.EventGraph.{EventGraph, Variable}
 use Rattle.model_core.specs.Run.State.{cell_count, within, in_ranges}
 use Rattle.model_core.specs.Run.Pending.{Entry}
 use Rattle.model_core.specs.Text.Written.{WrittenNumber}
-use Rattle.text_laws.proofs.Formats.TokenSorts.{both}
 use Rattle.round_trip.proofs.ListText.{Pairs}
 use Rattle.model_core.specs.Saved.Cells.{cell_variables, variables_watched}
 use Rattle.model_core.specs.Saved.SavedRun.{SavedRun, IsWide, IsGoodEntry, IsGood}
 use Rattle.model_core.specs.Text.SnapshotGrammar.{WrittenStream, WrittenValue, WrittenNoted, WrittenCarried, WrittenPending, WrittenSnapshot}
-use Rattle.model_core.specs.Saved.GoodSnapshots.{number_or_zero, known_and, is_at_most, from_one_to, signed_values, carried_of, is_wide, JudgedPart, stream_parts, value_parts, noted_parts, has_parameters, pending_part, snapshot_parts, first_bad_part, bad_at, with_taken, saved_entry, saved_run}
+use Rattle.model_core.specs.Saved.GoodSnapshots.{number_or_zero, is_at_most, from_one_to, signed_values, carried_of, is_wide, JudgedPart, stream_parts, value_parts, noted_parts, has_parameters, pending_part, snapshot_parts, first_bad_part, bad_at, with_taken, saved_entry, saved_run}
+use Rattle.model_core.proofs.RangesTogether.{split-ranges}
 use Rattle.snapshot_text.proofs.SnapshotLines.{IsNumber, AreStreams, no_streams, silent, spoken, AreValues, MaybeNoted, PendingIs}
 use Rattle.snapshot_text.proofs.SnapshotWrites.{SnapshotIs}
 
@@ -33,7 +35,7 @@ below : (n most : ℕ) → n ≤ most → nat_lt n (suc most) ≡ true
 below n most few = grind (arith, nat_tests)
 
 is-at_most : (n most : ℕ) (w : WrittenNumber) → IsNumber n w → n ≤ most → is_at_most most w ≡ true
-is-at_most n most w e few = ap (λ v. known_and (λ k. nat_lt k (suc most)) (v >>= natural_of)) e ∙ below n most few
+is-at_most n most w e few = ap (λ v. option_map_or (λ k. nat_lt k (suc most)) (v >>= natural_of) false) e ∙ below n most few
 
 -- ---- parts that are good
 
@@ -48,9 +50,6 @@ none-bad : (parts : List JudgedPart) → AllGood parts → first_bad_part parts 
 none-bad [] h = refl
 none-bad (p ∷ parts) (here, h) = ap (λ b. cond b (first_bad_part parts) (Some p.at)) here ∙ none-bad parts h
 
-both-true : (a b : Bool) → a ≡ true → b ≡ true → (a && b) ≡ true
-both-true a b e h = ap₂ (λ x y. x && y) e h
-
 -- ---- streams
 
 streams-good : (least k : ℕ) (taken : List ℕ) (ws : List WrittenStream) → AreStreams k taken ws → least ≤ k → k + length taken ≤ 64 → AllByRecursion (λ n. n ≤ 2 ^ 52) taken → AllGood (stream_parts least ws)
@@ -61,8 +60,8 @@ streams-good least k taken ws (spoken i n others w us some is are) from near (he
     let order : nat_lt k least ≡ false = grind (arith, nat_tests) in
     let rises : not (nat_lt (number_or_zero w.stream) least) ≡ true = ap (λ x. not (nat_lt x least)) at ∙ ap not order in
     let positive : nat_lt 0 n ≡ true = grind (arith, nat_tests) in
-    let counted : from_one_to (2 ^ 52) w.words ≡ true = ap (λ v. known_and (λ m. nat_lt 0 m && nat_lt m (suc (2 ^ 52))) (v >>= natural_of)) is.words_is ∙ both-true _ _ positive (below n (2 ^ 52) here) in (
-      both-true _ _ (both-true _ _ (is-at_most k 63 w.stream is.stream_is (omega arith)) rises) counted,
+    let counted : from_one_to (2 ^ 52) w.words ≡ true = ap (λ v. option_map_or (λ m. nat_lt 0 m && nat_lt m (suc (2 ^ 52))) (v >>= natural_of) false) is.words_is ∙ and_from _ _ positive (below n (2 ^ 52) here) in (
+      and_from _ _ (and_from _ _ (is-at_most k 63 w.stream is.stream_is (omega arith)) rises) counted,
       streams-good (suc (number_or_zero w.stream)) (suc k) others us are (omega (arith, at)) (omega arith) few,
     )
 
@@ -89,15 +88,7 @@ streams-stand front k taken ws long (spoken i n others w us some is are) =
 
 -- ---- values
 
--- values in the ranges of the cell_variables of one variable and of those behind it
-split-ranges : (vs ws : List Variable) (xs : List ℤ) → in_ranges (vs ++ ws) xs ≡ true → (in_ranges vs (take (length vs) xs) ≡ true) × (in_ranges ws (drop (length vs) xs) ≡ true)
-split-ranges [] ws xs e = (refl, e)
-split-ranges (v ∷ vs) ws [] e = cc
-split-ranges (v ∷ vs) ws (x ∷ xs) e =
-    let (here, later) = split-ranges vs ws xs ((both (within v.lo v.hi x) _ e).1) in
-    (both-true _ _ ((both (within v.lo v.hi x) _ e).0) here, later)
-
--- the same by how many cell_variables the variable has
+-- values in the ranges of the cells of one variable and of those behind it, by how many cells the variable has
 pub of-variable : (v : Variable) (variables : List Variable) (xs : List ℤ) → in_ranges (cell_variables (v ∷ variables)) xs ≡ true → (in_ranges (replicate (cell_count v) v) (take (cell_count v) xs) ≡ true) × (in_ranges (cell_variables variables) (drop (cell_count v) xs) ≡ true)
 of-variable v variables xs e =
     subst (λ (n : ℕ). (in_ranges (replicate (cell_count v) v) (take n xs) ≡ true) × (in_ranges (cell_variables variables) (drop n xs) ≡ true)) (length-replicate (cell_count v) v)
@@ -109,23 +100,18 @@ values-good (v ∷ variables) values [] inside are = absurd are
 values-good (v ∷ variables) values (w ∷ ws) inside (is, are) =
     let (here, later) = of-variable v variables values inside in
     let named : same_bytes w.variable.name v.name ≡ true = (bytes_decides w.variable.name v.name).1 is.name in
-    (both-true _ _ named (both-true _ _ is.values.known (ap (in_ranges (replicate (cell_count v) v)) is.values.are ∙ here)), values-good variables (drop (cell_count v) values) ws later are)
+    (and_from _ _ named (and_from _ _ is.values.known (ap (in_ranges (replicate (cell_count v) v)) is.values.are ∙ here)), values-good variables (drop (cell_count v) values) ws later are)
 
 no-values : (xs : List ℤ) → in_ranges [] xs ≡ true → [] ≡ xs
 no-values [] e = refl
 no-values (x ∷ xs) e = cc
-
-take-and-drop : (n : ℕ) (xs : List ℤ) → take n xs ++ drop n xs ≡ xs
-take-and-drop zero xs = refl
-take-and-drop (suc n) [] = refl
-take-and-drop (suc n) (x ∷ xs) = ap (λ l. x ∷ l) (take-and-drop n xs)
 
 values-stand : (variables : List Variable) (values : List ℤ) (ws : List WrittenValue) → in_ranges (cell_variables variables) values ≡ true → AreValues variables values ws → flat_map (λ (w : WrittenValue). signed_values w.values) ws ≡ values
 values-stand [] values ws inside are = ap (flat_map (λ (w : WrittenValue). signed_values w.values)) are ∙ no-values values inside
 values-stand (v ∷ variables) values [] inside are = absurd are
 values-stand (v ∷ variables) values (w ∷ ws) inside (is, are) =
     let (here, later) = of-variable v variables values inside in
-    ap₂ (λ a b. a ++ b) is.values.are (values-stand variables (drop (cell_count v) values) ws later are) ∙ take-and-drop (cell_count v) values
+    ap₂ (λ a b. a ++ b) is.values.are (values-stand variables (drop (cell_count v) values) ws later are) ∙ take-append-drop (cell_count v) values
 
 values-many : (variables : List Variable) (values : List ℤ) (ws : List WrittenValue) → AreValues variables values ws → length ws ≡ length variables
 values-many [] values ws are = ap length are
@@ -138,7 +124,7 @@ noted-good : (g : EventGraph) (o : Option (List ℤ)) (w : Option WrittenNoted) 
 noted-good g None None inside is = tt
 noted-good g None (Some w) inside is = absurd is
 noted-good g (Some values) None inside is = absurd is
-noted-good g (Some values) (Some w) inside is = (both-true _ _ is.values.known (ap (in_ranges (cell_variables (variables_watched g g.watch))) is.values.are ∙ inside), tt)
+noted-good g (Some values) (Some w) inside is = (and_from _ _ is.values.known (ap (in_ranges (cell_variables (variables_watched g g.watch))) is.values.are ∙ inside), tt)
 
 noted-stands : (o : Option (List ℤ)) (w : Option WrittenNoted) → MaybeNoted o w → option_map (λ (n : WrittenNoted). signed_values n.values) w ≡ o
 noted-stands None None is = refl
@@ -153,7 +139,7 @@ module _ (g : EventGraph) (found : (v : ℕ) → v < length g.vertices → place
   int_le-true a b le = grind (arith, ints)
 
   wide-within : (x : ℤ) → IsWide x → within (neg_ℤ (pos (2 ^ 63))) (pos (2 ^ 63 - 1)) x ≡ true
-  wide-within x w = both-true _ _ (int_le-true _ _ w.least) (int_le-true _ _ w.greatest)
+  wide-within x w = and_from _ _ (int_le-true _ _ w.least) (int_le-true _ _ w.greatest)
 
   all-wide : (xs : List ℤ) (ws : List WrittenCarried) → map carried_of ws ≡ xs → AllByRecursion IsWide xs → list_all is_wide ws ≡ true
   all-wide xs [] e wide = refl
@@ -161,7 +147,7 @@ module _ (g : EventGraph) (found : (v : ℕ) → v < length g.vertices → place
   all-wide (x ∷ xs) (w ∷ ws) e (here, wide) =
       let same : carried_of w ≡ x = cc in
       let others : map carried_of ws ≡ xs = cc in
-      both-true _ _ (wide-within (carried_of w) (subst IsWide (sym same) here)) (all-wide xs ws others wide)
+      and_from _ _ (wide-within (carried_of w) (subst IsWide (sym same) here)) (all-wide xs ws others wide)
 
   place-is : (e : Entry) (w : WrittenPending) → IsGoodEntry g clock e → PendingIs g clock e w → place_of_vertex w.vertex.name g.vertices ≡ Some e.vertex
   place-is e w good is = ap (λ name. place_of_vertex name g.vertices) is.vertex ∙ found e.vertex good.vertex
@@ -169,9 +155,9 @@ module _ (g : EventGraph) (found : (v : ℕ) → v < length g.vertices → place
   entry-good : (e : Entry) (w : WrittenPending) → IsGoodEntry g clock e → PendingIs g clock e w → (pending_part g w).good ≡ true
   entry-good e w good is =
       let count : length w.values ≡ length e.values = sym (length-map w.values carried_of) ∙ ap length is.values in
-      both-true _ _
-      (both-true _ _ (is-at_most (e.time - clock) (2 ^ 63 - 1) w.ticks is.ticks (omega (arith, good.near, good.from_now))) (is-at_most e.priority 255 w.priority is.priority good.priority))
-      (both-true _ _ (ap (has_parameters g (length w.values)) (place-is e w good is) ∙ same-count (length w.values) (length (vertex_at g e.vertex).parameters) (count ∙ good.matched)) (all-wide e.values w.values is.values good.wide)) where
+      and_from _ _
+      (and_from _ _ (is-at_most (e.time - clock) (2 ^ 63 - 1) w.ticks is.ticks (omega (arith, good.near, good.from_now))) (is-at_most e.priority 255 w.priority is.priority good.priority))
+      (and_from _ _ (ap (has_parameters g (length w.values)) (place-is e w good is) ∙ same-count (length w.values) (length (vertex_at g e.vertex).parameters) (count ∙ good.matched)) (all-wide e.values w.values is.values good.wide)) where
         same-count : (n m : ℕ) → n ≡ m → (n == m) ≡ true
         same-count n m e = grind (arith, nat_tests)
 
@@ -199,7 +185,7 @@ module _ (g : EventGraph) (found : (v : ℕ) → v < length g.vertices → place
 module _ (g : EventGraph) (found : (v : ℕ) → v < length g.vertices → place_of_vertex (vertex_name g v) g.vertices ≡ Some v) (s : SavedRun) (good : IsGood g s) (w : WrittenSnapshot) (is : SnapshotIs g s w) where
   pub none-is_bad : bad_at g w ≡ None
   none-is_bad =
-      let seed = both-true _ _ (is-at_most (s.seed / 2 ^ 32) (2 ^ 32 - 1) w.seed is.seed (omega (arith, good.seed))) (is-at_most (s.seed % 2 ^ 32) (2 ^ 32 - 1) w.seed_rest is.seed_rest (omega arith)) in
+      let seed = and_from _ _ (is-at_most (s.seed / 2 ^ 32) (2 ^ 32 - 1) w.seed is.seed (omega (arith, good.seed))) (is-at_most (s.seed % 2 ^ 32) (2 ^ 32 - 1) w.seed_rest is.seed_rest (omega arith)) in
       let same : nat_lt (length g.variables) (length g.variables) ≡ false = grind (arith, nat_tests) in
       let last : not (nat_lt (length w.values) (length g.variables)) ≡ true =
       ap (λ n. not (nat_lt n (length g.variables))) (values-many g.variables s.values w.values is.values) ∙ ap not same in

@@ -3,6 +3,7 @@ use Rattle.std.proofs.Common.{◌≡◌, ℕ, zero, suc, ◌+◌, ◌<◌, ℤ, 
 use Rattle.std.specs.Prelude.{Ok, IfSome, int_le}
 use Rattle.std.specs.List.{AllByRecursion}
 use Rattle.std.proofs.lemmas.Int.{ints}
+use Rattle.std.proofs.lemmas.Bool.{and_parts}
 use Rattle.model_core.specs.declared.model.Kind.{Kind}
 use Rattle.model_core.specs.declared.model.Kind.TheVariants as kinds
 use Rattle.model_core.specs.EventGraph.{EventGraph, Variable, Watched, WatchedVariable, WatchedVertex}
@@ -12,7 +13,6 @@ use Rattle.model_core.specs.Text.Lexing.{Lexeme, tokens_from}
 use Rattle.model_core.specs.Text.Spellable.{IsName, IsSigned, HasWrittenRange, SpellableVariable, IsSpellable}
 use Rattle.model_core.specs.Static.OwnRules.{KeepsStaticRules}
 use Rattle.model_core.proofs.EachOne.{every-map, every-joined}
-use Rattle.text_laws.proofs.Formats.TokenSorts.{both}
 use Rattle.round_trip.proofs.TokenSteps.{Lexes-nil, Lexes-text, tokens_from_at}
 use Rattle.round_trip.proofs.ModelNames.{Named, names_of, named-by}
 use Rattle.round_trip.proofs.ByParts.{begins_as_written}
@@ -46,13 +46,13 @@ true-int_le : (a b : ℤ) → int_le a b ≡ true → a ≤ℤ b
 true-int_le a b e = grind (arith, ints)
 
 within-signed : (v : Variable) (x : ℤ) → SignedRange v → within v.lo v.hi x ≡ true → IsSigned x
-within-signed v x r e = between-signed v.lo v.hi x r.lo r.hi (true-int_le _ _ ((both (int_le v.lo x) _ e).0)) (true-int_le _ _ ((both (int_le v.lo x) _ e).1))
+within-signed v x r e = between-signed v.lo v.hi x r.lo r.hi (true-int_le _ _ ((and_parts (int_le v.lo x) _ e).0)) (true-int_le _ _ ((and_parts (int_le v.lo x) _ e).1))
 
 ranges-signed : (vs : List Variable) (xs : List ℤ) → AllByRecursion SignedRange vs → in_ranges vs xs ≡ true → AllByRecursion IsSigned xs
 ranges-signed [] [] all e = tt
 ranges-signed [] (x ∷ xs) all e = cc
 ranges-signed (v ∷ vs) [] all e = cc
-ranges-signed (v ∷ vs) (x ∷ xs) (r, all) e = (within-signed v x r ((both (within v.lo v.hi x) _ e).0), ranges-signed vs xs all ((both (within v.lo v.hi x) _ e).1))
+ranges-signed (v ∷ vs) (x ∷ xs) (r, all) e = (within-signed v x r ((and_parts (within v.lo v.hi x) _ e).0), ranges-signed vs xs all ((and_parts (within v.lo v.hi x) _ e).1))
 
 replicate-signed : (n : ℕ) (v : Variable) → SignedRange v → AllByRecursion SignedRange (replicate n v)
 replicate-signed zero v r = tt

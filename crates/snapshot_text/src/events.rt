@@ -1,15 +1,14 @@
 //! The pending events of a snapshot, where all that it says of them is good.
 
-ghost use Rattle.std.specs.Prelude.{◌≡◌, ◌++◌, ◌+◌, ◌≤◌, ◌^◌, true, length, map, IfOk};
+ghost use Rattle.std.specs.Prelude.{◌≡◌, ◌++◌, ◌+◌, ◌≤◌, ◌^◌, true, [], length, map, unwrap_or, IfOk};
 ghost use Rattle.std.specs.List.{AllByRecursion, list_all};
 ghost use Rattle.std.specs.Option.{option_map};
 ghost use Rattle.sig_base.specs.declared.limits.TheConstants.{PARAMETERS_MAX};
 ghost use Rattle.model_core.specs.EventGraph.{EventVertex};
 ghost use Rattle.model_core.specs.Run.Step.{vertex_at};
 ghost use Rattle.model_core.specs.Code.Views.{graph_of};
-ghost use Rattle.model_core.specs.Text.SnapshotGrammar.{or_none};
 ghost use Rattle.model_core.specs.Saved.GoodSnapshots.{carried_of, is_wide, pending_part, saved_entry};
-ghost use Rattle.name_places.specs.NamesPlaced.{HasPlaces, names_of_vertices};
+ghost use Rattle.model_read.specs.NamesPlaced.{HasPlaces, names_of_vertices};
 ghost use Rattle.snapshot_text.specs.Inner.Judging.{if_good, Judged};
 ghost use Rattle.snapshot_text.specs.Inner.RawParts.{written_carried, written_pending};
 
@@ -19,7 +18,7 @@ use crate::parts::{RawCarried, RawPending};
 use crate::snapshot_error::SnapshotError;
 use event_list::Entry;
 use model_core::Model;
-use name_places::Places;
+use model_read::Places;
 use sig_base::{Carried, List};
 use std::alloc::Global;
 
@@ -31,7 +30,7 @@ const PRIORITY_MAX: u64 = 255;
 
 /// The values that are written, and none where none are.
 fn written_values<'v, 't>(values: &'v Option<List<RawCarried<'t>>>) -> &'v [RawCarried<'t>]
-    ensures { map written_carried result.now ≡ or_none (option_map (map written_carried) values.now) }
+    ensures { map written_carried result.now ≡ unwrap_or (option_map (map written_carried) values.now) [] }
 {
     match values {
         Some(values) => values.as_slice(),

@@ -13,18 +13,9 @@ ghost use Rattle.snapshot_text.specs.Inner.Lines.{stream_line, value_line, event
 use crate::numbers::SEED_PART;
 use crate::snapshot::Snapshot;
 use event_list::Entry;
-use itoa::Buffer;
 use model_core::{Model, Var};
-use sig_base::{List, NoMemory, Text, put_bytes, put_number};
+use sig_base::{List, NoMemory, Text, put_bytes, put_number, put_signed};
 use std::alloc::Global;
-
-/// Adds a number in decimal, with a `-` where it is below 0.
-fn put_signed(out: &mut Vec<u8>, number: i64) -> Result<(), NoMemory>
-    ensures { OnOk result (out.new.items ≡ out.old.items ++ signed_decimal number) }
-{
-    let mut buffer = Buffer::new();
-    put_bytes(out, buffer.format(number).as_bytes())
-}
 
 /// Adds values, each behind a comma.
 fn put_later_values(out: &mut Vec<u8>, values: &[i64]) -> Result<(), NoMemory>

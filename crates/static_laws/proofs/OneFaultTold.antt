@@ -8,11 +8,11 @@ use Rattle.model_core.specs.declared.static_kind.StaticKind.TheVariants as rules
 use Rattle.model_core.specs.EventGraph.{EventGraph}
 use Rattle.model_core.specs.Text.Written.{WrittenModel}
 use Rattle.model_core.specs.Static.FaultOrder.{StaticFault, rule_row, is_told_before, earliest_fault}
-use Rattle.model_core.specs.Static.ModelFaults.{faults_of_parts, or_too_long, model_faults, Broken, IsTold, told_fault, Accepted}
+use Rattle.model_core.specs.Static.ModelFaults.{faults_of_parts, model_faults, Broken, IsTold, told_fault, Accepted}
 use Rattle.model_core.specs.Static.VersionFaults.{version_faults}
 use Rattle.model_core.proofs.EmptyLists.{left_empty}
 use Rattle.static_laws.proofs.ToldFaults.{IsLeast, not_before_place, not_before_row, earliest_is_least, none_told}
-use Rattle.static_laws.proofs.StaticTwins.ModelTwin.{empty_contains, parts_kept}
+use Rattle.static_laws.proofs.StaticTwins.ModelTwin.{empty_contains, none_of_parts, parts_kept}
 
 -- ---- each rule has a place of its own in the table
 
@@ -124,10 +124,6 @@ module _ (m : WrittenModel) where
   pub told_is_told : (f : StaticFault) → told_fault m ≡ Some f ↔ IsTold m f.kind f.at
   told_is_told f = (earliest_told f, told_earliest f)
 
-  no_fault_of_parts : (limit : ℕ) (fs : List StaticFault) → or_too_long m limit fs ≡ [] → fs ≡ []
-  no_fault_of_parts limit [] e = refl
-  no_fault_of_parts limit (f ∷ fs) e = cc
-
   not_told : ((g : EventGraph) × Accepted m g) → told_fault m ≡ None
   not_told (g, a) = by_case (told_fault m) refl
     where
@@ -138,7 +134,7 @@ module _ (m : WrittenModel) where
   accepted_unless_told : told_fault m ≡ None → (g : EventGraph) × Accepted m g
   accepted_unless_told e =
       let nothing = none_told (model_faults m) e in
-      let (g, numbers, keeps, by_kind) = parts_kept m (left_empty (faults_of_parts m) (version_faults m) (no_fault_of_parts _ (faults_of_parts m ++ version_faults m) nothing)) in
+      let (g, numbers, keeps, by_kind) = parts_kept m (left_empty (faults_of_parts m) (version_faults m) (none_of_parts m _ (faults_of_parts m ++ version_faults m) nothing)) in
       (g, record { unbroken = nothing_broken nothing; numbers = numbers })
 
   pub accepted_or_told : told_fault m ≡ None ↔ ((g : EventGraph) × Accepted m g)

@@ -1,7 +1,7 @@
 -- Items that are added up stay of as many runs, and a loop that adds each one.
 use Rattle.std.proofs.Common.{◌≡◌, ℕ, zero, suc, ◌+◌, ◌*◌, ◌^◌, ◌<◌, ◌≤◌, List, [], ◌∷◌, ◌++◌, length, take, drop, take-append-drop, get_or, slice_set, All, min, refl, sym, ap, ap₂, ◌∙◌, subst, arith}
 use Rattle.std.specs.Prelude.{◌+ℤ◌}
-use Rattle.std.proofs.lemmas.List.Elements.{All-nil, All-cons}
+use Rattle.std.proofs.lemmas.List.Elements.{All-nil, All-cons, All-tail}
 use Rattle.tally_report.specs.declared.item.Item.{Item}
 use Rattle.tally_report.specs.declared.item.Item.TheVariants as items
 use Rattle.tally_report.specs.SmallAreas.{IsSmallArea, IsOfRuns}
@@ -23,15 +23,12 @@ one-run-more m (items.Count k) (items.Cell t b) p q = omega (arith, p)
 pub head-all : {X : Type 0} (P : X → Type 0) (x : X) (xs : List X) → All P (x ∷ xs) → P x
 head-all P x xs all = all 0 x (omega arith)
 
-pub tail-all : {X : Type 0} (P : X → Type 0) (x : X) (xs : List X) → All P (x ∷ xs) → All P xs
-tail-all P x xs all = λ k d within. all (suc k) d (omega (arith, within))
-
 pub all-added : (m : ℕ) (xs ys : List Item) → All (IsOfRuns m) xs → All (IsOfRuns 1) ys → All (IsOfRuns (m + 1)) (items_added xs ys)
 all-added m [] ys p q = All-nil (IsOfRuns (m + 1))
 all-added m (x ∷ xs) [] p q = λ k d within. more-runs m (m + 1) (get_or (x ∷ xs) k d) (omega arith) (p k d within)
 all-added m (x ∷ xs) (y ∷ ys) p q =
     All-cons (IsOfRuns (m + 1)) (item_added x y) (items_added xs ys) (one-run-more m x y (head-all (IsOfRuns m) x xs p) (head-all (IsOfRuns 1) y ys q))
-    (all-added m xs ys (tail-all (IsOfRuns m) x xs p) (tail-all (IsOfRuns 1) y ys q))
+    (all-added m xs ys (All-tail (IsOfRuns m) x xs p) (All-tail (IsOfRuns 1) y ys q))
 
 -- ---- a loop that adds each one
 

@@ -8,6 +8,7 @@ use lib.IntN.{+ℤ_idl, +ℤ_assoc}
 use Rattle.model_core.specs.EventGraph.{EventGraph, Watched, WatchedVariable, WatchedVertex}
 use Rattle.model_core.specs.Run.Machine.{Note, At, On}
 use Rattle.model_core.specs.Saved.Cells.{cells_declared}
+use Rattle.model_core.proofs.SameNames.{map_alike}
 use Rattle.tally_report.specs.declared.item.Span.{Span}
 use Rattle.tally_report.specs.declared.item.Item.{Item}
 use Rattle.tally_report.specs.declared.item.Item.TheVariants as items
@@ -141,10 +142,6 @@ pub first-from : (g : EventGraph) (place : ℕ) (ws : List Watched) → sums_fro
 first-from g place [] = refl
 first-from g place (w ∷ ws) = ap₂ (λ a b. a ++ b) (first-at g place w) (first-from g (suc place) ws) ∙ sym (map-append first_sum (items_at g place w) (items_reported_from g (suc place) ws))
 
-pub map-each : {A B : Type 0} (f h : A → B) → ((a : A) → f a ≡ h a) → (xs : List A) → map f xs ≡ map h xs
-map-each f h same [] = refl
-map-each f h same (x ∷ xs) = ap₂ (λ a b. a ∷ b) (same x) (map-each f h same xs)
-
 -- as a run begins
 abbrev pub first_tallied : EventGraph → Tallied
 first_tallied g = record { sums = sums_from g 0 g.watch; since = 0; latest = 0 }
@@ -163,4 +160,4 @@ module _ (g : EventGraph) (notes : List Note) (to end : ℕ) (rises : RisesTo 0 
       ap₂ (λ (n : ℕ) (xs : List Sum). map (λ (s : Sum). held_until n (max n end) s.item) xs) since sums
       ∙ map-map (λ (s : Sum). held_until (latest_at notes 0) (max (latest_at notes 0) end) s.item) (sum_behind g notes 0) (map first_sum (items_reported g))
       ∙ map-map (come_to g notes 0 end) first_sum (items_reported g)
-      ∙ map-each (λ item. come_to g notes 0 end (first_sum item)) (item_told g notes end) item-comes (items_reported g)
+      ∙ map_alike (λ item. come_to g notes 0 end (first_sum item)) (item_told g notes end) item-comes (items_reported g)

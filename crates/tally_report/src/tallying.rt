@@ -1,6 +1,6 @@
 //! The tally of one run: what is told of it, kept as running sums while it goes.
 
-ghost use Rattle.std.specs.Prelude.{◌≡◌, ℕ, ℤ, List as Sequence, None, ◌≤◌, ◌<◌, ◌^◌, All, IfOk, IfErr, IsTrue};
+ghost use Rattle.std.specs.Prelude.{◌≡◌, ℕ, ℤ, List as Sequence, None, ◌≤◌, ◌^◌, All, IfOk, IfErr, IsTrue};
 ghost use Rattle.model_core.specs.Run.History.{look, look_from, allowed};
 ghost use Rattle.model_core.specs.Code.Views.{graph_of};
 ghost use Rattle.run_control.specs.Beginning.{BegunRun};
@@ -16,10 +16,8 @@ use crate::tally_taker::TallyTaker;
 use event_heap::HeapPending;
 use model_core::Model;
 use run_control::{Run, check_starts};
-use sig_base::{List, NoMemory, Steps};
+use sig_base::{List, NoMemory};
 use std::alloc::Global;
-use std::marker::Brand;
-use std::sync::ledger::{Blank, Ledger};
 use watch_trace::{Outcome, Tracer, observe};
 
 /// The pending events for which a run has room from its beginning.
@@ -49,18 +47,14 @@ fn time_reached(outcome: Outcome, until: u64, latest: u64) -> u64
     }
 }
 
-/// Follows a run that has begun. Its steps are counted by nobody.
-fn follow<'m, L: Ledger>(
+/// Follows a run that has begun.
+fn follow<'m>(
     alloc: Global,
     model: &'m Model,
     run: &mut Run<'m, HeapPending>,
     until: u64,
     events: u64,
-    blank: Blank,
 ) -> Result<RunTally, NoMemory>
-    requires name { blank.name ≡ L.name }
-    requires parts { blank.parts ≡ L.parts }
-    requires some { 0 < blank.parts }
     requires soon { until ≤ 2 ^ 48 }
     requires budget { events ≤ 2 ^ 40 }
     requires begun { (starts : Sequence ℤ) × (room : ℕ) × BegunRun model.now run.old.seed starts room run.old }
@@ -69,16 +63,7 @@ fn follow<'m, L: Ledger>(
 {
     let mut tracer = Tracer::begin(alloc, model)?;
     let mut taker = TallyTaker::begin(alloc, model)?;
-    let mut steps: Steps<L> = Steps::begin(blank);
-    let outcome = observe(
-        &mut tracer,
-        run,
-        until,
-        events,
-        &mut taker,
-        &mut (),
-        &mut steps,
-    );
+    let outcome = observe(&mut tracer, run, until, events, &mut taker, &mut ());
     match outcome {
         Outcome::NoMemory => Err(NoMemory),
         Outcome::WriteFault => unreachable!(),
@@ -111,5 +96,5 @@ pub fn tally_one(
     check_starts(model, starts.as_slice())?;
     let pending = HeapPending::begin(alloc, model.vertices.len())?;
     let mut run = Run::begin(alloc, model, pending, seed, starts, ROOM)?;
-    Ok(follow::<Brand>(alloc, model, &mut run, until, events, Blank::new(1))?)
+    Ok(follow(alloc, model, &mut run, until, events)?)
 }

@@ -1,5 +1,6 @@
 -- The word `draw` tells a drawn delay from one that an expression gives: no expression begins with it.
 use Rattle.std.proofs.Common.{◌≡◌, Bool, true, false, List, [], ◌∷◌, refl, ◌∙◌, arith}
+use Rattle.std.proofs.lemmas.Bool.{or_parts}
 use Rattle.model_core.specs.declared.token.Word.TheVariants as words
 use Rattle.model_core.specs.declared.token.Symbol.TheVariants as symbols
 use Rattle.model_core.specs.Text.Lexing.{Lexeme}
@@ -10,7 +11,7 @@ use Rattle.model_core.specs.Text.Language.{source_format, delay_format}
 use Rattle.text_laws.specs.FirstTokens.{subset, begins_as, begins_among}
 use Rattle.text_laws.specs.FormatReader.{stuck, single_at}
 use Rattle.text_laws.specs.LanguageReader.{level_lookahead, primary_first, level_firsts, language_reader}
-use Rattle.text_laws.proofs.Formats.TokenSorts.{neither, begins-apart, stops-subset}
+use Rattle.text_laws.proofs.Formats.TokenSorts.{begins-apart, stops-subset}
 use Rattle.text_laws.proofs.OperandLevels.{of_level, level-is, from-unary}
 
 -- a delay that an expression gives, and a drawn one
@@ -24,7 +25,7 @@ drawn_format = Yields (λ at (source : WrittenSource). Drawn at source.stream so
 
 -- the first token is of none of these sorts, and so not of this one
 not_first : (s : TokenSort) (sorts : List TokenSort) (tokens : List Lexeme) → subset (s ∷ []) sorts ≡ true → begins_among sorts tokens ≡ false → begins_as s tokens ≡ false
-not_first s sorts tokens a e = (neither (begins_as s tokens) false (stops-subset (s ∷ []) sorts tokens a e)).0
+not_first s sorts tokens a e = (or_parts (begins_as s tokens) false (stops-subset (s ∷ []) sorts tokens a e)).0
 
 token-stuck : {A : Type 0} (s : TokenSort) (f : Lexeme → A) (tokens : List Lexeme) → begins_as s tokens ≡ false → single_at s f tokens ≡ stuck tokens
 token-stuck s f [] e = refl

@@ -2,6 +2,7 @@
 use Rattle.std.proofs.Common.{◌≡◌, ℕ, zero, suc, ◌≤◌, true, false, List, refl, sym, ap, ◌∙◌, arith}
 use Rattle.std.specs.Prelude.{Ok, Err, nat_lt}
 use Rattle.std.proofs.lemmas.Grind.{common_steps}
+use Rattle.std.proofs.lemmas.Bool.{le-ltb}
 use Rattle.model_core.specs.declared.token.Word.TheVariants as words
 use Rattle.model_core.specs.Text.Lexing.{Lexeme}
 use Rattle.model_core.specs.Text.Written.{WrittenExpression}
@@ -65,9 +66,6 @@ next-took (Err rest) = refl
 is_below : (m n : ℕ) → m ≤ n → nat_lt m (suc n) ≡ true
 is_below m n h = grind (arith, common_steps)
 
-pub isnt_below : (m n : ℕ) → n ≤ m → nat_lt m n ≡ false
-isnt_below m n h = grind (arith, common_steps)
-
 pub climb-more : (level least : ℕ) (a : WrittenExpression) (tokens : List Lexeme) → least ≤ level → climb (suc level) least a tokens ≡ and_next (rung level) (climb level least a tokens)
 unfolding climb
 climb-more level least a tokens h = rw (is_below least level h) refl
@@ -75,7 +73,7 @@ climb-more level least a tokens h = rw (is_below least level h) refl
 pub climb-none : (under least : ℕ) (a : WrittenExpression) (tokens : List Lexeme) → under ≤ least → climb under least a tokens ≡ took a tokens
 unfolding climb
 climb-none zero least a tokens h = refl
-climb-none (suc level) least a tokens h = rw (isnt_below least (suc level) h) refl
+climb-none (suc level) least a tokens h = rw (le-ltb least (suc level) h) refl
 
 -- one level more stands behind the others
 more : (level least : ℕ) (r : Parse WrittenExpression) → least ≤ level → and_next (rung level) (and_next (climb level least) r) ≡ and_next (climb (suc level) least) r

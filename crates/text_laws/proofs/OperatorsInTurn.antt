@@ -2,6 +2,8 @@
 use Rattle.std.proofs.Common.{◌≡◌, ℕ, zero, suc, ◌≤◌, ◌<◌, Bool, true, false, cond, List, [], ◌∷◌, Some, None, refl, sym, ap, ◌∙◌, subst, ◌⊎◌, inl, inr, arith}
 use Rattle.std.specs.Prelude.{Option, nat_eq, nat_lt}
 use Rattle.std.proofs.lemmas.Grind.{common_steps}
+use Rattle.std.proofs.lemmas.Bool.{ltb-true, ltb-false, eqb-true, le-ltb}
+use Rattle.std.proofs.lemmas.Option.{same_Some}
 use Rattle.model_core.specs.EventGraph.{Operator}
 use Rattle.model_core.specs.Text.Lexing.{Lexeme}
 use Rattle.model_core.specs.Text.Written.{WrittenExpression}
@@ -13,26 +15,20 @@ use Rattle.text_laws.proofs.Formats.TokenSorts.{begins-none}
 use Rattle.text_laws.proofs.Formats.RuleLaws.{same_next}
 use Rattle.text_laws.specs.Ladder.{infix_of_kind, infix_at, operators_of, operand_level, next_level, rung, climb, at_levels, behind}
 use Rattle.text_laws.proofs.FirstOperator.{is_at}
-use Rattle.text_laws.proofs.OperandLevels.{next-next, of_level, isnt_below, climb-more, climb-none}
+use Rattle.text_laws.proofs.OperandLevels.{next-next, of_level, climb-more, climb-none}
 use Rattle.text_laws.proofs.LevelOperators.{rung-none, at_level, rung-some}
-
-was_below : (m n : ℕ) → nat_lt m n ≡ true → m < n
-was_below m n h = grind (arith, common_steps)
-
-wasnt_below : (m n : ℕ) → nat_lt m n ≡ false → n ≤ m
-wasnt_below m n h = grind (arith, common_steps)
 
 within-out : (least under : ℕ) (i : ℕ × Operator) → at_levels least under (Some i) ≡ None → (i.0 < least) ⊎ (under ≤ i.0)
 within-out least under i e = go (nat_lt i.0 least) (nat_lt i.0 under) refl refl e
   where
     go : (b c : Bool) → nat_lt i.0 least ≡ b → nat_lt i.0 under ≡ c → cond b None (cond c (Some i) None) ≡ None → (i.0 < least) ⊎ (under ≤ i.0)
-    go true c f g h = inl (was_below i.0 least f)
-    go false false f g h = inr (wasnt_below i.0 under g)
+    go true c f g h = inl (ltb-true i.0 least f)
+    go false false f g h = inr (ltb-false i.0 under g)
     go false true f g h = absurd cc
 
 within-none : (least under : ℕ) (i : ℕ × Operator) → (i.0 < least) ⊎ (under ≤ i.0) → at_levels least under (Some i) ≡ None
 within-none least under i (inl h) = let e : nat_lt i.0 least ≡ true = grind (arith, common_steps) in rw e refl
-within-none least under i (inr h) = let e : nat_lt i.0 under ≡ false = isnt_below i.0 under h in rw e (go (nat_lt i.0 least))
+within-none least under i (inr h) = let e : nat_lt i.0 under ≡ false = le-ltb i.0 under h in rw e (go (nat_lt i.0 least))
   where
     go : (b : Bool) → cond {A = Option (ℕ × Operator)} b None None ≡ None
     go true = refl
@@ -45,10 +41,7 @@ within-in least under (Some j) i e = go (nat_lt j.0 least) (nat_lt j.0 under) re
     go : (b c : Bool) → nat_lt j.0 least ≡ b → nat_lt j.0 under ≡ c → cond b None (cond c (Some j) None) ≡ Some i → (Some j ≡ Some i) × (least ≤ i.0) × (i.0 < under)
     go true c f g h = absurd cc
     go false false f g h = absurd cc
-    go false true f g h = let s : j ≡ i = some_same j i h in (h, subst (λ (x : ℕ × Operator). least ≤ x.0) s (wasnt_below j.0 least f), subst (λ (x : ℕ × Operator). x.0 < under) s (was_below j.0 under g))
-      where
-        some_same : (x y : ℕ × Operator) → Some x ≡ Some y → x ≡ y
-        some_same x y p = cc
+    go false true f g h = let s : j ≡ i = same_Some j i h in (h, subst (λ (x : ℕ × Operator). least ≤ x.0) s (ltb-false j.0 least f), subst (λ (x : ℕ × Operator). x.0 < under) s (ltb-true j.0 under g))
 
 -- no operator of these levels comes
 pub no_operator : (under least : ℕ) (a : WrittenExpression) (tokens : List Lexeme) → under ≤ 5 → at_levels least under (infix_at tokens) ≡ None → climb under least a tokens ≡ took a tokens
@@ -73,9 +66,9 @@ no_operator (suc level) least a tokens few e = go (no_operator level least a tok
     stops (t ∷ rest) h g = (at_level level t rest (infix_of_kind t.kind) (omega arith) refl).0 ∙ isnt_at (infix_of_kind t.kind) h g
 
     go : (at_levels least level (infix_at tokens) ≡ None → climb level least a tokens ≡ took a tokens) → (b : Bool) → nat_lt least (suc level) ≡ b → climb (suc level) least a tokens ≡ took a tokens
-    go lower false f = climb-none (suc level) least a tokens (wasnt_below least (suc level) f)
+    go lower false f = climb-none (suc level) least a tokens (ltb-false least (suc level) f)
     go lower true f =
-        let h : least < suc level = was_below least (suc level) f in
+        let h : least < suc level = ltb-true least (suc level) f in
         climb-more level least a tokens (omega arith)
         ∙ ap (and_next (rung level)) (lower (fewer (infix_at tokens) e))
         ∙ rung-none level a tokens (omega arith) (stops tokens (omega arith) e)
@@ -92,9 +85,6 @@ one_operator : (under least k : ℕ) (o : Operator) (a : WrittenExpression) (t :
 one_operator zero least k o a t tokens few low high e = absurd (omega arith)
 one_operator (suc level) least k o a t tokens few low high e = go (λ l. one_operator level least k o a t tokens (omega arith) low l e) (nat_eq k level) refl
   where
-    same_nat : (m n : ℕ) → nat_eq m n ≡ true → m ≡ n
-    same_nat m n h = grind (arith, common_steps)
-
     not_same : (m n : ℕ) → nat_eq m n ≡ false → m < suc n → m < n
     not_same m n h l = grind (arith, common_steps)
 
@@ -114,7 +104,7 @@ one_operator (suc level) least k o a t tokens few low high e = go (λ l. one_ope
         ∙ same_next _ _ (of_level (operand_level k) tokens) (λ b left f. sym (climb-more level (next_level k) (joining a (o, b)) left (next-low k level l)))
 
     go : (k < level → climb level least a (t ∷ tokens) ≡ and_next (λ b. climb level (next_level k) (joining a (o, b))) (of_level (operand_level k) tokens)) → (b : Bool) → nat_eq k level ≡ b → climb (suc level) least a (t ∷ tokens) ≡ and_next (λ b. climb (suc level) (next_level k) (joining a (o, b))) (of_level (operand_level k) tokens)
-    go lower true f = here (same_nat k level f)
+    go lower true f = here (eqb-true k level f)
     go lower false f = below (not_same k level f high) (lower (not_same k level f high))
 
 pub taken-is : (under least : ℕ) (a : WrittenExpression) (tokens left : List Lexeme) (i : ℕ × Operator) → under ≤ 5 → Some i ≡ at_levels least under (infix_at tokens) → left ≡ behind (at_levels least under (infix_at tokens)) tokens

@@ -4,9 +4,9 @@ use Rattle.model_core.specs.declared.token.Word.TheVariants as words
 use Rattle.model_core.specs.declared.token.Symbol.TheVariants as symbols
 use Rattle.model_core.specs.EventGraph.{Operator, Add, Subtract, Multiply, Divide, Remainder, Equal, NotEqual, Below, AtMost, Above, AtLeast, And, Or}
 use Rattle.model_core.specs.Text.Lexing.{Lexeme, LexemeKind, Reserved, Mark}
-use Rattle.model_core.specs.Text.Written.{WrittenExpression}
+use Rattle.model_core.specs.Text.Written.{WrittenExpression, Negative, Not, If}
 use Rattle.model_core.specs.Text.Format.{Yields, Many, ByRule, reserved, mark, any_name, ◌<*>◌, ◌<*◌, maybe}
-use Rattle.model_core.specs.Text.Expressions.{Level, Whole, Disjunction, Conjunction, Negation, Sum, Product, Unary, LanguageFormat, of_name, of_negative, of_not, of_if, index_format, word_for, comparing, adding, multiplying, right_side, grouped, compared}
+use Rattle.model_core.specs.Text.Expressions.{Level, Whole, Disjunction, Conjunction, Negation, Sum, Product, Unary, LanguageFormat, of_name, index_format, word_for, comparing, adding, multiplying, right_side, grouped, compared}
 use Rattle.text_laws.specs.FormatReader.{Parser, took, and_next}
 use Rattle.text_laws.specs.LanguageReader.{language_reader}
 
@@ -76,15 +76,15 @@ behind (Some found) tokens = drop 1 tokens
 
 -- `if` with its parts
 abbrev pub if_format : LanguageFormat WrittenExpression
-if_format = Yields of_if <*> reserved words.If <*> ByRule Whole <* reserved words.Then <*> ByRule Whole <* reserved words.Else <*> ByRule Whole
+if_format = Yields If <*> reserved words.If <*> ByRule Whole <* reserved words.Then <*> ByRule Whole <* reserved words.Else <*> ByRule Whole
 
 -- `-` and its operand
 abbrev pub negative_format : LanguageFormat WrittenExpression
-negative_format = Yields of_negative <*> mark symbols.Minus <*> ByRule Unary
+negative_format = Yields Negative <*> mark symbols.Minus <*> ByRule Unary
 
 -- `not` and its operand
 abbrev pub not_format : LanguageFormat WrittenExpression
-not_format = Yields of_not <*> reserved words.Not <*> ByRule Negation
+not_format = Yields Not <*> reserved words.Not <*> ByRule Negation
 
 -- a variable or a cell
 abbrev pub named_format : LanguageFormat WrittenExpression

@@ -1,6 +1,6 @@
 //! How a run of a model goes: what it comes to, how many steps it makes, and how many notes its history has.
 
-ghost use Rattle.std.specs.Prelude.{◌≡◌, ◌≤◌, ◌<◌, ◌^◌, [], IfOk};
+ghost use Rattle.std.specs.Prelude.{◌≡◌, ◌≤◌, ◌^◌, [], IfOk};
 ghost use Rattle.model_core.specs.Run.Step.{vertex_at};
 ghost use Rattle.model_core.specs.Static.Reading.{IsValid};
 ghost use Rattle.model_core.specs.Code.Views.{graph_of};
@@ -12,10 +12,8 @@ use event_heap::HeapPending;
 use model_core::Model;
 use round_trip::validity_is_by_parts;
 use run_control::{BeginError, Run, kept_models_can_be_run};
-use sig_base::{List, NoMemory, Steps};
+use sig_base::{List, NoMemory};
 use std::alloc::Global;
-use std::marker::Brand;
-use std::sync::ledger::{Blank, Ledger};
 use watch_trace::{Outcome, Tracer, observe};
 
 /// The pending events for which a run has room from its beginning.
@@ -45,18 +43,14 @@ fn begin<'m>(alloc: Global, model: &'m Model, seed: u64) -> Result<Run<'m, HeapP
     }
 }
 
-/// Follows a run that has begun. Its steps are counted by nobody.
-fn follow<'m, L: Ledger>(
+/// Follows a run that has begun.
+fn follow<'m>(
     alloc: Global,
     model: &'m Model,
     run: &mut Run<'m, HeapPending>,
     until: u64,
     events: u64,
-    blank: Blank,
 ) -> Result<RunMeasure, NoMemory>
-    requires name { blank.name ≡ L.name }
-    requires parts { blank.parts ≡ L.parts }
-    requires some { 0 < blank.parts }
     requires soon { until ≤ 2 ^ 48 }
     requires budget { events ≤ 2 ^ 40 }
     requires begun { BegunRun model.now run.old.seed [] 4096 run.old }
@@ -64,16 +58,7 @@ fn follow<'m, L: Ledger>(
 {
     let mut tracer = Tracer::begin(alloc, model)?;
     let mut count = NoteCount { notes: 0 };
-    let mut steps: Steps<L> = Steps::begin(blank);
-    let outcome = observe(
-        &mut tracer,
-        run,
-        until,
-        events,
-        &mut count,
-        &mut (),
-        &mut steps,
-    );
+    let outcome = observe(&mut tracer, run, until, events, &mut count, &mut ());
     match outcome {
         Outcome::NoMemory => Err(NoMemory),
         Outcome::WriteFault => unreachable!(),
@@ -100,5 +85,5 @@ pub(crate) fn measure(
     ensures { IfOk result (Tells (graph_of model.now) seed until events) }
 {
     let mut run = begin(alloc, model, seed)?;
-    follow::<Brand>(alloc, model, &mut run, until, events, Blank::new(1))
+    follow(alloc, model, &mut run, until, events)
 }

@@ -1,8 +1,8 @@
 -- That no condition before that on the limits fails is one test after the other, in another order.
-use Rattle.std.proofs.Common.{◌≡◌, ℕ, suc, ◌<◌, nat_lt, nat_eq, Bool, true, false, not, ◌&&◌, ◌||◌, List, [], ◌∷◌, length, Option, Some, None, refl, ◌∙◌, arith}
+use Rattle.std.proofs.Common.{◌≡◌, ℕ, suc, ◌<◌, nat_lt, nat_eq, Bool, true, false, not, ◌&&◌, ◌||◌, List, [], ◌∷◌, length, Option, Some, None, refl, ◌∙◌}
 use Rattle.std.specs.Prelude.{is_none}
 use Rattle.std.specs.Option.{option_map}
-use Rattle.std.proofs.lemmas.Bool.Decides.{nat_tests}
+use Rattle.std.proofs.lemmas.Bool.{lt-ltb}
 use lib.Pointwise.{pointwise}
 use Rattle.model_core.specs.EventGraph.{EventGraph}
 use Rattle.model_core.specs.Run.Step.{vertex_at}
@@ -37,12 +37,9 @@ reordered true true false false false false true false e = refl
 reordered true true false false false false false true e = refl
 reordered true true false false false false false false e = refl
 
-within : (a b : ℕ) → a < b → nat_lt a b ≡ true
-within a b less = grind (arith, nat_tests)
-
 pub alike-by-tests : (g : EventGraph) (keep gone : ℕ) → gone < length g.vertices → are_alike g keep gone ≡ alike_by g keep gone
 alike-by-tests g keep gone less =
     let a = vertex_at g keep in
     let b = vertex_at g gone in
     all-pass ((nat_lt keep gone && nat_lt gone (length g.vertices)) ∷ (not (is_watched_vertex g keep) && not (is_watched_vertex g gone)) ∷ (not (can_be_cancelled g keep) && not (can_be_cancelled g gone)) ∷ (pointwise nat_eq a.parameters b.parameters && same_changes a.changes b.changes) ∷ same_edges_for keep gone a.edges b.edges ∷ [])
-    ∙ reordered (nat_lt keep gone) (nat_lt gone (length g.vertices)) (is_watched_vertex g keep) (is_watched_vertex g gone) (can_be_cancelled g keep) (can_be_cancelled g gone) (pointwise nat_eq a.parameters b.parameters && same_changes a.changes b.changes) (same_edges_for keep gone a.edges b.edges) (within gone (length g.vertices) less)
+    ∙ reordered (nat_lt keep gone) (nat_lt gone (length g.vertices)) (is_watched_vertex g keep) (is_watched_vertex g gone) (can_be_cancelled g keep) (can_be_cancelled g gone) (pointwise nat_eq a.parameters b.parameters && same_changes a.changes b.changes) (same_edges_for keep gone a.edges b.edges) (lt-ltb gone (length g.vertices) less)

@@ -1,6 +1,6 @@
 -- What holds of a model between two fusings, as the loop over the first twins makes them.
-use Rattle.std.proofs.Common.{◌≡◌, ℕ, ◌≤◌, nat_le, Bool, true, length, None, Some, ap, ◌∙◌, subst, arith}
-use Rattle.std.proofs.lemmas.Bool.Decides.{nat_tests}
+use Rattle.std.proofs.Common.{◌≡◌, ℕ, Bool, true, length, None, Some, ap, ◌∙◌, subst}
+use Rattle.std.proofs.lemmas.Bool.{le-leb}
 use Rattle.sig_base.specs.declared.limits.TheConstants.{TEXT_MAX}
 use Rattle.model_core.specs.EventGraph.{EventGraph}
 use Rattle.model_core.specs.Text.Canonical.{canonical}
@@ -15,11 +15,8 @@ pub record FusedSoFar (begun now : EventGraph) (short : Bool) : Type 0 where
 pub nothing-fused : (g : EventGraph) (short : Bool) → (short ≡ true → has_short_text g ≡ true) → FusedSoFar g g short
 nothing-fused g short told = record { leads = λ h fused. fused; within_limits = told }
 
-within : (a limit : ℕ) → a ≤ limit → nat_le a limit ≡ true
-within a limit e = grind (arith, nat_tests)
-
 pub fused-short : (g : EventGraph) (keep gone : ℕ) → first_twins g ≡ Some (keep, gone) → has_short_text (fused g keep gone) ≡ true
-fused-short g keep gone found = within (length (canonical (fused g keep gone))) TEXT_MAX (conditions_say g keep gone (first-are-twins g keep gone found)).short
+fused-short g keep gone found = le-leb (length (canonical (fused g keep gone))) TEXT_MAX (conditions_say g keep gone (first-are-twins g keep gone found)).short
 
 pub one-more-fused : (begun now next : EventGraph) (short : Bool) (keep gone : ℕ) → first_twins now ≡ Some (keep, gone) → next ≡ fused now keep gone → FusedSoFar begun now short → FusedSoFar begun next true
 one-more-fused begun now next short keep gone found is so_far = record {

@@ -3,6 +3,7 @@ use Rattle.std.proofs.Common.{◌≡◌, ◌⊎◌, inl, inr, ℕ, zero, suc, �
 use Rattle.std.specs.Prelude.{is_none, take, if◌then◌else◌}
 use Rattle.std.specs.Option.{option_map}
 use Rattle.std.proofs.lemmas.Bool.Decides.{nat_tests}
+use Rattle.std.proofs.lemmas.Bool.{ltb-true, cases_lt}
 use Rattle.mark_laws.proofs.EntailedMarks.{same-place}
 use Rattle.model_core.specs.EventGraph.{EventGraph}
 use Rattle.model_core.specs.Rules.Conditions.{first_failed}
@@ -45,15 +46,12 @@ one-more-known g keep gone none here y less = by (last-or-before y gone less) wh
   by (inl before) = none y before
   by (inr same) = ap (are_alike g keep) same ∙ here
 
-before-or-from : (from y : ℕ) → (y < from) ⊎ (from ≤ y)
-before-or-from from y = grind arith
-
 from-or-after : (place y : ℕ) → place ≤ y → (y ≡ place) ⊎ (place + 1 ≤ y)
 from-or-after place y at = grind arith
 
 -- those from a place on that are passed over, one more, and those behind it
 pub passed-on : (g : EventGraph) (keep from place to : ℕ) → ((y : ℕ) → from ≤ y → y < place → are_alike g keep y ≡ false) → are_alike g keep place ≡ false → ((y : ℕ) → place + 1 ≤ y → y < to → are_alike g keep y ≡ false) → (y : ℕ) → from ≤ y → y < to → are_alike g keep y ≡ false
-passed-on g keep from place to none here more y at less = by (before-or-from place y) where
+passed-on g keep from place to none here more y at less = by (cases_lt place y) where
   behind : (y ≡ place) ⊎ (place + 1 ≤ y) → are_alike g keep y ≡ false
   behind (inl same) = ap (are_alike g keep) same ∙ here
   behind (inr later) = more y later less
@@ -63,7 +61,7 @@ passed-on g keep from place to none here more y at less = by (before-or-from pla
   by (inr from_here) = behind (from-or-after place y from_here)
 
 pub known-until : (g : EventGraph) (keep from to : ℕ) → ((y : ℕ) → y < from → are_alike g keep y ≡ false) → ((y : ℕ) → from ≤ y → y < to → are_alike g keep y ≡ false) → (y : ℕ) → y < to → are_alike g keep y ≡ false
-known-until g keep from to none more y less = by (before-or-from from y) where
+known-until g keep from to none more y less = by (cases_lt from y) where
   by : (y < from) ⊎ (from ≤ y) → are_alike g keep y ≡ false
   by (inl before) = none y before
   by (inr at) = more y at less
@@ -75,7 +73,7 @@ beyond-all g keep y past = by (are_alike g keep y) refl where
   by true told = let less = (alike_told g keep y told).within in absurd (omega (arith, less, past))
 
 pub none-at-all : (g : EventGraph) (keep from : ℕ) → length g.vertices ≤ from → ((y : ℕ) → y < from → are_alike g keep y ≡ false) → NoneAlikeWith g keep None
-none-at-all g keep from past none y = by (before-or-from from y) where
+none-at-all g keep from past none y = by (cases_lt from y) where
   by : (y < from) ⊎ (from ≤ y) → are_alike g keep y ≡ false
   by (inl before) = none y before
   by (inr at) = beyond-all g keep y (omega (arith, past, at))
@@ -86,11 +84,8 @@ one-more-row g keep none here x y less = by (last-or-before x keep less) where
   by (inl before) = none x y before
   by (inr same) = ap (λ x. are_alike g x y) same ∙ here y
 
-told-less : (a b : ℕ) → nat_lt a b ≡ true → a < b
-told-less a b e = grind (arith, nat_tests)
-
 pub none-before-here : (g : EventGraph) (keep gone : ℕ) → ((x y : ℕ) → x < keep → are_alike g x y ≡ false) → NoneAlikeWith g keep (Some gone) → NoneAlikeBefore g (Some (keep, gone))
 none-before-here g keep gone none here x y told = by (either_true (nat_lt x keep) _ told) where
   by : (nat_lt x keep ≡ true) ⊎ (((x == keep) && nat_lt y gone) ≡ true) → are_alike g x y ≡ false
-  by (inl less) = none x y (told-less x keep less)
-  by (inr both) = ap (λ x. are_alike g x y) (same-place x keep (and_first (x == keep) _ both)) ∙ here y (told-less y gone (and_second (x == keep) _ both))
+  by (inl less) = none x y (ltb-true x keep less)
+  by (inr both) = ap (λ x. are_alike g x y) (same-place x keep (and_first (x == keep) _ both)) ∙ here y (ltb-true y gone (and_second (x == keep) _ both))

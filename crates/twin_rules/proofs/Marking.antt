@@ -2,6 +2,7 @@
 use Rattle.std.proofs.Common.{◌≡◌, ◌⊎◌, inl, inr, ℕ, zero, suc, ◌+◌, ◌<◌, ◌≤◌, nat_lt, Bool, true, false, ◌||◌, cond, List, [], ◌∷◌, length, refl, sym, ◌∙◌, ap, arith}
 use Rattle.std.proofs.Math.ListN.{set}
 use Rattle.std.proofs.lemmas.List.{length-set, get_or-set_same, get_or-set_other}
+use Rattle.std.proofs.lemmas.Bool.{cases_lt}
 use Rattle.twin_rules.specs.Inner.AskedPairs.{has_changed, place_before}
 
 pub or-false : (a : Bool) → a ≡ (a || false)
@@ -45,12 +46,9 @@ beyond [] k at = refl
 beyond (b ∷ marks) zero at = absurd (omega (arith, at))
 beyond (b ∷ marks) (suc k) at = beyond marks k (omega (arith, at))
 
-inside-or-beyond : (k n : ℕ) → (k < n) ⊎ (n ≤ k)
-inside-or-beyond k n = grind arith
-
 -- all are marked in the end
 pub all-marked : (more : ℕ → Bool) (gone : ℕ) (old now : List Bool) (place : ℕ) → length old ≤ place → MarkedSoFar more gone old now place → (k : ℕ) → has_changed now k ≡ (has_changed old (place_before gone k) || more (place_before gone k))
-all-marked more gone old now place past so_far k = by (inside-or-beyond k place) where
+all-marked more gone old now place past so_far k = by (cases_lt k place) where
   by : (k < place) ⊎ (place ≤ k) → has_changed now k ≡ (has_changed old (place_before gone k) || more (place_before gone k))
   by (inl less) = so_far.done k less
   by (inr at) =

@@ -11,19 +11,15 @@ use Rattle.model_core.specs.Text.Canonical.{variable_name, vertex_name, expressi
 use Rattle.model_core.specs.Rules.Drop.{edge_renumbered, vertex_renumbered}
 use Rattle.model_core.specs.Rules.Fuse.{standing_for, fused_place, fused, has_short_text}
 use Rattle.model_core.specs.Rules.Merge.{is_watched_vertex}
-use Rattle.model_core.proofs.NoLongerTexts.{NoLonger, no_longer-behind, no_longer-before, no_longer-same, no_longer-both}
+use Rattle.model_core.proofs.NoLongerTexts.{NoLonger, no_longer-behind, no_longer-before, no_longer-same, no_longer-both, no_longer-each}
 use Rattle.model_core.proofs.FusedText.{same_declarations, same_lines}
 use Rattle.round_trip.proofs.VersionsKept.{NeedsNoMore, needed-kept, declared-shorter}
 use Rattle.twin_rules.proofs.ValidFused.{some-remove}
 
-lines-shorter : {A : Type 0} (old new : A → List ℕ) → ((x : A) → NoLonger (new x) (old x)) → (xs : List A) → NoLonger (flat_map new xs) (flat_map old xs)
-lines-shorter old new shorter [] = record { at_most = omega arith }
-lines-shorter old new shorter (x ∷ xs) = no_longer-both (shorter x) (lines-shorter old new shorter xs)
-
 lines-fewer : {A : Type 0} (old new : A → List ℕ) → ((x : A) → NoLonger (new x) (old x)) → (xs : List A) (k : ℕ) → NoLonger (flat_map new (remove xs k)) (flat_map old xs)
 lines-fewer old new shorter [] zero = record { at_most = omega arith }
 lines-fewer old new shorter [] (suc k) = record { at_most = omega arith }
-lines-fewer old new shorter (x ∷ xs) zero = no_longer-both (let e : NoLonger [] (old x) = record { at_most = omega arith } in e) (lines-shorter old new shorter xs)
+lines-fewer old new shorter (x ∷ xs) zero = no_longer-both (let e : NoLonger [] (old x) = record { at_most = omega arith } in e) (no_longer-each old new shorter xs)
 lines-fewer old new shorter (x ∷ xs) (suc k) = no_longer-both (shorter x) (lines-fewer old new shorter xs k)
 
 module _ (g : EventGraph) (keep gone : ℕ) (first : keep < gone) (unwatched : is_watched_vertex g gone ≡ false) (names : length (vertex_name g keep) ≤ length (vertex_name g gone)) where

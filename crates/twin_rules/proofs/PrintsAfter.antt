@@ -10,7 +10,9 @@ use Rattle.model_core.specs.Rules.Drop.{vertex_renumbered}
 use Rattle.model_core.specs.Rules.Merge.{leads_to}
 use Rattle.model_core.specs.Rules.Fuse.{fused_place, fused}
 use Rattle.model_core.proofs.EachOne.{every-fails}
-use Rattle.model_core.proofs.FusedPlaces.{get-without, fused-get, standing-itself}
+use Rattle.model_core.proofs.PlacesChanged.{apart-turned}
+use Rattle.model_core.proofs.PlacesTakenOff.{get-without}
+use Rattle.model_core.proofs.FusedPlaces.{fused-get, standing-itself}
 use Rattle.twin_rules.specs.declared.print.Print.{Print}
 use Rattle.twin_rules.specs.Inner.AskedPairs.{has_changed, place_before, some_leads}
 use Rattle.twin_rules.specs.Inner.Fingerprints.{half, vertex_print, aims_print}
@@ -39,7 +41,7 @@ module _ (g : EventGraph) (keep gone : ℕ) (are : AreAlike g keep gone) (known 
   prints-after prints unchanged x p is =
       let apart = stays-apart gone x in
       let back = and-back gone x in
-      let was : slice_get known (place_before gone x) ≡ Some p = sym (get-without known gone (place_before gone x) apart) ∙ (ap (slice_get left) back ∙ is) in
+      let was : slice_get known (place_before gone x) ≡ Some p = sym (get-without known gone (place_before gone x) (apart-turned (place_before gone x) gone apart)) ∙ (ap (slice_get left) back ∙ is) in
       let held = prints (place_before gone x) p was in
       let there : vertex_at h x ≡ vertex_renumbered (fused_place keep gone) (vertex_at g (place_before gone x)) = ap (vertex_at h) (sym back) ∙ placed g keep gone are (place_before gone x) apart in
       record {

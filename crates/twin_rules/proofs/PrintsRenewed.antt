@@ -1,8 +1,9 @@
 -- The aims of one vertex after another are printed anew.
-use Rattle.std.proofs.Common.{◌≡◌, ◌⊎◌, inl, inr, ℕ, zero, suc, ◌+◌, ◌<◌, ◌≤◌, ◌==◌, Bool, true, false, List, [], ◌∷◌, length, slice_get, Option, Some, None, refl, sym, ◌∙◌, ap, subst, arith}
+use Rattle.std.proofs.Common.{◌≡◌, ◌⊎◌, inl, inr, ℕ, ◌+◌, ◌<◌, ◌≤◌, ◌==◌, Bool, true, false, List, length, slice_get, Option, Some, None, refl, sym, ◌∙◌, ap, subst, arith}
 use Rattle.std.specs.Option.{option_map_or}
 use Rattle.std.proofs.lemmas.Bool.{false≢true}
 use Rattle.std.proofs.lemmas.Bool.Decides.{nat_tests}
+use Rattle.std.proofs.lemmas.Option.{slice_get_within}
 use Rattle.sig_base.specs.declared.limits.TheConstants.{VERTICES_MAX}
 use Rattle.mark_laws.proofs.EntailedMarks.{same-place}
 use Rattle.model_core.specs.EventGraph.{EventGraph}
@@ -103,14 +104,9 @@ module _ (g : EventGraph) (old now : List Print) (changed : List Bool) (place : 
 
 -- ---- in the end
 
-within : (now : List Print) (x : ℕ) (p : Print) → slice_get now x ≡ Some p → x < length now
-within [] x p is = cc
-within (q ∷ now) zero p is = omega arith
-within (q ∷ now) (suc x) p is = let less = within now x p is in omega (arith, less)
-
 pub all-renewed : (g : EventGraph) (old now : List Print) (changed : List Bool) (place : ℕ) → length old ≤ place → RenewedSoFar g old now changed place → ArePrints g now
 all-renewed g old now changed place past so_far x p is =
-    let inside = within now x p is in
+    let inside = slice_get_within now x p is in
     let long = so_far.long in
     record {
       doing = (so_far.kept x p is).doing;

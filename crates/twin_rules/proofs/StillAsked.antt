@@ -1,8 +1,9 @@
 -- What was asked of pairs of vertices still holds when two vertices are fused, but for those that change.
 use Rattle.std.proofs.Common.{◌≡◌, ◌⊎◌, inl, inr, ℕ, ◌+◌, ◌-◌, ◌<◌, ◌≤◌, ◌==◌, nat_lt, nat_eq, Bool, true, false, not, ◌&&◌, ◌||◌, cond, [], ◌∷◌, map, take, length, Option, Some, None, refl, sym, ◌∙◌, ap, ap₂, subst, arith}
 use Rattle.std.proofs.lemmas.Bool.Decides.{nat_tests}
-use Rattle.std.proofs.lemmas.Bool.{false≢true}
+use Rattle.std.proofs.lemmas.Bool.{false≢true, lt-ltb}
 use Rattle.std.specs.Prelude.{is_none}
+use Rattle.std.proofs.Math.Bool.{and-false}
 use lib.Pointwise.{pointwise, bytes_decides}
 use Rattle.model_core.specs.EventGraph.{EventGraph}
 use Rattle.model_core.specs.Run.Step.{vertex_at}
@@ -22,14 +23,11 @@ use Rattle.twin_rules.proofs.StillApart.{NoneLeads, alike-before}
 
 -- ---- the conditions, told both ways
 
-less-told : (a b : ℕ) → a < b → nat_lt a b ≡ true
-less-told a b e = grind (arith, nat_tests)
-
 pub alike_tells : (g : EventGraph) (x y : ℕ) → AreAlike g x y → are_alike g x y ≡ true
 alike_tells g x y are =
     let a = vertex_at g x in
     let b = vertex_at g y in
-    let exist : (nat_lt x y && nat_lt y (length g.vertices)) ≡ true = ap₂ (λ p q. p && q) (less-told x y are.first) (less-told y (length g.vertices) are.within) in
+    let exist : (nat_lt x y && nat_lt y (length g.vertices)) ≡ true = ap₂ (λ p q. p && q) (lt-ltb x y are.first) (lt-ltb y (length g.vertices) are.within) in
     let unwatched : (not (is_watched_vertex g x) && not (is_watched_vertex g y)) ≡ true = ap₂ (λ p q. not p && not q) are.keep_unwatched are.gone_unwatched in
     let uncancelled : (not (can_be_cancelled g x) && not (can_be_cancelled g y)) ≡ true = ap₂ (λ p q. not p && not q) are.keep_uncancelled are.gone_uncancelled in
     let same : (pointwise nat_eq a.parameters b.parameters && same_changes a.changes b.changes) ≡ true = ap₂ (λ p q. p && q) ((bytes_decides a.parameters b.parameters).1 are.parameters) ((changes_decided a.changes b.changes).1 are.changes) in
@@ -115,10 +113,7 @@ nothing-asked g a keep gone x y asked =
     let before = and_first (is_before_pair a.keep a.gone x y) _ (and_first (is_before_pair a.keep a.gone x y && not (has_changed a.changed x)) _ asked) in
     absurd (false≢true (sym (out x y) ∙ (ap₂ (λ k j. is_before_pair k j x y) (sym keep) (sym gone) ∙ before))) where
       out : (x y : ℕ) → is_before_pair 0 0 x y ≡ false
-      out x y = ap₂ (λ p q. p || (x == 0) && q) (none-less x) (none-less y) ∙ no (x == 0) where
-        no : (b : Bool) → (b && false) ≡ false
-        no true = refl
-        no false = refl
+      out x y = ap₂ (λ p q. p || (x == 0) && q) (none-less x) (none-less y) ∙ and-false (x == 0)
 
 -- all pairs before this one were
 pub asked-before : (g : EventGraph) (a : Asked) (keep gone : ℕ) → a.keep ≡ keep → a.gone ≡ gone → NoneAlikeBefore g (Some (keep, gone)) → NoneAlike g a

@@ -2,12 +2,12 @@
 use Rattle.std.proofs.Common.{◌≡◌, ℕ, ◌+◌, ◌-◌, ◌≤◌, ◌==◌, Bool, true, false, cond, ◌||◌, List, [], ◌∷◌, ◌++◌, length, map, refl, sym, ap, ap₂, arith, ◌∙◌, append-nil, append_assoc, length-append}
 use Rattle.std.specs.Prelude.{slice_get}
 use Rattle.std.specs.Option.{option_map_or}
-use Rattle.std.specs.List.{range_with_len, list_any}
+use Rattle.std.specs.List.{range_with_len}
 use Rattle.sig_base.proofs.Lists.{get-behind}
-use Rattle.model_core.specs.EventGraph.{EventGraph, EventVertex, Watched, WatchedVariable, WatchedVertex}
+use Rattle.model_core.specs.EventGraph.{EventGraph, EventVertex, Watched, watched_variables}
 use Rattle.model_core.specs.Rules.MarkedPlaces.{is_among}
-use Rattle.model_core.specs.Rules.Uses.{VariableUses, vertex_reads, vertex_writes, places_where, names_variable, use_table}
-use Rattle.model_core.specs.Rules.Needed.{watched_variables}
+use Rattle.model_core.specs.Rules.Uses.{VariableUses, vertex_reads, vertex_writes, places_where}
+use Rattle.use_analysis.specs.UseRows.{use_table}
 use Rattle.model_core.proofs.PlacesChanged.{same_number, different, same_on_range, place-mapped}
 use Rattle.use_analysis.specs.declared.table.Use.{Use}
 use Rattle.use_analysis.specs.declared.table.Use.TheVariants as kinds
@@ -105,19 +105,14 @@ noted_vertices-mapped (v ∷ vs) k R W M n before_r before_w =
 
 -- ---- the table
 
-watched-among : (watch : List Watched) (v : ℕ) → is_among (watched_variables watch) v ≡ list_any (names_variable v) watch
-watched-among [] v = refl
-watched-among (WatchedVariable w ∷ watch) v = ap (λ b. (w == v) || b) (watched-among watch v)
-watched-among (WatchedVertex w ∷ watch) v = watched-among watch v
-
 pub noted-table : (g : EventGraph) → all_noted g ≡ use_table g
 noted-table g =
     let n = length g.variables in
     let none : ℕ → List ℕ = λ j. [] in
-    let M : ℕ → Bool = λ j. list_any (names_variable j) g.watch in
+    let M : ℕ → Bool = is_among (watched_variables g.watch) in
     ap (noted_vertices 0 g.vertices)
     (noted_all-mapped kinds.Watched (watched_variables g.watch) (λ j. no_uses) n
-    ∙ same_on_range (λ j. cond (is_among (watched_variables g.watch) j) (noted kinds.Watched no_uses) no_uses) (row none none M) 0 n (λ j from. flag (is_among (watched_variables g.watch) j) ∙ ap (λ b. row none none (λ j. b) j) (watched-among g.watch j)))
+    ∙ same_on_range (λ j. cond (is_among (watched_variables g.watch) j) (noted kinds.Watched no_uses) no_uses) (row none none M) 0 n (λ j from. flag (is_among (watched_variables g.watch) j)))
     ∙ noted_vertices-mapped g.vertices 0 none none M n (λ j i later. refl) (λ j i later. refl) where
       flag : (b : Bool) → cond b (noted kinds.Watched no_uses) no_uses ≡ record { readers = []; writers = []; watched = b }
       flag true = refl

@@ -1,9 +1,10 @@
 //! The variables that stand in parts of a model, added to a list in the order in which they stand there.
 
-ghost use Rattle.std.specs.Prelude.{◌≡◌, ◌++◌, map, OnOk};
+ghost use Rattle.std.specs.Prelude.{◌≡◌, [], ◌++◌, map, OnOk};
 ghost use Rattle.std.specs.List.{flat_map};
-ghost use Rattle.model_core.specs.EventGraph.{Location};
-ghost use Rattle.model_core.specs.Rules.Uses.{variables_in, location_reads, change_reads, change_writes, delay_reads, timing_reads, edge_reads, vertex_reads, vertex_writes};
+ghost use Rattle.std.specs.Option.{option_map_or};
+ghost use Rattle.model_core.specs.EventGraph.{Location, delay_given};
+ghost use Rattle.model_core.specs.Rules.Uses.{variables_in, location_reads, change_reads, change_writes, delay_reads, edge_reads, vertex_reads, vertex_writes};
 ghost use Rattle.model_core.specs.Rules.Needed.{deciding_reads};
 ghost use Rattle.model_core.specs.Code.Views.{expression_of, location_of, change_of, edge_delay_of, edge_kind_of, edge_of, vertex_of};
 
@@ -107,7 +108,7 @@ fn add_delay_reads(out: &mut Vec<usize>, delay: &Delay) -> Result<(), NoMemory>
 
 /// Adds what the delay of an edge of this form reads.
 fn add_timing_reads(out: &mut Vec<usize>, form: &EdgeForm) -> Result<(), NoMemory>
-    ensures { OnOk result (out.new.items ≡ out.old.items ++ timing_reads (edge_kind_of form.now)) }
+    ensures { OnOk result (out.new.items ≡ out.old.items ++ option_map_or delay_reads (delay_given (edge_kind_of form.now)) []) }
 {
     match form {
         EdgeForm::Schedule { delay, priority: _ } => add_delay_reads(out, delay),

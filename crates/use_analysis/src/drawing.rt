@@ -1,11 +1,13 @@
 //! Whether a random stream from which a change, an edge or a vertex draws passes a test. Nothing here takes memory.
 #![tactic(auto, using(model_core::proofs::AmongUses::among_parts))]
 
-ghost use Rattle.std.specs.Prelude.{◌≡◌, map};
+ghost use Rattle.std.specs.Prelude.{◌≡◌, [], map};
 ghost use Rattle.std.specs.List.{list_any, flat_map};
+ghost use Rattle.std.specs.Option.{option_map_or};
 ghost use Rattle.model_core.specs.Rules.MarkedPlaces.{is_among};
-ghost use Rattle.model_core.specs.Rules.Uses.{change_streams, delay_streams, timing_streams, edge_streams, vertex_streams};
+ghost use Rattle.model_core.specs.Rules.Uses.{change_streams, delay_streams, edge_streams, vertex_streams};
 ghost use Rattle.model_core.specs.Code.Views.{change_of, edge_delay_of, edge_kind_of, edge_of, vertex_of};
+ghost use Rattle.model_core.specs.EventGraph.{delay_given};
 
 use crate::number_test::{Is, NumberTest};
 use model_core::{Change, Delay, Edge, EdgeForm, Vertex};
@@ -36,7 +38,7 @@ fn delay_passes<T: NumberTest>(test: &T, delay: &Delay) -> bool
 }
 
 fn timing_passes<T: NumberTest>(test: &T, form: &EdgeForm) -> bool
-    ensures { result ≡ list_any (T.test test.now) (timing_streams (edge_kind_of form.now)) }
+    ensures { result ≡ list_any (T.test test.now) (option_map_or delay_streams (delay_given (edge_kind_of form.now)) []) }
 {
     match form {
         EdgeForm::Schedule { delay, priority: _ } => delay_passes(test, delay),

@@ -2,11 +2,12 @@
 //! stamp beside each number tells whether this part moved it already, so no memory is taken and each node is visited once.
 #![tactic(auto, using(crate::proofs::MovedNumbers::moved_together))]
 
-ghost use Rattle.std.specs.Prelude.{◌≡◌, map};
+ghost use Rattle.std.specs.Prelude.{◌≡◌, [], map};
 ghost use Rattle.std.specs.List.{flat_map};
-ghost use Rattle.model_core.specs.EventGraph.{Location};
+ghost use Rattle.std.specs.Option.{option_map_or};
+ghost use Rattle.model_core.specs.EventGraph.{Location, delay_given};
 ghost use Rattle.model_core.specs.Rules.PlacedEdges.{with_place};
-ghost use Rattle.model_core.specs.Rules.Uses.{variables_in, location_reads, change_reads, change_writes, delay_reads, timing_reads, edge_reads};
+ghost use Rattle.model_core.specs.Rules.Uses.{variables_in, location_reads, change_reads, change_writes, delay_reads, edge_reads};
 ghost use Rattle.model_core.specs.Code.Views.{expression_of, location_of, change_of, edge_delay_of, edge_kind_of, edge_of};
 ghost use Rattle.use_analysis.specs.Inner.Moving.{shifted, moved_number, moved_at};
 
@@ -167,7 +168,7 @@ fn move_in_delay(numbers: &mut [Stamped], part: Part, delay: &Delay)
 
 /// Moves the numbers of what the delay of an edge of this form reads.
 fn move_in_timing(numbers: &mut [Stamped], part: Part, form: &EdgeForm)
-    ensures { numbers.new ≡ moved_at part (timing_reads (edge_kind_of form.now)) numbers.old }
+    ensures { numbers.new ≡ moved_at part (option_map_or delay_reads (delay_given (edge_kind_of form.now)) []) numbers.old }
 {
     match form {
         EdgeForm::Schedule { delay, priority: _ } => move_in_delay(numbers, part, delay),

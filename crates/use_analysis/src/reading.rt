@@ -1,10 +1,12 @@
 //! Whether a variable is read by an edge, a change or a vertex. Nothing here takes memory.
 #![tactic(auto, using(model_core::proofs::AmongUses::among_parts))]
 
-ghost use Rattle.std.specs.Prelude.{◌≡◌, map, Some};
+ghost use Rattle.std.specs.Prelude.{◌≡◌, [], map, Some};
 ghost use Rattle.std.specs.List.{flat_map};
+ghost use Rattle.std.specs.Option.{option_map_or};
+ghost use Rattle.model_core.specs.EventGraph.{delay_given};
 ghost use Rattle.model_core.specs.Rules.MarkedPlaces.{is_among};
-ghost use Rattle.model_core.specs.Rules.Uses.{variables_in, location_reads, change_reads, delay_reads, timing_reads, edge_reads, vertex_reads};
+ghost use Rattle.model_core.specs.Rules.Uses.{variables_in, location_reads, change_reads, delay_reads, edge_reads, vertex_reads};
 ghost use Rattle.model_core.specs.Code.Views.{expression_of, location_of, change_of, edge_delay_of, edge_kind_of, edge_of, vertex_of};
 
 use model_core::{Change, Delay, Edge, EdgeForm, Expr, Target, Vertex};
@@ -87,7 +89,7 @@ fn reads_of_delay(delay: &Delay, var: usize) -> bool
 
 /// Whether the delay of an edge of this form reads a variable.
 fn reads_of_timing(form: &EdgeForm, var: usize) -> bool
-    ensures { result ≡ is_among (timing_reads (edge_kind_of form.now)) var }
+    ensures { result ≡ is_among (option_map_or delay_reads (delay_given (edge_kind_of form.now)) []) var }
 {
     match form {
         EdgeForm::Schedule { delay, priority: _ } => reads_of_delay(delay, var),

@@ -2,10 +2,9 @@
 
 ghost use Rattle.std.specs.Prelude.{◌≡◌, map, OnOk, IfOk};
 ghost use Rattle.model_core.specs.Rules.PlacedEdges.{with_place};
-ghost use Rattle.model_core.specs.Rules.Uses.{use_table};
-ghost use Rattle.model_core.specs.Rules.Needed.{watched_variables};
+ghost use Rattle.model_core.specs.EventGraph.{watched_variables};
 ghost use Rattle.model_core.specs.Code.Views.{graph_of, vertex_of, watched_of};
-ghost use Rattle.use_analysis.specs.UseRows.{uses_row};
+ghost use Rattle.use_analysis.specs.UseRows.{uses_row, use_table};
 ghost use Rattle.use_analysis.specs.Inner.Noting.{ends_with, once, noted, noted_all, noted_vertex, noted_vertices, no_uses, rows_unused};
 
 use crate::collecting::{add_vertex_reads, add_vertex_writes};

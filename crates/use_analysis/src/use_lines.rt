@@ -3,9 +3,8 @@
 ghost use Rattle.std.specs.Prelude.{◌≡◌, ◌++◌, ℕ, map, codes, OnOk};
 ghost use Rattle.std.specs.List.{flat_map};
 ghost use Rattle.model_core.specs.Text.Canonical.{vertex_name};
-ghost use Rattle.model_core.specs.Rules.Uses.{use_table};
 ghost use Rattle.model_core.specs.Code.Views.{graph_of};
-ghost use Rattle.use_analysis.specs.UseRows.{uses_row};
+ghost use Rattle.use_analysis.specs.UseRows.{uses_row, use_table};
 ghost use Rattle.use_analysis.specs.UsesText.{users_text, yes_or_no, uses_line, uses_text};
 
 use crate::table::{UseRow, use_table};

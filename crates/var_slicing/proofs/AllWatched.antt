@@ -1,10 +1,11 @@
 -- Where every variable is watched, every variable is needed.
 use Rattle.std.proofs.Common.{◌≡◌, ℕ, List, [], length, ap, arith, ◌∙◌}
 use Rattle.std.specs.List.{flat_map}
-use Rattle.model_core.specs.EventGraph.{EventGraph}
+use Rattle.model_core.specs.EventGraph.{EventGraph, watched_variables}
 use Rattle.model_core.specs.Run.Step.{vertex_at}
-use Rattle.model_core.specs.Rules.Entailed.{Entailed, from_first, over_pair, entailed_marks}
-use Rattle.model_core.specs.Rules.Needed.{all_changes, all_edges, watched_variables, faulting_writes, needed_by_edge, needed_by_delays, needed_at_once, needed_beside, needed_marks, unneeded}
+use Rattle.model_core.specs.Rules.Entailed.{entailed_marks}
+use Rattle.model_core.specs.Rules.LeastRelations.{Entailed, from_first, over_pair}
+use Rattle.model_core.specs.Rules.Needed.{all_changes, all_edges, faulting_writes, needed_by_edge, needed_by_delays, needed_at_once, needed_beside, needed_marks, unneeded}
 use Rattle.model_core.proofs.Among.{Among, among-contained, contained-among, among-front}
 use Rattle.mark_laws.specs.PlacePairs.{pairs_from}
 use Rattle.mark_laws.proofs.EntailedMarks.{entailed-marked, entailed_marks-long, entailed_marks-entailed, entailed_marks-hold, marks-implied}

@@ -10,7 +10,7 @@ use Rattle.model_core.specs.Run.Changes.{Changed, kept, store, set_all, taken_fr
 use Rattle.model_core.specs.Rules.MarkedPlaces.{rank, marked_of, is_marked}
 use Rattle.model_core.specs.Rules.Uses.{index_reads}
 use Rattle.model_core.specs.Rules.Slice.{expression_renumbered, location_renumbered, kept_beside, values_left, targets_left, set_or_nothing, change_left, of_marked_variables}
-use Rattle.model_core.proofs.Results.{bind_ok, in_turn-append}
+use Rattle.model_core.proofs.Results.{bind_ok, in_turn-append, bind_unit}
 use Rattle.model_core.proofs.Alongside.{Alongside, both_go, both_fail, alongside-known, bind-alongside, bind-alongside-same, bind-alongside-left}
 use Rattle.run_laws.proofs.PlaceVariables.{place-variable}
 use Rattle.mark_laws.proofs.Marks.{Marked}
@@ -19,11 +19,6 @@ use Rattle.var_slicing.proofs.ValuesLeft.{places_left, zip-left, CanBeStored, st
 use Rattle.var_slicing.proofs.MaskedWords.{words_left, words_left-from, words_left-set, words_left-skip}
 
 -- ---- lists of steps
-
--- a list of one step
-one-step : {S : Type 0} (r : OrFault S) → (r >>= λ s. Ok s) ≡ r
-one-step (Ok s) = refl
-one-step (Err k) = refl
 
 -- an index, if there is one, reads marked variables alone
 abbrev pub IndexReadsMarked : List Bool → Option Expression → Type 0
@@ -109,8 +104,8 @@ module _ (g : EventGraph) (marks live : List Bool) (seed clk : ℕ) where
 
   lone_set : (ls : List Location) (es : List Expression) (e : Changed) → in_turn (make_change result seed clk) (set_or_nothing ls es) e ≡ (set_all result clk ls es e.state >>= λ s. Ok (record e { state = s }))
   lone_set [] [] e = refl
-  lone_set [] (x ∷ es) e = one-step (set_all result clk [] (x ∷ es) e.state >>= λ s. Ok (record e { state = s }))
-  lone_set (l ∷ ls) es e = one-step (set_all result clk (l ∷ ls) es e.state >>= λ s. Ok (record e { state = s }))
+  lone_set [] (x ∷ es) e = bind_unit (set_all result clk [] (x ∷ es) e.state >>= λ s. Ok (record e { state = s }))
+  lone_set (l ∷ ls) es e = bind_unit (set_all result clk (l ∷ ls) es e.state >>= λ s. Ok (record e { state = s }))
 
   same_word : (choice : Choice) (stream : ℕ) (d e : Changed) → words_left live d.taken ≡ e.taken → Marked live stream → picked result choice (word seed stream (taken_from e.taken stream)) ≡ picked g choice (word seed stream (taken_from d.taken stream))
   same_word choice stream d e taken lives = ap (λ (ts : List ℕ). picked result choice (word seed stream (taken_from ts stream))) (sym taken) ∙ same_drawn g marks live seed choice stream d.taken lives
@@ -147,7 +142,7 @@ module _ (g : EventGraph) (marks live : List Bool) (seed clk : ℕ) where
     one : (b : Bool) → is_marked marks target.variable ≡ b → Alongside (DrawnLeft marks live) (make_change g seed clk (Draw target stream choice) d) (in_turn (make_change result seed clk) (cond b (Draw (location_renumbered (rank marks) target) stream choice ∷ []) []) e)
     one true marked =
         let (reads, lives) = stays marked in
-        subst (λ (r : OrFault Changed). Alongside (DrawnLeft marks live) (make_change g seed clk (Draw target stream choice) d) r) (sym (one-step (make_change result seed clk (Draw (location_renumbered (rank marks) target) stream choice) e)))
+        subst (λ (r : OrFault Changed). Alongside (DrawnLeft marks live) (make_change g seed clk (Draw target stream choice) d) r) (sym (bind_unit (make_change result seed clk (Draw (location_renumbered (rank marks) target) stream choice) e)))
         (draw-kept target stream choice d e drawn marked reads lives)
     one false unmarked =
         let (dead, (e2, done)) = goes unmarked in draw-skipped target stream choice d e e2 drawn unmarked dead done

@@ -4,9 +4,9 @@ use Rattle.std.specs.Prelude.{filter, is_none}
 use Rattle.std.specs.Option.{option_map_or}
 use Rattle.std.specs.List.{flat_map}
 use Rattle.std.proofs.lemmas.Bool.Decides.{nat_tests}
-use Rattle.model_core.specs.Rules.Entailed.{Entailed, over_pair}
+use Rattle.model_core.specs.Rules.LeastRelations.{Entailed, over_pair}
 use Rattle.model_core.specs.Rules.Needed.{needed_by_streams}
-use Rattle.model_core.proofs.Among.{Among, contained-among, among-map, among-of_map, among-front, among-back, among-flat_map, among-either}
+use Rattle.model_core.proofs.Among.{Among, contained-among, among-map, among-of_map, among-front, among-back, among-flat_map, among-either, among-filter}
 use Rattle.model_core.proofs.PlacesChanged.{same_number}
 use Rattle.mark_laws.proofs.EntailedMarks.{same-place, entailed-below, Implied}
 use Rattle.var_slicing.specs.Inner.Leading.{leader, next_leaders, leaders_after, leaders_of, led_pairs}
@@ -27,15 +27,6 @@ among-filtered {A} test (y ∷ xs) x among = tested (test y) refl among (among-f
   tested true is (inl e) rest = (inl e, subst (λ z. test z ≡ true) e is)
   tested true is (inr later) rest = let (among, passes) = rest later in (inr among, passes)
   tested false is later rest = let (among, passes) = rest later in (inr among, passes)
-
-pub filtered-among : {A : Type 0} (test : A → Bool) (xs : List A) (x : A) → Among x xs → test x ≡ true → Among x (filter test xs)
-filtered-among test [] x among passes = absurd among
-filtered-among {A} test (y ∷ xs) x among passes = tested (test y) refl among (λ there. filtered-among test xs x there passes) where
-  tested : (b : Bool) → test y ≡ b → Among x (y ∷ xs) → (Among x xs → Among x (filter test xs)) → Among x (cond b (y ∷ filter test xs) (filter test xs))
-  tested true is (inl e) rest = inl e
-  tested true is (inr later) rest = inr (rest later)
-  tested false is (inl e) rest = absurd (let no : false ≡ true = sym is ∙ ap test e ∙ passes in cc)
-  tested false is (inr later) rest = rest later
 
 -- ---- leaders
 
@@ -186,7 +177,7 @@ module _ (count : ℕ) where
   one_stream-streams draws j k (s, here, there) =
       among-flat_map (λ ((s, v) : ℕ × ℕ). map (λ ((r, w) : ℕ × ℕ). let q : ℕ × ℕ = (v, w) in q) (filter (λ ((r, w) : ℕ × ℕ). r == s) draws)) draws (s, j) (j, k) here
       (among-map (λ ((r, w) : ℕ × ℕ). let q : ℕ × ℕ = (j, w) in q) (filter (λ ((r, w) : ℕ × ℕ). r == s) draws) (s, k)
-      (filtered-among (λ ((r, w) : ℕ × ℕ). r == s) draws (s, k) there (same_number s s refl)))
+      (among-filter (λ ((r, w) : ℕ × ℕ). r == s) draws (s, k) there (same_number s s refl)))
 
   pub streams-led : (first : List ℕ) (pairs draws : List (ℕ × ℕ)) → Implied count first (pairs ++ needed_by_streams draws) (pairs ++ through_leaders draws)
   streams-led first pairs draws = record { over = λ j k among below before. by j k below before (among-either pairs (needed_by_streams draws) (j, k) among) } where

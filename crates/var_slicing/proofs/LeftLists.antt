@@ -3,6 +3,7 @@ use Rattle.std.proofs.Common.{◌≡◌, ℕ, zero, suc, Bool, true, false, cond
 use Rattle.model_core.specs.EventGraph.{Expression}
 use Rattle.model_core.specs.Rules.MarkedPlaces.{rank, is_marked, marked_of}
 use Rattle.model_core.specs.Rules.Slice.{expression_renumbered, kept_beside, values_left, parameters_left}
+use Rattle.mark_laws.proofs.Marks.{marked_of-drop}
 use Rattle.var_slicing.specs.Inner.Beside.{keeps_beside}
 
 -- ---- any list, of which an element is put behind those before it where it stays
@@ -39,15 +40,8 @@ parameters-more marks params i v is = ap (parameters_left marks) is ∙ tested (
 
 -- ---- marked elements
 
-marked-at : {A : Type 0} (marks : List Bool) (i : ℕ) (x : A) (rest : List A) → marked_of (drop i marks) (x ∷ rest) ≡ cond (is_marked marks i) (x ∷ []) [] ++ marked_of (drop (suc i) marks) rest
-marked-at [] zero x rest = refl
-marked-at [] (suc i) x rest = refl
-marked-at (true ∷ bs) zero x rest = refl
-marked-at (false ∷ bs) zero x rest = refl
-marked-at (b ∷ bs) (suc i) x rest = marked-at bs i x rest
-
 pub marked-more : {A : Type 0} (marks : List Bool) (xs : List A) (i : ℕ) (x : A) → drop i xs ≡ x ∷ drop (suc i) xs → marked_of (drop i marks) (drop i xs) ≡ cond (is_marked marks i) (x ∷ []) [] ++ marked_of (drop (suc i) marks) (drop (suc i) xs)
-marked-more marks xs i x is = ap (marked_of (drop i marks)) is ∙ marked-at marks i x (drop (suc i) xs)
+marked-more marks xs i x is = ap (marked_of (drop i marks)) is ∙ marked_of-drop marks i x (drop (suc i) xs)
 
 pub marked-none : {A : Type 0} (marks : List Bool) → marked_of {A = A} marks [] ≡ []
 marked-none [] = refl

@@ -25,6 +25,7 @@ use Rattle.model_core.proofs.SomeOfAList.{some-kept_beside, some-few, some-texts
 use Rattle.var_slicing.proofs.RenumberedTexts.{openings-renumbered, delay_openings-renumbered, condition_text-renumbered}
 use Rattle.var_slicing.proofs.KeptBeside.{variables_of, targets-kept, TargetMarked, TargetsRead, ValuesRead, targets-marked, parameters-kept, parameters-marked, zip-kept, zip-mapped, set-reads, carried-reads}
 use Rattle.model_core.proofs.NoLongerTexts.{NoLonger, no_longer-behind, no_longer-before, no_longer-both, no_longer-same}
+use Rattle.model_core.proofs.NotEmpty.{has_one-map}
 use Rattle.var_slicing.proofs.PartsLeft.{all-declared, variable-of_left, kind-of_left, spellable-left, delay-keeps, delay-spellable, delay_text-left, source-keeps, source-spellable, source_text-left, takes-left, location_text-left, location-spellable, location_openings-left, target-texts, targets-spellable, target-openings, value-texts, values-spellable, value-openings, values_openings-left, values-given}
 
 -- a `set` is left, or none where nothing of it stays
@@ -253,15 +254,11 @@ module _ (g : EventGraph) (marks live : List Bool) where
 
   -- ---- edges in a text
 
-  has_one-mapped : {A B : Type 0} (f : A → B) (xs : List A) → HasOne xs → HasOne (map f xs)
-  has_one-mapped f [] one = absurd one
-  has_one-mapped f (x ∷ xs) one = tt
-
   kind-written : (e : EventEdge) (kind : EdgeKind) → CarriesAsWritten kind e.values → KindNeeds g marks e kind → CarriesAsWritten (kind_left marks kind) (values_left marks (takes_of e) e.values)
   kind-written e (Schedule delay priority) written needs = tt
   kind-written e Urgent written needs = tt
   kind-written e CancelNext written needs = nothing-left (takes_of e) e.values written
-  kind-written e CancelEqual written needs = subst HasOne (ap (map ren) (sym (all-kept_beside marks (takes_of e) e.values needs.0))) (has_one-mapped ren e.values written)
+  kind-written e CancelEqual written needs = subst HasOne (ap (map ren) (sym (all-kept_beside marks (takes_of e) e.values needs.0))) (has_one-map ren e.values written)
   kind-written e CancelAll written needs = nothing-left (takes_of e) e.values written
 
   kind-spellable : (e : EventEdge) (kind : EdgeKind) → SpellableKind (extent g) kind → KindNeeds g marks e kind → SpellableKind (extent h) (kind_left marks kind)

@@ -2,7 +2,7 @@
 use Rattle.std.proofs.Common.{◌≡◌, ◌⊎◌, inl, inr, ℕ, ◌<◌, ◌==◌, Bool, true, false, cond, List, [], ◌∷◌, ◌++◌, length, map, slice_index_or, refl, sym, ap, subst, arith, ◌∙◌, append-nil, append_assoc}
 use Rattle.std.specs.List.{range_with_len}
 use Rattle.std.proofs.lemmas.List.FromFn.{get_or-map-range_with_len, length-map-range_with_len}
-use Rattle.model_core.specs.Rules.Entailed.{over_pair}
+use Rattle.model_core.specs.Rules.LeastRelations.{over_pair}
 use Rattle.model_core.proofs.Among.{Among, contained-among, among-front, among-back, among-either}
 use Rattle.model_core.proofs.PlacesChanged.{same_number, same_on_range, place-mapped}
 use Rattle.mark_laws.proofs.EntailedMarks.{same-place, entailed-below, Implied}

@@ -2,15 +2,17 @@
 use Rattle.std.proofs.Common.{◌≡◌, inl, inr, ℕ, ◌<◌, ◌≤◌, ◌==◌, Bool, true, false, ◌&&◌, cond, List, [], ◌∷◌, ◌++◌, length, map, zip, Option, Some, None, refl, sym, ap, subst, arith}
 use Rattle.std.specs.Prelude.{◌||◌, filter, IfSome}
 use Rattle.std.specs.List.{AllByRecursion, flat_map, list_any, range_with_len}
-use Rattle.model_core.specs.EventGraph.{EventGraph, Expression, Number, Truth, Clock, Scalar, Cell, Negative, Not, Binary, If, Location, Choice, StateChange, Set, Draw, Delay, Fixed, Drawn, EdgeKind, Schedule, Urgent, CancelNext, CancelEqual, CancelAll, EventEdge, EventVertex, Variable, Watched, WatchedVariable, WatchedVertex, scalar_location}
+use Rattle.std.specs.Option.{option_map_or}
+use Rattle.std.proofs.lemmas.Bool.{and_from, false_from_ne_true}
+use Rattle.model_core.specs.EventGraph.{EventGraph, Expression, Number, Truth, Clock, Scalar, Cell, Negative, Not, Binary, If, Location, Choice, StateChange, Set, Draw, Delay, Fixed, Drawn, EdgeKind, Schedule, Urgent, CancelNext, CancelEqual, CancelAll, EventEdge, EventVertex, Variable, Watched, WatchedVariable, WatchedVertex, scalar_location, is_scheduling, watched_variables, delay_given}
 use Rattle.model_core.specs.Run.Step.{no_vertex, vertex_at}
 use Rattle.model_core.specs.Text.Spellable.{Extent, extent, SpellableExpression, SpellableLocation, SpellableChange, SpellableDelay, SpellableKind, SpellableEdge, SpellableVertex, SpellableWatched, IsSpellable}
 use Rattle.model_core.specs.Static.OwnRules.{KeepsChange, KeepsTiming, KeepsEdge, KeepsVertex, parameters_of, KeepsParts}
 use Rattle.model_core.specs.Rules.BoundsOfParts.{quiet_set, quiet_change}
 use Rattle.model_core.specs.Rules.MarkedPlaces.{is_marked, is_among}
-use Rattle.model_core.specs.Rules.Uses.{variables_in, index_reads, location_reads, delay_reads, timing_reads, timing_streams, edge_streams}
-use Rattle.model_core.specs.Rules.Needed.{all_changes, all_edges, carried_pairs, is_scheduling, compares_values, watched_variables, compared_parameters, deciding_reads, faulting_target, faulting_writes, faulting_parameters, needed_by_edge, all_draws, drawn_from, needed_by_delays, needed_at_once, each_beside, needed_by_targets, needed_by_parameters, streams_drawn, needed_by_streams, needed_beside}
-use Rattle.model_core.proofs.Among.{Among, among-map, among-front, among-back, among-flat_map, of-among, each-among, either_true, first_true, second_true, any-among, among-any}
+use Rattle.model_core.specs.Rules.Uses.{variables_in, index_reads, location_reads, delay_reads, edge_streams, delay_streams}
+use Rattle.model_core.specs.Rules.Needed.{all_changes, all_edges, carried_pairs, compares_values, compared_parameters, deciding_reads, faulting_target, faulting_writes, faulting_parameters, needed_by_edge, all_draws, drawn_from, needed_by_delays, needed_at_once, each_beside, needed_by_targets, needed_by_parameters, streams_drawn, needed_by_streams, needed_beside}
+use Rattle.model_core.proofs.Among.{Among, among-map, among-front, among-back, among-flat_map, of-among, each-among, either_true, first_true, second_true, any-among, among-any, among-filter}
 use Rattle.mark_laws.proofs.Marks.{Marked}
 use Rattle.mark_laws.proofs.MarksBelow.{tested-marked, marked-tested}
 use Rattle.model_core.proofs.PlacesChanged.{same_number}
@@ -18,7 +20,7 @@ use Rattle.model_core.proofs.BothTrue.{and_first, and_second}
 use Rattle.mark_laws.proofs.EntailedMarks.{HoldEntailed, same-place, place-among}
 use Rattle.model_core.proofs.EachOne.{every-joined}
 use Rattle.var_slicing.proofs.HeldByAll.{held-at}
-use Rattle.var_slicing.proofs.LeadingLaws.{filtered-among, among-of_flat_map, one_stream-streams}
+use Rattle.var_slicing.proofs.LeadingLaws.{among-of_flat_map, one_stream-streams}
 use Rattle.var_slicing.proofs.ValuesLeft.{ReadsMarked, both_marks}
 use Rattle.var_slicing.proofs.ChangesLeft.{IndexReadsMarked}
 use Rattle.var_slicing.proofs.EdgesLeft.{DelayReadsMarked}
@@ -92,14 +94,6 @@ the_variable true u v h = absurd h
 the_variable false u v (inl e) = e
 the_variable false u v (inr h) = absurd h
 
-false_unless : (b : Bool) → (b ≡ true → ⊥) → b ≡ false
-false_unless true never = absurd (never refl)
-false_unless false never = refl
-
-both_are : (a b : Bool) → a ≡ true → b ≡ true → (a && b) ≡ true
-both_are true b here there = there
-both_are false b here there = cc
-
 among-first : {A B : Type 0} (xs : List A) (ys : List B) (x : A) (y : B) → Among (x, y) (zip xs ys) → Among x xs
 among-first [] ys x y h = absurd h
 among-first (z ∷ xs) [] x y h = absurd h
@@ -133,7 +127,7 @@ delay-below : (x : Extent) (delay : Delay) → SpellableDelay x delay → AllBel
 delay-below x (Fixed e) s = variables-below x.variables e s
 delay-below x (Drawn stream choice) s = tt
 
-streams-few : (variables : List Variable) (tables : ℕ) (takes : List (List ℕ)) (kind : EdgeKind) → KeepsTiming variables tables takes kind → AllByRecursion (λ s. s ≤ 63) (timing_streams kind)
+streams-few : (variables : List Variable) (tables : ℕ) (takes : List (List ℕ)) (kind : EdgeKind) → KeepsTiming variables tables takes kind → AllByRecursion (λ s. s ≤ 63) (option_map_or delay_streams (delay_given kind) [])
 streams-few variables tables takes (Schedule (Fixed e) priority) k = tt
 streams-few variables tables takes (Schedule (Drawn stream choice) priority) k = (k.0.0, tt)
 streams-few variables tables takes Urgent k = tt
@@ -144,7 +138,7 @@ streams-few variables tables takes CancelAll k = tt
 -- a variable that is drawn from one of these streams is among those that are
 among-drawn_from : (streams : List ℕ) (draws : List (ℕ × ℕ)) (s v : ℕ) → is_among streams s ≡ true → Among (s, v) draws → Among v (drawn_from streams draws)
 among-drawn_from streams draws s v known there =
-    among-map (λ ((s, v) : ℕ × ℕ). v) (filter (λ (s, v). is_among streams s) draws) (s, v) (filtered-among (λ ((s, v) : ℕ × ℕ). is_among streams s) draws (s, v) there known)
+    among-map (λ ((s, v) : ℕ × ℕ). v) (filter (λ (s, v). is_among streams s) draws) (s, v) (among-filter (λ ((s, v) : ℕ × ℕ). is_among streams s) draws (s, v) there known)
 
 location-below : (n : ℕ) (l : Location) → SpellableLocation n l → AllBelow n (location_reads l)
 location-below n l s = index l.index s.index where
@@ -234,10 +228,10 @@ module _ (g : EventGraph) (s : IsSpellable g) (keeps : KeepsParts g) (marks : Li
   draw-live target stream choice there few marked =
       let drawn = among-flat_map streams_drawn (all_changes g) (Draw target stream choice) (stream, target.variable) there (inl refl) in
       tested-marked (is_live g marks) 64 stream (omega (arith, few)) (first_true (list_any (draws_marked marks stream) (all_draws g)) (is_among (delays_drawn g) stream)
-      (among-any (draws_marked marks stream) (all_draws g) (stream, target.variable) drawn (both_are (stream == stream) (is_marked marks target.variable) (same_number stream stream refl) marked)))
+      (among-any (draws_marked marks stream) (all_draws g) (stream, target.variable) drawn (and_from (stream == stream) (is_marked marks target.variable) (same_number stream stream refl) marked)))
 
   draw-dead : (target : Location) (stream : ℕ) (choice : Choice) → Among (Draw target stream choice) (all_changes g) → target.variable < count → is_marked marks target.variable ≡ false → is_marked live stream ≡ false
-  draw-dead target stream choice there below unmarked = false_unless (is_marked live stream) (λ lives.
+  draw-dead target stream choice there below unmarked = false_from_ne_true (is_marked live stream) (λ lives.
       let drawn = among-flat_map streams_drawn (all_changes g) (Draw target stream choice) (stream, target.variable) there (inl refl) in
       elim (either_true (list_any (draws_marked marks stream) (all_draws g)) (is_among (delays_drawn g) stream) (marked-tested (is_live g marks) 64 stream lives)) [
         | inl h ↦
@@ -308,7 +302,7 @@ module _ (g : EventGraph) (s : IsSpellable g) (keeps : KeepsParts g) (marks : Li
   delay-marked : (e : EventEdge) → Among e (all_edges g) → SpellableEdge (extent g) e → (delay : Delay) (priority : ℕ) → e.kind ≡ Schedule delay priority → DelayReadsMarked marks delay
   delay-marked e there spelled delay priority is =
       let written = subst (SpellableKind (extent g)) is spelled.kind in
-      deciding-marked e there (delay_reads delay) (delay-below (extent g) delay written.0) (λ w h. among-back (variables_in e.condition) (timing_reads e.kind) w (subst (λ (k : EdgeKind). Among w (timing_reads k)) (sym is) h))
+      deciding-marked e there (delay_reads delay) (delay-below (extent g) delay written.0) (λ w h. among-back (variables_in e.condition) (option_map_or delay_reads (delay_given e.kind) []) w (subst (λ (k : EdgeKind). Among w (option_map_or delay_reads (delay_given k) [])) (sym is) h))
 
   kind-needs : (e : EventEdge) → Among e (all_edges g) → SpellableEdge (extent g) e → (kind : EdgeKind) → e.kind ≡ kind → KindNeeds g marks e kind
   kind-needs e there spelled (Schedule delay priority) is = (delay-marked e there spelled delay priority is, quiet-carried e there spelled (ap is_scheduling is))
@@ -318,7 +312,7 @@ module _ (g : EventGraph) (s : IsSpellable g) (keeps : KeepsParts g) (marks : Li
   kind-needs e there spelled CancelAll is = tt
 
   edge-needs : (e : EventEdge) → Among e (all_edges g) → SpellableEdge (extent g) e → EdgeNeeds g marks e
-  edge-needs e there spelled = (deciding-marked e there (variables_in e.condition) (variables-below count e.condition spelled.condition) (λ w h. among-front (variables_in e.condition) (timing_reads e.kind) w h), kind-needs e there spelled e.kind refl)
+  edge-needs e there spelled = (deciding-marked e there (variables_in e.condition) (variables-below count e.condition spelled.condition) (λ w h. among-front (variables_in e.condition) (option_map_or delay_reads (delay_given e.kind) []) w h), kind-needs e there spelled e.kind refl)
 
   delay-lives : (e : EventEdge) → Among e (all_edges g) → KeepsEdge g.variables (length g.tables) (parameters_of g) e → DelayLives live e
   delay-lives e there rules = each-among (Marked live) (edge_streams e) (λ stream drawn.

@@ -1,11 +1,11 @@
 -- What is collected part by part is what is needed, and entails what the definition says.
 use Rattle.std.proofs.Common.{◌≡◌, ℕ, List, [], ◌∷◌, ◌++◌, length, refl, sym, ap, ap₂, ◌∙◌, append-nil, append_assoc}
 use Rattle.std.specs.List.{flat_map}
-use Rattle.model_core.specs.EventGraph.{EventGraph, EventVertex, EventEdge, StateChange}
+use Rattle.model_core.specs.EventGraph.{EventGraph, EventVertex, EventEdge, StateChange, watched_variables}
 use Rattle.model_core.specs.Run.Step.{vertex_at}
 use Rattle.model_core.specs.Rules.Uses.{edge_streams}
 use Rattle.model_core.specs.Rules.Entailed.{entailed_marks}
-use Rattle.model_core.specs.Rules.Needed.{all_changes, all_edges, watched_variables, faulting_writes, needed_by_edge, needed_by_targets, needed_by_parameters, streams_drawn, all_draws, needed_at_once, needed_beside, needed_marks}
+use Rattle.model_core.specs.Rules.Needed.{all_changes, all_edges, faulting_writes, needed_by_edge, needed_by_targets, needed_by_parameters, streams_drawn, all_draws, needed_at_once, needed_beside, needed_marks}
 use Rattle.mark_laws.proofs.EntailedMarks.{marks-implied}
 use Rattle.mark_laws.specs.PlacePairs.{pairs_from}
 use Rattle.var_slicing.specs.Inner.Leading.{leaders_of, led_pairs}

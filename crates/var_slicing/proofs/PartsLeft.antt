@@ -13,7 +13,7 @@ use Rattle.model_core.specs.Rules.MarkedPlaces.{rank}
 use Rattle.model_core.specs.Rules.Uses.{variables_in}
 use Rattle.model_core.specs.Rules.Slice.{expression_renumbered, delay_renumbered, location_renumbered, kept_beside, values_left, parameters_left, targets_left, of_marked_variables}
 use Rattle.mark_laws.proofs.Marks.{Marked, rank-within, get-marked}
-use Rattle.model_core.proofs.EachOne.{every-map}
+use Rattle.model_core.proofs.EachOne.{every-map, every-images}
 use Rattle.var_slicing.proofs.HeldByAll.{held-both}
 use Rattle.var_slicing.proofs.ValuesLeft.{ReadsMarked}
 use Rattle.var_slicing.proofs.ChangesLeft.{IndexReadsMarked}
@@ -30,10 +30,6 @@ mapped-alike P f p q same (x ∷ xs) all = ap₂ (λ y ys. y ∷ ys) (same x all
 openings-alike : {A : Type 0} (f : A → A) (openings : A → ℕ) → ((x : A) → openings (f x) ≡ openings x) → (xs : List A) → openings_together openings (map f xs) ≡ openings_together openings xs
 openings-alike f openings same [] = refl
 openings-alike f openings same (x ∷ xs) = ap₂ (λ (i j : ℕ). i + j) (same x) (openings-alike f openings same xs)
-
-pub held-mapped : {A B : Type 0} (P : A → Type 0) (Q : B → Type 0) (f : A → B) → ((x : A) → P x → Q (f x)) → (xs : List A) → AllByRecursion P xs → AllByRecursion Q (map f xs)
-held-mapped P Q f into [] all = tt
-held-mapped P Q f into (x ∷ xs) all = (into x all.0, held-mapped P Q f into xs all.1)
 
 module _ (g : EventGraph) (marks : List Bool) where
   abbrev h : EventGraph
@@ -148,7 +144,7 @@ module _ (g : EventGraph) (marks : List Bool) where
   targets-spellable ls reads s =
       let kept = kept_beside marks (variables_of ls) ls in
       subst (AllByRecursion (SpellableLocation left_count)) (sym (targets-kept marks ls))
-      (held-mapped (λ l. TargetMarked marks l × SpellableLocation count l) (SpellableLocation left_count) (location_renumbered f) location-spellable kept
+      (every-images (λ l. TargetMarked marks l × SpellableLocation count l) (SpellableLocation left_count) (location_renumbered f) location-spellable kept
       (held-both (TargetMarked marks) (SpellableLocation count) kept (targets-marked marks ls reads) (some-hold (SpellableLocation count) (some-kept_beside marks (variables_of ls) ls) s)))
 
   pub target-openings : (ls : List Location) → openings_together location_openings (targets_left marks ls) ≤ openings_together location_openings ls
@@ -169,7 +165,7 @@ module _ (g : EventGraph) (marks : List Bool) where
   pub values-spellable : (vs : List ℕ) (es : List Expression) → ValuesRead marks vs es → AllByRecursion (SpellableExpression count) es → AllByRecursion (SpellableExpression left_count) (values_left marks vs es)
   values-spellable vs es reads s =
       let kept = kept_beside marks vs es in
-      held-mapped (λ e. ReadsMarked marks e × SpellableExpression count e) (SpellableExpression left_count) (expression_renumbered f) (λ e both. spellable-left e both.0 both.1) kept
+      every-images (λ e. ReadsMarked marks e × SpellableExpression count e) (SpellableExpression left_count) (expression_renumbered f) (λ e both. spellable-left e both.0 both.1) kept
       (held-both (ReadsMarked marks) (SpellableExpression count) kept (values-marked marks vs es reads) (some-hold (SpellableExpression count) (some-kept_beside marks vs es) s))
 
   pub value-openings : (vs : List ℕ) (es : List Expression) → openings_together expression_openings (values_left marks vs es) ≤ openings_together expression_openings es
@@ -204,5 +200,5 @@ module _ (g : EventGraph) (marks : List Bool) where
   parameters-below_left vs below =
       let kept = kept_beside marks vs vs in
       subst (AllByRecursion (λ v. v < left_count)) (sym (parameters-kept marks vs))
-      (held-mapped (λ v. Marked marks v × (v < count)) (λ v. v < left_count) f (λ v both. rank-below_left v both.0 both.1) kept
+      (every-images (λ v. Marked marks v × (v < count)) (λ v. v < left_count) f (λ v both. rank-below_left v both.0 both.1) kept
       (held-both (Marked marks) (λ v. v < count) kept (parameters-marked marks vs) (some-hold (λ v. v < count) (some-kept_beside marks vs vs) below)))

@@ -1,8 +1,9 @@
 -- What is stored quietly: where bounds tell that nothing faults, there are a value, a place and what is kept of the value.
 use Rattle.std.proofs.Common.{◌≡◌, ℕ, zero, suc, slice_get, slice_index_or, Some, ◌≤◌, ◌^◌, ℤ, true, false, ◌&&◌, Bool, IsTrue, List, [], ◌∷◌, map, zip, length, Ok, refl, sym, ap, ◌∙◌, subst, arith}
 use Rattle.std.specs.List.{AllByRecursion, AllZip}
+use Rattle.std.specs.Option.{option_map_or}
 use Rattle.model_core.specs.declared.model.Kind.{Kind}
-use Rattle.model_core.specs.EventGraph.{EventGraph, Expression, Location, StateChange, Set, Draw, EventVertex, EventEdge, EdgeKind, Schedule, Urgent, CancelNext, CancelEqual, CancelAll, scalar_location}
+use Rattle.model_core.specs.EventGraph.{EventGraph, Expression, Location, StateChange, Set, Draw, EventVertex, EventEdge, EdgeKind, Schedule, Urgent, CancelNext, CancelEqual, CancelAll, scalar_location, delay_given}
 use Rattle.model_core.specs.Run.State.{State, Place, variable_at, in_range, with_cell}
 use Rattle.model_core.specs.Run.Value.{each, in_turn, value_of, place_of}
 use Rattle.model_core.specs.Run.Changes.{Changed, kept, store, set_all, make_change}
@@ -11,7 +12,7 @@ use Rattle.model_core.specs.Static.HasKind.{IsVariable, HasKind}
 use Rattle.model_core.specs.Static.OwnRules.{TakesKind, TakeCarried, KeepsChange, CarriesValues, KeepsEdge, KeepsVertex, parameters_of, KeepsParts}
 use Rattle.model_core.specs.Rules.BoundsOfParts.{quiet_set, quiet_change}
 use Rattle.model_core.specs.Rules.MarkedPlaces.{is_marked}
-use Rattle.model_core.specs.Rules.Uses.{timing_streams}
+use Rattle.model_core.specs.Rules.Uses.{delay_streams}
 use Rattle.mark_laws.proofs.Marks.{Marked}
 use Rattle.model_core.proofs.Results.{bind_ok}
 use Rattle.run_laws.proofs.InRange.{in_range-kept}
@@ -89,7 +90,7 @@ module _ (g : EventGraph) (quiet : QuietChanges g) (s : State) (inside : IsTrue 
     fits-carried : (e : EventEdge) → TakeCarried g.variables (length g.tables) (parameters_of g) (vertex_at g e.target).parameters e.values → CarriedNeed g marks e → ValuesFit g marks s clk (vertex_at g e.target).parameters e.values
     fits-carried e carried needs = carried-fits (vertex_at g e.target).parameters e.values carried.kinds carried.taken carried.given needs
 
-    kind-fits : (live : List Bool) (e : EventEdge) (kind : EdgeKind) → AllByRecursion (Marked live) (timing_streams kind) → CarriesValues g.variables (length g.tables) (parameters_of g) kind (vertex_at g e.target).parameters e.values → KindNeeds g marks e kind → KindFits g marks live s clk e kind
+    kind-fits : (live : List Bool) (e : EventEdge) (kind : EdgeKind) → AllByRecursion (Marked live) (option_map_or delay_streams (delay_given kind) []) → CarriesValues g.variables (length g.tables) (parameters_of g) kind (vertex_at g e.target).parameters e.values → KindNeeds g marks e kind → KindFits g marks live s clk e kind
     kind-fits live e (Schedule delay priority) lives carries needs = ((needs.0, lives), fits-carried e carries needs.1)
     kind-fits live e Urgent lives carries needs = fits-carried e carries needs
     kind-fits live e CancelNext lives carries needs = tt

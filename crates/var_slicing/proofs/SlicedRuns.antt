@@ -1,5 +1,5 @@
 -- Runs of a model, and of what is left of it where variables go, in lock step.
-use Rattle.std.proofs.Common.{◌≡◌, ℕ, zero, suc, slice_index_or, ◌+◌, ◌^◌, ◌≤◌, ℤ, Bool, true, false, not, cond, nat_lt, List, [], ◌∷◌, map, Some, None, refl, sym, ◌∙◌, ap, ap₂, subst}
+use Rattle.std.proofs.Common.{◌≡◌, ℕ, ◌+◌, ◌^◌, ◌≤◌, ℤ, Bool, true, false, not, cond, nat_lt, List, [], ◌∷◌, map, Some, None, refl, sym, ◌∙◌, ap, ap₂, subst}
 use Rattle.std.proofs.lemmas.List.{length-map}
 use Rattle.std.specs.Prelude.{position, replicate}
 use Rattle.std.specs.List.{AllByRecursion, prefix_len}
@@ -15,6 +15,7 @@ use Rattle.model_core.specs.Rules.MarkedPlaces.{rank, marked_of}
 use Rattle.model_core.specs.Rules.Slice.{parameters_left, watched_left, vertex_left, of_marked_variables}
 use Rattle.run_laws.proofs.Keeping.{Kept, received}
 use Rattle.model_core.proofs.Alongside.{Alongside, both_go, alongside-known, bind-alongside}
+use Rattle.model_core.proofs.Images.{at-map}
 use Rattle.run_laws.proofs.MappedPending.{taken_off_mapped, next_among-every}
 use Rattle.run_laws.proofs.LockStep.{configuration_mapped, Follows, follows-looks}
 use Rattle.mark_laws.proofs.Marks.{Marked, marked-placed}
@@ -39,11 +40,6 @@ pub record MayGo (g : EventGraph) (marks live : List Bool) (Q : State → Type 0
   pub watched : AllByRecursion (WatchedMarked marks) g.watch
   pub kept : Kept g Q
   pub first : AllByRecursion (Marked marks) (vertex_at g 0).parameters
-
-at-mapped : {A B : Type 0} (f : A → B) (xs : List A) (k : ℕ) (d : A) → slice_index_or (map f xs) k (f d) ≡ f (slice_index_or xs k d)
-at-mapped f [] k d = refl
-at-mapped f (x ∷ xs) zero d = refl
-at-mapped f (x ∷ xs) (suc k) d = at-mapped f xs k d
 
 values-watched : (marks : List Bool) (watch : List Watched) → AllByRecursion (WatchedMarked marks) watch → (s : State) → watched_values watch s ≡ watched_values (map (watched_left marks) watch) (marked_of marks s)
 values-watched marks [] all s = refl
@@ -70,7 +66,7 @@ module _ (g : EventGraph) (marks live : List Bool) (Q : State → Type 0) (ok : 
   h = of_marked_variables g marks
 
   vertex-placed : (k : ℕ) → vertex_at h k ≡ vertex_left g marks (vertex_at g k)
-  vertex-placed k = at-mapped (vertex_left g marks) g.vertices k no_vertex
+  vertex-placed k = at-map (vertex_left g marks) g.vertices k no_vertex
 
   abbrev configuration_left : Configuration → Configuration
   configuration_left = configuration_mapped (marked_of marks) (words_left live) (entry_left g marks)

@@ -9,21 +9,23 @@ use Rattle.sig_base.specs.declared.limits.TheConstants.{TEXT_MAX, CELLS_MAX, EDG
 use Rattle.model_core.specs.EventGraph.{EventGraph, EventVertex, EventEdge, StateChange, Variable, WeightTable, Watched, WatchedVariable, WatchedVertex}
 use Rattle.model_core.specs.Text.Lexing.{same_bytes}
 use Rattle.model_core.specs.Text.Canonical.{variable_name, change_line, edge_line, vertex_lines, variable_line, table_line, watched_name, watch_names_line, watch_line, canonical}
-use Rattle.model_core.specs.Text.Spellable.{HasOne, extent, SpellableChange, SpellableEdge, SpellableVertex, SpellableWatched, IsSpellable}
+use Rattle.model_core.specs.Text.Spellable.{extent, SpellableChange, SpellableEdge, SpellableVertex, SpellableWatched, IsSpellable}
 use Rattle.model_core.specs.Static.OwnRules.{IsParameter, KeepsVariable, KeepsChange, KeepsEdge, KeepsVertex, IsWatchable, watch_number, parameters_of, KeepsParts, KeepsStaticRules}
 use Rattle.model_core.specs.Rules.MarkedPlaces.{rank, is_marked}
 use Rattle.model_core.specs.Rules.Slice.{parameters_left, change_left, edge_left, vertex_left, watched_left, of_marked_variables}
-use Rattle.model_core.proofs.Among.{Among, contained-among, of-among, each-among}
+use Rattle.model_core.proofs.Among.{Among, contained-among, of-among, each-among, all-contained}
 use Rattle.mark_laws.proofs.Marks.{Marked, rank-apart}
 use Rattle.round_trip.proofs.MadeAgain.{ChangeFrom, EdgeFrom, VertexFrom, made-spellable}
-use Rattle.model_core.proofs.EachOne.{every-joined, every-map}
+use Rattle.model_core.proofs.EachOne.{every-joined, every-map, every-images}
 use Rattle.var_slicing.proofs.HeldByAll.{held-both}
 use Rattle.var_slicing.proofs.SlicedRuns.{WatchedMarked}
 use Rattle.var_slicing.proofs.NeedsClosed.{ChangeNeeds, EdgeNeeds, NeedsHold}
 use Rattle.model_core.proofs.SomeOfAList.{some-marked_of, some-map, some-front, some-hold, some-distinct, some-few, some-lines, some-in_parentheses, some-kept_beside}
 use Rattle.var_slicing.proofs.KeptBeside.{parameters-kept, parameters-marked}
 use Rattle.model_core.proofs.NoLongerTexts.{NoLonger, no_longer-behind, no_longer-before, no_longer-both, no_longer-same, no_longer-lines, no_longer-mapped}
-use Rattle.var_slicing.proofs.PartsLeft.{mapped-alike, held-mapped, rank-below_left, name-left, variable-of_left, parameter-names, parameters-below_left}
+use Rattle.model_core.proofs.NotEmpty.{has_one-map}
+use Rattle.model_core.proofs.WatchedApart.{variable_apart, vertex_from_variable}
+use Rattle.var_slicing.proofs.PartsLeft.{mapped-alike, rank-below_left, name-left, variable-of_left, parameter-names, parameters-below_left}
 use Rattle.round_trip.proofs.VersionsKept.{heading-shorter}
 use Rattle.var_slicing.proofs.VersionLeft.{parameters-few, needed-left, some-cells}
 use Rattle.var_slicing.proofs.LinesLeft.{vertex_name-left, change-keeps, change-few, change-made, change-line, edge-keeps, edge-made, edge-line}
@@ -41,13 +43,6 @@ flat-few left one (x ∷ xs) = omega (arith, length-append (left x) (flat_map le
 names-mapped : (g : EventGraph) (marks : List Bool) (vs : List EventVertex) → map (λ (v : EventVertex). v.name) (map (vertex_left g marks) vs) ≡ map (λ (v : EventVertex). v.name) vs
 names-mapped g marks [] = refl
 names-mapped g marks (v ∷ vs) = ap (λ ns. v.name ∷ ns) (names-mapped g marks vs)
-
-each-contained : {A : Type 0} (xs : List A) → AllByRecursion (Contains xs) xs
-each-contained xs = each-among (Contains xs) xs (λ x there. contained-among xs x there)
-
-has_vertex-left : {A B : Type 0} (f : A → B) (xs : List A) → HasOne xs → HasOne (map f xs)
-has_vertex-left f [] one = absurd one
-has_vertex-left f (x ∷ xs) one = tt
 
 -- ---- numbers that stay apart
 
@@ -75,12 +70,6 @@ parameters-apart marks (v ∷ vs) distinct = tested (is_marked marks v) refl (pa
 vertices_apart : (n m a b : ℕ) → nat_eq (n + a) (n + b) ≡ false → nat_eq (m + a) (m + b) ≡ false
 vertices_apart n m a b e = grind (arith, nat_tests)
 
-before_vertices : (m i w : ℕ) → i < m → nat_eq i (m + w) ≡ false
-before_vertices m i w below = grind (arith, nat_tests)
-
-behind_variables : (m i w : ℕ) → i < m → nat_eq (m + w) i ≡ false
-behind_variables m i w below = grind (arith, nat_tests)
-
 -- an item of a watch list whose variable is marked and has a place below so many
 abbrev ItemLeft : ℕ → List Bool → Watched → Type 0
 ItemLeft m marks (WatchedVariable v) = Marked marks v × (rank marks v < m)
@@ -88,8 +77,8 @@ ItemLeft m marks (WatchedVertex v) = Unit {0}
 
 item-apart : (n m : ℕ) (marks : List Bool) (a b : Watched) → ItemLeft m marks a → ItemLeft m marks b → nat_eq (watch_number n a) (watch_number n b) ≡ false → nat_eq (watch_number m (watched_left marks a)) (watch_number m (watched_left marks b)) ≡ false
 item-apart n m marks (WatchedVariable v) (WatchedVariable w) la lb e = apart_after v w (rank marks v) (rank marks w) (rank-apart marks v w la.0 lb.0) e
-item-apart n m marks (WatchedVariable v) (WatchedVertex w) la lb e = before_vertices m (rank marks v) w la.1
-item-apart n m marks (WatchedVertex v) (WatchedVariable w) la lb e = behind_variables m (rank marks w) v lb.1
+item-apart n m marks (WatchedVariable v) (WatchedVertex w) la lb e = variable_apart m (rank marks v) w la.1
+item-apart n m marks (WatchedVertex v) (WatchedVariable w) la lb e = vertex_from_variable m (rank marks w) v lb.1
 item-apart n m marks (WatchedVertex v) (WatchedVertex w) la lb e = vertices_apart n m v w e
 
 item-apart_from : (n m : ℕ) (marks : List Bool) (a : Watched) (watch : List Watched) → ItemLeft m marks a → AllByRecursion (ItemLeft m marks) watch → ApartFrom (watch_number n a) (map (watch_number n) watch) → ApartFrom (watch_number m (watched_left marks a)) (map (watch_number m) (map (watched_left marks) watch))
@@ -181,7 +170,7 @@ module _ (g : EventGraph) (keeps : KeepsParts g) (marks live : List Bool) (needs
 
   parameters-keep : (vs : List ℕ) → AllByRecursion ParameterOf vs → AllByRecursion ParameterLeft (parameters_left marks vs)
   parameters-keep vs all = subst (AllByRecursion ParameterLeft) (sym (parameters-kept marks vs))
-      (held-mapped (λ v. Marked marks v × ParameterOf v) ParameterLeft (rank marks) (λ v (marked, (kind, is)). (kind, variable-of_left g marks v false kind marked is)) _
+      (every-images (λ v. Marked marks v × ParameterOf v) ParameterLeft (rank marks) (λ v (marked, (kind, is)). (kind, variable-of_left g marks v false kind marked is)) _
       (held-both (Marked marks) ParameterOf _ (parameters-marked marks vs) (some-hold ParameterOf (some-kept_beside marks vs vs) all)))
 
   vertex-keeps : (v : EventVertex) → VertexKnown v → KeepsNew (vertex_left g marks v)
@@ -194,7 +183,7 @@ module _ (g : EventGraph) (keeps : KeepsParts g) (marks live : List Bool) (needs
         few_parameters = le_trans (parameters-few marks v.parameters) k.few_parameters;
         changes = held-flat (λ c. ChangeKeeps c × ChangeNeeds g marks live c) (KeepsChange h.variables tables (parameters_of h)) (change_left marks) (λ c both. change-keeps g marks live c both.0 both.1) v.changes (changes_known v known);
         few_changes = le_trans (flat-few (change_left marks) (change-few g marks live) v.changes) k.few_changes;
-        edges = held-mapped (λ e. EdgeKeeps e × EdgeNeeds g marks e) (KeepsEdge h.variables tables (parameters_of h)) (edge_left g marks) (λ e both. edge-keeps g marks live e both.0 both.1) v.edges (edges_known v known);
+        edges = every-images (λ e. EdgeKeeps e × EdgeNeeds g marks e) (KeepsEdge h.variables tables (parameters_of h)) (edge_left g marks) (λ e both. edge-keeps g marks live e both.0 both.1) v.edges (edges_known v known);
         few_edges = subst (λ n. n ≤ EDGES_MAX) (sym (length-map v.edges (edge_left g marks))) k.few_edges;
       }
 
@@ -232,9 +221,9 @@ module _ (g : EventGraph) (keeps : KeepsParts g) (marks live : List Bool) (needs
     few_variables = le_trans (some-few (some-marked_of marks g.variables)) keeps.few_variables;
     tables = keeps.tables;
     few_tables = keeps.few_tables;
-    watch = held-mapped (λ w. WatchedMarked marks w × Watchable w) (IsWatchable (length h.variables) (length h.vertices)) (watched_left marks) watchable-left g.watch watch_known;
+    watch = every-images (λ w. WatchedMarked marks w × Watchable w) (IsWatchable (length h.variables) (length h.vertices)) (watched_left marks) watchable-left g.watch watch_known;
     watched_once = watched-apart (length g.variables) (length h.variables) marks g.watch (every-map (λ w. WatchedMarked marks w × Watchable w) (ItemLeft (length h.variables) marks) item-left g.watch watch_known) keeps.watched_once;
-    vertices = held-mapped VertexKnown KeepsNew (vertex_left g marks) vertex-keeps g.vertices vertices_known;
+    vertices = every-images VertexKnown KeepsNew (vertex_left g marks) vertex-keeps g.vertices vertices_known;
     few_vertices = subst (λ n. n ≤ VERTICES_MAX) (sym same_vertices) keeps.few_vertices;
   }
 
@@ -256,7 +245,7 @@ module _ (g : EventGraph) (keeps : KeepsParts g) (marks live : List Bool) (needs
           parameters = parameters-below_left g marks v.parameters spelled.parameters;
           changes = held-flat (λ c. Among c v.changes) (ChangeFrom g (extent h)) (change_left marks) (λ c among.
               change-made g marks live v is_vertex c (contained-among v.changes c among) (of-among (SpellableChange (extent g)) v.changes c spelled.changes among).parts (of-among ChangeKeeps v.changes c known.keeps_rules.changes among) (of-among (ChangeNeeds g marks live) v.changes c known.changes_need among)) v.changes (each-among (λ c. Among c v.changes) v.changes (λ c among. among));
-          edges = held-mapped (λ e. Among e v.edges) (EdgeFrom g (extent h)) (edge_left g marks) (λ e among.
+          edges = every-images (λ e. Among e v.edges) (EdgeFrom g (extent h)) (edge_left g marks) (λ e among.
               edge-made g marks live v is_vertex e (contained-among v.edges e among) (of-among (SpellableEdge (extent g)) v.edges e spelled.edges among) (of-among EdgeKeeps v.edges e known.keeps_rules.edges among) (of-among (EdgeNeeds g marks) v.edges e known.edges_need among)) v.edges (each-among (λ e. Among e v.edges) v.edges (λ e among. among));
         }
 
@@ -267,9 +256,9 @@ module _ (g : EventGraph) (keeps : KeepsParts g) (marks live : List Bool) (needs
     pub marked_spellable : IsSpellable h
     marked_spellable = made-spellable g h s (record {
       name = refl;
-      variables = some-hold (Contains g.variables) (some-marked_of marks g.variables) (each-contained g.variables);
-      tables = each-contained g.tables;
-      watch = held-mapped (λ w. WatchedMarked marks w × Watchable w) (SpellableWatched (extent h)) (watched_left marks) watched-written g.watch watch_known;
-      has_vertex = has_vertex-left (vertex_left g marks) g.vertices s.has_vertex;
-      vertices = held-mapped (λ v. Among v g.vertices) (VertexFrom g (extent h)) (vertex_left g marks) vertex-made g.vertices (each-among (λ v. Among v g.vertices) g.vertices (λ v there. there));
+      variables = some-hold (Contains g.variables) (some-marked_of marks g.variables) (all-contained g.variables);
+      tables = all-contained g.tables;
+      watch = every-images (λ w. WatchedMarked marks w × Watchable w) (SpellableWatched (extent h)) (watched_left marks) watched-written g.watch watch_known;
+      has_vertex = has_one-map (vertex_left g marks) g.vertices s.has_vertex;
+      vertices = every-images (λ v. Among v g.vertices) (VertexFrom g (extent h)) (vertex_left g marks) vertex-made g.vertices (each-among (λ v. Among v g.vertices) g.vertices (λ v there. there));
     })

@@ -2,9 +2,9 @@
 
 ghost use Rattle.std.specs.Prelude.{◌≡◌, ℕ, ◌++◌, [], map, zip, OnOk, IfOk};
 ghost use Rattle.std.specs.List.{flat_map};
-ghost use Rattle.model_core.specs.EventGraph.{Location, Expression, scalar_location};
+ghost use Rattle.model_core.specs.EventGraph.{Location, Expression, scalar_location, is_scheduling, watched_variables};
 ghost use Rattle.model_core.specs.Rules.Uses.{variables_in, location_reads};
-ghost use Rattle.model_core.specs.Rules.Needed.{watched_variables, compared_parameters, faulting_target, faulting_parameters, each_beside, needed_by_parameters, is_scheduling, compares_values};
+ghost use Rattle.model_core.specs.Rules.Needed.{compared_parameters, faulting_target, faulting_parameters, each_beside, needed_by_parameters, compares_values};
 ghost use Rattle.model_core.specs.Code.Views.{graph_of, vertex_of, change_of, edge_of, edge_kind_of, location_of, expression_of, watched_of};
 ghost use Rattle.var_slicing.specs.Inner.Needing.{collected_of, nothing, with_change, with_changes, with_all_changes, with_edge, with_edges, with_all_edges, collected};
 

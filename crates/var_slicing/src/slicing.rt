@@ -1,7 +1,8 @@
 //! Slice: the model without the variables that aren't needed.
 
 ghost use Rattle.std.specs.Prelude.{◌≡◌, map, None, OnOk, OnErr, IfOk, IfErr};
-ghost use Rattle.model_core.specs.Rules.Conditions.{first_failed, TellsCondition};
+ghost use Rattle.model_core.specs.Rules.Conditions.{first_failed};
+ghost use Rattle.model_core.specs.Rules.ConditionTold.{TellsCondition};
 ghost use Rattle.model_core.specs.Rules.MarkedPlaces.{marked_of};
 ghost use Rattle.model_core.specs.Rules.Slice.{slice_conditions, watched_left, of_marked_variables, sliced};
 ghost use Rattle.model_core.specs.Code.Views.{graph_of, variable_of, watched_of};

@@ -1,10 +1,10 @@
 -- The values of watched things along a watch list, compared with a list of values or taken into one.
 use Rattle.std.proofs.Common.{◌≡◌, ℕ, ◌+◌, ◌-◌, ◌<◌, ◌≤◌, ℤ, Bool, true, false, not, ◌&&◌, List, ◌++◌, length, get_or, take, drop, map, refl, sym, ap, ap₂, ◌∙◌, arith, add-one, length-append, length-drop, drop-cons}
 use Rattle.std.specs.List.{flat_map}
-use Rattle.std.proofs.lemmas.List.{drop-drop}
+use Rattle.std.proofs.lemmas.List.{drop-drop, take-append-drop, length-take-le}
 use Rattle.std.proofs.lemmas.List.Folds.{length-flat_map-take, flat_map-map}
 use Rattle.model_core.specs.Run.Pending.{same_values}
-use Rattle.run_laws.proofs.CutUp.{take-and-drop, length-front, same-append}
+use Rattle.run_laws.proofs.CutUp.{same-append}
 
 module _ {X Y : Type 0} (f : Y → List ℤ) (view : X → Y) (xs : List X) (i : ℕ) (d : X) (below : i < length xs) where
   -- the values of the next thing, and of those behind it
@@ -29,13 +29,13 @@ module _ {X Y : Type 0} (f : Y → List ℤ) (view : X → Y) (xs : List X) (i :
     cut : drop from values ≡ take (from + length cells - from) (drop from values) ++ drop (from + length cells) values
     cut =
         let n : from + length cells - from ≡ length cells = omega arith in
-        sym (take-and-drop (length cells) (drop from values)) ∙ ap₂ (λ k l. take k (drop from values) ++ l) (sym n) (drop-drop (length cells) from values)
+        sym (take-append-drop (length cells) (drop from values)) ∙ ap₂ (λ k l. take k (drop from values) ++ l) (sym n) (drop-drop (length cells) from values)
 
     both : whole ≡ (same_values (take (from + length cells - from) (drop from values)) cells && same_values (drop (from + length cells) values) rest)
     both =
         let n : from + length cells - from ≡ length cells = omega arith in
         let size : length (take (from + length cells - from) (drop from values)) ≡ length cells =
-        ap (λ k. length (take k (drop from values))) n ∙ length-front (length cells) (drop from values) (omega (arith, length-drop from values, enough)) in
+        ap (λ k. length (take k (drop from values))) n ∙ length-take-le (length cells) (drop from values) (omega (arith, length-drop from values, enough)) in
         left ∙ ap₂ same_values cut split ∙ same-append (take (from + length cells - from) (drop from values)) (drop (from + length cells) values) cells rest size
 
     pub they_differ : true ≡ not (same_values (take (from + length cells - from) (drop from values)) cells) → false ≡ whole

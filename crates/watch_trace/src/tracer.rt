@@ -39,13 +39,13 @@ impl<'m> Tracer<'m> {
     ghost use Rattle.model_core.specs.Run.Pending.{next_entry};
     ghost use Rattle.watch_trace.specs.Tracing.{leaves_time, is_new, place_of_turn};
 
-    /// A tracer that has noted nothing. All the memory that it needs is taken here.
+    /// A tracer that has noted nothing. The memory for what it notes is taken here; lines take theirs as they are written.
     pub fn begin(alloc: Global, model: &'m Graph) -> Result<Tracer<'m>, NoMemory>
         ensures { IfOk result (λ tracer. tracer ≡ record { model = model.now; noted = None }) }
     {
         Ok(Tracer {
             last_notes: LastNotes::begin(alloc, model)?,
-            line: Line::begin(alloc)?,
+            line: Line::begin(alloc),
         })
     }
 

@@ -1,6 +1,7 @@
 -- What is computed of a text is what the grammar says of it.
 use Rattle.std.proofs.Common.{◌≡◌, ℕ, true, List, [], ◌∷◌, refl, ap, subst}
 use Rattle.std.specs.Prelude.{Option, Some, None, is_some, Result, Ok, Err}
+use Rattle.std.proofs.lemmas.Option.{same_Some}
 use Rattle.model_core.specs.Text.Lexing.{Lexeme, tokens_of}
 use Rattle.model_core.specs.Text.Written.{WrittenModel}
 use Rattle.model_core.specs.Text.Expressions.{LanguageFormat, level_format}
@@ -13,11 +14,8 @@ use Rattle.text_laws.proofs.Formats.RuleLaws.{sound}
 use Rattle.text_laws.proofs.Formats.TextLaws.{refused-is_unexpected}
 use Rattle.worked_runs.specs.GrammarTexts.{IsSpelled, IsModelText, IsRefusedAt, IsFrontRefusedAt, value_taken, place_stuck, value_of_tokens, read_as, place_of_tokens, refused_at, front_of_tokens, front_refused_at}
 
-some_is : {A : Type 0} (x y : A) → Some x ≡ Some y → x ≡ y
-some_is x y e = cc
-
 whole : {A : Type 0} (r : Parse A) (x : A) → value_taken (and_next whole_read r) ≡ Some x → r ≡ took x []
-whole (Ok (y, [])) x e = ap (λ z. took z []) (some_is y x e)
+whole (Ok (y, [])) x e = ap (λ z. took z []) (same_Some y x e)
 whole (Ok (y, t ∷ rest)) x e = absurd cc
 whole (Err rest) x e = absurd cc
 
@@ -40,7 +38,7 @@ refusal text tokens at e = go (text_read tokens) refl e
   where
     go : (r : Parse WrittenModel) → text_read tokens ≡ r → place_stuck text r ≡ Some at → IsUnexpectedAt text tokens at
     go (Ok r) same e = absurd cc
-    go (Err rest) same e = subst (λ k. IsUnexpectedAt text tokens k) (some_is (told_place text rest) at e) (refused-is_unexpected text tokens rest same)
+    go (Err rest) same e = subst (λ k. IsUnexpectedAt text tokens k) (same_Some (told_place text rest) at e) (refused-is_unexpected text tokens rest same)
 
 pub refused : {text : List ℕ} {at : ℕ} → refused_at text ≡ Some at → IsRefusedAt text at
 refused {text} {at} e = go (tokens_of text) refl e

@@ -1,7 +1,8 @@
 //! What changes leave where one of them faults.
 
 ghost use Rattle.std.specs.Prelude.{◌≡◌, pos, [], ◌∷◌};
-ghost use Rattle.model_core.specs.Run.Changes.{left_by_changes, one_more};
+ghost use Rattle.model_core.specs.Run.Changes.{one_more};
+ghost use Rattle.model_core.specs.Run.LeftByFaults.{left_by_changes};
 ghost use Rattle.worked_runs.specs.Building.{set, draw, whole};
 ghost use Rattle.worked_runs.specs.Models.{cells, changing, bad_index_and_value};
 ghost use Rattle.worked_runs.specs.Left.{as_it_begins, with_state, with_words, second_store_bad, bad_index_drawn};

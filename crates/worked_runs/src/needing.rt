@@ -4,8 +4,10 @@
 ghost use Rattle.std.specs.Prelude.{◌≡◌, pos, true, false, [], ◌∷◌, Some, None};
 ghost use Rattle.model_core.specs.EventGraph.{Scalar, Set, Draw, Uniform, Urgent};
 ghost use Rattle.model_core.specs.Rules.Conditions.{first_failed};
-ghost use Rattle.model_core.specs.Rules.Uses.{vertex_reads, vertex_writes, use_table};
-ghost use Rattle.model_core.specs.Rules.Needed.{Needed, needed_marks, unneeded};
+ghost use Rattle.model_core.specs.Rules.Uses.{vertex_reads, vertex_writes};
+ghost use Rattle.use_analysis.specs.UseRows.{use_table};
+ghost use Rattle.model_core.specs.Rules.Needed.{needed_marks, unneeded};
+ghost use Rattle.model_core.specs.Rules.LeastRelations.{Needed};
 ghost use Rattle.model_core.specs.Rules.Slice.{slice_conditions, sliced};
 ghost use Rattle.worked_runs.specs.Building.{whole, at_cell, set, draw, schedule, schedule_with, urgent, only_if, positive, plus_one, minus_one, one_over_zero, plain_edge, x_watched};
 ghost use Rattle.worked_runs.specs.Models.{bank, bank_enter, cancel_three, two_draws};

@@ -4,6 +4,7 @@ use Rattle.std.specs.Int.{int_min, int_max}
 use Rattle.std.specs.Ordering.{int_eq}
 use Rattle.std.proofs.lemmas.Int.{ints, clamps}
 use Rattle.std.proofs.lemmas.Bool.Decides.{nat_tests}
+use Rattle.std.proofs.lemmas.Bool.{and_parts}
 use Rattle.sig_base.specs.declared.fault.FaultKind.TheVariants as faults
 use Rattle.model_core.specs.declared.model.Kind.{Kind}
 use Rattle.model_core.specs.declared.model.Kind.TheVariants as kinds
@@ -63,16 +64,13 @@ two k l m a b c f shape inside quiet safe (Ok x) (Ok y) p q = record { shape = s
 two k l m a b c f shape inside quiet safe (Ok x) (Err e) p q = record { shape = shape; inside = λ z e. cc; safe = λ e. let (y, never) = q.safe (quiet e).1 in cc }
 two k l m a b c f shape inside quiet safe (Err e) s p q = record { shape = shape; inside = λ z e. cc; safe = λ e. let (y, never) = p.safe (quiet e).0 in cc }
 
-pub both_quiet : (a b : Bool) → (a && b) ≡ true → (a ≡ true) × (b ≡ true)
-both_quiet a b e = (and_first a b e, and_second a b e)
-
 -- the rows of numbers
 
 pub add_sound : (a b : Bounds) (r s : OrFault ℤ) → BoundsHold kinds.Range a r → BoundsHold kinds.Range b s → BoundsHold kinds.Range (exact_bounds (a.lo +ℤ b.lo) (a.hi +ℤ b.hi) (a.quiet && b.quiet)) (r >>= λ x. s >>= λ y. exact (x +ℤ y))
 add_sound a b r s p q =
     two kinds.Range kinds.Range kinds.Range a b _ (λ x y. exact (x +ℤ y)) (exact_bounds-shape _ _ _)
     (λ x y z i j e. exact_bounds-in (a.lo +ℤ b.lo) (a.hi +ℤ b.hi) (x +ℤ y) z _ (omega (arith, ints)) (omega (arith, ints)) e)
-    (λ e. both_quiet _ _ (exact_bounds-quiet (a.lo +ℤ b.lo) (a.hi +ℤ b.hi) _ e))
+    (λ e. and_parts _ _ (exact_bounds-quiet (a.lo +ℤ b.lo) (a.hi +ℤ b.hi) _ e))
     (λ e x y i j. exact_bounds-safe (a.lo +ℤ b.lo) (a.hi +ℤ b.hi) (x +ℤ y) _ e (omega (arith, ints)) (omega (arith, ints)))
     r s p q
 
@@ -80,7 +78,7 @@ pub subtract_sound : (a b : Bounds) (r s : OrFault ℤ) → BoundsHold kinds.Ran
 subtract_sound a b r s p q =
     two kinds.Range kinds.Range kinds.Range a b _ (λ x y. exact (x -ℤ y)) (exact_bounds-shape _ _ _)
     (λ x y z i j e. exact_bounds-in (a.lo -ℤ b.hi) (a.hi -ℤ b.lo) (x -ℤ y) z _ (omega (arith, ints)) (omega (arith, ints)) e)
-    (λ e. both_quiet _ _ (exact_bounds-quiet (a.lo -ℤ b.hi) (a.hi -ℤ b.lo) _ e))
+    (λ e. and_parts _ _ (exact_bounds-quiet (a.lo -ℤ b.hi) (a.hi -ℤ b.lo) _ e))
     (λ e x y i j. exact_bounds-safe (a.lo -ℤ b.hi) (a.hi -ℤ b.lo) (x -ℤ y) _ e (omega (arith, ints)) (omega (arith, ints)))
     r s p q
 
@@ -98,7 +96,7 @@ pub multiply_sound : (a b : Bounds) (r s : OrFault ℤ) → BoundsHold kinds.Ran
 multiply_sound a b r s p q =
     two kinds.Range kinds.Range kinds.Range a b _ (λ x y. exact (x *ℤ y)) (exact_bounds-shape _ _ _)
     (λ x y z i j e. exact_bounds-in (least_of (a.lo *ℤ b.lo) (a.lo *ℤ b.hi) (a.hi *ℤ b.lo) (a.hi *ℤ b.hi)) (greatest_of (a.lo *ℤ b.lo) (a.lo *ℤ b.hi) (a.hi *ℤ b.lo) (a.hi *ℤ b.hi)) (x *ℤ y) z _ (ends_low (λ x y. x *ℤ y) a b x y (times_turns a b x y i j)) (ends_high (λ x y. x *ℤ y) a b x y (times_turns a b x y i j)) e)
-    (λ e. both_quiet _ _ (exact_bounds-quiet (least_of (a.lo *ℤ b.lo) (a.lo *ℤ b.hi) (a.hi *ℤ b.lo) (a.hi *ℤ b.hi)) (greatest_of (a.lo *ℤ b.lo) (a.lo *ℤ b.hi) (a.hi *ℤ b.lo) (a.hi *ℤ b.hi)) _ e))
+    (λ e. and_parts _ _ (exact_bounds-quiet (least_of (a.lo *ℤ b.lo) (a.lo *ℤ b.hi) (a.hi *ℤ b.lo) (a.hi *ℤ b.hi)) (greatest_of (a.lo *ℤ b.lo) (a.lo *ℤ b.hi) (a.hi *ℤ b.lo) (a.hi *ℤ b.hi)) _ e))
     (λ e x y i j. exact_bounds-safe (least_of (a.lo *ℤ b.lo) (a.lo *ℤ b.hi) (a.hi *ℤ b.lo) (a.hi *ℤ b.hi)) (greatest_of (a.lo *ℤ b.lo) (a.lo *ℤ b.hi) (a.hi *ℤ b.lo) (a.hi *ℤ b.hi)) (x *ℤ y) _ e (ends_low (λ x y. x *ℤ y) a b x y (times_turns a b x y i j)) (ends_high (λ x y. x *ℤ y) a b x y (times_turns a b x y i j)))
     r s p q
 
@@ -150,7 +148,7 @@ divide-cases true a b at_zero r s p q =
 divide-cases false a b at_zero r s p q =
     two kinds.Range kinds.Range kinds.Range a b _ (λ x y. unless_zero y (exact (int_div x y))) (exact_bounds-shape _ _ _)
     (λ x y z i j e. exact_bounds-in (least_of (int_div a.lo b.lo) (int_div a.lo b.hi) (int_div a.hi b.lo) (int_div a.hi b.hi)) (greatest_of (int_div a.lo b.lo) (int_div a.lo b.hi) (int_div a.hi b.lo) (int_div a.hi b.hi)) (int_div x y) z _ (ends_low int_div a b x y (quot_turns a b at_zero x y i j)) (ends_high int_div a b x y (quot_turns a b at_zero x y i j)) (unless_zero_ok y z _ e).1)
-    (λ e. both_quiet _ _ (exact_bounds-quiet (least_of (int_div a.lo b.lo) (int_div a.lo b.hi) (int_div a.hi b.lo) (int_div a.hi b.hi)) (greatest_of (int_div a.lo b.lo) (int_div a.lo b.hi) (int_div a.hi b.lo) (int_div a.hi b.hi)) _ e))
+    (λ e. and_parts _ _ (exact_bounds-quiet (least_of (int_div a.lo b.lo) (int_div a.lo b.hi) (int_div a.hi b.lo) (int_div a.hi b.hi)) (greatest_of (int_div a.lo b.lo) (int_div a.lo b.hi) (int_div a.hi b.lo) (int_div a.hi b.hi)) _ e))
     (λ e x y i j.
     let nonzero : int_eq y (pos 0) ≡ false = not_zero y (λ is. outside b at_zero (subst (λ w. b.lo ≤ℤ w) is j.low) (subst (λ w. w ≤ℤ b.hi) is j.high)) in
     let (z, done) = exact_bounds-safe (least_of (int_div a.lo b.lo) (int_div a.lo b.hi) (int_div a.hi b.lo) (int_div a.hi b.hi)) (greatest_of (int_div a.lo b.lo) (int_div a.lo b.hi) (int_div a.hi b.lo) (int_div a.hi b.hi)) (int_div x y) _ e (ends_low int_div a b x y (quot_turns a b at_zero x y i j)) (ends_high int_div a b x y (quot_turns a b at_zero x y i j)) in
@@ -173,7 +171,7 @@ remainder_sound a b r s p q =
     let small : unsigned_abs (int_rem x y) ≤ max (magnitude b) 1 - 1 = rem_below_all x b.lo y b.hi (magnitude b) refl (eq_zero false y no_zero) j.low j.high in
     let inside : NumberIn (remainder_bounds a b) (int_rem x y) = record { low = rem_low x y a.lo _ i.low small; high = rem_high x y a.hi _ i.high small } in
     subst (λ w. NumberIn (remainder_bounds a b) w) same inside)
-    (λ e. both_quiet _ _ (and_first (a.quiet && b.quiet) _ e))
+    (λ e. and_parts _ _ (and_first (a.quiet && b.quiet) _ e))
     (λ e x y i j.
     let gap : has_zero b ≡ false = not_true _ (and_second (a.quiet && b.quiet) _ e) in
     let nonzero : int_eq y (pos 0) ≡ false = not_zero y (λ is. outside b gap (subst (λ w. b.lo ≤ℤ w) is j.low) (subst (λ w. w ≤ℤ b.hi) is j.high)) in
@@ -196,7 +194,7 @@ greatest_sound a b r s p q =
     (λ x y z i j e.
     let same : cond (int_le x y) y x ≡ z = cc in
     subst (λ w. NumberIn (number_bounds (int_max a.lo b.lo) (int_max a.hi b.hi) (a.quiet && b.quiet)) w) same (greatest-cases (int_le x y) a b x y refl i j))
-    (λ e. both_quiet _ _ e)
+    (λ e. and_parts _ _ e)
     (λ e x y i j. (_, refl))
     r s p q
 
@@ -206,7 +204,7 @@ least_sound a b r s p q =
     (λ x y z i j e.
     let same : cond (int_le x y) x y ≡ z = cc in
     subst (λ w. NumberIn (number_bounds (int_min a.lo b.lo) (int_min a.hi b.hi) (a.quiet && b.quiet)) w) same (least-cases (int_le x y) a b x y refl i j))
-    (λ e. both_quiet _ _ e)
+    (λ e. and_parts _ _ e)
     (λ e x y i j. (_, refl))
     r s p q
 
@@ -223,7 +221,7 @@ below_sound a b r s p q =
     (λ x y z i j e.
     let same : number_of (int_lt x y) ≡ z = cc in
     subst (λ w. TruthIn (below_bounds a b) w) same (answers _ _ _ (int_lt x y) (λ e. of_lt a.lo b.hi (omega (arith, ints, lt_of x y e))) (λ e. of_le b.lo a.hi (omega (arith, ints, of_not_lt x y e)))))
-    (λ e. both_quiet _ _ e)
+    (λ e. and_parts _ _ e)
     (λ e x y i j. (_, refl))
     r s p q
 
@@ -234,7 +232,7 @@ above_sound a b r s p q =
     (λ x y z i j e.
     let same : number_of (int_lt y x) ≡ z = cc in
     subst (λ w. TruthIn (below_bounds b a) w) same (answers _ _ _ (int_lt y x) (λ e. of_lt b.lo a.hi (omega (arith, ints, lt_of y x e))) (λ e. of_le a.lo b.hi (omega (arith, ints, of_not_lt y x e)))))
-    (λ e. let (u, v) = both_quiet b.quiet a.quiet e in (v, u))
+    (λ e. let (u, v) = and_parts b.quiet a.quiet e in (v, u))
     (λ e x y i j. (_, refl))
     r s p q
 
@@ -244,7 +242,7 @@ at_most_sound a b r s p q =
     (λ x y z i j e.
     let same : number_of (int_le x y) ≡ z = cc in
     subst (λ w. TruthIn (at_most_bounds a b) w) same (answers _ _ _ (int_le x y) (λ e. of_le a.lo b.hi (omega (arith, ints, le_of x y e))) (λ e. of_lt b.lo a.hi (omega (arith, ints, of_not_le x y e)))))
-    (λ e. both_quiet _ _ e)
+    (λ e. and_parts _ _ e)
     (λ e x y i j. (_, refl))
     r s p q
 
@@ -254,6 +252,6 @@ at_least_sound a b r s p q =
     (λ x y z i j e.
     let same : number_of (int_le y x) ≡ z = cc in
     subst (λ w. TruthIn (at_most_bounds b a) w) same (answers _ _ _ (int_le y x) (λ e. of_le b.lo a.hi (omega (arith, ints, le_of y x e))) (λ e. of_lt a.lo b.hi (omega (arith, ints, of_not_le y x e)))))
-    (λ e. let (u, v) = both_quiet b.quiet a.quiet e in (v, u))
+    (λ e. let (u, v) = and_parts b.quiet a.quiet e in (v, u))
     (λ e x y i j. (_, refl))
     r s p q

@@ -3,7 +3,7 @@ use Rattle.std.proofs.Common.{◌≡◌, ℤ, pos, ◌-ℤ◌, Bool, true, false
 use Rattle.std.specs.Int.{int_min, int_max}
 use Rattle.std.specs.Ordering.{int_eq}
 use Rattle.std.proofs.lemmas.Int.{ints, clamps}
-use Rattle.std.proofs.lemmas.Bool.{or_left, or_right, and_from}
+use Rattle.std.proofs.lemmas.Bool.{or_left, or_right, and_from, and_parts}
 use Rattle.std.proofs.lemmas.Bool.Decides.{nat_tests, Decides-int_eq}
 use Rattle.model_core.specs.declared.model.Kind.{Kind}
 use Rattle.model_core.specs.declared.model.Kind.TheVariants as kinds
@@ -16,7 +16,7 @@ use Rattle.bound_laws.proofs.Soundness.Promise.{HasShape, NumberShape, TruthShap
 use Rattle.bound_laws.proofs.Soundness.Ends.{of_le}
 use Rattle.model_core.proofs.BothTrue.{and_first, and_second}
 use Rattle.model_core.proofs.SameExpressions.{number_told}
-use Rattle.bound_laws.proofs.Soundness.NumberRows.{both_quiet, two, truth_shape, answers}
+use Rattle.bound_laws.proofs.Soundness.NumberRows.{two, truth_shape, answers}
 
 or_gap : (a b : Bool) → (a || not b) ≡ true → b ≡ true → a ≡ true
 or_gap true b e h = refl
@@ -145,7 +145,7 @@ equal_sound_numbers a b r s p q =
     (λ x y z i j e.
     let same : number_of (int_eq x y) ≡ z = cc in
     subst (λ w. TruthIn (equal_bounds a b) w) same (equal_numbers a b x y p.shape i j))
-    (λ e. both_quiet _ _ (sym (equal_quiet (of_truth_value a) (a.quiet && b.quiet) _ _ _ _) ∙ e))
+    (λ e. and_parts _ _ (sym (equal_quiet (of_truth_value a) (a.quiet && b.quiet) _ _ _ _) ∙ e))
     (λ e x y i j. (_, refl))
     r s p q
 
@@ -249,7 +249,7 @@ equal_sound_truths a b r s p q =
     (λ x y z i j e.
     let same : number_of (int_eq x y) ≡ z = cc in
     subst (λ w. TruthIn (equal_bounds a b) w) same (equal_truths a b x y i j))
-    (λ e. both_quiet _ _ (sym (equal_quiet (of_truth_value a) (a.quiet && b.quiet) _ _ _ _) ∙ e))
+    (λ e. and_parts _ _ (sym (equal_quiet (of_truth_value a) (a.quiet && b.quiet) _ _ _ _) ∙ e))
     (λ e x y i j. (_, refl))
     r s p q
 

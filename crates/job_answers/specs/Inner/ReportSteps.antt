@@ -3,20 +3,10 @@ use Rattle.std.specs.Prelude.{◌≡◌, ℕ, zero, suc, ◌+◌, List, ◌++◌
 use Rattle.sig_base.specs.Sink.{Outlet}
 use Rattle.command_words.specs.declared.replicate_options.ReplicateOptions.{ReplicateOptions}
 use Rattle.model_core.specs.EventGraph.{EventGraph}
-use Rattle.run_control.specs.declared.begin_error.BeginError.{BeginError}
-use Rattle.run_control.specs.declared.begin_error.BeginError.TheVariants as begins
-use Rattle.tally_report.specs.declared.tally_error.TallyError.{TallyError}
-use Rattle.tally_report.specs.declared.tally_error.TallyError.TheVariants as tallies
 use Rattle.tally_report.specs.ReportText.{total_rows}
 use Rattle.tally_report.specs.Totalling.{RunTotals, with_run}
 use Rattle.job_answers.specs.ReplicateAnswer.{tally_numbered, rows_numbered}
 use Rattle.job_answers.specs.Inner.WritingSteps.{InPieces}
-
--- why the run that a tally is of can't begin
-abbrev pub begin_error_of : TallyError → BeginError
-begin_error_of (tallies.StartCount needed given) = begins.StartCount needed given
-begin_error_of (tallies.StartOutside place value) = begins.StartOutside place value
-begin_error_of tallies.NoMemory = begins.NoMemory
 
 -- what is left of a report behind the runs of these totals: so many runs from this number on, and the totals
 abbrev pub left_from : EventGraph → ReplicateOptions → RunTotals → ℕ → ℕ → List ℕ

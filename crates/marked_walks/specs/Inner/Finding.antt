@@ -2,7 +2,7 @@
 use Rattle.std.specs.Prelude.{◌≡◌, ◌⊎◌, ℕ, ◌<◌, Bool, true, not, cond, List, [], ◌∷◌, ◌++◌, length, slice_index_or, slice_get, slice_set, Contains}
 use Rattle.std.specs.Option.{option_map_or}
 use Rattle.model_core.specs.Rules.MarkedPlaces.{is_marked}
-use Rattle.model_core.specs.Rules.Entailed.{Entailed}
+use Rattle.model_core.specs.Rules.LeastRelations.{Entailed}
 use Rattle.marked_walks.specs.declared.entailing.Finder.{Finder}
 use Rattle.mark_laws.specs.PlacePairs.{places_behind, pairs_from}
 

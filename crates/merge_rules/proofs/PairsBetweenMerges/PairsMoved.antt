@@ -1,17 +1,17 @@
 -- Where two vertices and those that they name take other places, they can be merged as before, as far as they tell that
 -- themselves.
-use Rattle.std.proofs.Common.{◌≡◌, ℕ, zero, suc, ◌+◌, ◌==◌, nat_lt, nat_le, Bool, false, not, ◌&&◌, ◌||◌, cond, List, [], ◌∷◌, ◌++◌, map, length, slice_get, Option, Some, None, refl, sym, ◌∙◌, ap, ap₂}
+use Rattle.std.proofs.Common.{◌≡◌, ℕ, zero, suc, ◌+◌, ◌==◌, nat_lt, nat_le, Bool, true, false, not, ◌&&◌, ◌||◌, cond, List, [], ◌∷◌, ◌++◌, map, length, slice_get, Option, Some, None, refl, sym, ◌∙◌, ap, ap₂}
 use Rattle.std.specs.Prelude.{count_by, is_none}
 use Rattle.std.specs.List.{AllByRecursion, list_all, list_any, position_from, remove}
 use Rattle.std.specs.Option.{option_map, option_map_or, option_and_then}
 use Rattle.std.proofs.lemmas.List.{map-append, length-map}
 use Rattle.std.proofs.lemmas.List.Sums.{sum_by-cons}
 use Rattle.sig_base.specs.declared.limits.TheConstants.{CHANGES_MAX, EDGES_MAX}
-use Rattle.model_core.specs.EventGraph.{EventGraph, EventVertex, EventEdge, EdgeKind, Schedule, Urgent, CancelNext, CancelEqual, CancelAll, Fixed, Drawn, Uniform, ByTable, StateChange, Set, Draw, Expression, Watched, WatchedVariable, WatchedVertex}
+use Rattle.model_core.specs.EventGraph.{EventGraph, EventVertex, EventEdge, EdgeKind, Schedule, Urgent, CancelNext, CancelEqual, CancelAll, Fixed, Drawn, Uniform, ByTable, StateChange, Set, Draw, Expression, Watched, WatchedVariable, WatchedVertex, delay_given}
 use Rattle.model_core.specs.Run.Step.{vertex_at}
 use Rattle.model_core.specs.Run.History.{watches}
 use Rattle.model_core.specs.Rules.BoundsOf.{bounds_of}
-use Rattle.model_core.specs.Rules.BoundsOfParts.{quiet_change, quiet_timing, quiet_edge}
+use Rattle.model_core.specs.Rules.BoundsOfParts.{quiet_change, quiet_edge, quiet_delay}
 use Rattle.model_core.specs.Rules.Conditions.{first_failed}
 use Rattle.model_core.specs.Rules.Drop.{edge_renumbered, vertex_renumbered, watched_renumbered}
 use Rattle.model_core.specs.Rules.Uses.{vertex_writes, has_drawn_delay}
@@ -111,7 +111,7 @@ module _ (g : EventGraph) (f : ℕ → ℕ) (vertices : List EventVertex) where
   change-quiet (Draw target stream (Uniform lo hi)) = refl
   change-quiet (Draw target stream (ByTable t)) = refl
 
-  timing-quiet : (kind : EdgeKind) → quiet_timing h kind ≡ quiet_timing g kind
+  timing-quiet : (kind : EdgeKind) → option_map_or (quiet_delay h) (delay_given kind) true ≡ option_map_or (quiet_delay g) (delay_given kind) true
   timing-quiet (Schedule (Fixed e) priority) = refl
   timing-quiet (Schedule (Drawn stream (Uniform lo hi)) priority) = refl
   timing-quiet (Schedule (Drawn stream (ByTable t)) priority) = refl

@@ -4,9 +4,9 @@ use Rattle.std.specs.Prelude.{count_by}
 use Rattle.std.proofs.lemmas.List.Sums.{sum_by-cons, sum_by-append}
 use Rattle.std.specs.List.{AllByRecursion, remove, position_from}
 use Rattle.std.specs.Option.{option_map_or, option_and_then}
-use Rattle.model_core.specs.EventGraph.{EventVertex, EventEdge, EdgeKind, Urgent, Expression, Truth}
+use Rattle.model_core.specs.EventGraph.{EventVertex, EventEdge, EdgeKind, Urgent, Expression, Truth, delay_given}
 use Rattle.model_core.specs.Rules.Settle.{is_literal_true}
-use Rattle.model_core.specs.Rules.Uses.{timing_is_drawn, has_drawn_delay}
+use Rattle.model_core.specs.Rules.Uses.{has_drawn_delay, is_drawn}
 use Rattle.model_core.specs.Rules.UrgentEdges.{is_urgent, is_urgent_kind, is_plain, plain_urgent, plain_urgent_edge}
 use Rattle.model_core.specs.Rules.Merge.{leads_to, values_at_once, other_edges}
 use Rattle.model_core.proofs.BothTrue.{and_first, and_second}
@@ -147,7 +147,7 @@ plain_undrawn a place is e there =
     let offset_is : f.offset ≡ place = (let o = f.offset_is in omega (arith, o)) in
     let same_edge : Some f.element ≡ Some e = sym f.there ∙ (ap (slice_get a.edges) offset_is ∙ there) in
     let same : f.element ≡ e = cc in
-    ap timing_is_drawn (kind_told e.kind (and_first (is_urgent e) _ (subst (λ e. is_plain e ≡ true) same f.passes)))
+    ap (λ kind. option_map_or is_drawn (delay_given kind) false) (kind_told e.kind (and_first (is_urgent e) _ (subst (λ e. is_plain e ≡ true) same f.passes)))
 
 pub is_there : {A : Type 0} (xs : List A) (k : ℕ) (x : A) → slice_get xs k ≡ Some x → k < length xs
 is_there [] k x e = cc

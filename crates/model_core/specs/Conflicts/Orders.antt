@@ -1,12 +1,16 @@
 -- Two simultaneous events, and what it means that they commute.
-use Rattle.std.specs.Prelude.{◌≡◌, ◌≢◌, ℕ, ◌==◌, Bool, ◌&&◌, List, Option, Some, slice_get, Result, Ok, Err}
+use Rattle.std.specs.Prelude.{◌≡◌, ◌≢◌, ℕ, ◌==◌, Bool, true, ◌&&◌, List, Option, Some, slice_get, Result, Ok, Err}
 use Rattle.std.specs.List.{count_by, remove}
 use Rattle.model_core.specs.EventGraph.{EventGraph}
 use Rattle.model_core.specs.Run.Pending.{Entry, is_with}
 use Rattle.model_core.specs.Run.Step.{Configuration, Fault}
-use Rattle.model_core.specs.Rules.MarkedPlaces.{place_without}
-use Rattle.model_core.specs.Conflicts.Priorities.{HasOwnPriority}
+use Rattle.model_core.specs.Rules.MarkedPlaces.{is_among, place_without}
+use Rattle.model_core.specs.Conflicts.Priorities.{priorities_of}
 use Rattle.model_core.specs.Conflicts.Perform.{perform, place_then}
+
+-- the entry's priority is one of its vertex's
+abbrev pub HasOwnPriority : EventGraph → Entry → Type 0
+HasOwnPriority g e = is_among (priorities_of g e.vertex) e.priority ≡ true
 
 -- events at two places that are due at once: at equal times, and with equal priorities, which are priorities of their vertices
 pub record Simultaneous (g : EventGraph) (pending : List Entry) (first second : ℕ) (a b : Entry) : Type 0 where

@@ -1,9 +1,9 @@
 -- What variables take under given ranges: bounds of what is set, drawn and carried into each.
-use Rattle.std.specs.Prelude.{ℕ, ℤ, int_le, Bool, true, false, ◌&&◌, cond, List, [], ◌∷◌, ◌++◌, map, Option, Some, None}
+use Rattle.std.specs.Prelude.{ℕ, ℤ, int_le, true, ◌&&◌, cond, List, [], ◌∷◌, ◌++◌, map, Option, Some, None}
 use Rattle.std.specs.List.{flat_map}
 use Rattle.std.specs.Int.{int_min, int_max}
 use Rattle.model_core.specs.declared.bounds.Bounds.{Bounds}
-use Rattle.model_core.specs.EventGraph.{EventGraph, EventVertex, Variable, Expression, Location, StateChange, Set, Draw, EventEdge, EdgeKind, Schedule, Urgent}
+use Rattle.model_core.specs.EventGraph.{EventGraph, EventVertex, Variable, Expression, Location, StateChange, Set, Draw, EventEdge, is_scheduling}
 use Rattle.model_core.specs.Run.Step.{vertex_at}
 use Rattle.model_core.specs.Rules.BoundsOf.{bounds_under}
 use Rattle.model_core.specs.Rules.BoundsOfParts.{choice_bounds}
@@ -22,16 +22,10 @@ abbrev pub into_change : EventGraph → List Variable → StateChange → List I
 into_change g ranges (Set targets values) = assigned ranges (map (λ (l : Location). l.variable) targets) values
 into_change g ranges (Draw target stream choice) = record { variable = target.variable; bounds = choice_bounds g choice } ∷ []
 
--- an edge of this kind schedules, in time or at once
-abbrev pub can_schedule : EdgeKind → Bool
-can_schedule (Schedule delay priority) = true
-can_schedule Urgent = true
-can_schedule kind = false
-
 -- the parameters of the vertex that an edge schedules take what it carries, where its condition can be true
 abbrev pub into_edge : EventGraph → List Variable → EventEdge → List Incoming
 into_edge g ranges e =
-    cond (can_schedule e.kind && (bounds_under refined ranges e.condition).can_true)
+    cond (is_scheduling e.kind && (bounds_under refined ranges e.condition).can_true)
     (assigned (refined e.condition true ranges) (vertex_at g e.target).parameters e.values) []
 
 -- what variables take by the changes of an event and by its edges

@@ -3,7 +3,7 @@ use Rattle.std.specs.Prelude.{ℤ, pos, ◌+ℤ◌, ◌-ℤ◌, int_le, Bool, fa
 use Rattle.std.specs.Ordering.{int_eq}
 use Rattle.std.specs.Int.{int_min, int_max}
 use Rattle.model_core.specs.EventGraph.{Variable, Expression, Scalar, Not, Binary, Operator, Equal, NotEqual, Below, AtMost, Above, AtLeast, And, Or}
-use Rattle.model_core.specs.Static.HasKind.{is_array}
+use Rattle.model_core.specs.Run.State.{is_array}
 use Rattle.model_core.specs.Rules.BoundsOf.{Guard, ranged_at}
 use Rattle.model_core.specs.Rules.BoundsOfParts.{is_truth_kind}
 use Rattle.model_core.specs.Rules.Exclusive.{literal_number}

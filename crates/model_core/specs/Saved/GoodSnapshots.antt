@@ -1,6 +1,6 @@
 -- Which written snapshot is good for a model, the place of one that isn't, and the saved run that a good one stands for.
 use Rattle.std.specs.Prelude.{ℕ, suc, ◌+◌, ◌-◌, ◌*◌, ◌^◌, ℤ, pos, neg_ℤ, Bool, false, not, ◌&&◌, ◌==◌, nat_lt, cond, List, [], ◌∷◌, ◌++◌, length, map, replicate, slice_set, Option, Some, None, unwrap_or}
-use Rattle.std.specs.Option.{option_map, is_some}
+use Rattle.std.specs.Option.{option_map, option_map_or, is_some}
 use Rattle.std.specs.List.{flat_map, list_all}
 use Rattle.model_core.specs.EventGraph.{EventGraph, Variable}
 use Rattle.model_core.specs.Run.State.{cell_count, within, in_ranges}
@@ -20,17 +20,12 @@ use Rattle.model_core.specs.Text.SnapshotGrammar.{WrittenStream, WrittenValue, W
 abbrev pub number_or_zero : WrittenNumber → ℕ
 number_or_zero n = unwrap_or (numbering.natural n) 0
 
--- the number is known, and passes this test
-abbrev pub known_and : (ℕ → Bool) → Option ℕ → Bool
-known_and test (Some n) = test n
-known_and test None = false
-
 -- the number is known and at most this
 abbrev pub is_at_most : ℕ → WrittenNumber → Bool
-is_at_most most n = known_and (λ k. nat_lt k (suc most)) (numbering.natural n)
+is_at_most most n = option_map_or (λ k. nat_lt k (suc most)) (numbering.natural n) false
 
 abbrev pub from_one_to : ℕ → WrittenNumber → Bool
-from_one_to most n = known_and (λ k. nat_lt 0 k && nat_lt k (suc most)) (numbering.natural n)
+from_one_to most n = option_map_or (λ k. nat_lt 0 k && nat_lt k (suc most)) (numbering.natural n) false
 
 -- ---- values
 
@@ -79,8 +74,7 @@ noted_parts g (Some w) = record { good = fit_variables (cell_variables (variable
 
 -- there is the vertex, which has so many parameters
 abbrev pub has_parameters : EventGraph → ℕ → Option ℕ → Bool
-has_parameters g count None = false
-has_parameters g count (Some vertex) = count == length (vertex_at g vertex).parameters
+has_parameters g count place = option_map_or (λ vertex. count == length (vertex_at g vertex).parameters) place false
 
 abbrev pub pending_part : EventGraph → WrittenPending → JudgedPart
 pending_part g w = record {

@@ -26,71 +26,34 @@ pub record Lexeme : Type 0 where
 -- the reserved words
 abbrev pub reserved_words : List (List ℕ × Word)
 reserved_words =
-    (codes "model", words.Model) ∷
-    (codes "var", words.Var) ∷
-    (codes "bool", words.Bool) ∷
-    (codes "clip", words.Clip) ∷
-    (codes "table", words.Table) ∷
-    (codes "watch", words.Watch) ∷
-    (codes "vertex", words.Vertex) ∷
-    (codes "set", words.Set) ∷
-    (codes "draw", words.Draw) ∷
-    (codes "from", words.From) ∷
-    (codes "in", words.In) ∷
-    (codes "by", words.By) ∷
-    (codes "schedule", words.Schedule) ∷
-    (codes "urgent", words.Urgent) ∷
-    (codes "cancel", words.Cancel) ∷
-    (codes "all", words.All) ∷
-    (codes "after", words.After) ∷
-    (codes "priority", words.Priority) ∷
-    (codes "when", words.When) ∷
-    (codes "end", words.End) ∷
-    (codes "not", words.Not) ∷
-    (codes "and", words.And) ∷
-    (codes "or", words.Or) ∷
-    (codes "if", words.If) ∷
-    (codes "then", words.Then) ∷
-    (codes "else", words.Else) ∷
-    (codes "true", words.True) ∷
-    (codes "false", words.False) ∷
-    (codes "clk", words.Clk) ∷
-    (codes "min", words.Min) ∷
-    (codes "max", words.Max) ∷
-    (codes "version", words.Version) ∷
-    (codes "certificate", words.Certificate) ∷
-    (codes "prune", words.Prune) ∷
-    (codes "settle", words.Settle) ∷
-    (codes "drop", words.Drop) ∷
-    (codes "merge", words.Merge) ∷
-    (codes "slice", words.Slice) ∷
+    (codes "model", words.Model) ∷ (codes "var", words.Var) ∷ (codes "bool", words.Bool) ∷ (codes "clip", words.Clip) ∷
+    (codes "table", words.Table) ∷ (codes "watch", words.Watch) ∷ (codes "vertex", words.Vertex) ∷
+    (codes "set", words.Set) ∷ (codes "draw", words.Draw) ∷ (codes "from", words.From) ∷
+    (codes "in", words.In) ∷ (codes "by", words.By) ∷
+    (codes "schedule", words.Schedule) ∷ (codes "urgent", words.Urgent) ∷ (codes "cancel", words.Cancel) ∷
+    (codes "all", words.All) ∷ (codes "after", words.After) ∷ (codes "priority", words.Priority) ∷
+    (codes "when", words.When) ∷ (codes "end", words.End) ∷
+    (codes "not", words.Not) ∷ (codes "and", words.And) ∷ (codes "or", words.Or) ∷
+    (codes "if", words.If) ∷ (codes "then", words.Then) ∷ (codes "else", words.Else) ∷
+    (codes "true", words.True) ∷ (codes "false", words.False) ∷ (codes "clk", words.Clk) ∷
+    (codes "min", words.Min) ∷ (codes "max", words.Max) ∷
+    (codes "version", words.Version) ∷ (codes "certificate", words.Certificate) ∷
+    (codes "prune", words.Prune) ∷ (codes "settle", words.Settle) ∷
+    (codes "drop", words.Drop) ∷ (codes "merge", words.Merge) ∷ (codes "slice", words.Slice) ∷
     []
 
 -- the symbols, each after those that begin with it
 abbrev pub all_symbols : List (List ℕ × Symbol)
 all_symbols =
-    (codes ":=", symbols.Becomes) ∷
-    (codes "..", symbols.To) ∷
-    (codes "<>", symbols.NotEqual) ∷
-    (codes "<=", symbols.AtMost) ∷
-    (codes ">=", symbols.AtLeast) ∷
-    (codes ";", symbols.Semicolon) ∷
-    (codes ",", symbols.Comma) ∷
-    (codes ":", symbols.Colon) ∷
-    (codes "=", symbols.Equal) ∷
-    (codes "<", symbols.Below) ∷
-    (codes ">", symbols.Above) ∷
-    (codes "+", symbols.Plus) ∷
-    (codes "-", symbols.Minus) ∷
-    (codes "*", symbols.Times) ∷
-    (codes "/", symbols.Over) ∷
-    (codes "%", symbols.Percent) ∷
-    (codes "(", symbols.OpenParenthesis) ∷
-    (codes ")", symbols.CloseParenthesis) ∷
-    (codes "[", symbols.OpenBracket) ∷
-    (codes "]", symbols.CloseBracket) ∷
-    (codes "{", symbols.OpenBrace) ∷
-    (codes "}", symbols.CloseBrace) ∷
+    (codes ":=", symbols.Becomes) ∷ (codes "..", symbols.To) ∷
+    (codes "<>", symbols.NotEqual) ∷ (codes "<=", symbols.AtMost) ∷ (codes ">=", symbols.AtLeast) ∷
+    (codes ";", symbols.Semicolon) ∷ (codes ",", symbols.Comma) ∷ (codes ":", symbols.Colon) ∷
+    (codes "=", symbols.Equal) ∷ (codes "<", symbols.Below) ∷ (codes ">", symbols.Above) ∷
+    (codes "+", symbols.Plus) ∷ (codes "-", symbols.Minus) ∷ (codes "*", symbols.Times) ∷
+    (codes "/", symbols.Over) ∷ (codes "%", symbols.Percent) ∷
+    (codes "(", symbols.OpenParenthesis) ∷ (codes ")", symbols.CloseParenthesis) ∷
+    (codes "[", symbols.OpenBracket) ∷ (codes "]", symbols.CloseBracket) ∷
+    (codes "{", symbols.OpenBrace) ∷ (codes "}", symbols.CloseBrace) ∷
     []
 
 -- space, tab, carriage return and line feed
@@ -159,13 +122,8 @@ after_front at (Longest n kind) (Ok later) = Ok (record { from = at; to = at + n
 after_front at (Longest n kind) (Err place) = Err place
 after_front at Neither later = Err at
 
--- A text from the place `at` on is cut front by front: what it begins with is taken off, and comes before what the rest
--- gives, up to the end or to a byte that begins no token.
-pub data IsCut : ℕ → List ℕ → Result (List Lexeme) ℕ → Type 0 where
-  at_end : (at : ℕ) → IsCut at [] (Ok [])
-  at_front : (at c : ℕ) (s : List ℕ) (later : Result (List Lexeme) ℕ) → IsCut (at + front_length (front c s)) (drop (front_length (front c s)) (c ∷ s)) later → IsCut at (c ∷ s) (after_front at (front c s) later)
-
--- The same as a function that computes. The first `inside` bytes belong to what began before.
+-- A text from the place `at` on, whose first `inside` bytes belong to what began before, cut front by front: what it begins
+-- with comes before what the rest gives, up to the end or to a byte that begins no token.
 abbrev pub tokens_from : ℕ → ℕ → List ℕ → Result (List Lexeme) ℕ
 tokens_from at inside [] = Ok []
 tokens_from at (suc inside) (c ∷ s) = tokens_from (at + 1) inside s

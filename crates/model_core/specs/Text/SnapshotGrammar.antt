@@ -7,7 +7,7 @@
 -- Words in quotes are tokens, {x} is any number of x, [x] is x or nothing, and list(x) is one or more x with commas between.
 -- Of the words only `clk` and `end` are reserved. The others are names with this spelling, which name something else where a
 -- name is asked for.
-use Rattle.std.specs.Prelude.{ℕ, Bool, true, false, List, [], Option, Some, None, codes}
+use Rattle.std.specs.Prelude.{ℕ, Bool, true, false, List, [], Option, unwrap_or, codes}
 use Rattle.model_core.specs.declared.token.Word.TheVariants as words
 use Rattle.model_core.specs.declared.token.Symbol.TheVariants as symbols
 use Rattle.model_core.specs.Text.Lexing.{Lexeme}
@@ -67,13 +67,8 @@ stream_format = Yields (λ at stream words. record { at = at; stream = stream; w
 unfoldable pub value_format : LanguageFormat WrittenValue
 value_format = Yields (λ at variable values. record { at = at; variable = variable; values = values }) <*> this_name (codes "value") <*> any_name <*> separated signed_format
 
--- the values of a list that may be left out
-abbrev pub or_none : {A : Type 0} → Option (List A) → List A
-or_none None = []
-or_none (Some xs) = xs
-
 unfoldable pub noted_format : LanguageFormat WrittenNoted
-noted_format = Yields (λ at values. record { at = at; values = or_none values }) <*> this_name (codes "noted") <*> maybe (separated signed_format)
+noted_format = Yields (λ at values. record { at = at; values = unwrap_or values [] }) <*> this_name (codes "noted") <*> maybe (separated signed_format)
 
 unfoldable pub exact_format : LanguageFormat ℕ
 exact_format = Single ANumber (λ t. number_exact t.kind)
@@ -88,7 +83,7 @@ carries_format = mark symbols.OpenParenthesis *> separated carried_format <* mar
 
 unfoldable pub pending_format : LanguageFormat WrittenPending
 pending_format =
-    Yields (λ at ticks priority vertex values. record { at = at; ticks = ticks; priority = priority; vertex = vertex; values = or_none values })
+    Yields (λ at ticks priority vertex values. record { at = at; ticks = ticks; priority = priority; vertex = vertex; values = unwrap_or values [] })
     <*> this_name (codes "pending") <*> any_number <*> any_number <*> any_name <*> maybe carries_format
 
 unfoldable pub snapshot_format : LanguageFormat WrittenSnapshot

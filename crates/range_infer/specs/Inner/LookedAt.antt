@@ -1,7 +1,7 @@
 -- What variables take by the parts that are looked at: by all of them, or by those that read a variable whose range moved.
 use Rattle.std.specs.Prelude.{◌≡◌, ℕ, Bool, true, false, ◌&&◌, ◌||◌, cond, List, [], ◌∷◌, ◌++◌, map}
 use Rattle.std.specs.List.{list_any, flat_map}
-use Rattle.model_core.specs.EventGraph.{EventGraph, EventVertex, EventEdge, StateChange, Set, Draw, Variable, Expression, Location}
+use Rattle.model_core.specs.EventGraph.{EventGraph, EventVertex, EventEdge, StateChange, Set, Draw, Variable, Expression, Location, is_scheduling}
 use Rattle.model_core.specs.Run.Step.{vertex_at}
 use Rattle.model_core.specs.Rules.BoundsOf.{bounds_under}
 use Rattle.model_core.specs.Rules.Uses.{variables_in}
@@ -9,7 +9,7 @@ use Rattle.model_core.specs.declared.incoming.Incoming.{Incoming}
 use Rattle.model_core.specs.declared.var_range.VarRange.{VarRange}
 use Rattle.model_core.specs.Ranges.OtherRanges.{with_ranges}
 use Rattle.model_core.specs.Ranges.Refined.{refined}
-use Rattle.model_core.specs.Ranges.Incoming.{can_schedule, into_change}
+use Rattle.model_core.specs.Ranges.Incoming.{into_change}
 use Rattle.range_infer.specs.Inner.Moved.{is_moved, MarksMoved}
 use Rattle.range_infer.specs.Inner.PartReads.{each_reads}
 
@@ -31,7 +31,7 @@ change_seen g all moved ranges (Draw target stream choice) = cond all (into_chan
 -- what an edge carries by those of its values that are looked at, if there are such
 abbrev pub values_seen : EventGraph → Bool → List Bool → List Variable → EventEdge → List Incoming
 values_seen g all moved ranges e =
-    cond (can_schedule e.kind && list_any (looks_at all moved) (each_reads e.values))
+    cond (is_scheduling e.kind && list_any (looks_at all moved) (each_reads e.values))
     (cond (bounds_under refined ranges e.condition).can_true (assigned_seen all moved (refined e.condition true ranges) (vertex_at g e.target).parameters e.values) []) []
 
 -- all its values are looked at where its condition is

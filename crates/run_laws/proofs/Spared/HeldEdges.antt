@@ -1,12 +1,13 @@
 -- An edge does the same in two states that hold the same in each variable that it reads.
-use Rattle.std.proofs.Common.{◌≡◌, ℕ, ◌+◌, ℤ, cond, List, ◌++◌, Ok, refl, ap, ap₂}
+use Rattle.std.proofs.Common.{◌≡◌, ℕ, ◌+◌, ℤ, cond, List, [], ◌++◌, Ok, refl, ap, ap₂}
 use Rattle.std.specs.List.{AllByRecursion, flat_map}
-use Rattle.model_core.specs.EventGraph.{EventGraph, EventEdge, Delay, Fixed, Drawn, EdgeKind, Schedule, Urgent, CancelNext, CancelEqual, CancelAll}
+use Rattle.std.specs.Option.{option_map_or}
+use Rattle.model_core.specs.EventGraph.{EventGraph, EventEdge, Delay, Fixed, Drawn, EdgeKind, Schedule, Urgent, CancelNext, CancelEqual, CancelAll, delay_given}
 use Rattle.model_core.specs.Run.State.{State}
 use Rattle.model_core.specs.Run.Value.{OrFault, ◌>>=◌, is_one}
 use Rattle.model_core.specs.Run.Pending.{is_with, without_next}
 use Rattle.model_core.specs.Run.Edges.{Planned, Waiting, delay_ticks, delay_of, scheduled, act, treat}
-use Rattle.model_core.specs.Rules.Uses.{variables_in, delay_reads, timing_reads, edge_reads}
+use Rattle.model_core.specs.Rules.Uses.{variables_in, delay_reads, edge_reads}
 use Rattle.model_core.proofs.EachOne.{every-front, every-behind, every-flat_map}
 use Rattle.run_laws.proofs.Spared.HeldValues.{Holds, value-held, values-held}
 
@@ -19,7 +20,7 @@ module _ (g : EventGraph) (seed : ℕ) (s t : State) (clk : ℕ) where
       ap (λ (r : OrFault ℤ). r >>= λ wait. delay_ticks wait >>= λ n. let q : OrFault Waiting = Ok (record { ticks = n; taken = taken }) in q) (value-held g s t clk e reads)
   delay-held (Drawn stream choice) reads taken = refl
 
-  act-held : (e : EventEdge) (kind : EdgeKind) → AllHold (timing_reads kind) → AllByRecursion (λ e. AllHold (variables_in e)) e.values → (p : Planned) → act g seed s clk e kind p ≡ act g seed t clk e kind p
+  act-held : (e : EventEdge) (kind : EdgeKind) → AllHold (option_map_or delay_reads (delay_given kind) []) → AllByRecursion (λ e. AllHold (variables_in e)) e.values → (p : Planned) → act g seed s clk e kind p ≡ act g seed t clk e kind p
   act-held e (Schedule delay priority) reads values p =
       ap₂ (λ (d : OrFault Waiting) (vs : OrFault (List ℤ)). d >>= λ wait. vs >>= λ values. let q : OrFault Planned = Ok (record { pending = scheduled (clk + wait.ticks) priority e.target p.pending values; taken = wait.taken }) in q) (delay-held delay reads p.taken) (values-held g s t clk e.values values)
   act-held e Urgent reads values p =
@@ -31,6 +32,6 @@ module _ (g : EventGraph) (seed : ℕ) (s t : State) (clk : ℕ) where
 
   pub treat-held : (e : EventEdge) → AllHold (edge_reads e) → (p : Planned) → treat g seed s clk e p ≡ treat g seed t clk e p
   treat-held e reads p =
-      let front = every-front (Holds s t) (variables_in e.condition ++ timing_reads e.kind) (flat_map variables_in e.values) reads in
-      let values = every-flat_map (Holds s t) variables_in e.values (every-behind (Holds s t) (variables_in e.condition ++ timing_reads e.kind) (flat_map variables_in e.values) reads) in
-      ap₂ (λ (c : OrFault ℤ) (a : OrFault Planned). c >>= λ c. cond (is_one c) a (Ok p)) (value-held g s t clk e.condition (every-front (Holds s t) (variables_in e.condition) (timing_reads e.kind) front)) (act-held e e.kind (every-behind (Holds s t) (variables_in e.condition) (timing_reads e.kind) front) values p)
+      let front = every-front (Holds s t) (variables_in e.condition ++ option_map_or delay_reads (delay_given e.kind) []) (flat_map variables_in e.values) reads in
+      let values = every-flat_map (Holds s t) variables_in e.values (every-behind (Holds s t) (variables_in e.condition ++ option_map_or delay_reads (delay_given e.kind) []) (flat_map variables_in e.values) reads) in
+      ap₂ (λ (c : OrFault ℤ) (a : OrFault Planned). c >>= λ c. cond (is_one c) a (Ok p)) (value-held g s t clk e.condition (every-front (Holds s t) (variables_in e.condition) (option_map_or delay_reads (delay_given e.kind) []) front)) (act-held e e.kind (every-behind (Holds s t) (variables_in e.condition) (option_map_or delay_reads (delay_given e.kind) []) front) values p)

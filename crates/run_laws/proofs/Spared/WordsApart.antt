@@ -1,13 +1,14 @@
 -- An edge does the same, whatever words were taken from the streams from which it doesn't draw.
 use Rattle.std.proofs.Common.{◌≡◌, ℕ, ◌+◌, Bool, true, false, cond, List, [], slice_set, Ok, refl, ◌∙◌, ap}
 use Rattle.std.specs.List.{AllByRecursion}
+use Rattle.std.specs.Option.{option_map_or}
 use Rattle.sig_base.specs.Stream.{word}
-use Rattle.model_core.specs.EventGraph.{EventGraph, EventEdge, Delay, Fixed, Drawn, EdgeKind, Schedule, Urgent, CancelNext, CancelEqual, CancelAll}
+use Rattle.model_core.specs.EventGraph.{EventGraph, EventEdge, Delay, Fixed, Drawn, EdgeKind, Schedule, Urgent, CancelNext, CancelEqual, CancelAll, delay_given}
 use Rattle.model_core.specs.Run.State.{State}
 use Rattle.model_core.specs.Run.Value.{OrFault, ◌>>=◌, value_of, is_one}
 use Rattle.model_core.specs.Run.Changes.{taken_from, picked}
 use Rattle.model_core.specs.Run.Edges.{Planned, Waiting, delay_ticks, delay_of, carried_values, scheduled, act, treat}
-use Rattle.model_core.specs.Rules.Uses.{delay_streams, timing_streams, edge_streams, is_drawn, timing_is_drawn, has_drawn_delay}
+use Rattle.model_core.specs.Rules.Uses.{delay_streams, edge_streams, is_drawn, has_drawn_delay}
 use Rattle.run_laws.proofs.Spared.InTurn.{result_by, bind-after, bind-within}
 
 -- a change of the words taken that leaves this stream as it is, before and after a word of it is taken
@@ -33,7 +34,7 @@ module _ (g : EventGraph) (seed : ℕ) (s : State) (clk : ℕ) (u : List ℕ →
       bind-within (wait_changed u) (delay_ticks (picked g choice (word seed stream (taken_from taken stream)))) _ _ (λ n is.
       ap (λ (t : List ℕ). let r : OrFault Waiting = Ok (record { ticks = n; taken = t }) in r) (apart.set_after taken (taken_from taken stream + 1)))
 
-  act-apart : (e : EventEdge) (kind : EdgeKind) → AllByRecursion (WordsApart u) (timing_streams kind) → (p : Planned) → act g seed s clk e kind (words_changed u p) ≡ result_by (words_changed u) (act g seed s clk e kind p)
+  act-apart : (e : EventEdge) (kind : EdgeKind) → AllByRecursion (WordsApart u) (option_map_or delay_streams (delay_given kind) []) → (p : Planned) → act g seed s clk e kind (words_changed u p) ≡ result_by (words_changed u) (act g seed s clk e kind p)
   act-apart e (Schedule delay priority) streams p =
       let next : Waiting → OrFault Planned = λ wait. carried_values g s clk e >>= λ values. Ok (record { pending = scheduled (clk + wait.ticks) priority e.target p.pending values; taken = wait.taken }) in
       ap (λ (r : OrFault Waiting). r >>= next) (delay-apart delay streams p.taken) ∙
@@ -56,7 +57,7 @@ delay-undrawn : (d : Delay) → is_drawn d ≡ false → delay_streams d ≡ []
 delay-undrawn (Fixed e) fixed = refl
 delay-undrawn (Drawn stream choice) fixed = cc
 
-timing-undrawn : (kind : EdgeKind) → timing_is_drawn kind ≡ false → timing_streams kind ≡ []
+timing-undrawn : (kind : EdgeKind) → option_map_or is_drawn (delay_given kind) false ≡ false → option_map_or delay_streams (delay_given kind) [] ≡ []
 timing-undrawn (Schedule delay priority) fixed = delay-undrawn delay fixed
 timing-undrawn Urgent fixed = refl
 timing-undrawn CancelNext fixed = refl

@@ -1,8 +1,8 @@
 -- What the parts of a snapshot stand for, as the code has read them.
-use Rattle.std.specs.Prelude.{map}
+use Rattle.std.specs.Prelude.{[], map, unwrap_or}
 use Rattle.std.specs.Option.{option_map}
 use Rattle.model_core.specs.Code.WrittenViews.{written_number, written_signed}
-use Rattle.model_core.specs.Text.SnapshotGrammar.{WrittenStream, WrittenValue, WrittenNoted, WrittenCarried, WrittenPending, WrittenSnapshot, or_none}
+use Rattle.model_core.specs.Text.SnapshotGrammar.{WrittenStream, WrittenValue, WrittenNoted, WrittenCarried, WrittenPending, WrittenSnapshot}
 use Rattle.model_read.specs.Spelled.{spelled_name, digits_written}
 use Rattle.snapshot_text.specs.declared.parts.RawStream.{RawStream}
 use Rattle.snapshot_text.specs.declared.parts.RawValue.{RawValue}
@@ -18,7 +18,7 @@ abbrev pub written_value : RawValue → WrittenValue
 written_value v = record { at = v.at; variable = spelled_name v.variable; values = map written_signed v.values }
 
 abbrev pub written_noted : RawNoted → WrittenNoted
-written_noted n = record { at = n.at; values = or_none (option_map (map written_signed) n.values) }
+written_noted n = record { at = n.at; values = unwrap_or (option_map (map written_signed) n.values) [] }
 
 abbrev pub written_carried : RawCarried → WrittenCarried
 written_carried c = record { negative = c.negative; exact = digits_written c.digits }
@@ -29,7 +29,7 @@ written_pending p = record {
   ticks = written_number p.ticks;
   priority = written_number p.priority;
   vertex = spelled_name p.vertex;
-  values = or_none (option_map (map written_carried) p.values);
+  values = unwrap_or (option_map (map written_carried) p.values) [];
 }
 
 abbrev pub written_snapshot : RawSnapshot → WrittenSnapshot

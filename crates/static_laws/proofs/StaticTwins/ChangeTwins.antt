@@ -15,7 +15,7 @@ use Rattle.model_core.specs.Text.Numbering.{◌>>=◌, each_numbered, declared_p
 use Rattle.model_core.specs.Static.FaultOrder.{StaticFault}
 use Rattle.model_core.specs.Static.Meanings.{Meaning, AsScalar, AsArray, AsTable}
 use Rattle.model_core.specs.Static.RuleTable.{value_count, kind_mismatch, number_too_large, literal_too_large, empty_range, draw_outside, stream_outside, too_many}
-use Rattle.model_core.specs.Static.PartFaults.{use_faults, operand_faults, values_faults, target_kind, target_faults, target_place, choice_faults, source_faults, change_faults}
+use Rattle.model_core.specs.Static.PartFaults.{use_faults, operand_faults, values_faults, target_kind, target_faults, choice_faults, source_faults, change_faults}
 use Rattle.model_core.specs.Static.HasKind.{HasKind}
 use Rattle.model_core.specs.Static.OwnRules.{TakesKind, KeepsChoice, KeepsSource, KeepsChange}
 use Rattle.model_core.proofs.EmptyLists.{left_empty, right_empty}
@@ -136,7 +136,7 @@ module _ (means : List ℕ → Option Meaning) (d : Declared) (variables : List 
           graph.Set k.locations ys,
           rw (k.are, are) refl,
           (
-            (few_items TARGETS_MAX target_place (numbering.location d) targets k.locations k.are).0 (right_empty (value_count (length targets) (length values) at) few (left_empty counts of_targets rest)),
+            (few_items TARGETS_MAX (λ (t : WrittenTarget). t.at) (numbering.location d) targets k.locations k.are).0 (right_empty (value_count (length targets) (length values) at) few (left_empty counts of_targets rest)),
             record { kinds = k.kinds; taken = k.taken; given = given },
           ),
         );
@@ -146,7 +146,7 @@ module _ (means : List ℕ → Option Meaning) (d : Declared) (variables : List 
   }
     where
       few : List StaticFault
-      few = too_many TARGETS_MAX (map target_place targets)
+      few = too_many TARGETS_MAX (map (λ (t : WrittenTarget). t.at) targets)
 
       counts : List StaticFault
       counts = value_count (length targets) (length values) at ++ few
@@ -160,7 +160,7 @@ module _ (means : List ℕ → Option Meaning) (d : Declared) (variables : List 
           let same : length t.kinds ≡ length values = sym (zip_length (HasKind variables) ys t.kinds t.given) ∙ each_length (numbering.expression d) values ys is_ys in
           both_empty (counts ++ of_targets) (values_faults means (map (target_kind means) targets) values)
           (both_empty counts of_targets
-          (both_empty (value_count (length targets) (length values) at) few ((same_count (length targets) (length values) at).1 (sym u.count ∙ same)) ((few_items TARGETS_MAX target_place (numbering.location d) targets ls is_ls).1 short))
+          (both_empty (value_count (length targets) (length values) at) few ((same_count (length targets) (length values) at).1 (sym u.count ∙ same)) ((few_items TARGETS_MAX (λ (t : WrittenTarget). t.at) (numbering.location d) targets ls is_ls).1 short))
           u.none)
           (rw u.known ((values_twin means d variables tables vertices agree t.kinds values same).unbroken ys is_ys t.given))
 

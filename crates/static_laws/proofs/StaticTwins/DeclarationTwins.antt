@@ -16,7 +16,7 @@ use Rattle.model_core.specs.Run.Value.{number_of}
 use Rattle.model_core.specs.Text.Numbering.{◌>>=◌, each_numbered, natural_of, natural, signed}
 use Rattle.model_core.specs.Static.FaultOrder.{StaticFault}
 use Rattle.model_core.specs.Static.RuleTable.{certain_number, certain_value, name_too_long, kind_mismatch, number_too_large, literal_too_large, empty_range, initial_outside, weight_outside, too_many}
-use Rattle.model_core.specs.Static.PartFaults.{if_written, size_faults, range_faults, variable_faults, rows_faults, table_faults, row_place}
+use Rattle.model_core.specs.Static.PartFaults.{if_written, size_faults, range_faults, variable_faults, rows_faults, table_faults}
 use Rattle.model_core.specs.Static.OwnRules.{IsShort, IsLiteral, KeepsVariable, KeepsRow, KeepsTable}
 use Rattle.model_core.specs.Static.WrittenByKind.{IsNoZero, SuitsKind, IsWrittenByKind}
 use Rattle.static_laws.proofs.StaticTwins.MadeOf.{OfFour, of_two, of_four, of_each, each_cons, each_length}
@@ -224,8 +224,8 @@ table_twin t =
     twin_map (λ rows. record { name = t.name.name; rows = rows }) _ (each_numbered numbering.row t.rows) Kept KeepsTable
     (λ ys p. record { name = p.0; rows = p.1.1.0; few = p.1.0; weights = p.1.1.1 })
     (λ ys k. (k.name, (k.few, (k.rows, k.weights))))
-    (twin_joined (name_too_long t.name) (too_many ROWS_MAX (map row_place t.rows)) (rows_faults (pos 0) t.rows) _ Kept
-    (twin_behind (name_too_long t.name) (too_many ROWS_MAX (map row_place t.rows) ++ rows_faults (pos 0) t.rows) _ (IsShort t.name.name) _ (short_name t.name) few_rows))
+    (twin_joined (name_too_long t.name) (too_many ROWS_MAX (map (λ (r : WrittenRow). r.at) t.rows)) (rows_faults (pos 0) t.rows) _ Kept
+    (twin_behind (name_too_long t.name) (too_many ROWS_MAX (map (λ (r : WrittenRow). r.at) t.rows) ++ rows_faults (pos 0) t.rows) _ (IsShort t.name.name) _ (short_name t.name) few_rows))
   where
     KeptRows : List Weighted → Type 0
     KeptRows ys = (length ys ≤ ROWS_MAX) × (AllByRecursion KeepsRow ys × (weights ys ≤ WEIGHTS_MAX))
@@ -233,8 +233,8 @@ table_twin t =
     Kept : List Weighted → Type 0
     Kept ys = IsShort t.name.name × KeptRows ys
 
-    few_rows : Twin (too_many ROWS_MAX (map row_place t.rows) ++ rows_faults (pos 0) t.rows) (each_numbered numbering.row t.rows) KeptRows
+    few_rows : Twin (too_many ROWS_MAX (map (λ (r : WrittenRow). r.at) t.rows) ++ rows_faults (pos 0) t.rows) (each_numbered numbering.row t.rows) KeptRows
     few_rows =
-        twin_before (too_many ROWS_MAX (map row_place t.rows)) (rows_faults (pos 0) t.rows) (each_numbered numbering.row t.rows) (λ ys. length ys ≤ ROWS_MAX) _
-        (λ ys s. few_items ROWS_MAX row_place numbering.row t.rows ys s)
+        twin_before (too_many ROWS_MAX (map (λ (r : WrittenRow). r.at) t.rows)) (rows_faults (pos 0) t.rows) (each_numbered numbering.row t.rows) (λ ys. length ys ≤ ROWS_MAX) _
+        (λ ys s. few_items ROWS_MAX (λ (r : WrittenRow). r.at) numbering.row t.rows ys s)
         (twin_as _ _ _ _ (λ ys s p. (p.0, omega (arith, p.1))) (λ ys s p. (p.0, omega (arith, p.1))) (rows_twin 0 t.rows (lit≤ tt)))

@@ -10,20 +10,21 @@ use Rattle.model_core.specs.declared.static_kind.StaticKind.TheVariants as rules
 use Rattle.model_core.specs.EventGraph.{EventGraph, EventVertex, Variable, WeightTable, Watched}
 use Rattle.model_core.specs.Text.Lexing.{same_bytes}
 use Rattle.model_core.specs.Text.Canonical.{canonical}
-use Rattle.model_core.specs.Text.Written.{WrittenVariable, WrittenTable, WrittenVertex, WrittenModel}
+use Rattle.model_core.specs.Text.Written.{WrittenVariable, WrittenTable, WrittenVertex, WrittenModel, WrittenEdge}
 use Rattle.model_core.specs.Text.Numbering as numbering
 use Rattle.model_core.specs.Text.Numbering.{◌>>=◌, each_numbered, written_or, Declared, declared_by, numbered}
 use Rattle.model_core.specs.Text.Spellable.{declared_names}
 use Rattle.model_core.specs.Static.FaultOrder.{StaticFault}
 use Rattle.model_core.specs.Static.Meanings.{declarations, declared_name}
 use Rattle.model_core.specs.Static.RuleTable.{name_too_long, too_many, model_too_long}
-use Rattle.model_core.specs.Static.PartFaults.{written_items, repeated_names, variable_word_place, table_word_place, vertex_word_place, change_place, edge_place, change_faults, edge_faults, parameters_faults, variable_faults, table_faults, vertex_faults}
+use Rattle.model_core.specs.Static.PartFaults.{written_items, repeated_names, change_place, change_faults, edge_faults, parameters_faults, variable_faults, table_faults, vertex_faults}
 use Rattle.model_core.specs.Static.ModelFaults.{model_meaning, model_takes, watch_faults, faults_of_counts, faults_of_parts, or_too_long, model_faults, Accepted}
 use Rattle.model_core.specs.Static.VersionFaults.{version_faults}
 use Rattle.model_core.specs.Static.HasKind.{IsVariable}
 use Rattle.model_core.specs.Static.OwnRules.{IsShort, KeepsVariable, KeepsTable, KeepsVertex, IsWatchable, watch_number, KeepsParts, KeepsStaticRules}
 use Rattle.model_core.specs.Static.WrittenByKind.{IsWrittenByKind, VariablesByKind}
 use Rattle.model_core.proofs.EmptyLists.{left_empty, right_empty}
+use Rattle.model_core.proofs.EachOne.{every-images}
 use Rattle.static_laws.specs.FitsVersion.{FitsVersion}
 use Rattle.static_laws.proofs.StaticTwins.MadeOf.{of_one, of_three, of_four, of_each, each_cons, each_length}
 use Rattle.static_laws.proofs.StaticTwins.Twins.{both_empty, Twin, twin_each, twin_each_with}
@@ -43,13 +44,6 @@ each_via f q h same [] ys e = ap (λ zs. Some (map q zs)) (same_Some [] ys e)
 each_via f q h same (x ∷ xs) ys e =
     let p = of_each f x xs ys e in
     each_cons h x xs (q p.a) (map q p.b) (same x p.a p.is_a) (each_via f q h same xs p.b p.is_b) ∙ ap (λ zs. Some (map q zs)) p.made
-
-every_map : {A B : Type 0} (P : A → Type 0) (Q : B → Type 0) (q : A → B) → ((x : A) → P x → Q (q x)) → (xs : List A) → AllByRecursion P xs → AllByRecursion Q (map q xs)
-every_map P Q q give [] h = tt
-every_map P Q q give (x ∷ xs) h = (give x h.0, every_map P Q q give xs h.1)
-
-every_of_map : {A B : Type 0} (P : A → Type 0) (Q : B → Type 0) (q : B → A) → ((y : B) → Q y → P (q y)) → (ys : List B) → AllByRecursion Q ys → AllByRecursion P (map q ys)
-every_of_map P Q q give ys h = every_map Q P q give ys h
 
 table_name_same : (t : WrittenTable) (y : WeightTable) → numbering.table t ≡ Some y → y.name ≡ t.name.name
 table_name_same t y e = let p = of_one (λ rows. record { name = t.name.name; rows = rows }) (each_numbered numbering.row t.rows) y e in ap (λ (x : WeightTable). x.name) (sym p.made)
@@ -146,16 +140,16 @@ module _ (m : WrittenModel) where
 
   short_variables : (ys : List Variable) → each_numbered numbering.variable m.variables ≡ Some ys → AllByRecursion KeepsVariable ys → AllByRecursion IsShort variable_names
   unfolding variable_names
-  short_variables ys s h = subst (AllByRecursion IsShort) (each_same numbering.variable (λ (v : WrittenVariable). v.name.name) (λ (y : Variable). y.name) variable_name_same m.variables ys s) (every_of_map IsShort KeepsVariable (λ (y : Variable). y.name) (λ y k. k.name) ys h)
+  short_variables ys s h = subst (AllByRecursion IsShort) (each_same numbering.variable (λ (v : WrittenVariable). v.name.name) (λ (y : Variable). y.name) variable_name_same m.variables ys s) (every-images KeepsVariable IsShort (λ (y : Variable). y.name) (λ y k. k.name) ys h)
 
   short_tables : (ys : List WeightTable) → each_numbered numbering.table m.tables ≡ Some ys → AllByRecursion KeepsTable ys → AllByRecursion IsShort table_names
   unfolding table_names
-  short_tables ys s h = subst (AllByRecursion IsShort) (each_same numbering.table (λ (t : WrittenTable). t.name.name) (λ (y : WeightTable). y.name) table_name_same m.tables ys s) (every_of_map IsShort KeepsTable (λ (y : WeightTable). y.name) (λ y k. k.name) ys h)
+  short_tables ys s h = subst (AllByRecursion IsShort) (each_same numbering.table (λ (t : WrittenTable). t.name.name) (λ (y : WeightTable). y.name) table_name_same m.tables ys s) (every-images KeepsTable IsShort (λ (y : WeightTable). y.name) (λ y k. k.name) ys h)
 
   vertex_front : (v : WrittenVertex) → vertex_faults (model_meaning m) (model_takes m) v ≡ [] → (name_too_long v.name ≡ []) × (parameters_faults (model_meaning m) (model_takes m) (written_items v.parameters) ≡ [])
   vertex_front v e =
       let few_changes = too_many CHANGES_MAX (map change_place v.changes) in
-      let few_edges = too_many EDGES_MAX (map edge_place v.edges) in
+      let few_edges = too_many EDGES_MAX (map (λ (e : WrittenEdge). e.at) v.edges) in
       let changes = flat_map (change_faults (model_meaning m)) v.changes in
       let edges = flat_map (edge_faults (model_meaning m) (model_takes m)) v.edges in
       let params = parameters_faults (model_meaning m) (model_takes m) (written_items v.parameters) in
@@ -175,11 +169,11 @@ module _ (m : WrittenModel) where
 
   short_written : of_vertices ≡ [] → AllByRecursion IsShort vertex_names
   unfolding vertex_names
-  short_written e = every_map (λ (v : WrittenVertex). (name_too_long v.name ≡ []) × (parameters_faults (model_meaning m) (model_takes m) (written_items v.parameters) ≡ [])) IsShort (λ (v : WrittenVertex). v.name.name) (λ v p. (short_name v.name).0 p.0) m.vertices (each_front m.vertices e)
+  short_written e = every-images (λ (v : WrittenVertex). (name_too_long v.name ≡ []) × (parameters_faults (model_meaning m) (model_takes m) (written_items v.parameters) ≡ [])) IsShort (λ (v : WrittenVertex). v.name.name) (λ v p. (short_name v.name).0 p.0) m.vertices (each_front m.vertices e)
 
   short_vertices : (ys : List EventVertex) (takes : List (List ℕ)) (variables : List Variable) (tables : ℕ) → each_numbered (numbering.vertex (declared_by m)) m.vertices ≡ Some ys → AllByRecursion (KeepsVertex variables tables takes) ys → AllByRecursion IsShort vertex_names
   unfolding vertex_names
-  short_vertices ys takes variables tables s h = subst (AllByRecursion IsShort) (each_same (numbering.vertex (declared_by m)) (λ (v : WrittenVertex). v.name.name) (λ (y : EventVertex). y.name) (vertex_name_same (declared_by m)) m.vertices ys s) (every_of_map IsShort (KeepsVertex variables tables takes) (λ (y : EventVertex). y.name) (λ y k. k.name) ys h)
+  short_vertices ys takes variables tables s h = subst (AllByRecursion IsShort) (each_same (numbering.vertex (declared_by m)) (λ (v : WrittenVertex). v.name.name) (λ (y : EventVertex). y.name) (vertex_name_same (declared_by m)) m.vertices ys s) (every-images (KeepsVertex variables tables takes) IsShort (λ (y : EventVertex). y.name) (λ y k. k.name) ys h)
 
   -- ---- where names agree
 
@@ -234,12 +228,12 @@ module _ (m : WrittenModel) where
   counts_few : (variables : List Variable) (tables : List WeightTable) (vertices : List EventVertex) → each_numbered numbering.variable m.variables ≡ Some variables → each_numbered numbering.table m.tables ≡ Some tables → each_numbered (numbering.vertex (declared_by m)) m.vertices ≡ Some vertices
       → faults_of_counts m ≡ [] ↔ ((length variables ≤ VARIABLES_MAX) × (length tables ≤ TABLES_MAX) × (length vertices ≤ VERTICES_MAX))
   counts_few variables tables vertices v t x =
-      let cv = too_many VARIABLES_MAX (map variable_word_place m.variables) in
-      let ct = too_many TABLES_MAX (map table_word_place m.tables) in
-      let cx = too_many VERTICES_MAX (map vertex_word_place m.vertices) in
-      let tv = few_items VARIABLES_MAX variable_word_place numbering.variable m.variables variables v in
-      let tt_ = few_items TABLES_MAX table_word_place numbering.table m.tables tables t in
-      let tx = few_items VERTICES_MAX vertex_word_place (numbering.vertex (declared_by m)) m.vertices vertices x in (
+      let cv = too_many VARIABLES_MAX (map (λ (v : WrittenVariable). v.at) m.variables) in
+      let ct = too_many TABLES_MAX (map (λ (t : WrittenTable). t.at) m.tables) in
+      let cx = too_many VERTICES_MAX (map (λ (v : WrittenVertex). v.at) m.vertices) in
+      let tv = few_items VARIABLES_MAX (λ (v : WrittenVariable). v.at) numbering.variable m.variables variables v in
+      let tt_ = few_items TABLES_MAX (λ (t : WrittenTable). t.at) numbering.table m.tables tables t in
+      let tx = few_items VERTICES_MAX (λ (v : WrittenVertex). v.at) (numbering.vertex (declared_by m)) m.vertices vertices x in (
         λ e. (tv.0 (left_empty cv ct (left_empty (cv ++ ct) cx e)), tt_.0 (right_empty cv ct (left_empty (cv ++ ct) cx e)), tx.0 (right_empty (cv ++ ct) cx e)),
         λ h. both_empty (cv ++ ct) cx (both_empty cv ct (tv.1 h.0) (tt_.1 h.1)) (tx.1 h.2),
       )
@@ -300,7 +294,7 @@ module _ (m : WrittenModel) where
           let takes = map (λ (y : EventVertex). y.parameters) vertices in
           let agree = agreement variables is_v by_kind distinct (short_variables variables is_v k.variables) (short_tables tables is_t k.tables) (short_vertices vertices takes variables (length tables) is_x k.vertices) in
           let are = each_via (numbering.vertex (declared_by m)) (λ (y : EventVertex). y.parameters) (numbered_parameters (declared_by m)) (vertex_parameters (declared_by m)) m.vertices vertices is_x in
-          let parameters : AllByRecursion (AreParameters variables) takes = every_of_map (AreParameters variables) (KeepsVertex variables (length tables) takes) (λ (y : EventVertex). y.parameters) (λ y q. q.parameters) vertices k.vertices in
+          let parameters : AllByRecursion (AreParameters variables) takes = every-images (KeepsVertex variables (length tables) takes) (AreParameters variables) (λ (y : EventVertex). y.parameters) (λ y q. q.parameters) vertices k.vertices in
           let x = (vertices_twin variables agree takes are parameters).unbroken vertices is_x (subst (λ j. AllByRecursion (KeepsVertex variables j takes) vertices) (each_length numbering.table m.tables tables is_t) k.vertices) in
           let w = (watch_twin variables agree).unbroken watch is_w (
             subst (λ i. AllByRecursion (IsWatchable (length variables) i) watch) (each_length (numbering.vertex (declared_by m)) m.vertices vertices is_x) k.watch,
@@ -340,6 +334,11 @@ nothing_contained (f ∷ fs) h = absurd (h f (0, omega arith, refl))
 pub empty_contains : (f : StaticFault) → Contains [] f → ⊥
 empty_contains f (k, lt, at) = omega arith
 
+-- nothing is too long, and no part is broken
+pub none_of_parts : (m : WrittenModel) (limit : ℕ) (fs : List StaticFault) → or_too_long m limit fs ≡ [] → fs ≡ []
+none_of_parts m limit [] e = refl
+none_of_parts m limit (f ∷ fs) e = cc
+
 module _ (m : WrittenModel) (g : EventGraph) (limit : ℕ) where
   -- the rule on the length of the canonical text
   not_too_long : (text : List ℕ) (at : ℕ) → model_too_long limit text at ≡ [] ↔ length text ≤ limit
@@ -352,13 +351,9 @@ module _ (m : WrittenModel) (g : EventGraph) (limit : ℕ) where
       by_number None e = cc
       by_number (Some h) e = ap (λ x. model_too_long limit (canonical x) m.end_at) (same_Some h g e)
 
-  none_of_parts : (fs : List StaticFault) → or_too_long m limit fs ≡ [] → fs ≡ []
-  none_of_parts [] e = refl
-  none_of_parts (f ∷ fs) e = cc
-
   all_kept : or_too_long m limit (faults_of_parts m ++ version_faults m) ≡ [] → numbered m ≡ Some g → KeepsParts g × VariablesByKind m × FitsVersion m.version g × HasFewCells g × (length (canonical g) ≤ limit)
   all_kept e is =
-      let none = none_of_parts (faults_of_parts m ++ version_faults m) e in
+      let none = none_of_parts m limit (faults_of_parts m ++ version_faults m) e in
       let (h, is_h, keeps, by_kind, fits, few) = version_kept m none in
       let same : h ≡ g = same_Some h g (sym is_h ∙ is) in
       (subst KeepsParts same keeps, by_kind, subst (FitsVersion m.version) same fits, subst HasFewCells same few, (not_too_long (canonical g) m.end_at).0 (sym (too_long_or_not is) ∙ sym (ap (or_too_long m limit) none) ∙ e))

@@ -10,7 +10,8 @@ use Rattle.model_core.specs.Static.Meanings.{Meaning, MeansVariable, MeansTable,
 use Rattle.model_core.specs.Static.Kinds.{kind_in_role}
 use Rattle.model_core.specs.Static.RuleTable.{name_too_long, unknown_name, wrong_use}
 use Rattle.model_core.specs.Static.PartFaults.{use_faults}
-use Rattle.model_core.specs.Static.HasKind.{is_array, IsVariable}
+use Rattle.model_core.specs.Static.HasKind.{IsVariable}
+use Rattle.model_core.specs.Run.State.{is_array}
 use Rattle.model_core.specs.Static.OwnRules.{IsShort}
 use Rattle.model_core.proofs.EmptyLists.{left_empty, right_empty}
 use Rattle.static_laws.proofs.StaticTwins.Twins.{both_empty, broken_not, Twin}

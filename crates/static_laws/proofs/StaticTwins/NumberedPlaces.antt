@@ -1,10 +1,10 @@
 -- Names and the places at which they are declared: the same name has the same place, and one place has one name.
-use Rattle.std.proofs.Common.{◌≡◌, ℕ, zero, suc, ◌+◌, ◌<◌, Bool, true, false, cond, List, [], ◌∷◌, ◌++◌, map, length, Option, Some, None, nat_eq, refl, sym, ap, subst, ◌∙◌, add-one, true≢false, arith}
+use Rattle.std.proofs.Common.{◌≡◌, ℕ, zero, suc, ◌+◌, ◌<◌, Bool, true, false, cond, List, [], ◌∷◌, ◌++◌, map, length, Option, Some, None, nat_eq, refl, sym, ap, subst, ◌∙◌, add-one, true≢false}
 use Rattle.std.specs.Prelude.{slice_get}
 use Rattle.std.specs.List.{AllByRecursion, AllZip, IsDistinct}
 use Rattle.std.specs.Option.{option_map}
 use Rattle.std.proofs.lemmas.Option.{same_Some, slice_get_within}
-use Rattle.std.proofs.lemmas.Bool.Decides.{nat_tests}
+use Rattle.std.proofs.lemmas.Bool.{eqb-true, eqb-false}
 use lib.Pointwise.{bytes_decides}
 use Rattle.model_core.specs.Text.Lexing.{same_bytes}
 use Rattle.model_core.specs.Text.Numbering.{declared_place, each_numbered}
@@ -39,14 +39,8 @@ same_place ns a b j k p q = by_test (same_bytes a b) refl (nat_eq j k) refl
     by_test : (s : Bool) → same_bytes a b ≡ s → (t : Bool) → nat_eq j k ≡ t → s ≡ t
     by_test true e true f = refl
     by_test false e false f = refl
-    by_test true e false f = let same : j ≡ k = one_number ((bytes_decides a b).0 e) in absurd (contra j k f same)
-      where
-        contra : (j k : ℕ) → nat_eq j k ≡ false → j ≡ k → ⊥
-        contra j k f e = grind (arith, nat_tests)
-    by_test false e true f = let same : a ≡ b = one_name (equal j k f) in absurd (true≢false (sym ((bytes_decides a b).1 same) ∙ e))
-      where
-        equal : (j k : ℕ) → nat_eq j k ≡ true → j ≡ k
-        equal j k f = grind (arith, nat_tests)
+    by_test true e false f = let same : j ≡ k = one_number ((bytes_decides a b).0 e) in absurd (eqb-false j k f same)
+    by_test false e true f = let same : a ≡ b = one_name (eqb-true j k f) in absurd (true≢false (sym ((bytes_decides a b).1 same) ∙ e))
 
 -- items and what they are numbered as
 pub each_zip : {A B : Type 0} (f : A → Option B) (xs : List A) (ys : List B) → each_numbered f xs ≡ Some ys → AllZip (λ x y. f x ≡ Some y) xs ys

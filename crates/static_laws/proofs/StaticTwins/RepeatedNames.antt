@@ -1,7 +1,8 @@
 -- No name of a list is told as repeated exactly where its names are distinct, and so are the numbers that they stand for.
-use Rattle.std.proofs.Common.{◌≡◌, ◌↔◌, Bool, true, false, ◌||◌, List, [], ◌∷◌, map, ℕ, refl, sym, ◌∙◌, true≢false}
+use Rattle.std.proofs.Common.{◌≡◌, ◌↔◌, Bool, false, List, [], ◌∷◌, map, ℕ, refl, sym, ◌∙◌}
 use Rattle.std.specs.List.{AllByRecursion, AllZip, IsDistinct, list_any}
 use Rattle.std.proofs.lemmas.Cmp.{nat_list_eq_equiv}
+use Rattle.std.proofs.lemmas.Bool.{or_parts, or_from}
 use Rattle.model_core.specs.declared.static_kind.StaticKind.TheVariants as rules
 use Rattle.model_core.specs.Text.Lexing.{same_bytes}
 use Rattle.model_core.specs.Text.Written.{WrittenName}
@@ -17,24 +18,17 @@ names_of ns = map (λ (n : WrittenName). n.name) ns
 abbrev IsNew : List (List ℕ) → List ℕ → Type 0
 IsNew earlier name = list_any (same_bytes name) earlier ≡ false
 
-neither : (a b : Bool) → (a || b) ≡ false → (a ≡ false) × (b ≡ false)
-neither true b e = absurd (true≢false e)
-neither false b e = (refl, e)
-
-nor : (a b : Bool) → a ≡ false → b ≡ false → (a || b) ≡ false
-nor a b e f = rw (e, f) refl
-
 -- what is new behind one more name is new and isn't that name
 behind : (earlier : List (List ℕ)) (name : List ℕ) (ns : List (List ℕ)) → AllByRecursion (IsNew (name ∷ earlier)) ns → AllByRecursion (IsNew earlier) ns × AllByRecursion (λ m. same_bytes name m ≡ false) ns
 behind earlier name [] h = (tt, tt)
 behind earlier name (m ∷ ns) h =
-    let p = neither (same_bytes m name) (list_any (same_bytes m) earlier) h.0 in
+    let p = or_parts (same_bytes m name) (list_any (same_bytes m) earlier) h.0 in
     let q = behind earlier name ns h.1 in
     ((p.1, q.0), (nat_list_eq_equiv.symm name m ∙ p.0, q.1))
 
 in_front : (earlier : List (List ℕ)) (name : List ℕ) (ns : List (List ℕ)) → AllByRecursion (IsNew earlier) ns → AllByRecursion (λ m. same_bytes name m ≡ false) ns → AllByRecursion (IsNew (name ∷ earlier)) ns
 in_front earlier name [] h k = tt
-in_front earlier name (m ∷ ns) h k = (nor (same_bytes m name) (list_any (same_bytes m) earlier) (nat_list_eq_equiv.symm m name ∙ k.0) h.0, in_front earlier name ns h.1 k.1)
+in_front earlier name (m ∷ ns) h k = (or_from (same_bytes m name) (list_any (same_bytes m) earlier) (nat_list_eq_equiv.symm m name ∙ k.0) h.0, in_front earlier name ns h.1 k.1)
 
 not_repeated : (earlier : List (List ℕ)) (ns : List WrittenName) → repeated_names earlier ns ≡ [] → AllByRecursion (IsNew earlier) (names_of ns) × IsDistinct same_bytes (names_of ns)
 unfolding IsDistinct

@@ -2,6 +2,7 @@
 use Rattle.std.proofs.Common.{◌≡◌, ◌↔◌, ℕ, ◌+◌, ◌*◌, ◌≤◌, ℤ, pos, negsuc, Bool, true, false, cond, not, ◌||◌, inl, inr, List, [], ◌∷◌, ◌++◌, map, length, Option, Some, None, nat_le, nat_lt, lit≤, refl, sym, ap, subst, ◌∙◌, true≢false, arith}
 use Rattle.std.specs.Prelude.{sum_by}
 use Rattle.std.specs.List.{flat_map, list_any, AllByRecursion}
+use Rattle.std.specs.Option.{option_map_or}
 use Rattle.std.proofs.lemmas.Int.{ints}
 use Rattle.std.proofs.lemmas.List.Sums.{sum_by-cons}
 use Rattle.std.proofs.lemmas.Bool.Decides.{nat_tests}
@@ -9,17 +10,17 @@ use Rattle.std.proofs.lemmas.Option.{same_Some}
 use Rattle.sig_base.specs.declared.limits.TheConstants.{ARRAY_CELLS_MAX, ARRAY_CELLS_MAX_VERSION_1, CELLS_MAX, PARAMETERS_MAX_VERSION_1, TARGETS_MAX_VERSION_1}
 use Rattle.model_core.specs.declared.static_kind.StaticKind.TheVariants as rules
 use Rattle.model_core.specs.EventGraph as graph
-use Rattle.model_core.specs.EventGraph.{EventGraph, EventVertex, EventEdge, Delay, EdgeKind, StateChange, Variable, WeightTable, Watched}
+use Rattle.model_core.specs.EventGraph.{EventGraph, EventVertex, EventEdge, Delay, EdgeKind, delay_given, StateChange, Variable, WeightTable, Watched}
 use Rattle.model_core.specs.Text.Written as written
-use Rattle.model_core.specs.Text.Written.{WrittenNumber, WrittenVariable, WrittenChange, WrittenDelay, WrittenEdgeKind, WrittenEdge, WrittenVertex, WrittenModel}
+use Rattle.model_core.specs.Text.Written.{WrittenName, WrittenNumber, WrittenVariable, WrittenTarget, WrittenChange, WrittenDelay, WrittenEdgeKind, WrittenEdge, WrittenVertex, WrittenModel}
 use Rattle.model_core.specs.Text.Numbering as numbering
 use Rattle.model_core.specs.Text.Numbering.{◌>>=◌, each_numbered, written_or, declared_place, Declared, declared_by, natural_of, natural, numbered}
-use Rattle.model_core.specs.Rules.Uses.{is_drawn, timing_is_drawn, has_drawn_delay}
+use Rattle.model_core.specs.Rules.Uses.{is_drawn, has_drawn_delay}
 use Rattle.model_core.specs.Text.VersionNeeded.{is_large_array, has_many_targets, has_later_parts, needs_version_two}
 use Rattle.model_core.specs.Static.FaultOrder.{StaticFault, fault_where}
 use Rattle.model_core.specs.Static.RuleTable.{is_between, certain_value, size_outside, too_many}
-use Rattle.model_core.specs.Static.PartFaults.{if_written, written_items, name_place, target_place}
-use Rattle.model_core.specs.Static.VersionFaults.{is_version_two, number_faults, size_faults_version_1, target_faults_version_1, delay_faults_version_1, timing_faults_version_1, edge_faults_version_1, vertex_faults_version_1, faults_version_1, cells_within, counted_cells, cells_faults, version_faults}
+use Rattle.model_core.specs.Static.PartFaults.{if_written, written_items}
+use Rattle.model_core.specs.Static.VersionFaults.{is_version_two, number_faults, size_faults_version_1, target_faults_version_1, delay_faults_version_1, vertex_faults_version_1, faults_version_1, counted_cells, cells_faults, version_faults}
 use Rattle.model_core.specs.Static.OwnRules.{KeepsVariable, KeepsParts}
 use Rattle.model_core.specs.Static.WrittenByKind.{IsNoZero, IsWrittenByKind, VariablesByKind}
 use Rattle.model_core.proofs.EachOne.{either_false}
@@ -86,44 +87,47 @@ module _ (d : Declared) where
   change_fits : (c : WrittenChange) (y : StateChange) → numbering.change d c ≡ Some y → target_faults_version_1 c ≡ [] ↔ has_many_targets y ≡ false
   change_fits (written.Set at targets values) y e =
       let p = of_two graph.Set (each_numbered (numbering.location d) targets) (each_numbered (numbering.expression d) values) y e in
-      subst (λ z. too_many TARGETS_MAX_VERSION_1 (map target_place targets) ≡ [] ↔ has_many_targets z ≡ false) p.made (few_fit TARGETS_MAX_VERSION_1 target_place (numbering.location d) targets p.a p.is_a)
+      subst (λ z. too_many TARGETS_MAX_VERSION_1 (map (λ (t : WrittenTarget). t.at) targets) ≡ [] ↔ has_many_targets z ≡ false) p.made (few_fit TARGETS_MAX_VERSION_1 (λ (t : WrittenTarget). t.at) (numbering.location d) targets p.a p.is_a)
   change_fits (written.Draw at target stream c) y e =
       let p = of_three graph.Draw (numbering.location d target) (natural stream) (numbering.choice d c) y e in
       none_fits [] (has_many_targets y) refl (ap has_many_targets (sym p.made))
 
-  delay_fits : (w : WrittenDelay) (y : Delay) → numbering.delay d w ≡ Some y → delay_faults_version_1 w ≡ [] ↔ is_drawn y ≡ false
-  delay_fits (written.Fixed e) y s = let p = of_one graph.Fixed (numbering.expression d e) y s in none_fits [] (is_drawn y) refl (ap is_drawn (sym p.made))
-  delay_fits (written.Drawn at stream c) y s =
+  after_fits : (after : Option WrittenDelay) (priority : Option WrittenNumber) (y : Delay) → written_or (numbering.delay d) (graph.Fixed (graph.Number (pos 0))) after ≡ Some y → delay_faults_version_1 (written.Schedule after priority) ≡ [] ↔ is_drawn y ≡ false
+  after_fits None priority y s = none_fits [] (is_drawn y) refl (ap is_drawn (sym (same_Some (graph.Fixed (graph.Number (pos 0))) y s)))
+  after_fits (Some (written.Fixed e)) priority y s = let p = of_one graph.Fixed (numbering.expression d e) y s in none_fits [] (is_drawn y) refl (ap is_drawn (sym p.made))
+  after_fits (Some (written.Drawn at stream c)) priority y s =
       let p = of_two graph.Drawn (natural stream) (numbering.choice d c) y s in
-      subst (λ z. delay_faults_version_1 (written.Drawn at stream c) ≡ [] ↔ is_drawn z ≡ false) p.made (told_by true rules.VersionNeeded at (λ e. e, λ e. e))
+      subst (λ z. delay_faults_version_1 (written.Schedule (Some (written.Drawn at stream c)) priority) ≡ [] ↔ is_drawn z ≡ false) p.made (told_by true rules.VersionNeeded at (λ e. e, λ e. e))
 
-  after_fits : (after : Option WrittenDelay) (y : Delay) → written_or (numbering.delay d) (graph.Fixed (graph.Number (pos 0))) after ≡ Some y → if_written delay_faults_version_1 after ≡ [] ↔ is_drawn y ≡ false
-  after_fits None y s = none_fits [] (is_drawn y) refl (ap is_drawn (sym (same_Some (graph.Fixed (graph.Number (pos 0))) y s)))
-  after_fits (Some w) y s = delay_fits w y s
+  abbrev draws : EdgeKind → Bool
+  draws kind = option_map_or is_drawn (delay_given kind) false
 
-  timing_fits : (k : WrittenEdgeKind) (y : EdgeKind) → numbering.edge_kind d k ≡ Some y → timing_faults_version_1 k ≡ [] ↔ timing_is_drawn y ≡ false
-  timing_fits (written.Schedule after priority) y s =
+  kind_fits : (k : WrittenEdgeKind) (y : EdgeKind) → numbering.edge_kind d k ≡ Some y → delay_faults_version_1 k ≡ [] ↔ draws y ≡ false
+  kind_fits (written.Schedule after priority) y s =
       let p = of_two graph.Schedule (written_or (numbering.delay d) (graph.Fixed (graph.Number (pos 0))) after) (written_or natural 5 priority) y s in
-      subst (λ z. if_written delay_faults_version_1 after ≡ [] ↔ timing_is_drawn z ≡ false) p.made (after_fits after p.a p.is_a)
-  timing_fits written.Urgent y s = none_fits [] (timing_is_drawn y) refl (ap timing_is_drawn (sym (same_Some graph.Urgent y s)))
-  timing_fits written.CancelNext y s = none_fits [] (timing_is_drawn y) refl (ap timing_is_drawn (sym (same_Some graph.CancelNext y s)))
-  timing_fits written.CancelEqual y s = none_fits [] (timing_is_drawn y) refl (ap timing_is_drawn (sym (same_Some graph.CancelEqual y s)))
-  timing_fits written.CancelAll y s = none_fits [] (timing_is_drawn y) refl (ap timing_is_drawn (sym (same_Some graph.CancelAll y s)))
+      subst (λ z. delay_faults_version_1 (written.Schedule after priority) ≡ [] ↔ draws z ≡ false) p.made (after_fits after priority p.a p.is_a)
+  kind_fits written.Urgent y s = none_fits [] (draws y) refl (ap draws (sym (same_Some graph.Urgent y s)))
+  kind_fits written.CancelNext y s = none_fits [] (draws y) refl (ap draws (sym (same_Some graph.CancelNext y s)))
+  kind_fits written.CancelEqual y s = none_fits [] (draws y) refl (ap draws (sym (same_Some graph.CancelEqual y s)))
+  kind_fits written.CancelAll y s = none_fits [] (draws y) refl (ap draws (sym (same_Some graph.CancelAll y s)))
 
-  edge_fits : (e : WrittenEdge) (y : EventEdge) → numbering.edge d e ≡ Some y → edge_faults_version_1 e ≡ [] ↔ has_drawn_delay y ≡ false
+  edge_fits : (e : WrittenEdge) (y : EventEdge) → numbering.edge d e ≡ Some y → delay_faults_version_1 e.kind ≡ [] ↔ has_drawn_delay y ≡ false
   edge_fits e y s =
       let p = of_four edge_made (declared_place e.target.name d.vertices) (written_or (each_numbered (numbering.expression d)) [] e.values) (written_or (numbering.expression d) (graph.Truth true) e.condition) (numbering.edge_kind d e.kind) y s in
-      subst (λ z. edge_faults_version_1 e ≡ [] ↔ has_drawn_delay z ≡ false) p.made (timing_fits e.kind p.d p.is_d)
+      subst (λ z. delay_faults_version_1 e.kind ≡ [] ↔ has_drawn_delay z ≡ false) p.made (kind_fits e.kind p.d p.is_d)
+
+  abbrev drawn_faults : WrittenEdge → List StaticFault
+  drawn_faults e = delay_faults_version_1 e.kind
 
   vertex_fits : (v : WrittenVertex) (y : EventVertex) → numbering.vertex d v ≡ Some y → vertex_faults_version_1 v ≡ [] ↔ has_later_parts y ≡ false
   vertex_fits v y e =
       let p = of_three (vertex_made v.name.name) (numbered_parameters d v) (each_numbered (numbering.change d) v.changes) (each_numbered (numbering.edge d) v.edges) y e in
       subst (λ z. vertex_faults_version_1 v ≡ [] ↔ has_later_parts z ≡ false) p.made
-      (both_fit (too_many PARAMETERS_MAX_VERSION_1 (map name_place (written_items v.parameters)) ++ flat_map target_faults_version_1 v.changes) (flat_map edge_faults_version_1 v.edges) (nat_lt PARAMETERS_MAX_VERSION_1 (length p.a) || list_any has_many_targets p.b) (list_any has_drawn_delay p.c)
-      (both_fit (too_many PARAMETERS_MAX_VERSION_1 (map name_place (written_items v.parameters))) (flat_map target_faults_version_1 v.changes) (nat_lt PARAMETERS_MAX_VERSION_1 (length p.a)) (list_any has_many_targets p.b)
-      (few_fit PARAMETERS_MAX_VERSION_1 name_place (numbering.numbered_parameter d) (written_items v.parameters) p.a (each_numbered-items (numbering.numbered_parameter d) v.parameters ∙ p.is_a))
+      (both_fit (too_many PARAMETERS_MAX_VERSION_1 (map (λ (n : WrittenName). n.at) (written_items v.parameters)) ++ flat_map target_faults_version_1 v.changes) (flat_map drawn_faults v.edges) (nat_lt PARAMETERS_MAX_VERSION_1 (length p.a) || list_any has_many_targets p.b) (list_any has_drawn_delay p.c)
+      (both_fit (too_many PARAMETERS_MAX_VERSION_1 (map (λ (n : WrittenName). n.at) (written_items v.parameters))) (flat_map target_faults_version_1 v.changes) (nat_lt PARAMETERS_MAX_VERSION_1 (length p.a)) (list_any has_many_targets p.b)
+      (few_fit PARAMETERS_MAX_VERSION_1 (λ (n : WrittenName). n.at) (numbering.numbered_parameter d) (written_items v.parameters) p.a (each_numbered-items (numbering.numbered_parameter d) v.parameters ∙ p.is_a))
       (each_fits target_faults_version_1 (numbering.change d) (λ c. Unit {0}) has_many_targets (λ c z k s. change_fits c z s) v.changes p.b (nothing_asked v.changes) p.is_b))
-      (each_fits edge_faults_version_1 (numbering.edge d) (λ w. Unit {0}) has_drawn_delay (λ w z k s. edge_fits w z s) v.edges p.c (nothing_asked v.edges) p.is_c))
+      (each_fits drawn_faults (numbering.edge d) (λ w. Unit {0}) has_drawn_delay (λ w z k s. edge_fits w z s) v.edges p.c (nothing_asked v.edges) p.is_c))
 
 -- ---- the cells of all arrays together
 
@@ -134,7 +138,7 @@ cells-cons : (y : Variable) (ys : List Variable) → cells (y ∷ ys) ≡ y.size
 cells-cons y ys = sum_by-cons (λ (v : Variable). v.size) y ys
 
 cells_are : (v : WrittenVariable) (y : Variable) → numbering.variable v ≡ Some y → y.size ≤ ARRAY_CELLS_MAX → counted_cells v ≡ y.size
-cells_are v y e h = ap cells_within (variable_size v y e) ∙ counted y.size ARRAY_CELLS_MAX h
+cells_are v y e h = ap (λ size. option_map_or (λ n. cond (nat_le n ARRAY_CELLS_MAX) n 0) size 0) (variable_size v y e) ∙ counted y.size ARRAY_CELLS_MAX h
   where
     counted : (k limit : ℕ) → k ≤ limit → cond (nat_le k limit) k 0 ≡ k
     counted k limit h = let few : nat_le k limit ≡ true = grind (arith, nat_tests) in rw few refl

@@ -17,7 +17,7 @@ use Rattle.model_core.specs.Text.Numbering.{◌>>=◌, each_numbered, written_or
 use Rattle.model_core.specs.Static.FaultOrder.{StaticFault}
 use Rattle.model_core.specs.Static.Meanings.{Meaning, MeansVertex, AsScalar, AsVertex}
 use Rattle.model_core.specs.Static.RuleTable.{name_too_long, value_count, too_many}
-use Rattle.model_core.specs.Static.PartFaults.{if_written, written_items, repeated_names, name_place, change_place, edge_place, use_faults, operand_faults, values_faults, count_faults, priority_faults, change_faults, parameter_kind, kinds_taken, target_takes, carried_faults, delay_faults, schedule_faults, edge_faults, parameters_faults, vertex_faults}
+use Rattle.model_core.specs.Static.PartFaults.{if_written, written_items, repeated_names, change_place, use_faults, operand_faults, values_faults, count_faults, priority_faults, change_faults, parameter_kind, kinds_taken, target_takes, carried_faults, delay_faults, schedule_faults, edge_faults, parameters_faults, vertex_faults}
 use Rattle.model_core.specs.Static.HasKind.{IsVariable, HasKind}
 use Rattle.model_core.specs.Static.OwnRules.{TakeCarried, CarriesValues, KeepsDelay, KeepsTiming, KeepsEdge, KeepsVertex, KeepsChange}
 use Rattle.model_core.proofs.EmptyLists.{left_empty, right_empty}
@@ -70,14 +70,14 @@ module _ (means : List ℕ → Option Meaning) (d : Declared) (variables : List 
   abbrev pub KeepsParameters : List ℕ → Type 0
   KeepsParameters vs = ((length vs ≤ PARAMETERS_MAX) × AllByRecursion (λ v. (kind : Kind) × IsVariable variables v false kind) vs) × IsDistinct nat_eq vs
 
-  items_twin : (ns : List WrittenName) → Twin (too_many PARAMETERS_MAX (map name_place ns) ++ flat_map (use_faults means AsScalar) ns ++ repeated_names [] ns) (each_numbered (numbering.numbered_parameter d) ns) KeepsParameters
+  items_twin : (ns : List WrittenName) → Twin (too_many PARAMETERS_MAX (map (λ (n : WrittenName). n.at) ns) ++ flat_map (use_faults means AsScalar) ns ++ repeated_names [] ns) (each_numbered (numbering.numbered_parameter d) ns) KeepsParameters
   items_twin ns = record {
     kept = λ e.
-        let (vs, s, q) = each.kept (right_empty (too_many PARAMETERS_MAX (map name_place ns)) (flat_map (use_faults means AsScalar) ns) (left_empty _ (repeated_names [] ns) e)) in
-        (vs, s, (((few_items PARAMETERS_MAX name_place (numbering.numbered_parameter d) ns vs s).0 (left_empty (too_many PARAMETERS_MAX (map name_place ns)) (flat_map (use_faults means AsScalar) ns) (left_empty _ (repeated_names [] ns) e)), q), (once ns vs s).0 (right_empty _ (repeated_names [] ns) e)));
+        let (vs, s, q) = each.kept (right_empty (too_many PARAMETERS_MAX (map (λ (n : WrittenName). n.at) ns)) (flat_map (use_faults means AsScalar) ns) (left_empty _ (repeated_names [] ns) e)) in
+        (vs, s, (((few_items PARAMETERS_MAX (λ (n : WrittenName). n.at) (numbering.numbered_parameter d) ns vs s).0 (left_empty (too_many PARAMETERS_MAX (map (λ (n : WrittenName). n.at) ns)) (flat_map (use_faults means AsScalar) ns) (left_empty _ (repeated_names [] ns) e)), q), (once ns vs s).0 (right_empty _ (repeated_names [] ns) e)));
     unbroken = λ vs s q.
-        both_empty (too_many PARAMETERS_MAX (map name_place ns) ++ flat_map (use_faults means AsScalar) ns) (repeated_names [] ns)
-        (both_empty (too_many PARAMETERS_MAX (map name_place ns)) (flat_map (use_faults means AsScalar) ns) ((few_items PARAMETERS_MAX name_place (numbering.numbered_parameter d) ns vs s).1 q.0.0) (each.unbroken vs s q.0.1))
+        both_empty (too_many PARAMETERS_MAX (map (λ (n : WrittenName). n.at) ns) ++ flat_map (use_faults means AsScalar) ns) (repeated_names [] ns)
+        (both_empty (too_many PARAMETERS_MAX (map (λ (n : WrittenName). n.at) ns)) (flat_map (use_faults means AsScalar) ns) ((few_items PARAMETERS_MAX (λ (n : WrittenName). n.at) (numbering.numbered_parameter d) ns vs s).1 q.0.0) (each.unbroken vs s q.0.1))
         ((once ns vs s).1 q.1);
   }
     where
@@ -85,7 +85,7 @@ module _ (means : List ℕ → Option Meaning) (d : Declared) (variables : List 
       each = twin_each (use_faults means AsScalar) (numbering.numbered_parameter d) _ parameter_twin ns
 
   abbrev all_parameters_faults : List WrittenName → List StaticFault
-  all_parameters_faults ns = too_many PARAMETERS_MAX (map name_place ns) ++ flat_map (use_faults means AsScalar) ns ++ repeated_names [] ns
+  all_parameters_faults ns = too_many PARAMETERS_MAX (map (λ (n : WrittenName). n.at) ns) ++ flat_map (use_faults means AsScalar) ns ++ repeated_names [] ns
 
   pub parameters_twin : (o : Option (List WrittenName)) → Twin (all_parameters_faults (written_items o)) (written_or (each_numbered (numbering.numbered_parameter d)) [] o) KeepsParameters
   parameters_twin None = items_twin []
@@ -279,7 +279,7 @@ module _ (means : List ℕ → Option Meaning) (d : Declared) (variables : List 
               changes = kc;
               few_changes = (few_items CHANGES_MAX change_place (numbering.change d) v.changes cs is_cs).0 (right_empty (name_too_long v.name ++ params) few_changes h3);
               edges = ke;
-              few_edges = (few_items EDGES_MAX edge_place (numbering.edge d) v.edges es is_es).0 (right_empty (name_too_long v.name ++ params ++ few_changes ++ changes) few_edges h5);
+              few_edges = (few_items EDGES_MAX (λ (e : WrittenEdge). e.at) (numbering.edge d) v.edges es is_es).0 (right_empty (name_too_long v.name ++ params ++ few_changes ++ changes) few_edges h5);
             },
           );
       unbroken = λ y s q.
@@ -297,7 +297,7 @@ module _ (means : List ℕ → Option Meaning) (d : Declared) (variables : List 
         changes = flat_map (change_faults means) v.changes
 
         few_edges : List StaticFault
-        few_edges = too_many EDGES_MAX (map edge_place v.edges)
+        few_edges = too_many EDGES_MAX (map (λ (e : WrittenEdge). e.at) v.edges)
 
         edges : List StaticFault
         edges = flat_map (edge_faults means taken) v.edges
@@ -318,5 +318,5 @@ module _ (means : List ℕ → Option Meaning) (d : Declared) (variables : List 
             (both_empty (name_too_long v.name) params ((short_name v.name).1 q.name) ((parameters_twin v.parameters).unbroken ps is_ps ((q.few_parameters, q.parameters), q.each_once)))
             ((few_items CHANGES_MAX change_place (numbering.change d) v.changes cs is_cs).1 q.few_changes))
             (changes_twin.unbroken cs is_cs q.changes))
-            ((few_items EDGES_MAX edge_place (numbering.edge d) v.edges es is_es).1 q.few_edges))
+            ((few_items EDGES_MAX (λ (e : WrittenEdge). e.at) (numbering.edge d) v.edges es is_es).1 q.few_edges))
             (edges_twin.unbroken es is_es q.edges)

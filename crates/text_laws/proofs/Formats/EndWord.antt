@@ -3,6 +3,7 @@
 use Rattle.std.proofs.lemmas.List.{append_cancel_right}
 use Rattle.std.proofs.Common.{◌≡◌, ℕ, suc, zero, Bool, true, false, List, [], ◌∷◌, ◌++◌, ◌⊎◌, inl, inr, refl, sym, ap, ◌∙◌, subst, append_assoc, append-nil}
 use Rattle.std.specs.Prelude.{not, ◌&&◌}
+use Rattle.std.proofs.lemmas.Bool.{not-true, and_parts}
 use Rattle.model_core.specs.declared.token.Word.{Word}
 use Rattle.model_core.specs.declared.token.Word.TheVariants as words
 use Rattle.model_core.specs.Text.Lexing.{Lexeme, LexemeKind, NameOf, Reserved, NumberOf, Mark}
@@ -14,7 +15,7 @@ use Rattle.model_core.specs.Text.Language.{signed_format, literal_format, kind_f
 use Rattle.model_core.specs.Text.FirstWrong.{CantGoOn, FirstWrong}
 use Rattle.model_core.specs.Text.Openings.{is_end_word, front_to_end}
 use Rattle.text_laws.specs.FirstTokens.{same_sort}
-use Rattle.text_laws.proofs.Formats.TokenSorts.{both, not_true, same_sort-true, same_sort-refl}
+use Rattle.text_laws.proofs.Formats.TokenSorts.{same_sort-true, same_sort-refl}
 use Rattle.text_laws.proofs.Formats.Stopping.{derives-framed, rule-framed}
 
 -- ---- formats without the word
@@ -47,7 +48,7 @@ one_token : (t : Lexeme) (b : Bool) → is_end_word t.kind ≡ b → not (same_s
 one_token t true e ok rest = absurd (
     let k : t.kind ≡ Reserved words.End = is_end t.kind e in
     let s : same_sort (sort_of t.kind) (AWord words.End) ≡ true = rw k (same_sort-refl (AWord words.End)) in
-    let f : same_sort (sort_of t.kind) (AWord words.End) ≡ false = not_true _ ok in
+    let f : same_sort (sort_of t.kind) (AWord words.End) ≡ false = not-true _ ok in
     cc
     )
 one_token t false e ok rest = rw e refl
@@ -78,11 +79,11 @@ derives-endless : {R V A : Type 0} (env : R → Grammar V) → ((r : R) → Endl
 derives-endless env h (Yields x) ok tokens y left d = ([], d.1, λ rest. refl)
 derives-endless env h (Single s f) ok tokens y left d = single-endless s f ok tokens y left d
 derives-endless env h (Apply p q) ok tokens y left d =
-    let c = both (has_no_end p) (has_no_end q) ok in
+    let c = and_parts (has_no_end p) (has_no_end q) ok in
     let a = derives-endless env h p c.0 tokens d.0 d.1 d.2 in
     let b = derives-endless env h q c.1 d.1 d.3.0 d.3.1 d.3.2 in
     (a.0 ++ b.0, a.1 ∙ ap (λ (l : List Lexeme). a.0 ++ l) (b.1 ∙ ap (λ (l : List Lexeme). b.0 ++ l) d.3.3.1) ∙ sym (append_assoc a.0 b.0 left), goes_on-both a.0 b.0 a.2 b.2)
-derives-endless env h (Either p q) ok tokens y left d = let c = both (has_no_end p) (has_no_end q) ok in elim d [
+derives-endless env h (Either p q) ok tokens y left d = let c = and_parts (has_no_end p) (has_no_end q) ok in elim d [
   | inl w ↦ derives-endless env h p c.0 tokens y left w
   | inr w ↦ derives-endless env h q c.1 tokens y left w
 ]
@@ -142,7 +143,7 @@ with_word tokens between left (u, e, g) (t, f, h) = (
 
 ends-front : {A : Type 0} (f : LanguageFormat A) → has_last_end f ≡ true → (tokens : List Lexeme) (x : A) (left : List Lexeme) → Spells level_format f tokens x left → FrontBefore tokens left
 ends-front (Apply p q) ok tokens x left d =
-    let c = both (has_no_end p) (is_end_part q) ok in
+    let c = and_parts (has_no_end p) (is_end_part q) ok in
     with_word tokens d.1 left
     (derives-endless (by_rule level_format) (λ r others y rest e. nested-endless e.0 r others y rest e.1) p c.0 tokens d.0 d.1 d.2)
     (the_word (by_rule level_format) q c.1 d.1 d.3.0 left (subst (λ (l : List Lexeme). derives (by_rule level_format) q d.1 d.3.0 l) d.3.3.1 d.3.2))

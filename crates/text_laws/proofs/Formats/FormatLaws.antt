@@ -1,12 +1,13 @@
 -- The laws of formats, each by induction over formats: the reader takes what is derived, and all that is derived.
 use Rattle.std.proofs.Common.{◌≡◌, ℕ, zero, suc, ◌+◌, ◌≤◌, Bool, true, false, cond, List, [], ◌∷◌, ◌++◌, length, refl, sym, ap, ◌∙◌, subst, ◌⊎◌, inl, inr, arith}
 use Rattle.std.specs.Prelude.{not, ◌&&◌, ◌||◌, Ok}
+use Rattle.std.proofs.lemmas.Bool.{and_from, or_left, or_right, not-true, and_parts}
 use Rattle.model_core.specs.Text.Lexing.{Lexeme}
 use Rattle.model_core.specs.Text.Grammar.{Grammar, many}
 use Rattle.model_core.specs.Text.Format.{TokenSort, Format, Yields, Single, Apply, Either, Many, ByRule, derives}
 use Rattle.text_laws.specs.FirstTokens.{begins_among, apart, Lookahead, nullable, first_sorts, stop_sorts, fine}
 use Rattle.text_laws.specs.FormatReader.{Parser, took, stuck, and_next, many_within, many_at, reads}
-use Rattle.text_laws.proofs.Formats.TokenSorts.{both, not_true, chosen, same_reading, reading_of, then_ok, begins-left, begins-right, begins-some, stops-both, begins-apart, token-sound, token-complete, token-begins, token-shorter}
+use Rattle.text_laws.proofs.Formats.TokenSorts.{chosen, same_reading, reading_of, then_ok, begins-left, begins-right, begins-some, stops-both, begins-apart, token-sound, token-complete, token-begins, token-shorter}
 
 -- ---- what is read is derived
 
@@ -71,16 +72,6 @@ many-begins P sorts b part tokens (x ∷ xs) left d = elim (part tokens x d.0 d.
   ]
 ]
 
-and-true : (a b : Bool) → a ≡ true → b ≡ true → (a && b) ≡ true
-and-true a b e f = rw (e, f) refl
-
-or-left : (a b : Bool) → a ≡ true → (a || b) ≡ true
-or-left a b e = rw e refl
-
-or-right : (a b : Bool) → b ≡ true → (a || b) ≡ true
-or-right true b e = refl
-or-right false b e = e
-
 pub derives-begins : {R V A : Type 0} (t : Lookahead R) (env : R → Grammar V) → ((r : R) → Begins (env r) (t.first_of r) false) → (f : Format R V A) → Begins (derives env f) (first_sorts t f) (nullable f)
 derives-begins t env rules (Yields x) tokens y left d = inr (refl, d.1)
 derives-begins t env rules (Single s f) tokens y left d = inl (token-begins s f tokens y left d)
@@ -88,17 +79,17 @@ derives-begins t env rules (Apply p q) tokens y left d = elim (derives-begins t 
   | inl w ↦ inl (choose (first_sorts t p) (nullable p) (first_sorts t q) tokens w)
   | inr w ↦ elim (derives-begins t env rules q d.1 d.3.0 d.3.1 d.3.2) [
     | inl v ↦ inl (choose_more (first_sorts t p) (nullable p) (first_sorts t q) tokens w.0 (subst (λ (l : List Lexeme). begins_among (first_sorts t q) l ≡ true) (sym w.1) v))
-    | inr v ↦ inr (and-true (nullable p) (nullable q) w.0 v.0, w.1 ∙ v.1 ∙ d.3.3.1)
+    | inr v ↦ inr (and_from (nullable p) (nullable q) w.0 v.0, w.1 ∙ v.1 ∙ d.3.3.1)
   ]
 ]
 derives-begins t env rules (Either p q) tokens y left d = elim d [
   | inl u ↦ elim (derives-begins t env rules p tokens y left u) [
     | inl w ↦ inl (begins-left (first_sorts t p) (first_sorts t q) tokens w)
-    | inr w ↦ inr (or-left (nullable p) (nullable q) w.0, w.1)
+    | inr w ↦ inr (or_left (nullable p) (nullable q) w.0, w.1)
   ]
   | inr u ↦ elim (derives-begins t env rules q tokens y left u) [
     | inl w ↦ inl (begins-right (first_sorts t p) (first_sorts t q) tokens w)
-    | inr w ↦ inr (or-right (nullable p) (nullable q) w.0, w.1)
+    | inr w ↦ inr (or_right (nullable p) (nullable q) w.0, w.1)
   ]
 ]
 derives-begins t env rules (Many p) tokens y left d = many-begins (derives env p) (first_sorts t p) (nullable p) (derives-begins t env rules p) tokens y left d
@@ -204,8 +195,8 @@ unfolding many_at
 reads-complete t env reader starts shorter rules (Yields x) ok tokens y left h d = reading_of x y tokens left d.0 d.1
 reads-complete t env reader starts shorter rules (Single s f) ok tokens y left h d = token-complete s f tokens y left d
 reads-complete t env reader starts shorter rules (Apply p q) ok tokens y left h d =
-    let c = both (fine t p && fine t q) (apart (stop_sorts t p) (first_sorts t q)) ok in
-    let b = both (fine t p) (fine t q) c.0 in
+    let c = and_parts (fine t p && fine t q) (apart (stop_sorts t p) (first_sorts t q)) ok in
+    let b = and_parts (fine t p) (fine t q) c.0 in
     let last : begins_among (stop_sorts t q) left ≡ false = stops-second (stop_sorts t p) (stop_sorts t q) (nullable q) left h in
     let later : reads t reader q d.1 ≡ took d.3.0 d.3.1 = reads-complete t env reader starts shorter rules q b.1 d.1 d.3.0 d.3.1 (subst (λ (l : List Lexeme). begins_among (stop_sorts t q) l ≡ false) (sym d.3.3.1) last) d.3.2 in
     let follow : begins_among (stop_sorts t p) d.1 ≡ false = elim (derives-begins t env starts q d.1 d.3.0 d.3.1 d.3.2) [
@@ -215,10 +206,10 @@ reads-complete t env reader starts shorter rules (Apply p q) ok tokens y left h 
     let sooner : reads t reader p tokens ≡ took d.0 d.1 = reads-complete t env reader starts shorter rules p b.0 tokens d.0 d.1 follow d.2 in
     rw (sooner, later) (reading_of (d.0 d.3.0) y d.3.1 left d.3.3.0 d.3.3.1)
 reads-complete t env reader starts shorter rules (Either p q) ok tokens y left h d =
-    let c = both (fine t p && fine t q) (not (nullable p) && apart (first_sorts t p) (first_sorts t q)) ok in
-    let b = both (fine t p) (fine t q) c.0 in
-    let e = both (not (nullable p)) (apart (first_sorts t p) (first_sorts t q)) c.1 in
-    let solid : nullable p ≡ false = not_true (nullable p) e.0 in
+    let c = and_parts (fine t p && fine t q) (not (nullable p) && apart (first_sorts t p) (first_sorts t q)) ok in
+    let b = and_parts (fine t p) (fine t q) c.0 in
+    let e = and_parts (not (nullable p)) (apart (first_sorts t p) (first_sorts t q)) c.1 in
+    let solid : nullable p ≡ false = not-true (nullable p) e.0 in
     let h1 = stops-both (stop_sorts t p ++ stop_sorts t q) (cond (nullable q) (first_sorts t p) []) left h in
     let h2 = stops-both (stop_sorts t p) (stop_sorts t q) left h1.0 in
     elim d [
@@ -233,9 +224,9 @@ reads-complete t env reader starts shorter rules (Either p q) ok tokens y left h
           rw other (reads-complete t env reader starts shorter rules q b.1 tokens y left h2.1 u)
     ]
 reads-complete t env reader starts shorter rules (Many p) ok tokens xs left h d =
-    let b = both (fine t p) (not (nullable p) && apart (stop_sorts t p) (first_sorts t p)) ok in
-    let e = both (not (nullable p)) (apart (stop_sorts t p) (first_sorts t p)) b.1 in
-    let solid : nullable p ≡ false = not_true (nullable p) e.0 in
+    let b = and_parts (fine t p) (not (nullable p) && apart (stop_sorts t p) (first_sorts t p)) ok in
+    let e = and_parts (not (nullable p)) (apart (stop_sorts t p) (first_sorts t p)) b.1 in
+    let solid : nullable p ≡ false = not-true (nullable p) e.0 in
     let h2 = stops-both (stop_sorts t p) (first_sorts t p) left h in
     repeated-complete (derives env p) (reads t reader p) (first_sorts t p) (stop_sorts t p)
     (subst (λ (n : Bool). Begins (derives env p) (first_sorts t p) n) solid (derives-begins t env starts p))

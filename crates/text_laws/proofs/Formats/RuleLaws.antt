@@ -1,19 +1,16 @@
 -- The rules, tied into one another: each is read as its format is, and what it derives is what is read.
-use Rattle.std.proofs.Common.{◌≡◌, ℕ, zero, suc, ◌+◌, ◌*◌, ◌≤◌, ◌<◌, max, Bool, true, false, cond, List, ◌∷◌, length, refl, ap, ◌∙◌, subst, inl, inr, arith}
+use Rattle.std.proofs.Common.{◌≡◌, ℕ, zero, suc, ◌+◌, ◌*◌, ◌≤◌, max, Bool, true, false, cond, List, ◌∷◌, length, refl, ap, ◌∙◌, subst, inl, inr, arith}
 use Rattle.std.specs.Prelude.{not, ◌&&◌, nat_lt, Ok, Err}
-use Rattle.std.proofs.lemmas.Grind.{common_steps}
+use Rattle.std.proofs.lemmas.Bool.{ltb-true, not-true, and_parts}
 use Rattle.model_core.specs.Text.Lexing.{Lexeme}
 use Rattle.model_core.specs.Text.Grammar.{many}
 use Rattle.model_core.specs.Text.Format.{TokenSort, Format, Yields, Single, Apply, Either, Many, ByRule, nested, by_rule, Spells}
 use Rattle.text_laws.specs.FirstTokens.{begins_among, apart, subset, Lookahead, nullable, first_sorts, stop_sorts, head_rank, fine, AreFine}
 use Rattle.text_laws.specs.FormatReader.{Parse, Parser, took, and_next, many_within, many_at, reads, read_within, rule_at, format_at}
-use Rattle.text_laws.proofs.Formats.TokenSorts.{both, not_true, begins-subset, stops-subset}
+use Rattle.text_laws.proofs.Formats.TokenSorts.{begins-subset, stops-subset}
 use Rattle.text_laws.proofs.Formats.FormatLaws.{Sound, Begins, Complete, Shorter, reads-sound, derives-begins, reads-shorter, reads-complete}
 
 -- ---- what is checked
-
-below : (m n : ℕ) → nat_lt m n ≡ true → m < n
-below m n e = grind (arith, common_steps)
 
 pub record Checked {R V : Type 0} (t : Lookahead R) (rules : R → Format R V V) (r : R) : Type 0 where
   pub fine : fine t (rules r) ≡ true
@@ -25,14 +22,14 @@ pub record Checked {R V : Type 0} (t : Lookahead R) (rules : R → Format R V V)
 
 pub checked : {R V : Type 0} (t : Lookahead R) (rules : R → Format R V V) → AreFine t rules → (r : R) → Checked t rules r
 checked t rules ok r =
-    let a = both ((fine t (rules r) && not (nullable (rules r))) && (subset (first_sorts t (rules r)) (t.first_of r) && subset (stop_sorts t (rules r)) (t.stops_of r))) (nat_lt (head_rank t (rules r)) (suc (t.rank r)) && nat_lt (t.rank r) 16) (ok.each r) in
-    let b = both (fine t (rules r) && not (nullable (rules r))) (subset (first_sorts t (rules r)) (t.first_of r) && subset (stop_sorts t (rules r)) (t.stops_of r)) a.0 in
-    let c = both (fine t (rules r)) (not (nullable (rules r))) b.0 in
-    let d = both (subset (first_sorts t (rules r)) (t.first_of r)) (subset (stop_sorts t (rules r)) (t.stops_of r)) b.1 in
-    let e = both (nat_lt (head_rank t (rules r)) (suc (t.rank r))) (nat_lt (t.rank r) 16) a.1 in
-    let f = below _ _ e.0 in
-    let g = below _ _ e.1 in
-    record { fine = c.0; some = not_true _ c.1; firsts = d.0; stops = d.1; ranked = omega arith; low = omega arith }
+    let a = and_parts ((fine t (rules r) && not (nullable (rules r))) && (subset (first_sorts t (rules r)) (t.first_of r) && subset (stop_sorts t (rules r)) (t.stops_of r))) (nat_lt (head_rank t (rules r)) (suc (t.rank r)) && nat_lt (t.rank r) 16) (ok.each r) in
+    let b = and_parts (fine t (rules r) && not (nullable (rules r))) (subset (first_sorts t (rules r)) (t.first_of r) && subset (stop_sorts t (rules r)) (t.stops_of r)) a.0 in
+    let c = and_parts (fine t (rules r)) (not (nullable (rules r))) b.0 in
+    let d = and_parts (subset (first_sorts t (rules r)) (t.first_of r)) (subset (stop_sorts t (rules r)) (t.stops_of r)) b.1 in
+    let e = and_parts (nat_lt (head_rank t (rules r)) (suc (t.rank r))) (nat_lt (t.rank r) 16) a.1 in
+    let f = ltb-true _ _ e.0 in
+    let g = ltb-true _ _ e.1 in
+    record { fine = c.0; some = not-true _ c.1; firsts = d.0; stops = d.1; ranked = omega arith; low = omega arith }
 
 -- ---- no more rules than enough
 
@@ -85,22 +82,22 @@ unfolding many_at
 reads-agree t a b most low shorter same (Yields x) ok tokens few = refl
 reads-agree t a b most low shorter same (Single s f) ok tokens few = refl
 reads-agree t a b most low shorter same (Apply p q) ok tokens few =
-    let c = both (fine t p && fine t q) (apart (stop_sorts t p) (first_sorts t q)) ok in
-    let d = both (fine t p) (fine t q) c.0 in
+    let c = and_parts (fine t p && fine t q) (apart (stop_sorts t p) (first_sorts t q)) ok in
+    let d = and_parts (fine t p) (fine t q) c.0 in
     let sooner : reads t a p tokens ≡ reads t b p tokens = reads-agree t a b most low shorter same p d.0 tokens (rank-first (nullable p) (head_rank t p) (head_rank t q) (length tokens) most few) in
     ap (and_next (λ f left. and_next (λ x rest. Ok (f x, rest)) (reads t a q left))) sooner
     ∙ same_next _ _ (reads t b p tokens) (λ f left e.
     let s = reads-shorter t a shorter p tokens f left (sooner ∙ e) in
     ap (and_next (λ x rest. Ok (f x, rest))) (reads-agree t a b most low shorter same q d.1 left (ranks (nullable p) (head_rank t p) (head_rank t q) (length tokens) 0 (length left) most s (head-low t low q) few).1))
 reads-agree t a b most low shorter same (Either p q) ok tokens few =
-    let c = both (fine t p && fine t q) (not (nullable p) && apart (first_sorts t p) (first_sorts t q)) ok in
-    let d = both (fine t p) (fine t q) c.0 in
+    let c = and_parts (fine t p && fine t q) (not (nullable p) && apart (first_sorts t p) (first_sorts t q)) ok in
+    let d = and_parts (fine t p) (fine t q) c.0 in
     ap (λ w. cond (begins_among (first_sorts t p) tokens) w (reads t a q tokens)) (reads-agree t a b most low shorter same p d.0 tokens (omega arith))
     ∙ ap (λ w. cond (begins_among (first_sorts t p) tokens) (reads t b p tokens) w) (reads-agree t a b most low shorter same q d.1 tokens (omega arith))
 reads-agree t a b most low shorter same (Many p) ok tokens few =
-    let c = both (fine t p) (not (nullable p) && apart (stop_sorts t p) (first_sorts t p)) ok in
-    let e = both (not (nullable p)) (apart (stop_sorts t p) (first_sorts t p)) c.1 in
-    let solid : nullable p ≡ false = not_true (nullable p) e.0 in
+    let c = and_parts (fine t p) (not (nullable p) && apart (stop_sorts t p) (first_sorts t p)) ok in
+    let e = and_parts (not (nullable p)) (apart (stop_sorts t p) (first_sorts t p)) c.1 in
+    let solid : nullable p ≡ false = not-true (nullable p) e.0 in
     repeated-agree (reads t a p) (reads t b p) most (head_rank t p) (head-low t low p) (subst (λ (n : Bool). Shorter (reads t a p) n) solid (reads-shorter t a shorter p)) (reads-agree t a b most low shorter same p c.0) (length tokens) (first_sorts t p) tokens few
 reads-agree t a b most low shorter same (ByRule r) ok tokens few = same r tokens few
 

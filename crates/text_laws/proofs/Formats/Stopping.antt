@@ -1,12 +1,13 @@
 -- Where a reader stops: no tokens that begin so, up to and with the next one, can be spelled, and some that begin so up to it can.
 use Rattle.std.proofs.Common.{◌≡◌, ℕ, zero, suc, ◌+◌, ◌*◌, ◌≤◌, ◌<◌, max, Bool, true, false, cond, List, [], ◌∷◌, ◌++◌, length, refl, sym, ap, ◌∙◌, subst, ◌⊎◌, inl, inr, arith, append_assoc}
 use Rattle.std.specs.Prelude.{not, ◌&&◌, ◌||◌, Ok, Err}
+use Rattle.std.proofs.lemmas.Bool.{not-true, and_parts}
 use Rattle.model_core.specs.Text.Lexing.{Lexeme}
 use Rattle.model_core.specs.Text.Grammar.{Grammar, many}
 use Rattle.model_core.specs.Text.Format.{TokenSort, sort_as, Format, Yields, Single, Apply, Either, Many, ByRule, derives, nested, by_rule, Spells, single}
 use Rattle.text_laws.specs.FirstTokens.{same_sort, begins_among, apart, Lookahead, nullable, first_sorts, stop_sorts, fine, AreFine}
 use Rattle.text_laws.specs.FormatReader.{Parse, Parser, took, stuck, and_next, single_at, many_within, many_at, reads, read_within, rule_at, format_at}
-use Rattle.text_laws.proofs.Formats.TokenSorts.{both, not_true, chosen, same_reading}
+use Rattle.text_laws.proofs.Formats.TokenSorts.{chosen, same_reading}
 use Rattle.text_laws.proofs.Formats.FormatLaws.{Sound, Shorter, reads-sound, reads-shorter}
 use Rattle.text_laws.proofs.Formats.RuleLaws as tied
 use Rattle.text_laws.proofs.Formats.RuleLaws.{checked, within-shorter, within-sound, rule-shorter, sound, complete}
@@ -119,20 +120,20 @@ pub reads-local : {R V A : Type 0} (t : Lookahead R) (reader : R → Parser V) �
 reads-local t reader short shorter h (Yields x) ok k these those u = inl (x, u, refl, refl)
 reads-local t reader short shorter h (Single s f) ok k these those u = token-local s f k these those u
 reads-local t reader short shorter h (Apply p q) ok k these those u =
-    let c = both (fine t p && fine t q) (apart (stop_sorts t p) (first_sorts t q)) ok in
-    let d = both (fine t p) (fine t q) c.0 in
+    let c = and_parts (fine t p && fine t q) (apart (stop_sorts t p) (first_sorts t q)) ok in
+    let d = and_parts (fine t p) (fine t q) c.0 in
     then-alike (λ f left. and_next (λ x rest. took (f x) rest) (reads t reader q left))
     (λ f a b e v. then-alike (λ x rest. took (f x) rest) (λ x. gives-local (f x)) (λ x rest. omega arith) a b e _ _ (reads-local t reader short shorter h q d.1 a b e v))
     (λ f left. then-left (λ x rest. took (f x) rest) (λ x rest. omega arith) (reads t reader q left) (length left) (reads-left t reader short q left))
     k these those (reads t reader p (u ++ (k ∷ these))) (reads t reader p (u ++ (k ∷ those))) (reads-local t reader short shorter h p d.0 k these those u)
 reads-local t reader short shorter h (Either p q) ok k these those u =
-    let c = both (fine t p && fine t q) (not (nullable p) && apart (first_sorts t p) (first_sorts t q)) ok in
-    let d = both (fine t p) (fine t q) c.0 in
+    let c = and_parts (fine t p && fine t q) (not (nullable p) && apart (first_sorts t p) (first_sorts t q)) ok in
+    let d = and_parts (fine t p) (fine t q) c.0 in
     choice-alike k these those (begins_among (first_sorts t p) (u ++ (k ∷ these))) (begins_among (first_sorts t p) (u ++ (k ∷ those))) _ _ _ _ (begins-alike (first_sorts t p) k these those u) (reads-local t reader short shorter h p d.0 k these those u) (reads-local t reader short shorter h q d.1 k these those u)
 reads-local t reader short shorter h (Many p) ok k these those u =
-    let c = both (fine t p) (not (nullable p) && apart (stop_sorts t p) (first_sorts t p)) ok in
-    let e = both (not (nullable p)) (apart (stop_sorts t p) (first_sorts t p)) c.1 in
-    let solid : nullable p ≡ false = not_true (nullable p) e.0 in
+    let c = and_parts (fine t p) (not (nullable p) && apart (stop_sorts t p) (first_sorts t p)) ok in
+    let e = and_parts (not (nullable p)) (apart (stop_sorts t p) (first_sorts t p)) c.1 in
+    let solid : nullable p ≡ false = not-true (nullable p) e.0 in
     repeated_at-local (reads t reader p) (reads-left t reader short p) (reads-local t reader short shorter h p c.0) (subst (λ (n : Bool). Shorter (reads t reader p) n) solid (reads-shorter t reader shorter p)) (first_sorts t p) k these those u
 reads-local t reader short shorter h (ByRule r) ok k these those u = h r k these those u
 

@@ -2,7 +2,8 @@
 use denote.Enum.Bare.{same_true, true_same}
 use lib.Pointwise.{bytes_decides}
 use Rattle.std.proofs.Common.{◌≡◌, ℕ, ◌+◌, ◌≤◌, Bool, true, false, cond, List, [], ◌∷◌, ◌++◌, length, refl, sym, ap, ◌∙◌, subst, ◌⊎◌, inl, inr, arith}
-use Rattle.std.specs.Prelude.{not, ◌&&◌, ◌||◌, Ok, Err}
+use Rattle.std.specs.Prelude.{not, ◌||◌, Ok, Err}
+use Rattle.std.proofs.lemmas.Bool.{or_right, not-true, and_parts, or_parts}
 use Rattle.model_core.specs.contracts.token.Word.{the_type as word_type}
 use Rattle.model_core.specs.contracts.token.Symbol.{the_type as symbol_type}
 use Rattle.model_core.specs.Text.Lexing.{Lexeme, LexemeKind, NameOf, Reserved, NumberOf, Mark, same_bytes}
@@ -11,18 +12,6 @@ use Rattle.text_laws.specs.FirstTokens.{same_sort, among, can_be_both, can_be_am
 use Rattle.text_laws.specs.FormatReader.{Parse, Parser, took, stuck, and_next, single_at}
 
 -- ---- tests
-
-pub both : (a b : Bool) → (a && b) ≡ true → (a ≡ true) × (b ≡ true)
-both true b e = (refl, e)
-both false b e = absurd cc
-
-pub neither : (a b : Bool) → (a || b) ≡ false → (a ≡ false) × (b ≡ false)
-neither true b e = absurd cc
-neither false b e = (refl, e)
-
-pub not_true : (a : Bool) → not a ≡ true → a ≡ false
-not_true true e = absurd cc
-not_true false e = refl
 
 pub chosen : {A : Type 0} (b : Bool) (x y z : A) → cond b x y ≡ z → ((b ≡ true) × (x ≡ z)) ⊎ ((b ≡ false) × (y ≡ z))
 chosen true x y z e = inl (refl, e)
@@ -75,15 +64,11 @@ begins-some xs e = let f : begins_among xs [] ≡ false = begins-none xs in absu
 pub begins-left : (xs ys : List TokenSort) (tokens : List Lexeme) → begins_among xs tokens ≡ true → begins_among (xs ++ ys) tokens ≡ true
 begins-left xs ys tokens e = rw (begins-append xs ys tokens, e) refl
 
-or-true : (a b : Bool) → b ≡ true → (a || b) ≡ true
-or-true true b e = refl
-or-true false b e = e
-
 pub begins-right : (xs ys : List TokenSort) (tokens : List Lexeme) → begins_among ys tokens ≡ true → begins_among (xs ++ ys) tokens ≡ true
-begins-right xs ys tokens e = begins-append xs ys tokens ∙ or-true (begins_among xs tokens) (begins_among ys tokens) e
+begins-right xs ys tokens e = begins-append xs ys tokens ∙ or_right (begins_among xs tokens) (begins_among ys tokens) e
 
 pub stops-both : (xs ys : List TokenSort) (tokens : List Lexeme) → begins_among (xs ++ ys) tokens ≡ false → (begins_among xs tokens ≡ false) × (begins_among ys tokens ≡ false)
-stops-both xs ys tokens e = neither (begins_among xs tokens) (begins_among ys tokens) (sym (begins-append xs ys tokens) ∙ e)
+stops-both xs ys tokens e = or_parts (begins_among xs tokens) (begins_among ys tokens) (sym (begins-append xs ys tokens) ∙ e)
 
 -- a token is of both sorts only where they meet
 same-spelling : (a b c : List ℕ) → same_bytes a b ≡ true → same_bytes a c ≡ true → same_bytes b c ≡ true
@@ -108,14 +93,14 @@ met x (y ∷ ys) t tokens e h = pick (same_sort (sort_as y t.kind) y) refl h (λ
   where
     pick : (c : Bool) → same_sort (sort_as y t.kind) y ≡ c → (c || begins_among ys (t ∷ tokens)) ≡ true → (begins_among ys (t ∷ tokens) ≡ true → can_be_among x ys ≡ true) → (can_be_both x y || can_be_among x ys) ≡ true
     pick true f g later = ap (λ b. b || can_be_among x ys) (both-meet t.kind x y e f)
-    pick false f g later = or-true (can_be_both x y) (can_be_among x ys) (later g)
+    pick false f g later = or_right (can_be_both x y) (can_be_among x ys) (later g)
 
 pub begins-apart : (xs ys : List TokenSort) (tokens : List Lexeme) → apart xs ys ≡ true → begins_among ys tokens ≡ true → begins_among xs tokens ≡ false
 begins-apart xs ys [] a e = begins-none xs
 begins-apart [] ys (t ∷ tokens) a e = refl
 begins-apart (x ∷ xs) ys (t ∷ tokens) a e =
-    let b = both (not (can_be_among x ys)) (apart xs ys) a in
-    pick (same_sort (sort_as x t.kind) x) refl (begins-apart xs ys (t ∷ tokens) b.1 e) (not_true (can_be_among x ys) b.0)
+    let b = and_parts (not (can_be_among x ys)) (apart xs ys) a in
+    pick (same_sort (sort_as x t.kind) x) refl (begins-apart xs ys (t ∷ tokens) b.1 e) (not-true (can_be_among x ys) b.0)
   where
     pick : (c : Bool) → same_sort (sort_as x t.kind) x ≡ c → begins_among xs (t ∷ tokens) ≡ false → can_be_among x ys ≡ false → (c || begins_among xs (t ∷ tokens)) ≡ false
     pick true f g h = absurd (let i : can_be_among x ys ≡ true = met x ys t tokens f e in cc)
@@ -127,13 +112,13 @@ begins-listed x (y ∷ ys) t tokens a e = pick (same_sort x y) refl a (λ h. beg
   where
     pick : (c : Bool) → same_sort x y ≡ c → (c || among x ys) ≡ true → (among x ys ≡ true → begins_among ys (t ∷ tokens) ≡ true) → (same_sort (sort_as y t.kind) y || begins_among ys (t ∷ tokens)) ≡ true
     pick true f g later = ap (λ b. b || begins_among ys (t ∷ tokens)) (subst (λ (z : TokenSort). same_sort (sort_as z t.kind) z ≡ true) (same_sort-true x y f) e)
-    pick false f g later = or-true (same_sort (sort_as y t.kind) y) (begins_among ys (t ∷ tokens)) (later g)
+    pick false f g later = or_right (same_sort (sort_as y t.kind) y) (begins_among ys (t ∷ tokens)) (later g)
 
 pub begins-subset : (xs ys : List TokenSort) (tokens : List Lexeme) → subset xs ys ≡ true → begins_among xs tokens ≡ true → begins_among ys tokens ≡ true
 begins-subset xs ys [] a e = absurd (begins-some xs e)
 begins-subset [] ys (t ∷ tokens) a e = absurd cc
 begins-subset (x ∷ xs) ys (t ∷ tokens) a e =
-    let b = both (among x ys) (subset xs ys) a in
+    let b = and_parts (among x ys) (subset xs ys) a in
     pick (same_sort (sort_as x t.kind) x) refl e b.0 (λ h. begins-subset xs ys (t ∷ tokens) b.1 h)
   where
     pick : (c : Bool) → same_sort (sort_as x t.kind) x ≡ c → (c || begins_among xs (t ∷ tokens)) ≡ true → among x ys ≡ true → (begins_among xs (t ∷ tokens) ≡ true → begins_among ys (t ∷ tokens) ≡ true) → begins_among ys (t ∷ tokens) ≡ true

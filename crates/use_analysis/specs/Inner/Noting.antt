@@ -2,10 +2,9 @@
 use Rattle.std.specs.Prelude.{ℕ, ◌+◌, ◌-◌, ◌==◌, Bool, true, false, cond, List, [], ◌∷◌, ◌++◌, length, map, slice_get}
 use Rattle.std.specs.List.{range_with_len}
 use Rattle.std.specs.Option.{option_map_or}
-use Rattle.model_core.specs.EventGraph.{EventGraph, EventVertex}
+use Rattle.model_core.specs.EventGraph.{EventGraph, EventVertex, watched_variables}
 use Rattle.model_core.specs.Rules.PlacedEdges.{with_place}
 use Rattle.model_core.specs.Rules.Uses.{VariableUses, vertex_reads, vertex_writes}
-use Rattle.model_core.specs.Rules.Needed.{watched_variables}
 use Rattle.use_analysis.specs.declared.table.Use.{Use}
 use Rattle.use_analysis.specs.declared.table.Use.TheVariants as kinds
 

@@ -1,10 +1,10 @@
 -- What is collected from a model, part by part.
 use Rattle.std.specs.Prelude.{ℕ, cond, List, [], ◌∷◌, ◌++◌}
-use Rattle.model_core.specs.EventGraph.{EventGraph, EventVertex, EventEdge, StateChange}
+use Rattle.model_core.specs.EventGraph.{EventGraph, EventVertex, EventEdge, StateChange, watched_variables}
 use Rattle.model_core.specs.Run.Step.{vertex_at}
 use Rattle.model_core.specs.Rules.MarkedPlaces.{is_among}
 use Rattle.model_core.specs.Rules.Uses.{edge_streams}
-use Rattle.model_core.specs.Rules.Needed.{watched_variables, faulting_writes, needed_by_edge, needed_by_targets, needed_by_parameters, streams_drawn, drawn_from}
+use Rattle.model_core.specs.Rules.Needed.{faulting_writes, needed_by_edge, needed_by_targets, needed_by_parameters, streams_drawn, drawn_from}
 use Rattle.var_slicing.specs.declared.needs.Needs.{Needs}
 
 pub record Collected : Type 0 where

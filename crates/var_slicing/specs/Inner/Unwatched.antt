@@ -1,8 +1,7 @@
 -- The variables that aren't watched.
 use Rattle.std.specs.Prelude.{ℕ, List, [], length}
-use Rattle.model_core.specs.EventGraph.{EventGraph}
+use Rattle.model_core.specs.EventGraph.{EventGraph, watched_variables}
 use Rattle.model_core.specs.Rules.MarkedPlaces.{unmarked_places}
-use Rattle.model_core.specs.Rules.Needed.{watched_variables}
 use Rattle.model_core.specs.Rules.Entailed.{entailed_marks}
 
 -- their places, in order

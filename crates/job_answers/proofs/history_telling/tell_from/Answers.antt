@@ -1,14 +1,21 @@
-use Rattle.std.proofs.Common.{sym, subst}
+use Rattle.std.proofs.Common.{sym, ◌∙◌}
 use Rattle.model_core.specs.Code.Views.{graph_of}
 use Rattle.watch_trace.specs.Tracing.{moment_of}
-use Rattle.job_answers.specs.Inner.RunSteps.{StreamsFrom}
-use Rattle.job_answers.proofs.HistoryLaws.{streamed_from}
+use Rattle.job_answers.proofs.HistoryLaws.{streamed_from, history_failed, history_told}
 use Rattle.job_answers.proofs.history_telling.tell_from.Goals as goal
 
--- what following wrote is the history
-pub returns : goal.returns
-returns g c = λ room roomy.
-    let o = c.args.output.now in
-    let p = c.follow-outcome.new.sink in
-    subst (λ r. StreamsFrom g.K.Sink.seen (graph_of c.args.run.model) c.args.until c.args.run.seed c.args.events (moment_of c.args.run c.args.tracer) room r o p) (sym c.ending.ensures)
-    (streamed_from g.K.Sink.seen c.args.until c.args.events room c.args.run c.follow-outcome.new.run c.args.tracer c.follow-outcome.new.tracer c.follow-outcome.result o p roomy c.follow-outcome.ensures.writes c.follow-outcome.ensures.stands)
+-- what was written is the history, and the output is closed
+pub returns-in-Ok : goal.returns-in-Ok
+returns-in-Ok g c = λ room roomy.
+    let followed = c.write_history-outcome in
+    let written = streamed_from g.K.Sink.seen c.args.until c.args.events room c.args.run followed.new.run c.args.tracer followed.new.tracer followed.result c.args.output.now followed.new.sink roomy followed.ensures.writes followed.ensures.stands
+    _ (sym c.in-Ok.is ∙ c.ending.ensures) in
+    history_told g.K.Sink.seen (graph_of c.args.run.model) c.args.until c.args.run.seed c.args.events (moment_of c.args.run c.args.tracer) room c.in-Ok.end c.close.result c.args.output.now followed.new.sink c.close.new.output written c.close.ensures
+
+-- it could not be written
+pub returns-in-Err : goal.returns-in-Err
+returns-in-Err g c = λ room roomy.
+    let followed = c.write_history-outcome in
+    let written = streamed_from g.K.Sink.seen c.args.until c.args.events room c.args.run followed.new.run c.args.tracer followed.new.tracer followed.result c.args.output.now followed.new.sink roomy followed.ensures.writes followed.ensures.stands
+    _ (sym c.in-Err.is ∙ c.ending.ensures) in
+    history_failed g.K.Sink.seen (graph_of c.args.run.model) c.args.until c.args.run.seed c.args.events (moment_of c.args.run c.args.tracer) room c.in-Err.failure c.args.output.now followed.new.sink written

@@ -15,20 +15,18 @@ document-requires g c =
     let kept = (c.validity_is_by_parts.ensures.by_parts graph).0 c.requires.valid in
     let begun = c.requires.begun in
     saved_is_good graph o (λ going. c.saved_runs_resume.ensures graph o.seed o.starts o.until o.events kept.0 kept.1 c.requires.wide begun.1.accepted c.requires.soon c.requires.budget going) c.in-Some.snapshot
-    (subst (λ (x : Option SavedRun). SavedOrFinished graph o.until o.seed o.events o.starts x) c.in-Some.is (c.in_ok-snapshot.ensures o.starts begun.0 begun.1))
+    (subst (λ (x : Option SavedRun). SavedOrFinished graph o.until o.seed o.events o.starts x) c.in-Some.is c.in_ok-snapshot.ensures)
 
 pub returns-in-Some : goal.returns-in-Some
 returns-in-Some g c =
     let graph = graph_of c.args.model.now in
     let o = c.args.options.now in
-    let begun = c.requires.begun in
     subst (λ (answer : Answer). IfOk c.document.result (λ a. a ≡ answer))
-    (saved_told graph o c.in-Some.snapshot (subst (λ (x : Option SavedRun). SavedOrFinished graph o.until o.seed o.events o.starts x) c.in-Some.is (c.in_ok-snapshot.ensures o.starts begun.0 begun.1))) c.document.ensures
+    (saved_told graph o c.in-Some.snapshot (subst (λ (x : Option SavedRun). SavedOrFinished graph o.until o.seed o.events o.starts x) c.in-Some.is c.in_ok-snapshot.ensures)) c.document.ensures
 
 pub returns-in-None : goal.returns-in-None
 returns-in-None g c =
     let graph = graph_of c.args.model.now in
     let o = c.args.options.now in
-    let begun = c.requires.begun in
     subst (λ (answer : Answer). IfOk c.finished.result (λ a. a ≡ answer))
-    (finished_told graph o (subst (λ (x : Option SavedRun). SavedOrFinished graph o.until o.seed o.events o.starts x) c.in-None.is (c.in_ok-snapshot.ensures o.starts begun.0 begun.1))) c.finished.ensures
+    (finished_told graph o (subst (λ (x : Option SavedRun). SavedOrFinished graph o.until o.seed o.events o.starts x) c.in-None.is c.in_ok-snapshot.ensures)) c.finished.ensures

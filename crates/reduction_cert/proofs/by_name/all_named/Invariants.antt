@@ -1,7 +1,7 @@
 use Rattle.std.proofs.Common.{◌≡◌, ◌++◌, drop}
 use Rattle.std.specs.Option.{option_map}
 use Rattle.model_core.specs.Text.Numbering.{each_numbered}
-use Rattle.name_places.specs.NamesPlaced.{listed_place}
+use Rattle.model_read.specs.NamesPlaced.{listed_place}
 use Rattle.reduction_cert.proofs.by_name.all_named.Given as goal
 
 abbrev pub invariant-loop-name : goal.invariant-loop-name

@@ -3,8 +3,9 @@ use Rattle.std.proofs.Common.{◌≡◌, ◌∙◌, ℕ, ◌+◌, cond, Option, 
 use Rattle.std.proofs.Common.{rules, arith}
 use Rattle.std.proofs.lemmas.Grind.{common_steps}
 use Rattle.sig_base.specs.declared.no_memory.NoMemory.{NoMemory}
+use Rattle.sig_base.proofs.Lists.{remaining_more}
 use Rattle.model_core.specs.Code.Views.{graph_of, application_of}
-use Rattle.reduction_cert.proofs.OneMore.{left_more, left_none, bad_later, reached_later, bad_here, none_bad, all_reached}
+use Rattle.reduction_cert.proofs.OneMore.{left_none, bad_later, reached_later, bad_here, none_bad, all_reached}
 use Rattle.reduction_cert.proofs.FewerVariables.{counts_begin, counts_serve}
 use Rattle.reduction_cert.proofs.checking.apply_all.Goals as goal
 
@@ -15,7 +16,7 @@ loop-place-preserved c =
     let a = application_of c.index-applications-place.result in
     let left = map application_of (drop c.loop-place.place c.args.applications.now) in
     let later = map application_of (drop (c.loop-place.place + 1) c.args.applications.now) in
-    let is = left_more application_of c.args.applications.now c.loop-place.place c.index-applications-place.result c.loop-place-test.true c.index-applications-place.is in
+    let is = remaining_more application_of c.args.applications.now c.loop-place.place c.index-applications-place.result c.loop-place-test.true c.index-applications-place.is in
     let made = c.in_ok-apply.ensures.made ∙ ap (λ b. cond b (Some next) None) c.if-not-branch.false in
     record {
       listed = c.in_ok-list_anew.ensures g made c.loop-place.invariant.listed;
@@ -32,7 +33,7 @@ returns-then-not-branch-clause-bad c =
     let a = application_of c.index-applications-place.result in
     let left = map application_of (drop c.loop-place.place c.args.applications.now) in
     let later = map application_of (drop (c.loop-place.place + 1) c.args.applications.now) in
-    let is = left_more application_of c.args.applications.now c.loop-place.place c.index-applications-place.result c.loop-place-test.true c.index-applications-place.is in
+    let is = remaining_more application_of c.args.applications.now c.loop-place.place c.index-applications-place.result c.loop-place-test.true c.index-applications-place.is in
     let refused = c.in_ok-apply.ensures.made ∙ ap (λ b. cond b (Some next) None) c.if-not-branch.true in
     bad_here g a left later is refused _ c.loop-place.place c.loop-place.invariant.bad
 

@@ -5,7 +5,7 @@ use Rattle.model_core.specs.Rules.Reduction.{first_bad}
 use Rattle.model_core.specs.Rules.Verdict.{graph_reached}
 use Rattle.merge_rules.specs.Known.{IsKnown}
 use Rattle.merge_rules.specs.NothingCounted.{NothingCounted}
-use Rattle.name_places.specs.NamesPlaced.{HasPlaces, names_of_vertices}
+use Rattle.model_read.specs.NamesPlaced.{HasPlaces, names_of_vertices}
 use Rattle.reduction_cert.proofs.checking.apply_all.Given as goal
 
 abbrev pub invariant-loop-place : goal.invariant-loop-place

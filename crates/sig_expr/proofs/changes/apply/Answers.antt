@@ -1,5 +1,6 @@
 use Rattle.std.proofs.Common.{sym, ap, ◌∙◌, arith, map, drop, length}
-use Rattle.model_core.specs.Run.Changes.{make_change, left_by_change}
+use Rattle.model_core.specs.Run.Changes.{make_change}
+use Rattle.model_core.specs.Run.LeftByFaults.{left_by_change}
 use Rattle.model_core.specs.Code.Views.{graph_of, change_of}
 use Rattle.sig_expr.specs.Possible.{PossibleChange}
 use Rattle.sig_base.proofs.Lists.{holds_of_each, remaining_more}

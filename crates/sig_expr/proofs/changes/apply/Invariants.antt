@@ -1,6 +1,7 @@
 use Rattle.std.proofs.Common.{◌≡◌, ℕ, ◌+◌, ◌≤◌, drop, map, IsTrue}
 use Rattle.model_core.specs.Run.State.{in_range}
-use Rattle.model_core.specs.Run.Changes.{make_change, left_by_change, taken_from}
+use Rattle.model_core.specs.Run.Changes.{make_change, taken_from}
+use Rattle.model_core.specs.Run.LeftByFaults.{left_by_change}
 use Rattle.model_core.specs.Code.Views.{graph_of, change_of}
 use Rattle.run_laws.proofs.MadeSoFar.{MadeSoFar}
 use Rattle.sig_expr.proofs.changes.apply.Given as goal

@@ -1,11 +1,12 @@
 -- One pending event more, or one that is bad, and all of them.
 use Rattle.std.proofs.Common.{List, map, drop, sym, ap, ◌+◌, ◌++◌, ◌∙◌, append-nil, drop_of_length-le}
+use Rattle.sig_base.proofs.Lists.{one_left}
 use Rattle.model_core.specs.Code.Views.{graph_of}
 use Rattle.model_core.specs.Text.SnapshotGrammar.{WrittenPending}
 use Rattle.model_core.specs.Saved.GoodSnapshots.{first_bad_part, pending_part, saved_entry}
 use Rattle.snapshot_text.specs.declared.parts.RawPending.{RawPending}
 use Rattle.snapshot_text.specs.Inner.RawParts.{written_pending}
-use Rattle.snapshot_text.proofs.JudgedParts.{one_left, one_part_more, one_part_told}
+use Rattle.snapshot_text.proofs.JudgedParts.{one_part_more, one_part_told}
 use Rattle.snapshot_text.proofs.events.pending_of.Goals as goal
 
 pub loop-raw-preserved : goal.loop-raw-preserved

@@ -1,6 +1,7 @@
 -- One variable more, or one whose values are bad, and all of them.
 use Rattle.std.proofs.Common.{◌≡◌, ◌<◌, ℕ, List, length, get_or, map, drop, sym, ap, ap₂, ◌+◌, ◌++◌, ◌∙◌, ◌∷◌, append-nil, drop_of_length-le}
 use Rattle.std.specs.List.{flat_map}
+use Rattle.sig_base.proofs.Lists.{one_left}
 use Rattle.model_core.specs.declared.model.Var.{Var}
 use Rattle.model_core.specs.EventGraph.{Variable}
 use Rattle.model_core.specs.Code.Views.{variable_of}
@@ -8,7 +9,7 @@ use Rattle.model_core.specs.Text.SnapshotGrammar.{WrittenValue}
 use Rattle.model_core.specs.Saved.GoodSnapshots.{first_bad_part, value_parts, signed_values}
 use Rattle.snapshot_text.specs.declared.parts.RawValue.{RawValue}
 use Rattle.snapshot_text.specs.Inner.RawParts.{written_value}
-use Rattle.snapshot_text.proofs.JudgedParts.{one_left, one_value_more, one_value_told}
+use Rattle.snapshot_text.proofs.JudgedParts.{one_value_more, one_value_told}
 use Rattle.snapshot_text.proofs.values.values_of.Goals as goal
 
 first_variable : (i : ℕ) (items vars : List Var) (var : Var) → items ≡ vars → i < length items → var ≡ get_or items i var → variable_of var ∷ map variable_of (drop (i + 1) vars) ≡ map variable_of (drop i vars)

@@ -10,7 +10,7 @@ use Rattle.tally_report.proofs.RunTallied.{tallied_from_beginning, FewCounted, a
 use Rattle.tally_report.proofs.tallying.follow.Goals as goal
 
 pub returns-clause-told : goal.returns-clause-told
-returns-clause-told g c =
+returns-clause-told c =
     let seen = c.observe-outcome in
     let shows = seen.ensures.takes in
     let told = tallied_from_beginning c.args.model.now c.requires.begun.0 c.requires.begun.1 c.args.until c.args.events c.args.run.now c.in_ok-tracer.tracer c.in_ok-taker.taker seen.new.taker seen.result shows.notes shows.rest
@@ -19,7 +19,7 @@ returns-clause-told g c =
     subst (λ (run : RunTally). IfOk c.tally.result (λ tally. tally ≡ run)) (same ∙ told.0) c.tally.ensures.told
 
 pub returns-clause-small : goal.returns-clause-small
-returns-clause-small g c =
+returns-clause-small c =
     let seen = c.observe-outcome in
     let shows = seen.ensures.takes in
     let told = tallied_from_beginning c.args.model.now c.requires.begun.0 c.requires.begun.1 c.args.until c.args.events c.args.run.now c.in_ok-tracer.tracer c.in_ok-taker.taker seen.new.taker seen.result shows.notes shows.rest

@@ -5,7 +5,7 @@ use Rattle.trial_report.proofs.RunTold.{tells}
 use Rattle.trial_report.proofs.run_measure.follow.Goals as goal
 
 pub returns : goal.returns
-returns g c =
+returns c =
     let followed = c.observe-outcome in
     let shows = followed.ensures.takes in
     subst (λ (n : ℕ). Tells (graph_of c.args.model.now) c.args.run.now.seed c.args.until c.args.events (record { outcome = followed.result; events = n; notes = followed.new.taker.notes })) (sym c.turns.ensures)

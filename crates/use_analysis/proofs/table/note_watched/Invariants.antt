@@ -1,5 +1,5 @@
 use Rattle.std.proofs.Common.{◌≡◌, map, drop}
-use Rattle.model_core.specs.Rules.Needed.{watched_variables}
+use Rattle.model_core.specs.EventGraph.{watched_variables}
 use Rattle.model_core.specs.Code.Views.{watched_of}
 use Rattle.use_analysis.specs.declared.table.Use.TheVariants as kinds
 use Rattle.use_analysis.specs.UseRows.{uses_row}

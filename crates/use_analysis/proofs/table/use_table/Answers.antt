@@ -3,7 +3,7 @@ use Rattle.std.proofs.Common.{◌∙◌, ap, sym, List, map}
 use Rattle.std.proofs.lemmas.List.{length-map}
 use Rattle.model_core.specs.declared.model.Watch.{Watch}
 use Rattle.model_core.specs.declared.vertex.Vertex.{Vertex}
-use Rattle.model_core.specs.Rules.Needed.{watched_variables}
+use Rattle.model_core.specs.EventGraph.{watched_variables}
 use Rattle.model_core.specs.Code.Views.{graph_of, variable_of, vertex_of, watched_of}
 use Rattle.use_analysis.specs.declared.table.Use.TheVariants as kinds
 use Rattle.use_analysis.specs.UseRows.{uses_row}

@@ -4,7 +4,7 @@ use Rattle.std.proofs.lemmas.List.{length-map}
 use Rattle.std.proofs.lemmas.Result.{IfOk-weaker}
 use Rattle.model_core.specs.Rules.Entailed.{entailed_marks}
 use Rattle.model_core.specs.Rules.MarkedPlaces.{unmarked_places}
-use Rattle.model_core.specs.Rules.Needed.{watched_variables}
+use Rattle.model_core.specs.EventGraph.{watched_variables}
 use Rattle.model_core.specs.Code.Views.{graph_of, variable_of, watched_of}
 use Rattle.mark_laws.specs.PlacePairs.{pairs_from}
 use Rattle.var_slicing.proofs.AllWatched.{unlinked-marked}

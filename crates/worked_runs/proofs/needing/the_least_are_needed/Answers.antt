@@ -1,7 +1,7 @@
 -- The first ones and the pairs are computed. Of growing no pair leads to the second variable but from itself.
 use Rattle.std.proofs.Common.{◌≡◌, ℕ, zero, suc, [], ◌∷◌, refl, sym, ap, lit<, lt_irrefl, arith}
 use Rattle.model_core.specs.Rules.BoundsTable.{exact_bounds}
-use Rattle.model_core.specs.Rules.Entailed.{Entailed, from_first, over_pair}
+use Rattle.model_core.specs.Rules.LeastRelations.{Entailed, from_first, over_pair}
 use Rattle.mark_laws.proofs.EntailedMarks.{entailed-below}
 use Rattle.worked_runs.proofs.needing.the_least_are_needed.Goals as goal
 

@@ -1,13 +1,14 @@
 -- Merged and noted are the first two that can be, if there are any.
 use Rattle.std.proofs.Common.{◌≡◌, ℕ, ◌<◌, map, length, Some, Err, List, [], ◌∷◌, ◌++◌, sym, ap, ap₂, subst, arith, ◌∙◌}
 use Rattle.std.proofs.lemmas.List.{length-map}
+use Rattle.std.proofs.lemmas.Bool.{ltb-true}
 use Rattle.model_core.specs.EventGraph.{EventGraph}
 use Rattle.model_core.specs.Run.Step.{vertex_at}
 use Rattle.model_core.specs.declared.rule_error.RuleError.TheVariants as errors
 use Rattle.model_core.specs.Code.Views.{graph_of, vertex_of, application_of}
 use Rattle.model_core.specs.Rules.Merge.{merged_with, first_merge}
 use Rattle.model_core.specs.Rules.Reduction.{Merge}
-use Rattle.reducer.proofs.FirstLaterRule.{below, both_exist, merge_holds, merge_made}
+use Rattle.reducer.proofs.FirstLaterRule.{both_exist, merge_holds, merge_made}
 use Rattle.model_core.proofs.PlacesChanged.{length_placed}
 use Rattle.merge_rules.specs.NothingCounted.{NothingCounted}
 use Rattle.merge_rules.specs.KeptPairs.{ArePairs}
@@ -45,7 +46,7 @@ unreached_by_merge-progress-requires-clause-there c =
     let g = graph_of c.args.self.now.model in
     let first = c.in-Some.first in
     let second = c.in-Some.second in
-    let there : second < length g.vertices = below second (length g.vertices) (both_exist g first second (merge_holds g first second (sym c.in-Some.ensures.found))).1 in
+    let there : second < length g.vertices = ltb-true second (length g.vertices) (both_exist g first second (merge_holds g first second (sym c.in-Some.ensures.found))).1 in
     let long = length_placed (merged_with (vertex_at g second)) first g.vertices in
     let same = ap (λ (h : EventGraph). length h.vertices) c.in-Ok.ensures.done.1 in
     omega (arith, there, long, same, length-map c.merge_measured.new.model.vertices vertex_of)

@@ -1,6 +1,0 @@
-use Rattle.std.proofs.Common.{rules}
-use Rattle.name_places.proofs.Tables.{one_listed}
-use Rattle.name_places.proofs.places.Places.add_new.Goals as goal
-
-pub returns : goal.returns
-returns c = one_listed c.self.inside.table.entries c.insert.new.self.entries c.in_ok-key.key c.args.place c.args.name.now c.args.self.now c.self.view_is (search rules) c.requires.new c.in_ok-insert.ensures.entries

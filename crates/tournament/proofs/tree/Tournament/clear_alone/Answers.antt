@@ -1,6 +1,0 @@
--- Without a key, the games stay won.
-use Rattle.tournament.proofs.Alone.{played-clear}
-use Rattle.tournament.proofs.tree.Tournament.clear_alone.Goals as goal
-
-pub invariant_of-self : goal.invariant_of-self
-invariant_of-self c = played-clear c.self.inside.keys.items c.self.inside.winners.items c.args.vertex c.self.invariant (rw c.self.view_is c.requires.vertex) (rw c.self.view_is c.requires.alone)

@@ -1,0 +1,56 @@
+//! A run is followed, and its steps are counted by nobody.
+
+ghost use Rattle.std.specs.Prelude.{◌≡◌, ◌+◌, ◌<◌, ◌≤◌, ◌^◌, None};
+ghost use Rattle.watch_trace.specs.Inner.MadeMoves.{Came};
+
+use crate::last_notes::LastNotes;
+use crate::moves::come_to_outcome;
+use crate::note_taker::NoteTaker;
+use crate::outcome::Outcome;
+use event_list::Pending;
+use run_control::Run;
+use sig_base::Steps;
+use std::marker::Brand;
+use std::sync::ledger::{Blank, Ledger};
+
+/// Follows a run for at most so many events, with its notes. Its steps are counted from this blank.
+fn come_from_blank<'m, P: Pending, K, T: NoteTaker<K>, L: Ledger>(
+    last_notes: &mut LastNotes<'m>,
+    run: &mut Run<'m, P>,
+    until: u64,
+    events: u64,
+    taker: &mut T,
+    onto: &mut K,
+    blank: Blank,
+) -> Outcome
+    requires name { blank.name ≡ L.name }
+    requires parts { blank.parts ≡ L.parts }
+    requires some { 0 < blank.parts }
+    requires soon { until ≤ 2 ^ 48 }
+    requires budget { run.old.turns + events ≤ 2 ^ 40 }
+    requires one_model { last_notes.old.model ≡ run.old.model }
+    requires goes_on { run.old.faulted ≡ None }
+    ensures { Came T.takes (λ p. T.failed p.0) until events run.old last_notes.old result run.new last_notes.new (taker.old, onto.old) (taker.new, onto.new) }
+{
+    let mut steps: Steps<L> = Steps::begin(blank);
+    come_to_outcome(last_notes, run, until, events, taker, onto, &mut steps)
+}
+
+/// Follows a run for at most so many events, with its notes.
+pub fn come_uncounted<'m, P: Pending, K, T: NoteTaker<K>>(
+    last_notes: &mut LastNotes<'m>,
+    run: &mut Run<'m, P>,
+    until: u64,
+    events: u64,
+    taker: &mut T,
+    onto: &mut K,
+) -> Outcome
+    requires soon { until ≤ 2 ^ 48 }
+    requires budget { run.old.turns + events ≤ 2 ^ 40 }
+    requires one_model { last_notes.old.model ≡ run.old.model }
+    requires goes_on { run.old.faulted ≡ None }
+    ensures { Came T.takes (λ p. T.failed p.0) until events run.old last_notes.old result run.new last_notes.new (taker.old, onto.old) (taker.new, onto.new) }
+{
+    let blank = Blank::new(1);
+    come_from_blank::<P, K, T, Brand>(last_notes, run, until, events, taker, onto, blank)
+}
