@@ -7,7 +7,7 @@ use Rattle.std.proofs.lemmas.Bool.{ltb-true, ltb-false}
 use Rattle.std.proofs.lemmas.List.{get_or_default, get_or_past}
 use Rattle.std.proofs.lemmas.List.Sums.{sum_by-cons}
 use Rattle.sig_base.specs.Stream.{share, place_exceeding}
-use Rattle.sig_base.specs.RunningSums.{running_sums, AtMostBefore}
+use Rattle.sig_base.specs.RunningSums.{running_sums, AtMostBefore, StartsAt}
 
 length-sums : (before : ℕ) (weights : List ℕ) → length (running_sums before weights) ≡ length weights
 length-sums before [] = refl
@@ -86,10 +86,10 @@ pub before_rises : (sums : List ℕ) (x y place : ℕ) → x ≤ y → AtMostBef
 before_rises sums x y place order before = (before.0, λ i below. let low : get_or sums i 0 ≤ x = before.1 i below in omega arith)
 
 -- where nothing is kept of a part the search begins at the first place
-pub start_known : (sums starts : List ℕ) (total : ℕ) → ((part : ℕ) → part < length starts → AtMostBefore sums (share (part * 2 ^ 24) total) (get_or starts part 0)) → (part : ℕ) → AtMostBefore sums (share (part * 2 ^ 24) total) (get_or starts part 0)
-start_known sums starts total started part = pick (nat_lt part (length starts)) refl
+pub start_known : (sums starts : List ℕ) (total shift : ℕ) → StartsAt sums total shift starts → (part : ℕ) → AtMostBefore sums (share (part * 2 ^ shift) total) (get_or starts part 0)
+start_known sums starts total shift started part = pick (nat_lt part (length starts)) refl
   where
-    pick : (b : Bool) → nat_lt part (length starts) ≡ b → AtMostBefore sums (share (part * 2 ^ 24) total) (get_or starts part 0)
+    pick : (b : Bool) → nat_lt part (length starts) ≡ b → AtMostBefore sums (share (part * 2 ^ shift) total) (get_or starts part 0)
     pick true e = started part (ltb-true part (length starts) e)
     pick false e =
         let none : get_or starts part 0 ≡ 0 = get_or_past starts part 0 (ltb-false part (length starts) e) in

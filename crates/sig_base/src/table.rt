@@ -2,7 +2,7 @@
 
 ghost use Rattle.std.specs.Prelude.{◌≡◌, ℕ, ◌*◌, ◌/◌, ◌-◌, ◌<◌, ◌≤◌, ◌^◌, length, map, min, sum, slice_index_or, IfOk};
 ghost use Rattle.sig_base.specs.Stream.{share, weighted_pick};
-ghost use Rattle.sig_base.specs.RunningSums.{running_sums, AtMostBefore};
+ghost use Rattle.sig_base.specs.RunningSums.{running_sums, AtMostBefore, StartsAt};
 
 use crate::limits::{PARAMETERS_MAX, WEIGHTS_MAX};
 use crate::list::List;
@@ -22,23 +22,23 @@ pub struct Row {
     pub weight: u64,
 }
 
-/// A table of up to so many rows is gone through from the first.
-const FEW_ROWS: usize = 32;
-
 /// A table of weighted values, from which a `draw` takes. Beside its rows it keeps what finds the row of a word in a step or
-/// two: the sum of all weights; of each row the sum of its weight and those before it; and, where rows are many, of each of 256
-/// parts of the words, as many each, a place before which no row of such a word can be. `of_rows` makes it.
+/// two: the sum of all weights; of each row the sum of its weight and those before it; and of each part of the words, which are
+/// some four to eight times as many as the rows and 2^`shift` words each, a place before which no row of such a word can be.
+/// `of_rows` makes it.
 #[derive(Drop)]
 pub struct Table {
     pub name: Name,
     pub rows: List<Row>,
     total: u64,
     sums: List<u64>,
+    shift: u32,
     starts: List<usize>,
     ghost totalled: { sum (map (λ r. r.weight) rows) ≤ 2 ^ 32 → total ≡ sum (map (λ r. r.weight) rows) },
     ghost summed: { sum (map (λ r. r.weight) rows) ≤ 2 ^ 32 → sums ≡ running_sums 0 (map (λ r. r.weight) rows) },
     ghost small: { total ≤ 2 ^ 32 },
-    ghost started: { (part : ℕ) → part < length starts → AtMostBefore sums (share (part * 2 ^ 24) total) (slice_index_or starts part 0) },
+    ghost shifted: { shift < 32 },
+    ghost started: { StartsAt sums total shift starts },
 }
 
 /// The part of `count` that a word is of 2^32.
@@ -89,26 +89,32 @@ fn place_from(sums: &[u64], x: u64, from: usize) -> usize
 }
 
 /// Where a search for a word begins.
-fn start_for(starts: &[usize], word: u32) -> usize
-    ensures { result ≡ slice_index_or starts.now (word / 16777216) 0 }
+fn start_for(starts: &[usize], shift: u32, word: u32) -> usize
+    requires { shift < 32 }
+    ensures { result ≡ slice_index_or starts.now (word / 2 ^ shift) 0 }
 {
-    let part = (word / 16_777_216) as usize;
+    let part = (word >> shift) as usize;
     if part < starts.len() { starts[part] } else { 0 }
 }
 
-/// Of each of 256 parts of the words the place of the first sum above the share of its first word. Of few sums nothing is kept,
-/// since they are gone through as quickly.
-fn starts_of(alloc: Global, sums: &[u64], total: u64) -> Result<List<usize>, NoMemory>
-    requires { total ≤ 2 ^ 32 }
-    ensures { IfOk result (λ starts. (part : ℕ) → part < length starts → AtMostBefore sums.now (share (part * 2 ^ 24) total) (slice_index_or starts part 0)) }
+/// How many bits of a word are left out of the number of its part: so many that there are four to eight parts for each row, and
+/// at most 65,536.
+fn shift_for(rows: usize) -> u32
+    ensures { result < 32 }
 {
-    if sums.len() <= FEW_ROWS {
-        return Ok(List::new(alloc));
-    }
-    let mut starts = Vec::with_capacity(alloc, 256)?;
+    (rows.min(16_383) as u32).leading_zeros().saturating_sub(2)
+}
+
+/// Of each part of the words the place of the first sum above the share of its first word.
+fn starts_of(alloc: Global, sums: &[u64], total: u64, shift: u32) -> Result<List<usize>, NoMemory>
+    requires shifted { shift < 32 }
+    requires small { total ≤ 2 ^ 32 }
+    ensures { IfOk result (λ starts. StartsAt sums.now total shift starts) }
+{
+    let mut starts = Vec::with_capacity(alloc, (u32::MAX >> shift) as usize + 1)?;
     let mut place = 0;
-    for part in 0..256_u32 {
-        let x = share_of(part * 16_777_216, total);
+    for part in 0..=u32::MAX >> shift {
+        let x = share_of(part << shift, total);
         place = place_from(sums, x, place);
         starts.push(place)?;
     }
@@ -123,12 +129,14 @@ impl Table {
     {
         let sums = sums_of(alloc, rows.as_slice())?;
         let total = total(sums.as_slice());
-        let starts = starts_of(alloc, sums.as_slice(), total)?;
+        let shift = shift_for(sums.len());
+        let starts = starts_of(alloc, sums.as_slice(), total, shift)?;
         Ok(Table {
             name,
             rows,
             total,
             sums,
+            shift,
             starts,
         })
     }
@@ -137,7 +145,7 @@ impl Table {
     pub fn place(&self, word: u32) -> usize
         ensures { sum (map (λ r. r.weight) self.now.rows) ≤ 2 ^ 32 → result ≡ weighted_pick (map (λ r. r.weight) self.now.rows) word }
     {
-        let start = start_for(self.starts.as_slice(), word);
+        let start = start_for(self.starts.as_slice(), self.shift, word);
         let x = share_of(word, self.total);
         place_from(self.sums.as_slice(), x, start)
     }

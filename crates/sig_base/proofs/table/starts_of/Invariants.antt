@@ -7,6 +7,6 @@ use Rattle.sig_base.proofs.table.starts_of.Given as goal
 abbrev pub invariant-loop-part : goal.invariant-loop-part
 invariant-loop-part l = record {
   long : length l.starts.items ≡ l.part;
-  started : (part : ℕ) → part < l.part → AtMostBefore l.sums (share (part * 2 ^ 24) l.total) (get_or l.starts.items part 0);
-  next : AtMostBefore l.sums (share (l.part * 2 ^ 24) l.total) l.place;
+  started : (part : ℕ) → part < l.part → AtMostBefore l.sums (share (part * 2 ^ l.shift) l.total) (get_or l.starts.items part 0);
+  next : AtMostBefore l.sums (share (l.part * 2 ^ l.shift) l.total) l.place;
 }

@@ -9,10 +9,10 @@ use Rattle.sig_base.proofs.table.Table.place.Goals as goal
 pub place_from-requires : goal.place_from-requires
 place_from-requires c =
     let t = c.args.self.now in
-    let part = c.args.word / 16777216 in
-    let later : share (part * 2 ^ 24) t.total ≤ share c.args.word t.total = share_rises (part * 2 ^ 24) c.args.word t.total (div-mul-le_self c.args.word 16777216) in
+    let part = c.args.word / 2 ^ t.shift in
+    let later : share (part * 2 ^ t.shift) t.total ≤ share c.args.word t.total = share_rises (part * 2 ^ t.shift) c.args.word t.total (div-mul-le_self c.args.word (2 ^ t.shift)) in
     let raised : AtMostBefore t.sums (share c.args.word t.total) (slice_index_or t.starts part 0) =
-    before_rises t.sums (share (part * 2 ^ 24) t.total) (share c.args.word t.total) (slice_index_or t.starts part 0) later (start_known t.sums t.starts t.total t.started part) in
+    before_rises t.sums (share (part * 2 ^ t.shift) t.total) (share c.args.word t.total) (slice_index_or t.starts part 0) later (start_known t.sums t.starts t.total t.shift t.started part) in
     rw (c.start_for-start.ensures, c.as_slice.ensures, c.as_slice-2.ensures, c.share_of-x.ensures.value) raised
 
 pub returns : goal.returns
