@@ -88,9 +88,10 @@ fn put_in_place(
     ensures edges { map edge_of edges.new.items ≡ remove (map edge_of edges.old.items) place ++ map edge_of other.edges }
 {
     let edge = edges.remove(place);
-    add_set(changes, other.params.as_slice(), targets, edge.values);
-    add_all(changes, other.changes);
-    add_all(edges, other.edges);
+    let (_, params, more_changes, more_edges) = other.into_parts();
+    add_set(changes, params.as_slice(), targets, edge.into_values());
+    add_all(changes, more_changes);
+    add_all(edges, more_edges);
 }
 
 /// Makes the vertex, whose plain urgent edge stands at this place, do what the other one does in place of that edge.

@@ -42,10 +42,10 @@ pub(crate) struct Operand {
 impl Drop for Operand {
     fn drop(self) {
         let Operand { expr, kind: _ } = self;
-        match expr {
+        match &expr {
             // It stands where nothing is read yet, and holds no memory: asking is cheaper than the call.
-            Expr::Clk => {}
-            other => drop(other),
+            Expr::Clk => mem::forget(expr),
+            _ => drop(expr),
         }
     }
 }
