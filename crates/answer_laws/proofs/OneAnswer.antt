@@ -10,12 +10,12 @@ use Rattle.model_core.specs.EventGraph.{EventGraph}
 use Rattle.model_core.specs.Rules.Reduction.{RuleApplication}
 use Rattle.model_core.specs.Saved.SavedRun.{SavedRun}
 use Rattle.model_core.specs.Static.Reading.{Reads, ReadsDocument}
-use Rattle.job_answers.specs.declared.answer.Answer.{Answer}
-use Rattle.job_answers.specs.declared.complaint.Complaint.{Complaint}
-use Rattle.job_answers.specs.AnswerForms.{refused, too_long}
+use Rattle.answer_delivery.specs.declared.answer.Answer.{Answer}
+use Rattle.answer_delivery.specs.declared.complaint.Complaint.{Complaint}
+use Rattle.answer_delivery.specs.AnswerForms.{refused, too_long}
 use Rattle.job_answers.specs.AnswerLaws.{DocumentParts, SavedParts, MayBeAsked, KeepsAnswerLaws}
 use Rattle.job_answers.specs.Answers.{AnswersModel, AnswersDocument, AnswersSaved, IsRefused, Responds, IsWithin, IsOver, Answers}
-use Rattle.job_answers.specs.Complaints.{IsComplaint, message_of, byte_line}
+use Rattle.answer_delivery.specs.Complaints.{IsComplaint, message_of, byte_line}
 use Rattle.job_answers.specs.Complained.{HasComplaint, HasDocumentComplaint, HasSavedComplaint}
 use Rattle.job_answers.specs.DocumentComplaints.{IsDocumentComplaint}
 use Rattle.job_answers.specs.SavedComplaints.{IsSavedComplaint}

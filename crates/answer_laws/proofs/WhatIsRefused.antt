@@ -9,14 +9,14 @@ use Rattle.model_core.specs.EventGraph.{EventGraph}
 use Rattle.model_core.specs.Rules.Reduction.{RuleApplication}
 use Rattle.model_core.specs.Saved.SavedRun.{SavedRun}
 use Rattle.model_core.specs.Static.Reading.{Reads, ReadsDocument}
-use Rattle.job_answers.specs.declared.answer.Answer.{Answer}
-use Rattle.job_answers.specs.declared.status.Status.TheVariants as statuses
-use Rattle.job_answers.specs.AnswerForms.{refused, too_long}
+use Rattle.answer_delivery.specs.declared.answer.Answer.{Answer}
+use Rattle.answer_delivery.specs.declared.status.Status.TheVariants as statuses
+use Rattle.answer_delivery.specs.AnswerForms.{refused, too_long}
 use Rattle.job_answers.specs.AnswerLaws.{KeepsAnswerLaws}
 use Rattle.job_answers.specs.Answers.{Responds, IsOver, Answers}
 use Rattle.job_answers.specs.Complained.{HasComplaint, HasDocumentComplaint, HasSavedComplaint}
 use Rattle.job_answers.specs.SavedReading.{ReadsSaved}
-use Rattle.job_answers.specs.Statuses.{status_of_answer}
+use Rattle.answer_delivery.specs.Statuses.{status_of_answer}
 use Rattle.answer_laws.specs.Unreadable.{IsNoModel, IsNoDocument, IsNoSavedDocument, IsUnreadable}
 use Rattle.answer_laws.proofs.OneAnswer.{ComplaintLaws, DocumentLaws, SavedLaws}
 

@@ -8,13 +8,13 @@ ghost use Rattle.command_words.specs.Readings.{reading_of, limit_of};
 ghost use Rattle.model_core.specs.EventGraph.{EventGraph};
 ghost use Rattle.model_core.specs.Static.Reading.{Reads};
 ghost use Rattle.model_core.specs.Rules.Reduction.{RuleApplication, Strategy};
-ghost use Rattle.job_answers.specs.declared.answer.Answer.{Answer};
-ghost use Rattle.job_answers.specs.declared.status.Status.{Status};
-ghost use Rattle.job_answers.specs.AnswerForms.{refused, too_long};
+ghost use Rattle.answer_delivery.specs.declared.answer.Answer.{Answer};
+ghost use Rattle.answer_delivery.specs.declared.status.Status.{Status};
+ghost use Rattle.answer_delivery.specs.AnswerForms.{refused, too_long};
 ghost use Rattle.job_answers.specs.AnswerLaws.{MayBeAsked};
 ghost use Rattle.job_answers.specs.Answers.{IsOver, Answers};
 ghost use Rattle.job_answers.specs.Complained.{HasComplaint, HasDocumentComplaint, HasSavedComplaint};
-ghost use Rattle.job_answers.specs.Statuses.{status_of_answer};
+ghost use Rattle.answer_delivery.specs.Statuses.{status_of_answer};
 ghost use Rattle.answer_laws.specs.Unreadable.{IsNoModel, IsNoDocument, IsNoSavedDocument, IsUnreadable};
 
 use job_answers::{

@@ -5,12 +5,12 @@ ghost use Rattle.std.specs.String.{string_bytes};
 ghost use Rattle.command_words.specs.declared.job.Job.{Job};
 ghost use Rattle.command_words.specs.Jobs.{job_of};
 ghost use Rattle.command_words.specs.Readings.{reading_of, limit_of};
-ghost use Rattle.job_answers.specs.declared.answer.Answer.{Answer};
+ghost use Rattle.answer_delivery.specs.declared.answer.Answer.{Answer};
 ghost use Rattle.job_answers.specs.Answers.{Answers};
-ghost use Rattle.job_answers.specs.Statuses.{status_of_answer};
+ghost use Rattle.answer_delivery.specs.Statuses.{status_of_answer};
 ghost use Rattle.sigma_top.specs.StatusTable.{text_of};
 
-use job_answers::Status;
+use answer_delivery::Status;
 use sig_base::{NullSink, SureSource, Text};
 use sigma_top::sigma;
 use std::alloc::Global;

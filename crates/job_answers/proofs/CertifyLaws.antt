@@ -4,12 +4,12 @@ use Rattle.std.specs.Prelude.{codes, decimal}
 use Rattle.command_words.specs.declared.reading.DocumentJob.TheVariants.{Certify}
 use Rattle.command_words.specs.declared.reading.Reading.TheVariants.{Document}
 use Rattle.model_core.specs.Rules.Verdict.{Verdict, Sound, Rejected, Differs, verdict}
-use Rattle.job_answers.specs.declared.answer.Answer.TheVariants.{Given}
-use Rattle.job_answers.specs.declared.status.End.{End}
-use Rattle.job_answers.specs.declared.status.Status.TheVariants as statuses
+use Rattle.answer_delivery.specs.declared.answer.Answer.TheVariants.{Given}
+use Rattle.answer_delivery.specs.declared.status.End.{End}
+use Rattle.answer_delivery.specs.declared.status.Status.TheVariants as statuses
 use Rattle.job_answers.specs.AnswerLaws.{KeepsAnswerLaws}
 use Rattle.job_answers.specs.CertifyAnswer.{answer_of_verdict, certify_answer}
-use Rattle.job_answers.specs.Statuses.{status_of_answer}
+use Rattle.answer_delivery.specs.Statuses.{status_of_answer}
 use Rattle.job_answers.proofs.GivenAnswers.{begins_with, some_bytes}
 
 has_bytes : (v : Verdict) (end : End) (bytes : List ℕ) → Given end bytes ≡ answer_of_verdict v → 0 < length bytes

@@ -6,8 +6,7 @@ use Rattle.command_words.specs.declared.reading.Reading.TheVariants.{Model}
 use Rattle.model_core.specs.EventGraph.{EventGraph}
 use Rattle.model_core.specs.Static.Reading.{IsValid}
 use Rattle.job_answers.specs.AnswerLaws.{KeepsAnswerLaws}
-use Rattle.job_answers.specs.Answers.{HasNothingToWrite}
-use Rattle.job_answers.specs.AnswerForms.{accepted_line}
+use Rattle.job_answers.specs.Answers.{accepted_line, HasNothingToWrite}
 use Rattle.job_answers.proofs.GivenAnswers.{begins_with, done_answer}
 
 has_bytes : (g : EventGraph) → 0 < length (accepted_line g)

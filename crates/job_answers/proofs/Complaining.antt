@@ -12,9 +12,9 @@ use Rattle.model_core.specs.Text.ModelText.{SpellsText}
 use Rattle.model_core.specs.Static.FaultOrder.{StaticFault}
 use Rattle.model_core.specs.Static.ModelFaults.{IsTold, told_fault}
 use Rattle.model_core.specs.Static.Reading.{Reads}
-use Rattle.job_answers.specs.declared.complaint.Complaint.{Complaint}
-use Rattle.job_answers.specs.declared.complaint.Complaint.TheVariants as complaints
-use Rattle.job_answers.specs.Complaints.{IsComplaint}
+use Rattle.answer_delivery.specs.declared.complaint.Complaint.{Complaint}
+use Rattle.answer_delivery.specs.declared.complaint.Complaint.TheVariants as complaints
+use Rattle.answer_delivery.specs.Complaints.{IsComplaint}
 use Rattle.job_answers.specs.Complained.{HasComplaint}
 use Rattle.job_answers.specs.Inner.TextFacts.{TextFacts}
 

@@ -14,8 +14,8 @@ use Rattle.model_core.specs.Static.ModelFaults.{told_fault, Accepted}
 use Rattle.model_core.specs.Static.Reading.{ReadsDocument}
 use Rattle.text_laws.proofs.Formats.OneTokenDecides.{certificate-fine}
 use Rattle.text_laws.proofs.Formats.TextLaws.{one_value, spelled_or_wrong, one_wrong_place}
-use Rattle.job_answers.specs.declared.complaint.Complaint.{Complaint}
-use Rattle.job_answers.specs.declared.complaint.Complaint.TheVariants as complaints
+use Rattle.answer_delivery.specs.declared.complaint.Complaint.{Complaint}
+use Rattle.answer_delivery.specs.declared.complaint.Complaint.TheVariants as complaints
 use Rattle.job_answers.specs.DocumentComplaints.{IsCertificateComplaint, IsGrammarComplaint, in_first, in_second, in_certificate, IsDocumentComplaint, of_bytes, of_tokens, of_first, of_second}
 use Rattle.job_answers.specs.Complained.{HasDocumentComplaint}
 use Rattle.job_answers.proofs.FaultLaws.{FaultLaws}

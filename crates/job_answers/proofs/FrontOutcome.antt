@@ -17,8 +17,8 @@ use Rattle.text_laws.proofs.OpeningLaws.{none-is_few, few-is_none}
 use Rattle.text_laws.proofs.Formats.OneTokenDecides.{text-fine}
 use Rattle.text_laws.proofs.Formats.TextLaws.{spelled_or_unexpected, one_value, one_place}
 use Rattle.text_laws.proofs.Formats.EndWord.{front-is_text, text-is_front}
-use Rattle.job_answers.specs.declared.complaint.Complaint.{Complaint}
-use Rattle.job_answers.specs.declared.complaint.Complaint.TheVariants as complaints
+use Rattle.answer_delivery.specs.declared.complaint.Complaint.{Complaint}
+use Rattle.answer_delivery.specs.declared.complaint.Complaint.TheVariants as complaints
 use Rattle.job_answers.specs.DocumentComplaints.{IsFrontComplaint}
 
 -- a value, or what there is to complain of and where

@@ -17,16 +17,17 @@ use Rattle.watch_trace.specs.declared.outcome.Outcome.TheVariants as outcomes
 use Rattle.watch_trace.specs.Tracing.{Tracing, moment_of}
 use Rattle.watch_trace.specs.Following.{outcome_of, seen_from, Writes, WritesAll, Stands}
 use Rattle.run_laws.proofs.HistoryBytes.{history_has_bytes}
-use Rattle.job_answers.specs.declared.answer.Answer.TheVariants.{Given}
-use Rattle.job_answers.specs.declared.delivering.Said.{Said}
-use Rattle.job_answers.specs.declared.status.End.{End}
-use Rattle.job_answers.specs.declared.status.Failure.{Failure}
-use Rattle.job_answers.specs.declared.status.Failure.TheVariants as failures
-use Rattle.job_answers.specs.declared.status.Status.TheVariants as statuses
-use Rattle.job_answers.specs.FrontWritten.{GrowsByFront}
+use Rattle.answer_delivery.specs.declared.answer.Answer.TheVariants.{Given}
+use Rattle.answer_delivery.specs.declared.delivering.Said.{Said}
+use Rattle.answer_delivery.specs.declared.status.End.{End}
+use Rattle.answer_delivery.specs.declared.status.Failure.{Failure}
+use Rattle.answer_delivery.specs.declared.status.Failure.TheVariants as failures
+use Rattle.answer_delivery.specs.declared.status.Status.TheVariants as statuses
+use Rattle.answer_delivery.specs.FrontWritten.{GrowsByFront}
 use Rattle.job_answers.specs.RunAnswer.{end_of, told_of, refused_or, ExceedsRoomFrom}
-use Rattle.job_answers.specs.Statuses.{status_of_answer}
-use Rattle.job_answers.specs.Inner.WritingSteps.{Streamed, Closed}
+use Rattle.answer_delivery.specs.Statuses.{status_of_answer}
+use Rattle.answer_delivery.specs.Writing.{Closed}
+use Rattle.job_answers.specs.Inner.WritingSteps.{Streamed}
 use Rattle.job_answers.specs.Inner.RunSteps.{ending, DeliversHistory}
 use Rattle.job_answers.proofs.GivenAnswers.{given_is_no_refusal, some_bytes, end_unrefused}
 use Rattle.job_answers.proofs.Streaming.{closed, closed_in_memory, unstreamed, stopped_short}

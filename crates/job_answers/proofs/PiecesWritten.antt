@@ -6,13 +6,14 @@ use Rattle.std.proofs.lemmas.Result.{err_from_is_err_and}
 use Rattle.std.proofs.Math.Seq.{take-append-add}
 use Rattle.sig_base.specs.Sink.{Outlet, GrowsBy}
 use Rattle.sig_base.proofs.SinkLemmas.{GrowsBy-append}
-use Rattle.job_answers.specs.declared.answer.Answer.TheVariants.{Given}
-use Rattle.job_answers.specs.declared.status.End.{End}
-use Rattle.job_answers.specs.declared.status.Failure.{Failure}
-use Rattle.job_answers.specs.declared.status.Failure.TheVariants as failures
-use Rattle.job_answers.specs.Delivery.{Delivers}
-use Rattle.job_answers.specs.FrontWritten.{GrowsByFront}
-use Rattle.job_answers.specs.Inner.WritingSteps.{Written, InPieces}
+use Rattle.answer_delivery.specs.declared.answer.Answer.TheVariants.{Given}
+use Rattle.answer_delivery.specs.declared.status.End.{End}
+use Rattle.answer_delivery.specs.declared.status.Failure.{Failure}
+use Rattle.answer_delivery.specs.declared.status.Failure.TheVariants as failures
+use Rattle.answer_delivery.specs.Delivery.{Delivers}
+use Rattle.answer_delivery.specs.FrontWritten.{GrowsByFront}
+use Rattle.answer_delivery.specs.Writing.{Written}
+use Rattle.job_answers.specs.Inner.WritingSteps.{InPieces}
 use Rattle.job_answers.specs.Inner.ReportSteps.{IsWrittenUpTo}
 
 -- what writing bytes comes to

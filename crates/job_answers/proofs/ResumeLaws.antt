@@ -13,17 +13,17 @@ use Rattle.model_core.specs.Saved.SavedRun.{SavedRun, saved_moment, history_from
 use Rattle.run_control.specs.Running.{Running}
 use Rattle.run_snapshot.specs.ResumedRun.{ResumedRun}
 use Rattle.watch_trace.specs.Tracing.{Tracing, moment_of}
-use Rattle.job_answers.specs.declared.answer.Answer.{Answer}
-use Rattle.job_answers.specs.declared.answer.Answer.TheVariants.{Refused}
-use Rattle.job_answers.specs.declared.delivering.Said.{Said}
-use Rattle.job_answers.specs.declared.delivering.Said.TheVariants as said
-use Rattle.job_answers.specs.declared.status.Failure.{Failure}
-use Rattle.job_answers.specs.declared.status.Refusal.TheVariants as refusals
+use Rattle.answer_delivery.specs.declared.answer.Answer.{Answer}
+use Rattle.answer_delivery.specs.declared.answer.Answer.TheVariants.{Refused}
+use Rattle.answer_delivery.specs.declared.delivering.Said.{Said}
+use Rattle.answer_delivery.specs.declared.delivering.Said.TheVariants as said
+use Rattle.answer_delivery.specs.declared.status.Failure.{Failure}
+use Rattle.answer_delivery.specs.declared.status.Refusal.TheVariants as refusals
 use Rattle.job_answers.specs.AnswerLaws.{KeepsAnswerLaws}
-use Rattle.job_answers.specs.Delivery.{DeliversSome}
+use Rattle.answer_delivery.specs.Delivery.{DeliversSome}
 use Rattle.job_answers.specs.RunAnswer.{told_of, refused_or}
 use Rattle.job_answers.specs.ResumeAnswer.{resume_refusal, resume_answer, ResumedExceedsRoom}
-use Rattle.job_answers.specs.Statuses.{status_of_answer}
+use Rattle.answer_delivery.specs.Statuses.{status_of_answer}
 use Rattle.job_answers.specs.Inner.RunSteps.{DeliversHistory}
 use Rattle.job_answers.proofs.HistoryLaws.{told_has_bytes, told_unrefused}
 

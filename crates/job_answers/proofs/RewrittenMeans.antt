@@ -6,11 +6,11 @@ use Rattle.model_core.specs.EventGraph.{EventGraph}
 use Rattle.model_core.specs.Run.Same.{Same}
 use Rattle.model_core.specs.Static.Reading.{Reads, IsValid}
 use Rattle.model_core.specs.Text.Canonical.{canonical}
-use Rattle.job_answers.specs.declared.answer.Answer.TheVariants.{Given}
-use Rattle.job_answers.specs.declared.answer.Answer.{Answer}
-use Rattle.job_answers.specs.declared.status.End.{End}
+use Rattle.answer_delivery.specs.declared.answer.Answer.TheVariants.{Given}
+use Rattle.answer_delivery.specs.declared.answer.Answer.{Answer}
+use Rattle.answer_delivery.specs.declared.status.End.{End}
 use Rattle.job_answers.specs.Answers.{AnswersModel, Responds, Answers}
-use Rattle.job_answers.specs.AnswerForms.{IsDone}
+use Rattle.answer_delivery.specs.AnswerForms.{IsDone}
 use Rattle.job_answers.specs.RewrittenAnswer.{Rewrites, RewritesTheSame}
 use Rattle.job_answers.proofs.GivenAnswers.{given_is_no_refusal, given_bytes}
 

@@ -13,14 +13,14 @@ use Rattle.model_core.specs.Run.Step.{Configuration}
 use Rattle.run_control.specs.Beginning.{BegunRun}
 use Rattle.run_control.specs.Running.{Running}
 use Rattle.watch_trace.specs.Tracing.{Tracing, moment_of}
-use Rattle.job_answers.specs.declared.answer.Answer.{Answer}
-use Rattle.job_answers.specs.declared.delivering.Said.{Said}
-use Rattle.job_answers.specs.declared.status.Failure.{Failure}
+use Rattle.answer_delivery.specs.declared.answer.Answer.{Answer}
+use Rattle.answer_delivery.specs.declared.delivering.Said.{Said}
+use Rattle.answer_delivery.specs.declared.status.Failure.{Failure}
 use Rattle.job_answers.specs.AnswerLaws.{KeepsAnswerLaws}
-use Rattle.job_answers.specs.Delivery.{DeliversSome}
+use Rattle.answer_delivery.specs.Delivery.{DeliversSome}
 use Rattle.job_answers.specs.RunAnswer.{told_of, refused_or, run_answer, ExceedsRoom}
 use Rattle.job_answers.specs.StartingValues.{start_refusal}
-use Rattle.job_answers.specs.Statuses.{status_of_answer}
+use Rattle.answer_delivery.specs.Statuses.{status_of_answer}
 use Rattle.job_answers.specs.Inner.RunSteps.{DeliversHistory}
 use Rattle.job_answers.proofs.HistoryLaws.{told_has_bytes, told_unrefused}
 use Rattle.job_answers.proofs.StartLaws.{taken_start}

@@ -23,18 +23,18 @@ use Rattle.watch_trace.specs.declared.outcome.Outcome.{Outcome}
 use Rattle.watch_trace.specs.declared.outcome.Outcome.TheVariants as outcomes
 use Rattle.watch_trace.specs.Tracing.{Tracing, moment_of}
 use Rattle.watch_trace.specs.Following.{outcome_of, seen_from, Completes, Stands}
-use Rattle.job_answers.specs.declared.answer.Answer.{Answer}
-use Rattle.job_answers.specs.declared.answer.Answer.TheVariants.{Given, Refused}
-use Rattle.job_answers.specs.declared.status.End.{End}
-use Rattle.job_answers.specs.declared.status.End.TheVariants as ends
-use Rattle.job_answers.specs.declared.status.Refusal.TheVariants as refusals
-use Rattle.job_answers.specs.declared.status.Status.TheVariants as statuses
-use Rattle.job_answers.specs.AnswerForms.{done}
+use Rattle.answer_delivery.specs.declared.answer.Answer.{Answer}
+use Rattle.answer_delivery.specs.declared.answer.Answer.TheVariants.{Given, Refused}
+use Rattle.answer_delivery.specs.declared.status.End.{End}
+use Rattle.answer_delivery.specs.declared.status.End.TheVariants as ends
+use Rattle.answer_delivery.specs.declared.status.Refusal.TheVariants as refusals
+use Rattle.answer_delivery.specs.declared.status.Status.TheVariants as statuses
+use Rattle.answer_delivery.specs.AnswerForms.{done}
 use Rattle.job_answers.specs.AnswerLaws.{KeepsAnswerLaws}
 use Rattle.job_answers.specs.RunAnswer.{refused_or}
 use Rattle.job_answers.specs.SaveAnswer.{run_finished, snapshot_too_long, document_reached, unless_too_long, unless_finished, saving_answer, save_answer}
 use Rattle.job_answers.specs.StartingValues.{start_refusal}
-use Rattle.job_answers.specs.Statuses.{status_of_answer}
+use Rattle.answer_delivery.specs.Statuses.{status_of_answer}
 use Rattle.job_answers.specs.Inner.SaveSteps.{SavedOrFinished}
 use Rattle.job_answers.proofs.GivenAnswers.{given_is_no_refusal, some_bytes, end_unrefused}
 use Rattle.job_answers.proofs.PrintLaws.{canonical_has_bytes}

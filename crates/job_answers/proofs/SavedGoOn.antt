@@ -24,12 +24,12 @@ use Rattle.model_core.specs.Saved.SavedRun.{SavedRun, IsGood, saved, history_fro
 use Rattle.model_core.specs.Saved.GoodSnapshots.{bad_at, saved_run}
 use Rattle.model_core.specs.Saved.Resuming.{Resumes}
 use Rattle.model_core.specs.Saved.GoingOn.{GoesOn}
-use Rattle.job_answers.specs.declared.answer.Answer.{Answer}
-use Rattle.job_answers.specs.declared.answer.Answer.TheVariants.{Given, Refused}
-use Rattle.job_answers.specs.declared.complaint.Complaint.{Complaint}
-use Rattle.job_answers.specs.declared.status.End.{End}
-use Rattle.job_answers.specs.declared.status.Refusal.TheVariants as refusals
-use Rattle.job_answers.specs.AnswerForms.{done}
+use Rattle.answer_delivery.specs.declared.answer.Answer.{Answer}
+use Rattle.answer_delivery.specs.declared.answer.Answer.TheVariants.{Given, Refused}
+use Rattle.answer_delivery.specs.declared.complaint.Complaint.{Complaint}
+use Rattle.answer_delivery.specs.declared.status.End.{End}
+use Rattle.answer_delivery.specs.declared.status.Refusal.TheVariants as refusals
+use Rattle.answer_delivery.specs.AnswerForms.{done}
 use Rattle.job_answers.specs.Answers.{Responds, Answers}
 use Rattle.job_answers.specs.RunAnswer.{told_of, refused_or}
 use Rattle.job_answers.specs.ResumeAnswer.{below_clock_line, too_many_events, resume_refusal, resume_answer}

@@ -13,8 +13,8 @@ use Rattle.model_core.specs.Static.FaultOrder.{StaticFault}
 use Rattle.model_core.specs.Static.ModelFaults.{told_fault, Accepted}
 use Rattle.model_core.specs.Saved.SavedRun.{SavedRun}
 use Rattle.model_core.specs.Saved.GoodSnapshots.{bad_at, saved_run}
-use Rattle.job_answers.specs.declared.complaint.Complaint.{Complaint}
-use Rattle.job_answers.specs.declared.complaint.Complaint.TheVariants as complaints
+use Rattle.answer_delivery.specs.declared.complaint.Complaint.{Complaint}
+use Rattle.answer_delivery.specs.declared.complaint.Complaint.TheVariants as complaints
 use Rattle.job_answers.specs.SavedReading.{ReadsSaved}
 use Rattle.job_answers.specs.SavedComplaints.{IsSnapshotComplaint, IsSavedGrammarComplaint, in_model, in_snapshot, IsSavedComplaint, of_saved_bytes, of_saved_tokens, of_model, of_snapshot}
 use Rattle.job_answers.specs.Complained.{HasSavedComplaint}

@@ -12,14 +12,14 @@ use Rattle.sig_base.specs.Sink.{Outlet}
 use Rattle.run_control.specs.declared.begin_error.BeginError.{BeginError}
 use Rattle.run_control.specs.declared.begin_error.BeginError.TheVariants as errors
 use Rattle.run_control.specs.Beginning.{fits_at, RefusesStart}
-use Rattle.job_answers.specs.declared.answer.Answer.{Answer}
-use Rattle.job_answers.specs.declared.answer.Answer.TheVariants.{Refused}
-use Rattle.job_answers.specs.declared.delivering.Said.{Said}
-use Rattle.job_answers.specs.declared.delivering.Said.TheVariants as said
-use Rattle.job_answers.specs.declared.status.Failure.{Failure}
-use Rattle.job_answers.specs.declared.status.Failure.TheVariants as failures
-use Rattle.job_answers.specs.declared.status.Refusal.TheVariants as refusals
-use Rattle.job_answers.specs.Delivery.{DeliversSome}
+use Rattle.answer_delivery.specs.declared.answer.Answer.{Answer}
+use Rattle.answer_delivery.specs.declared.answer.Answer.TheVariants.{Refused}
+use Rattle.answer_delivery.specs.declared.delivering.Said.{Said}
+use Rattle.answer_delivery.specs.declared.delivering.Said.TheVariants as said
+use Rattle.answer_delivery.specs.declared.status.Failure.{Failure}
+use Rattle.answer_delivery.specs.declared.status.Failure.TheVariants as failures
+use Rattle.answer_delivery.specs.declared.status.Refusal.TheVariants as refusals
+use Rattle.answer_delivery.specs.Delivery.{DeliversSome}
 use Rattle.job_answers.specs.RunAnswer.{refused_or}
 use Rattle.job_answers.specs.StartingValues.{count_line, outside_line, first_outside, start_refusal}
 use Rattle.job_answers.specs.Inner.StartSteps.{RefusalLine, RefusesRun}

@@ -8,16 +8,17 @@ use Rattle.sig_base.specs.declared.no_memory.NoMemory.{NoMemory}
 use Rattle.sig_base.specs.Faults.{HasRisen}
 use Rattle.sig_base.specs.Sink.{Outlet, GrowsBy}
 use Rattle.sig_base.specs.Source.{Stays}
-use Rattle.job_answers.specs.declared.answer.Answer.{Answer}
-use Rattle.job_answers.specs.declared.answer.Answer.TheVariants.{Given}
-use Rattle.job_answers.specs.declared.delivering.Said.{Said}
-use Rattle.job_answers.specs.declared.delivering.Said.TheVariants as said
-use Rattle.job_answers.specs.declared.status.End.{End}
-use Rattle.job_answers.specs.declared.status.Failure.{Failure}
-use Rattle.job_answers.specs.declared.status.Failure.TheVariants as failures
-use Rattle.job_answers.specs.Delivery.{Delivers, DeliversSome}
-use Rattle.job_answers.specs.FrontWritten.{GrowsByFront}
-use Rattle.job_answers.specs.Inner.WritingSteps.{Written, Streamed, Closed}
+use Rattle.answer_delivery.specs.declared.answer.Answer.{Answer}
+use Rattle.answer_delivery.specs.declared.answer.Answer.TheVariants.{Given}
+use Rattle.answer_delivery.specs.declared.delivering.Said.{Said}
+use Rattle.answer_delivery.specs.declared.delivering.Said.TheVariants as said
+use Rattle.answer_delivery.specs.declared.status.End.{End}
+use Rattle.answer_delivery.specs.declared.status.Failure.{Failure}
+use Rattle.answer_delivery.specs.declared.status.Failure.TheVariants as failures
+use Rattle.answer_delivery.specs.Delivery.{Delivers, DeliversSome}
+use Rattle.answer_delivery.specs.FrontWritten.{GrowsByFront}
+use Rattle.answer_delivery.specs.Writing.{Written, Closed}
+use Rattle.job_answers.specs.Inner.WritingSteps.{Streamed}
 
 -- ---- a piece that was written at once
 

@@ -5,8 +5,8 @@ use Rattle.model_lex.specs.declared.lex_error.LexError.{LexError}
 use Rattle.model_lex.specs.declared.parse_error.ParseError.{ParseError}
 use Rattle.sig_types.specs.declared.error.StaticError.{StaticError}
 use Rattle.sig_types.specs.declared.error.StaticError.TheVariants as static
-use Rattle.job_answers.specs.declared.complaint.Complaint.{Complaint}
-use Rattle.job_answers.specs.declared.complaint.Complaint.TheVariants as complaints
+use Rattle.answer_delivery.specs.declared.complaint.Complaint.{Complaint}
+use Rattle.answer_delivery.specs.declared.complaint.Complaint.TheVariants as complaints
 use Rattle.job_answers.specs.declared.reading_error.ReadingError.TheVariants.{At}
 use Rattle.job_answers.specs.Inner.Refusals.{uncut, unread, unaccepted}
 

@@ -7,12 +7,12 @@ use Rattle.model_core.specs.EventGraph.{EventGraph}
 use Rattle.model_core.specs.Static.Reading.{IsValid}
 use Rattle.model_core.specs.Rules.Reduction.{RuleApplication}
 use Rattle.model_core.specs.Saved.SavedRun.{SavedRun}
-use Rattle.job_answers.specs.declared.answer.Answer.{Answer}
-use Rattle.job_answers.specs.declared.answer.Answer.TheVariants.{Given}
-use Rattle.job_answers.specs.declared.status.End.{End}
-use Rattle.job_answers.specs.declared.status.Status.TheVariants as statuses
+use Rattle.answer_delivery.specs.declared.answer.Answer.{Answer}
+use Rattle.answer_delivery.specs.declared.answer.Answer.TheVariants.{Given}
+use Rattle.answer_delivery.specs.declared.status.End.{End}
+use Rattle.answer_delivery.specs.declared.status.Status.TheVariants as statuses
 use Rattle.job_answers.specs.Answers.{AnswersModel, AnswersDocument, AnswersSaved, AnswersAlone, HasNothingToWrite}
-use Rattle.job_answers.specs.Statuses.{status_of_answer}
+use Rattle.answer_delivery.specs.Statuses.{status_of_answer}
 
 -- Of what may be read there is an answer, and it is the only one. What is given has bytes, unless it may have none, and an
 -- answer to what was read is no refusal of a text.

@@ -1,6 +1,6 @@
 -- What is answered to a text, by what a job reads and asks. Nothing is said here of where the text comes from or where the
 -- answer goes.
-use Rattle.std.specs.Prelude.{◌≡◌, ◌≤◌, ◌<◌, ◌⊎◌, ℕ, List, [], length, Option, Some, None}
+use Rattle.std.specs.Prelude.{◌≡◌, ◌≤◌, ◌<◌, ◌⊎◌, ℕ, List, [], ◌++◌, length, codes, Option, Some, None}
 use Rattle.command_words.specs.declared.reading.BareJob.{BareJob}
 use Rattle.command_words.specs.declared.reading.BareJob.TheVariants as bare
 use Rattle.command_words.specs.declared.reading.DocumentJob.{DocumentJob}
@@ -19,14 +19,14 @@ use Rattle.model_core.specs.Ranges.Narrowed.{IsNarrowed}
 use Rattle.model_core.specs.Rules.Fuse.{Fused}
 use Rattle.model_core.specs.Rules.Reduction.{RuleApplication}
 use Rattle.model_core.specs.Saved.SavedRun.{SavedRun}
-use Rattle.job_answers.specs.declared.answer.Answer.{Answer}
-use Rattle.job_answers.specs.declared.complaint.Complaint.{Complaint}
+use Rattle.answer_delivery.specs.declared.answer.Answer.{Answer}
+use Rattle.answer_delivery.specs.declared.complaint.Complaint.{Complaint}
 use Rattle.conflict_report.specs.ConflictText.{conflict_text}
 use Rattle.describe.specs.Description.{description}
 use Rattle.trial_report.specs.TrialText.{Summarises}
 use Rattle.use_analysis.specs.UsesText.{uses_text}
-use Rattle.job_answers.specs.AnswerForms.{done, IsDone, accepted_line, refused, too_long}
-use Rattle.job_answers.specs.Complaints.{IsComplaint, message_of, byte_line}
+use Rattle.answer_delivery.specs.AnswerForms.{done, IsDone, refused, too_long}
+use Rattle.answer_delivery.specs.Complaints.{IsComplaint, message_of, byte_line}
 use Rattle.job_answers.specs.DocumentComplaints.{IsDocumentComplaint}
 use Rattle.job_answers.specs.SavedComplaints.{IsSavedComplaint}
 use Rattle.job_answers.specs.SavedReading.{ReadsSaved}
@@ -39,6 +39,10 @@ use Rattle.job_answers.specs.ResumeAnswer.{resume_answer, ResumedExceedsRoom}
 use Rattle.job_answers.specs.CertifyAnswer.{certify_answer}
 
 -- ---- what is answered for what was read, job by job
+
+-- the line of an accepted model
+abbrev pub accepted_line : EventGraph → List ℕ
+accepted_line g = codes "accepted " ++ g.name ++ codes "\n"
 
 -- `check` says that the model is accepted, `print` writes its canonical text, `reduce` another one that means the same with
 -- its certificate, `uses` who uses each variable, `conflicts` which pairs of vertices are in conflict, `fuse` and `narrow`

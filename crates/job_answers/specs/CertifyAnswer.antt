@@ -5,9 +5,9 @@ use Rattle.model_core.specs.Rules.Reduction.{RuleApplication, Chain}
 use Rattle.model_core.specs.Rules.Verdict.{Verdict, Sound, Rejected, Differs, verdict}
 use Rattle.model_core.specs.Run.Same.{Same}
 use Rattle.model_core.specs.Static.Reading.{ReadsDocument}
-use Rattle.job_answers.specs.declared.answer.Answer.{Answer}
-use Rattle.job_answers.specs.declared.answer.Answer.TheVariants.{Given}
-use Rattle.job_answers.specs.declared.status.End.TheVariants as ends
+use Rattle.answer_delivery.specs.declared.answer.Answer.{Answer}
+use Rattle.answer_delivery.specs.declared.answer.Answer.TheVariants.{Given}
+use Rattle.answer_delivery.specs.declared.status.End.TheVariants as ends
 
 -- the certificate holds; or it is rejected at the line of its first bad application, counted from 1; or its applications
 -- lead to another model

@@ -1,7 +1,7 @@
 -- That there is something to complain of in a text. The answers need no such word: they tell what it is. The laws do.
 use Rattle.std.specs.Prelude.{ℕ, List}
-use Rattle.job_answers.specs.declared.complaint.Complaint.{Complaint}
-use Rattle.job_answers.specs.Complaints.{IsComplaint}
+use Rattle.answer_delivery.specs.declared.complaint.Complaint.{Complaint}
+use Rattle.answer_delivery.specs.Complaints.{IsComplaint}
 use Rattle.job_answers.specs.DocumentComplaints.{IsDocumentComplaint}
 use Rattle.job_answers.specs.SavedComplaints.{IsSavedComplaint}
 

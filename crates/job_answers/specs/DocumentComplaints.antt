@@ -13,8 +13,8 @@ use Rattle.model_core.specs.Text.Openings.{front_to_end, too_deep_at}
 use Rattle.model_core.specs.Text.CertificateText.{IsNoCertificateAt}
 use Rattle.model_core.specs.Text.DocumentText.{BeginsWithModel, SpellsDocument}
 use Rattle.model_core.specs.Static.ModelFaults.{IsTold, Accepted}
-use Rattle.job_answers.specs.declared.complaint.Complaint.{Complaint}
-use Rattle.job_answers.specs.declared.complaint.Complaint.TheVariants as complaints
+use Rattle.answer_delivery.specs.declared.complaint.Complaint.{Complaint}
+use Rattle.answer_delivery.specs.declared.complaint.Complaint.TheVariants as complaints
 
 -- This is to be complained of where tokens don't begin with a model text, which goes up to their first word `end`: the first
 -- opening too many there; or else the place at which these stop to begin one.

@@ -1,9 +1,7 @@
-pub mod Complaints
 pub mod DocumentComplaints
 pub mod SavedReading
 pub mod SavedComplaints
 pub mod Complained
-pub mod AnswerForms
 pub mod ReduceAnswer
 pub mod RewrittenAnswer
 pub mod StartingValues
@@ -13,11 +11,7 @@ pub mod SaveAnswer
 pub mod ResumeAnswer
 pub mod CertifyAnswer
 pub mod Answers
-pub mod Statuses
-pub mod FailureStatus
 pub mod AnswerLaws
 pub mod SavedAndResumed
 pub mod PlainKinds
-pub mod FrontWritten
-pub mod Delivery
 pub mod Inner

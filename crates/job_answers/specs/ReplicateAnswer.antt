@@ -8,8 +8,8 @@ use Rattle.tally_report.specs.declared.run_tally.RunTally.{RunTally}
 use Rattle.tally_report.specs.Tallying.{tally_of}
 use Rattle.tally_report.specs.Totalling.{totals_of}
 use Rattle.tally_report.specs.ReportText.{header_row, run_rows, total_rows}
-use Rattle.job_answers.specs.declared.answer.Answer.{Answer}
-use Rattle.job_answers.specs.AnswerForms.{done}
+use Rattle.answer_delivery.specs.declared.answer.Answer.{Answer}
+use Rattle.answer_delivery.specs.AnswerForms.{done}
 use Rattle.job_answers.specs.RunAnswer.{refused_or}
 use Rattle.job_answers.specs.StartingValues.{start_refusal}
 

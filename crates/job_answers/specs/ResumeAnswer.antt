@@ -4,7 +4,7 @@ use Rattle.sig_base.specs.declared.limits.TheConstants.{EVENTS_MAX}
 use Rattle.command_words.specs.declared.resume_options.ResumeOptions.{ResumeOptions}
 use Rattle.model_core.specs.EventGraph.{EventGraph}
 use Rattle.model_core.specs.Saved.SavedRun.{SavedRun, saved_moment, history_from}
-use Rattle.job_answers.specs.declared.answer.Answer.{Answer}
+use Rattle.answer_delivery.specs.declared.answer.Answer.{Answer}
 use Rattle.job_answers.specs.RunAnswer.{told_of, refused_or, ExceedsRoomFrom, FitsRoomFrom}
 
 -- ---- the answer

@@ -7,11 +7,11 @@ use Rattle.model_core.specs.Run.Machine.{Standing, Ended, Stopped, Faulted, Goin
 use Rattle.model_core.specs.Run.History.{Moment, start, look, reached_from}
 use Rattle.model_core.specs.Text.HistoryText.{history_text}
 use Rattle.run_control.specs.Room.{scheduled_by}
-use Rattle.job_answers.specs.declared.answer.Answer.{Answer}
-use Rattle.job_answers.specs.declared.answer.Answer.TheVariants.{Given, Refused}
-use Rattle.job_answers.specs.declared.status.End.{End}
-use Rattle.job_answers.specs.declared.status.End.TheVariants as ends
-use Rattle.job_answers.specs.declared.status.Refusal.TheVariants as refusals
+use Rattle.answer_delivery.specs.declared.answer.Answer.{Answer}
+use Rattle.answer_delivery.specs.declared.answer.Answer.TheVariants.{Given, Refused}
+use Rattle.answer_delivery.specs.declared.status.End.{End}
+use Rattle.answer_delivery.specs.declared.status.End.TheVariants as ends
+use Rattle.answer_delivery.specs.declared.status.Refusal.TheVariants as refusals
 use Rattle.job_answers.specs.StartingValues.{start_refusal}
 
 -- ---- the answer

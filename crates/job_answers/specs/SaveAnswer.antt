@@ -10,10 +10,10 @@ use Rattle.model_core.specs.Run.History.{Moment, start, look, reached_from}
 use Rattle.model_core.specs.Text.Canonical.{canonical}
 use Rattle.model_core.specs.Text.SnapshotText.{snapshot_text}
 use Rattle.model_core.specs.Saved.SavedRun.{SavedRun, saved}
-use Rattle.job_answers.specs.declared.answer.Answer.{Answer}
-use Rattle.job_answers.specs.declared.answer.Answer.TheVariants.{Refused}
-use Rattle.job_answers.specs.declared.status.Refusal.TheVariants as refusals
-use Rattle.job_answers.specs.AnswerForms.{done}
+use Rattle.answer_delivery.specs.declared.answer.Answer.{Answer}
+use Rattle.answer_delivery.specs.declared.answer.Answer.TheVariants.{Refused}
+use Rattle.answer_delivery.specs.declared.status.Refusal.TheVariants as refusals
+use Rattle.answer_delivery.specs.AnswerForms.{done}
 use Rattle.job_answers.specs.RunAnswer.{refused_or}
 use Rattle.job_answers.specs.StartingValues.{start_refusal}
 

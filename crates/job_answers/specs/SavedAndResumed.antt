@@ -10,7 +10,7 @@ use Rattle.model_core.specs.Static.Reading.{Reads}
 use Rattle.model_core.specs.Text.HistoryText.{history_text}
 use Rattle.model_core.specs.Saved.SavedRun.{SavedRun, saved, history_from}
 use Rattle.model_core.specs.Saved.Resuming.{Resumes}
-use Rattle.job_answers.specs.declared.answer.Answer.{Answer}
+use Rattle.answer_delivery.specs.declared.answer.Answer.{Answer}
 use Rattle.job_answers.specs.Answers.{Answers}
 use Rattle.job_answers.specs.RunAnswer.{told_of}
 use Rattle.job_answers.specs.SaveAnswer.{saved_document}

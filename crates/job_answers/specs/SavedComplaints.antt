@@ -10,8 +10,8 @@ use Rattle.model_core.specs.Text.SnapshotGrammar.{WrittenSnapshot, IsNoSnapshotA
 use Rattle.model_core.specs.Text.SavedDocument.{SpellsSaved}
 use Rattle.model_core.specs.Static.ModelFaults.{IsTold, Accepted}
 use Rattle.model_core.specs.Saved.GoodSnapshots.{bad_at}
-use Rattle.job_answers.specs.declared.complaint.Complaint.{Complaint}
-use Rattle.job_answers.specs.declared.complaint.Complaint.TheVariants as complaints
+use Rattle.answer_delivery.specs.declared.complaint.Complaint.{Complaint}
+use Rattle.answer_delivery.specs.declared.complaint.Complaint.TheVariants as complaints
 use Rattle.job_answers.specs.DocumentComplaints.{IsFrontComplaint}
 
 -- the place at which tokens stop to begin a snapshot

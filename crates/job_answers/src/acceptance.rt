@@ -2,10 +2,10 @@
 
 ghost use Rattle.std.specs.Prelude.{◌≡◌, IfOk};
 ghost use Rattle.model_core.specs.Code.Views.{graph_of};
-ghost use Rattle.job_answers.specs.AnswerForms.{done, accepted_line};
+ghost use Rattle.answer_delivery.specs.AnswerForms.{done};
+ghost use Rattle.job_answers.specs.Answers.{accepted_line};
 
-use crate::answer::Answer;
-use crate::status::End;
+use answer_delivery::{Answer, End};
 use model_core::Model;
 use sig_base::{NoMemory, Text, put_bytes};
 use std::alloc::Global;

@@ -8,8 +8,7 @@ ghost use Rattle.run_control.specs.Beginning.{BegunRun, RefusesStart};
 ghost use Rattle.job_answers.specs.StartingValues.{count_line, outside_line};
 ghost use Rattle.job_answers.specs.Inner.StartSteps.{RefusalLine, RefusesRun};
 
-use crate::delivering::Said;
-use crate::status::{Failure, Refusal};
+use answer_delivery::{Failure, Refusal, Said};
 use event_heap::HeapPending;
 use itoa::Buffer;
 use model_core::Model;

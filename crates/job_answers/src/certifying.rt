@@ -7,12 +7,11 @@ ghost use Rattle.model_core.specs.Code.Views.{graph_of, application_of};
 ghost use Rattle.reduction_cert.specs.VerdictView.{verdict_of};
 ghost use Rattle.job_answers.specs.Answers.{Answers};
 ghost use Rattle.job_answers.specs.CertifyAnswer.{answer_of_verdict, certify_answer, Certifies};
-ghost use Rattle.job_answers.specs.declared.answer.Answer.TheVariants.{Given as Gives};
-ghost use Rattle.job_answers.specs.declared.status.End.TheVariants.{Done as IsDone};
+ghost use Rattle.answer_delivery.specs.declared.answer.Answer.TheVariants.{Given as Gives};
+ghost use Rattle.answer_delivery.specs.declared.status.End.TheVariants.{Done as IsDone};
 
-use crate::answer::Answer;
 use crate::document_reading::Document;
-use crate::status::End;
+use answer_delivery::{Answer, End};
 use reduction_cert::{Verdict, check_chain, verdicts_tell_chains};
 use round_trip::documents_have_valid_models;
 use sig_base::{NoMemory, Text, put_bytes, put_number};

@@ -6,13 +6,13 @@ ghost use Rattle.command_words.specs.declared.reading.ModelJob.TheVariants.{Redu
 ghost use Rattle.command_words.specs.declared.reading.Reading.TheVariants.{Model as OfModel};
 ghost use Rattle.model_core.specs.EventGraph.{EventGraph};
 ghost use Rattle.model_core.specs.Static.Reading.{Reads};
-ghost use Rattle.job_answers.specs.declared.answer.Answer.{Answer};
-ghost use Rattle.job_answers.specs.declared.complaint.Complaint.{Complaint};
-ghost use Rattle.job_answers.specs.declared.status.Status.{Status};
+ghost use Rattle.answer_delivery.specs.declared.answer.Answer.{Answer};
+ghost use Rattle.answer_delivery.specs.declared.complaint.Complaint.{Complaint};
+ghost use Rattle.answer_delivery.specs.declared.status.Status.{Status};
 ghost use Rattle.job_answers.specs.Answers.{Answers};
-ghost use Rattle.job_answers.specs.Complaints.{IsComplaint};
+ghost use Rattle.answer_delivery.specs.Complaints.{IsComplaint};
 ghost use Rattle.job_answers.specs.Complained.{HasComplaint};
-ghost use Rattle.job_answers.specs.Statuses.{status_of_answer};
+ghost use Rattle.answer_delivery.specs.Statuses.{status_of_answer};
 ghost use Rattle.job_answers.specs.Inner.TextFacts.{TextFacts};
 
 use static_laws::one_fault_is_told;

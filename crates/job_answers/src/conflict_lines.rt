@@ -3,10 +3,9 @@
 ghost use Rattle.std.specs.Prelude.{◌≡◌, IfOk};
 ghost use Rattle.model_core.specs.Code.Views.{graph_of};
 ghost use Rattle.conflict_report.specs.ConflictText.{conflict_text};
-ghost use Rattle.job_answers.specs.AnswerForms.{done};
+ghost use Rattle.answer_delivery.specs.AnswerForms.{done};
 
-use crate::answer::Answer;
-use crate::status::End;
+use answer_delivery::{Answer, End};
 use conflict_report::conflict_text;
 use model_core::Model;
 use sig_base::NoMemory;

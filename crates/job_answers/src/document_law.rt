@@ -6,7 +6,7 @@ ghost use Rattle.model_core.specs.EventGraph.{EventGraph};
 ghost use Rattle.model_core.specs.Rules.Reduction.{RuleApplication};
 ghost use Rattle.model_core.specs.Static.Reading.{ReadsDocument};
 ghost use Rattle.model_core.specs.Saved.SavedRun.{SavedRun};
-ghost use Rattle.job_answers.specs.declared.complaint.Complaint.{Complaint};
+ghost use Rattle.answer_delivery.specs.declared.complaint.Complaint.{Complaint};
 ghost use Rattle.job_answers.specs.DocumentComplaints.{IsDocumentComplaint};
 ghost use Rattle.job_answers.specs.Complained.{HasDocumentComplaint, HasSavedComplaint};
 ghost use Rattle.job_answers.specs.SavedComplaints.{IsSavedComplaint};

@@ -5,7 +5,7 @@ ghost use Rattle.model_core.specs.Text.DocumentText.{SpellsDocument};
 ghost use Rattle.model_core.specs.Static.Reading.{ReadsDocument};
 ghost use Rattle.model_core.specs.Code.Views.{graph_of, application_of};
 ghost use Rattle.model_core.specs.Code.WrittenViews.{written_model};
-ghost use Rattle.job_answers.specs.declared.complaint.Complaint.{Complaint as Complained};
+ghost use Rattle.answer_delivery.specs.declared.complaint.Complaint.{Complaint as Complained};
 ghost use Rattle.job_answers.specs.DocumentComplaints.{IsDocumentComplaint};
 
 use crate::reading_error::ReadingError;

@@ -5,8 +5,7 @@ ghost use Rattle.model_core.specs.Code.Views.{graph_of};
 ghost use Rattle.watch_trace.specs.Tracing.{moment_of};
 ghost use Rattle.job_answers.specs.Inner.RunSteps.{ending, DeliversHistory};
 
-use crate::delivering::{Said, close};
-use crate::status::{End, Failure};
+use answer_delivery::{End, Failure, Said, close};
 use event_list::Pending;
 use run_control::Run;
 use sig_base::Sink;

@@ -3,15 +3,12 @@
 #![tactic(auto)]
 
 mod acceptance;
-mod answer;
 mod answering;
 mod beginning;
 mod canonical_text;
 mod certifying;
-mod complaint;
 mod complaint_law;
 mod conflict_lines;
-mod delivering;
 mod document_law;
 mod document_reading;
 mod history_telling;
@@ -30,17 +27,13 @@ mod saved_law;
 mod saved_reading;
 mod saving;
 mod sentences;
-mod status;
 mod trial;
 mod uses_table;
 mod written_reading;
 
-pub use answer::{Answer, complaint_answer, too_long_answer};
 pub use answering::{answer_alone, answer_document, answer_model, answer_saved};
 pub use certifying::sound_documents_mean_the_same;
-pub use complaint::Complaint;
 pub use complaint_law::{readable_models_are_reduced, texts_have_one_complaint};
-pub use delivering::{Said, deliver};
 pub use document_law::{documents_have_one_complaint, saved_documents_have_one_complaint};
 pub use job_laws::answers_keep_their_laws;
 pub use model_reading::model_of;
@@ -48,4 +41,3 @@ pub use reading_error::ReadingError;
 pub use reduction_law::written_models_mean_the_same;
 pub use rewriting_law::{fused_models_mean_the_same, narrower_models_mean_the_same};
 pub use saved_law::{good_snapshots_are_printed_again, saved_runs_are_resumed};
-pub use status::{End, Failure, Refusal, Status};

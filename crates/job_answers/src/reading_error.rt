@@ -4,7 +4,7 @@ ghost use Rattle.std.specs.Prelude.{◌≡◌};
 ghost use Rattle.job_answers.specs.declared.reading_error.ReadingError.TheVariants.{NoMemory as OutOfMemory};
 ghost use Rattle.job_answers.specs.Inner.Refusals.{uncut, unread, unaccepted};
 
-use crate::complaint::Complaint;
+use answer_delivery::Complaint;
 use model_lex::{LexError, ParseError};
 use sig_base::NoMemory;
 use sig_types::StaticError;

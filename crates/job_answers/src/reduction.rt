@@ -5,11 +5,10 @@ ghost use Rattle.model_core.specs.Static.Reading.{IsValid};
 ghost use Rattle.model_core.specs.Text.Canonical.{canonical};
 ghost use Rattle.model_core.specs.Rules.Certificate.{certificate};
 ghost use Rattle.model_core.specs.Code.Views.{graph_of, application_of};
-ghost use Rattle.job_answers.specs.AnswerForms.{IsDone};
+ghost use Rattle.answer_delivery.specs.AnswerForms.{IsDone};
 ghost use Rattle.job_answers.specs.ReduceAnswer.{Reduces};
 
-use crate::answer::Answer;
-use crate::status::End;
+use answer_delivery::{Answer, End};
 use model_core::Model;
 use model_print::print;
 use reducer::{Reduced, reduce};

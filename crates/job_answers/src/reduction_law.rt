@@ -3,8 +3,8 @@
 ghost use Rattle.std.specs.Prelude.{ℕ, List};
 ghost use Rattle.command_words.specs.declared.reading.ModelJob.TheVariants.{Reduce};
 ghost use Rattle.command_words.specs.declared.reading.Reading.TheVariants.{Model as OfModel};
-ghost use Rattle.job_answers.specs.declared.answer.Answer.TheVariants.{Given};
-ghost use Rattle.job_answers.specs.declared.status.End.{End};
+ghost use Rattle.answer_delivery.specs.declared.answer.Answer.TheVariants.{Given};
+ghost use Rattle.answer_delivery.specs.declared.status.End.{End};
 ghost use Rattle.job_answers.specs.Answers.{Answers};
 ghost use Rattle.job_answers.specs.ReduceAnswer.{KeepsMeaning};
 

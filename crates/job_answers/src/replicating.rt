@@ -8,13 +8,12 @@ ghost use Rattle.tally_report.specs.SmallAreas.{IsOfRuns};
 ghost use Rattle.tally_report.specs.Totalling.{with_run};
 ghost use Rattle.tally_report.specs.ReportText.{run_rows};
 ghost use Rattle.job_answers.specs.ReplicateAnswer.{seed_of_run, tally_numbered, report, replicate_answer};
-ghost use Rattle.job_answers.specs.Delivery.{DeliversSome};
+ghost use Rattle.answer_delivery.specs.Delivery.{DeliversSome};
 ghost use Rattle.job_answers.specs.Inner.ReportSteps.{left_from};
 ghost use Rattle.job_answers.specs.Inner.WritingSteps.{InPieces};
 
 use crate::beginning::refuse_start;
-use crate::delivering::{Said, close, write_all};
-use crate::status::{End, Failure};
+use answer_delivery::{End, Failure, Said, close, write_all};
 use command_words::ReplicateOptions;
 use model_core::Model;
 use round_trip::validity_is_by_parts;

@@ -6,11 +6,10 @@ ghost use Rattle.model_core.specs.Static.Reading.{IsValid};
 ghost use Rattle.model_core.specs.Code.Views.{graph_of};
 ghost use Rattle.job_answers.specs.RunAnswer.{told_of};
 ghost use Rattle.job_answers.specs.ResumeAnswer.{below_clock_line, too_many_events, resume_refusal, resume_answer, ResumedExceedsRoom};
-ghost use Rattle.job_answers.specs.Delivery.{DeliversSome};
+ghost use Rattle.answer_delivery.specs.Delivery.{DeliversSome};
 
-use crate::delivering::Said;
 use crate::history_telling::tell_from;
-use crate::status::{Failure, Refusal};
+use answer_delivery::{Failure, Refusal, Said};
 use command_words::ResumeOptions;
 use event_heap::HeapPending;
 use event_list::Pending;

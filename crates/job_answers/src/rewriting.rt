@@ -7,11 +7,10 @@ ghost use Rattle.model_core.specs.Text.Canonical.{canonical};
 ghost use Rattle.model_core.specs.Rules.Fuse.{Fused};
 ghost use Rattle.model_core.specs.Ranges.Narrowed.{IsNarrowed};
 ghost use Rattle.model_core.specs.Code.Views.{graph_of};
-ghost use Rattle.job_answers.specs.AnswerForms.{IsDone};
+ghost use Rattle.answer_delivery.specs.AnswerForms.{IsDone};
 ghost use Rattle.job_answers.specs.RewrittenAnswer.{Rewrites};
 
-use crate::answer::Answer;
-use crate::status::End;
+use answer_delivery::{Answer, End};
 use model_core::Model;
 use model_print::print;
 use range_infer::narrow_to_needed;

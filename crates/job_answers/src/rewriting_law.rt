@@ -5,8 +5,8 @@ ghost use Rattle.command_words.specs.declared.reading.ModelJob.TheVariants.{Fuse
 ghost use Rattle.command_words.specs.declared.reading.Reading.TheVariants.{Model as OfModel};
 ghost use Rattle.model_core.specs.Rules.Fuse.{Fused};
 ghost use Rattle.model_core.specs.Ranges.Narrowed.{IsNarrowed};
-ghost use Rattle.job_answers.specs.declared.answer.Answer.TheVariants.{Given};
-ghost use Rattle.job_answers.specs.declared.status.End.{End};
+ghost use Rattle.answer_delivery.specs.declared.answer.Answer.TheVariants.{Given};
+ghost use Rattle.answer_delivery.specs.declared.status.End.{End};
 ghost use Rattle.job_answers.specs.Answers.{Answers};
 ghost use Rattle.job_answers.specs.RewrittenAnswer.{RewritesTheSame};
 

@@ -4,12 +4,11 @@ ghost use Rattle.std.specs.Prelude.{◌≡◌, ◌≤◌, ◌^◌};
 ghost use Rattle.model_core.specs.Static.Reading.{IsValid};
 ghost use Rattle.model_core.specs.Code.Views.{graph_of};
 ghost use Rattle.job_answers.specs.RunAnswer.{run_answer, ExceedsRoom};
-ghost use Rattle.job_answers.specs.Delivery.{DeliversSome};
+ghost use Rattle.answer_delivery.specs.Delivery.{DeliversSome};
 
 use crate::beginning::{begin, refuse_start};
-use crate::delivering::Said;
 use crate::history_telling::tell_from;
-use crate::status::Failure;
+use answer_delivery::{Failure, Said};
 use command_words::RunOptions;
 use model_core::Model;
 use sig_base::Sink;

@@ -7,12 +7,12 @@ ghost use Rattle.model_core.specs.Saved.SavedRun.{IsGood};
 ghost use Rattle.model_core.specs.Text.DocumentText.{BeginsWithModel};
 ghost use Rattle.model_core.specs.Text.SnapshotGrammar.{WrittenSnapshot, IsSnapshot};
 ghost use Rattle.model_lex.specs.Lexemes.{lexemes};
-ghost use Rattle.job_answers.specs.declared.complaint.Complaint.{Complaint as Complained};
+ghost use Rattle.answer_delivery.specs.declared.complaint.Complaint.{Complaint as Complained};
 ghost use Rattle.job_answers.specs.SavedComplaints.{IsSavedComplaint};
 ghost use Rattle.job_answers.specs.SavedReading.{ReadsSaved};
 
-use crate::complaint::Complaint;
 use crate::reading_error::ReadingError;
+use answer_delivery::Complaint;
 use model_core::{Model, RawModel};
 use model_lex::{Tokens, tokens};
 use model_read::parse_front;

@@ -3,10 +3,9 @@
 ghost use Rattle.std.specs.Prelude.{◌≡◌, IfOk};
 ghost use Rattle.model_core.specs.Code.Views.{graph_of};
 ghost use Rattle.describe.specs.Description.{description};
-ghost use Rattle.job_answers.specs.AnswerForms.{done};
+ghost use Rattle.answer_delivery.specs.AnswerForms.{done};
 
-use crate::answer::Answer;
-use crate::status::End;
+use answer_delivery::{Answer, End};
 use describe::describe;
 use model_core::Model;
 use sig_base::NoMemory;

@@ -5,10 +5,9 @@ ghost use Rattle.command_words.specs.declared.reading.BareJob.TheVariants.{Trial
 ghost use Rattle.command_words.specs.declared.reading.Reading.TheVariants.{Nothing};
 ghost use Rattle.command_words.specs.KeptLimits.{KeepsLimits};
 ghost use Rattle.trial_report.specs.TrialText.{Summarises};
-ghost use Rattle.job_answers.specs.AnswerForms.{IsDone};
+ghost use Rattle.answer_delivery.specs.AnswerForms.{IsDone};
 
-use crate::answer::Answer;
-use crate::status::End;
+use answer_delivery::{Answer, End};
 use command_words::TrialOptions;
 use sig_base::NoMemory;
 use std::alloc::Global;

@@ -3,8 +3,8 @@
 ghost use Rattle.std.specs.Prelude.{◌≡◌, ◌≤◌, ℕ, length, IfOk};
 ghost use Rattle.model_core.specs.Static.Reading.{Reads};
 ghost use Rattle.model_core.specs.Code.Views.{graph_of};
-ghost use Rattle.job_answers.specs.declared.complaint.Complaint.{Complaint as Complained};
-ghost use Rattle.job_answers.specs.Complaints.{IsComplaint};
+ghost use Rattle.answer_delivery.specs.declared.complaint.Complaint.{Complaint as Complained};
+ghost use Rattle.answer_delivery.specs.Complaints.{IsComplaint};
 
 use crate::reading_error::ReadingError;
 use model_core::Model;

@@ -5,8 +5,8 @@ ghost use Rattle.std.specs.Prelude.{◌≡◌, ◌≢◌, map, vec_items, IfOk, 
 ghost use Rattle.std.specs.IoError.{error_kind};
 ghost use Rattle.std.specs.Process.{exit_status};
 ghost use Rattle.std.specs.String.{string_bytes};
-ghost use Rattle.job_answers.specs.declared.status.Failure.TheVariants as failures;
-ghost use Rattle.job_answers.specs.Statuses.{exit_status_of, failure_line};
+ghost use Rattle.answer_delivery.specs.declared.status.Failure.TheVariants as failures;
+ghost use Rattle.answer_delivery.specs.Statuses.{exit_status_of, failure_line};
 ghost use Rattle.sigma_top.specs.Promises.{KeepsPromises};
 ghost use Rattle.sigma_top.specs.StatusTable.{Told, Ends};
 

@@ -2,7 +2,7 @@
 use Rattle.std.specs.Prelude.{ℕ, Bool, true, List, [], Some}
 use Rattle.sig_base.specs.Sink.{Outlet}
 use Rattle.sig_base.specs.Source.{Inlet}
-use Rattle.job_answers.specs.declared.status.Status.{Status}
+use Rattle.answer_delivery.specs.declared.status.Status.{Status}
 use Rattle.sigma_top.specs.StatusTable.{Ends}
 
 -- an input that has these bytes left, of which so many calls failed

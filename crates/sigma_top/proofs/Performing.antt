@@ -7,18 +7,18 @@ use Rattle.sig_base.specs.Source.{Inlet}
 use Rattle.command_words.specs.declared.reading.Reading.{Reading}
 use Rattle.command_words.specs.declared.reading.Reading.TheVariants as readings
 use Rattle.command_words.specs.Readings.{limit_of}
-use Rattle.job_answers.specs.declared.answer.Answer.{Answer}
-use Rattle.job_answers.specs.declared.answer.Answer.TheVariants.{Given, Refused}
-use Rattle.job_answers.specs.declared.delivering.Said.{Said}
-use Rattle.job_answers.specs.declared.delivering.Said.TheVariants as said
-use Rattle.job_answers.specs.declared.status.End.{End}
-use Rattle.job_answers.specs.declared.status.Refusal.{Refusal}
-use Rattle.job_answers.specs.declared.status.Failure.{Failure}
-use Rattle.job_answers.specs.declared.status.Failure.TheVariants as failures
-use Rattle.job_answers.specs.AnswerForms.{refused, too_long}
+use Rattle.answer_delivery.specs.declared.answer.Answer.{Answer}
+use Rattle.answer_delivery.specs.declared.answer.Answer.TheVariants.{Given, Refused}
+use Rattle.answer_delivery.specs.declared.delivering.Said.{Said}
+use Rattle.answer_delivery.specs.declared.delivering.Said.TheVariants as said
+use Rattle.answer_delivery.specs.declared.status.End.{End}
+use Rattle.answer_delivery.specs.declared.status.Refusal.{Refusal}
+use Rattle.answer_delivery.specs.declared.status.Failure.{Failure}
+use Rattle.answer_delivery.specs.declared.status.Failure.TheVariants as failures
+use Rattle.answer_delivery.specs.AnswerForms.{refused, too_long}
 use Rattle.job_answers.specs.AnswerLaws.{KeepsAnswerLaws}
 use Rattle.job_answers.specs.Answers.{Responds, MayStopShort, HasNothingToWrite, IsOver}
-use Rattle.job_answers.specs.Delivery.{Delivers, DeliversSome}
+use Rattle.answer_delivery.specs.Delivery.{Delivers, DeliversSome}
 use Rattle.sigma_top.specs.declared.text_taking.Taken.{Taken}
 use Rattle.sigma_top.specs.declared.text_taking.Taken.TheVariants as taken
 use Rattle.sigma_top.specs.StatusTable.{text_of, IsReadThrough, RepliesToInput, HasBegun}

@@ -24,18 +24,18 @@ use Rattle.command_words.specs.declared.resume_options.ResumeOptions.{ResumeOpti
 use Rattle.command_words.specs.declared.save_options.SaveOptions.{SaveOptions}
 use Rattle.command_words.specs.KeptLimits.{KeepsLimits}
 use Rattle.command_words.specs.Readings.{reading_of, limit_of}
-use Rattle.job_answers.specs.declared.answer.Answer.{Answer}
-use Rattle.job_answers.specs.declared.answer.Answer.TheVariants.{Given, Refused}
-use Rattle.job_answers.specs.declared.delivering.Said.{Said}
-use Rattle.job_answers.specs.declared.delivering.Said.TheVariants as said
-use Rattle.job_answers.specs.declared.status.End.{End}
-use Rattle.job_answers.specs.declared.status.End.TheVariants as ends
-use Rattle.job_answers.specs.declared.status.Refusal.{Refusal}
-use Rattle.job_answers.specs.declared.status.Refusal.TheVariants as refusals
-use Rattle.job_answers.specs.declared.status.Failure.{Failure}
-use Rattle.job_answers.specs.declared.status.Failure.TheVariants as failures
-use Rattle.job_answers.specs.declared.status.Status.{Status}
-use Rattle.job_answers.specs.declared.status.Status.TheVariants as statuses
+use Rattle.answer_delivery.specs.declared.answer.Answer.{Answer}
+use Rattle.answer_delivery.specs.declared.answer.Answer.TheVariants.{Given, Refused}
+use Rattle.answer_delivery.specs.declared.delivering.Said.{Said}
+use Rattle.answer_delivery.specs.declared.delivering.Said.TheVariants as said
+use Rattle.answer_delivery.specs.declared.status.End.{End}
+use Rattle.answer_delivery.specs.declared.status.End.TheVariants as ends
+use Rattle.answer_delivery.specs.declared.status.Refusal.{Refusal}
+use Rattle.answer_delivery.specs.declared.status.Refusal.TheVariants as refusals
+use Rattle.answer_delivery.specs.declared.status.Failure.{Failure}
+use Rattle.answer_delivery.specs.declared.status.Failure.TheVariants as failures
+use Rattle.answer_delivery.specs.declared.status.Status.{Status}
+use Rattle.answer_delivery.specs.declared.status.Status.TheVariants as statuses
 use Rattle.job_answers.specs.Answers.{Answers, MayStopShort}
 use Rattle.job_answers.specs.CertifyAnswer.{Certifies}
 use Rattle.job_answers.specs.ReduceAnswer.{KeepsMeaning}
@@ -44,8 +44,8 @@ use Rattle.job_answers.specs.RunAnswer.{ExceedsRoomFrom, FitsRoomFrom, RunFitsRo
 use Rattle.job_answers.specs.ResumeAnswer.{ResumedFitsRoom}
 use Rattle.job_answers.specs.SavedAndResumed.{SavesTheRun, WritesTheRest}
 use Rattle.job_answers.specs.SavedReading.{ReadsSaved}
-use Rattle.job_answers.specs.Statuses.{status_of_answer, bytes_of_answer, status_of_end, status_of_refusal, failure_line}
-use Rattle.job_answers.specs.FailureStatus.{status_of_failure}
+use Rattle.answer_delivery.specs.Statuses.{status_of_answer, bytes_of_answer, status_of_end, status_of_refusal, failure_line}
+use Rattle.answer_delivery.specs.FailureStatus.{status_of_failure}
 use Rattle.sigma_top.specs.Promises.{KeepsPromises}
 use Rattle.sigma_top.specs.StatusTable.{text_of, Told, WritesAnswer, Refuses, RepliesToInput, HasBegun, LacksMemory, ForJob, Ends}
 use Rattle.sigma_top.specs.Inner.Frame.{Performs, Serves}

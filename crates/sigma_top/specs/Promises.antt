@@ -11,15 +11,15 @@ use Rattle.command_words.specs.declared.save_options.SaveOptions.{SaveOptions}
 use Rattle.command_words.specs.declared.reading.Reading.{Reading}
 use Rattle.command_words.specs.Jobs.{job_of}
 use Rattle.command_words.specs.Readings.{limit_of}
-use Rattle.job_answers.specs.declared.answer.Answer.{Answer}
-use Rattle.job_answers.specs.declared.status.Status.{Status}
-use Rattle.job_answers.specs.declared.status.Status.TheVariants as statuses
+use Rattle.answer_delivery.specs.declared.answer.Answer.{Answer}
+use Rattle.answer_delivery.specs.declared.status.Status.{Status}
+use Rattle.answer_delivery.specs.declared.status.Status.TheVariants as statuses
 use Rattle.job_answers.specs.Answers.{Answers}
 use Rattle.job_answers.specs.CertifyAnswer.{Certifies}
 use Rattle.job_answers.specs.ReduceAnswer.{KeepsMeaning}
 use Rattle.job_answers.specs.RewrittenAnswer.{RewritesTheSame}
 use Rattle.job_answers.specs.SavedAndResumed.{SavesTheRun, WritesTheRest}
-use Rattle.job_answers.specs.Statuses.{status_of_answer, bytes_of_answer}
+use Rattle.answer_delivery.specs.Statuses.{status_of_answer, bytes_of_answer}
 use Rattle.sigma_top.specs.StatusTable.{text_of}
 
 -- the status is that of an answer to the text, where the input tells one, and the output grew by the answer's bytes

@@ -13,7 +13,7 @@ ghost use Rattle.model_core.specs.EventGraph.{EventGraph};
 ghost use Rattle.model_core.specs.Saved.SavedRun.{SavedRun};
 ghost use Rattle.model_core.specs.Static.Reading.{Reads};
 ghost use Rattle.job_answers.specs.Answers.{IsWithin, Responds, MayStopShort};
-ghost use Rattle.job_answers.specs.Delivery.{DeliversSome};
+ghost use Rattle.answer_delivery.specs.Delivery.{DeliversSome};
 ghost use Rattle.job_answers.specs.ResumeAnswer.{ResumedFitsRoom};
 ghost use Rattle.job_answers.specs.RunAnswer.{RunFitsRoom};
 ghost use Rattle.job_answers.specs.SavedReading.{ReadsSaved};
@@ -22,12 +22,13 @@ ghost use Rattle.sigma_top.specs.StatusTable.{Told, Ends};
 ghost use Rattle.sigma_top.specs.Inner.Frame.{Performs, Serves};
 
 use crate::text_taking::{Taken, take_text};
+use answer_delivery::{Failure, Said, Status, complaint_answer, deliver, too_long_answer};
 use command_words::{ModelJob, Reading, WordsError, jobs_keep_their_limits};
 use job_answers::{
-    Failure, ReadingError, Said, Status, answer_alone, answer_document, answer_model, answer_saved,
-    answers_keep_their_laws, complaint_answer, deliver, fused_models_mean_the_same, model_of,
-    narrower_models_mean_the_same, readable_models_are_reduced, saved_runs_are_resumed,
-    sound_documents_mean_the_same, too_long_answer, written_models_mean_the_same,
+    ReadingError, answer_alone, answer_document, answer_model, answer_saved,
+    answers_keep_their_laws, fused_models_mean_the_same, model_of, narrower_models_mean_the_same,
+    readable_models_are_reduced, saved_runs_are_resumed, sound_documents_mean_the_same,
+    written_models_mean_the_same,
 };
 use sig_base::{Sink, Source, put};
 use std::alloc::Global;

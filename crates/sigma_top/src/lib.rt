@@ -4,6 +4,7 @@
 mod frame;
 mod text_taking;
 
+pub use answer_delivery::Status;
 pub use command_words::{Job, WordsError, words};
 pub use frame::sigma;
-pub use job_answers::{Status, readable_models_are_reduced};
+pub use job_answers::readable_models_are_reduced;

@@ -2,7 +2,7 @@
 
 ghost use Rattle.sigma_top.specs.Inner.Frame.{TakesText};
 
-use job_answers::Failure;
+use answer_delivery::Failure;
 use sig_base::{Source, TakeError, Text, take_all};
 use std::alloc::Global;
 

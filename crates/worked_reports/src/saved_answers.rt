@@ -3,10 +3,10 @@
 ghost use Rattle.std.specs.Prelude.{◌≡◌, ◌+◌, ◌++◌, ℕ, pos, neg_ℤ, List, [], ◌∷◌, Some, None, codes, length};
 ghost use Rattle.sig_base.specs.declared.fault.FaultKind.TheVariants as faults;
 ghost use Rattle.model_core.specs.Run.Machine.{Ended, Stopped, Faulted, Going};
-ghost use Rattle.job_answers.specs.declared.answer.Answer.TheVariants.{Given, Refused};
-ghost use Rattle.job_answers.specs.declared.status.End.TheVariants as ends;
-ghost use Rattle.job_answers.specs.declared.status.Refusal.TheVariants as refusals;
-ghost use Rattle.job_answers.specs.AnswerForms.{done};
+ghost use Rattle.answer_delivery.specs.declared.answer.Answer.TheVariants.{Given, Refused};
+ghost use Rattle.answer_delivery.specs.declared.status.End.TheVariants as ends;
+ghost use Rattle.answer_delivery.specs.declared.status.Refusal.TheVariants as refusals;
+ghost use Rattle.answer_delivery.specs.AnswerForms.{done};
 ghost use Rattle.job_answers.specs.RunAnswer.{end_of, run_answer};
 ghost use Rattle.job_answers.specs.SaveAnswer.{unless_too_long, unless_finished, save_answer};
 ghost use Rattle.job_answers.specs.ResumeAnswer.{resume_refusal, resume_answer, ResumedExceedsRoom};

@@ -1,13 +1,13 @@
 //! How the program ends: its statuses, their numbers and the lines that tell them.
 
 ghost use Rattle.std.specs.Prelude.{◌≡◌, [], codes};
-ghost use Rattle.job_answers.specs.declared.answer.Answer.TheVariants.{Given, Refused};
-ghost use Rattle.job_answers.specs.declared.status.End.TheVariants as ends;
-ghost use Rattle.job_answers.specs.declared.status.Failure.TheVariants as failures;
-ghost use Rattle.job_answers.specs.declared.status.Refusal.TheVariants as refusals;
-ghost use Rattle.job_answers.specs.declared.status.Status.TheVariants as statuses;
-ghost use Rattle.job_answers.specs.Statuses.{exit_status_of, status_of_end, status_of_refusal, failure_line, status_of_answer, bytes_of_answer};
-ghost use Rattle.job_answers.specs.FailureStatus.{status_of_failure};
+ghost use Rattle.answer_delivery.specs.declared.answer.Answer.TheVariants.{Given, Refused};
+ghost use Rattle.answer_delivery.specs.declared.status.End.TheVariants as ends;
+ghost use Rattle.answer_delivery.specs.declared.status.Failure.TheVariants as failures;
+ghost use Rattle.answer_delivery.specs.declared.status.Refusal.TheVariants as refusals;
+ghost use Rattle.answer_delivery.specs.declared.status.Status.TheVariants as statuses;
+ghost use Rattle.answer_delivery.specs.Statuses.{exit_status_of, status_of_end, status_of_refusal, failure_line, status_of_answer, bytes_of_answer};
+ghost use Rattle.answer_delivery.specs.FailureStatus.{status_of_failure};
 
 /// Each status has a number of its own.
 pub fn statuses_have_numbers()

@@ -5,12 +5,12 @@ use Rattle.model_core.specs.EventGraph.{EventGraph}
 use Rattle.model_core.specs.Run.History.{Moment, look_from}
 use Rattle.watch_trace.specs.declared.outcome.Outcome.{Outcome}
 use Rattle.watch_trace.specs.declared.outcome.Outcome.TheVariants as outcomes
-use Rattle.job_answers.specs.declared.delivering.Said.{Said}
-use Rattle.job_answers.specs.declared.status.End.{End}
-use Rattle.job_answers.specs.declared.status.End.TheVariants as ends
-use Rattle.job_answers.specs.declared.status.Failure.{Failure}
-use Rattle.job_answers.specs.declared.status.Failure.TheVariants as failures
-use Rattle.job_answers.specs.Delivery.{DeliversSome}
+use Rattle.answer_delivery.specs.declared.delivering.Said.{Said}
+use Rattle.answer_delivery.specs.declared.status.End.{End}
+use Rattle.answer_delivery.specs.declared.status.End.TheVariants as ends
+use Rattle.answer_delivery.specs.declared.status.Failure.{Failure}
+use Rattle.answer_delivery.specs.declared.status.Failure.TheVariants as failures
+use Rattle.answer_delivery.specs.Delivery.{DeliversSome}
 use Rattle.job_answers.specs.RunAnswer.{told_of, ExceedsRoomFrom}
 
 -- how a job ends whose run came to this

@@ -1,20 +1,11 @@
--- What the steps of writing an answer say to one another.
-use Rattle.std.specs.Prelude.{◌≡◌, ◌<◌, ◌⊎◌, ℕ, true, false, List, [], length, Result, Ok, Err}
+-- What the steps of writing an answer as it comes say to one another.
+use Rattle.std.specs.Prelude.{◌≡◌, ◌<◌, ◌⊎◌, ℕ, false, List, [], length, Result, Ok, Err}
 use Rattle.sig_base.specs.Faults.{HasRisen}
 use Rattle.sig_base.specs.Sink.{Outlet, GrowsBy}
-use Rattle.sig_base.specs.Source.{Stays}
-use Rattle.job_answers.specs.declared.delivering.Said.{Said}
-use Rattle.job_answers.specs.declared.delivering.Said.TheVariants as said
-use Rattle.job_answers.specs.declared.status.End.{End}
-use Rattle.job_answers.specs.declared.status.Failure.{Failure}
-use Rattle.job_answers.specs.declared.status.Failure.TheVariants as failures
-use Rattle.job_answers.specs.FrontWritten.{GrowsByFront}
-
--- what writing bytes at once did: writing some leaves the output unsettled, and writing none leaves it as it was
-abbrev pub Written : {A : Type 0} → List ℕ → Result A Failure → Outlet → Outlet → Type 0
-Written bytes (Ok done) o p = GrowsBy o.written p.written bytes × (0 < length bytes → p.settled ≡ false) × (p.faults ≡ o.faults) × (bytes ≡ [] → p.settled ≡ o.settled)
-Written bytes (Err failures.WriteFault) o p = GrowsByFront o p bytes × (p.settled ≡ false) × HasRisen o.faults p.faults
-Written bytes (Err e) o p = ⊥
+use Rattle.answer_delivery.specs.declared.status.End.{End}
+use Rattle.answer_delivery.specs.declared.status.Failure.{Failure}
+use Rattle.answer_delivery.specs.declared.status.Failure.TheVariants as failures
+use Rattle.answer_delivery.specs.FrontWritten.{GrowsByFront}
 
 -- what writing bytes piece by piece did, where memory may be refused behind a front of them
 abbrev pub InPieces : List ℕ → Result Unit Failure → Outlet → Outlet → Type 0
@@ -30,9 +21,3 @@ Streamed seen end bytes Short (Ok e) o p = (e ≡ end) × GrowsBy (seen o).writt
 Streamed seen end bytes Short (Err failures.WriteFault) o p = GrowsByFront (seen o) (seen p) bytes × ((seen p).settled ≡ false) × HasRisen (seen o).faults (seen p).faults
 Streamed seen end bytes Short (Err failures.NoMemory) o p = ((p ≡ o) ⊎ (Short × GrowsByFront (seen o) (seen p) bytes)) × ((seen p).faults ≡ (seen o).faults)
 Streamed seen end bytes Short (Err e) o p = ⊥
-
--- what finishing the output did, behind all of the bytes
-abbrev pub Closed : End → Result Said Failure → Outlet → Outlet → Type 0
-Closed end (Ok (said.Gave e)) o p = (e ≡ end) × Stays o.written p.written × (p.settled ≡ true) × (p.faults ≡ o.faults)
-Closed end (Err failures.WriteFault) o p = Stays o.written p.written × (p.settled ≡ o.settled) × HasRisen o.faults p.faults
-Closed end r o p = ⊥

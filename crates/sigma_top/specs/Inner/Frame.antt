@@ -5,10 +5,10 @@ use Rattle.sig_base.specs.Sink.{Outlet}
 use Rattle.sig_base.specs.Source.{Inlet}
 use Rattle.command_words.specs.declared.reading.Reading.{Reading}
 use Rattle.command_words.specs.Jobs.{job_of}
-use Rattle.job_answers.specs.declared.delivering.Said.{Said}
-use Rattle.job_answers.specs.declared.delivering.Said.TheVariants as said
-use Rattle.job_answers.specs.declared.status.Failure.{Failure}
-use Rattle.job_answers.specs.declared.status.Failure.TheVariants as failures
+use Rattle.answer_delivery.specs.declared.delivering.Said.{Said}
+use Rattle.answer_delivery.specs.declared.delivering.Said.TheVariants as said
+use Rattle.answer_delivery.specs.declared.status.Failure.{Failure}
+use Rattle.answer_delivery.specs.declared.status.Failure.TheVariants as failures
 use Rattle.job_answers.specs.Answers.{IsWithin, IsOver}
 use Rattle.sigma_top.specs.declared.text_taking.Taken.{Taken}
 use Rattle.sigma_top.specs.declared.text_taking.Taken.TheVariants as taken

@@ -4,11 +4,11 @@ use Rattle.std.specs.Prelude.{IfSome}
 use Rattle.sig_base.specs.Faults.{HasRisen}
 use Rattle.command_words.specs.declared.reading.Reading.{Reading}
 use Rattle.command_words.specs.Readings.{reading_of, limit_of}
-use Rattle.job_answers.specs.declared.answer.Answer.{Answer}
-use Rattle.job_answers.specs.declared.status.Status.{Status}
-use Rattle.job_answers.specs.declared.status.Status.TheVariants.{NoMemory}
+use Rattle.answer_delivery.specs.declared.answer.Answer.{Answer}
+use Rattle.answer_delivery.specs.declared.status.Status.{Status}
+use Rattle.answer_delivery.specs.declared.status.Status.TheVariants.{NoMemory}
 use Rattle.job_answers.specs.Answers.{Answers}
-use Rattle.job_answers.specs.Statuses.{status_of_answer}
+use Rattle.answer_delivery.specs.Statuses.{status_of_answer}
 use Rattle.sigma_top.specs.StatusTable.{text_of}
 use Rattle.answer_laws.proofs.sure_devices.sure_status.Goals as goal
 

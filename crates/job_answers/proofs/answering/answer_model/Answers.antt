@@ -7,12 +7,12 @@ use Rattle.command_words.specs.declared.reading.ModelJob.{ModelJob}
 use Rattle.command_words.specs.declared.reading.ModelJob.TheVariants as models
 use Rattle.model_core.specs.EventGraph.{EventGraph}
 use Rattle.model_core.specs.Code.Views.{graph_of}
-use Rattle.job_answers.specs.declared.answer.Answer.{Answer}
-use Rattle.job_answers.specs.declared.delivering.Said.{Said}
-use Rattle.job_answers.specs.declared.status.Failure.{Failure}
-use Rattle.job_answers.specs.declared.status.Failure.TheVariants as failures
+use Rattle.answer_delivery.specs.declared.answer.Answer.{Answer}
+use Rattle.answer_delivery.specs.declared.delivering.Said.{Said}
+use Rattle.answer_delivery.specs.declared.status.Failure.{Failure}
+use Rattle.answer_delivery.specs.declared.status.Failure.TheVariants as failures
 use Rattle.job_answers.specs.Answers.{AnswersModel, MayFallShort}
-use Rattle.job_answers.specs.Delivery.{Delivers, DeliversSome}
+use Rattle.answer_delivery.specs.Delivery.{Delivers, DeliversSome}
 use Rattle.job_answers.proofs.answering.answer_model.Goals.{in-Check, in-Print, in-Uses, in-Conflicts, in-Describe, in-Run, in-Replicate, in-Save}
 use Rattle.job_answers.proofs.answering.answer_model.Goals as goal
 

@@ -8,15 +8,15 @@ use Rattle.command_words.specs.declared.reading.Reading.TheVariants.{Saved}
 use Rattle.model_core.specs.EventGraph.{EventGraph}
 use Rattle.model_core.specs.Code.Views.{graph_of}
 use Rattle.model_core.specs.Saved.SavedRun.{SavedRun}
-use Rattle.job_answers.specs.declared.answer.Answer.{Answer}
-use Rattle.job_answers.specs.declared.complaint.Complaint.{Complaint}
-use Rattle.job_answers.specs.declared.delivering.Said.{Said}
-use Rattle.job_answers.specs.declared.status.Failure.{Failure}
-use Rattle.job_answers.specs.declared.status.Failure.TheVariants as failures
-use Rattle.job_answers.specs.AnswerForms.{refused}
+use Rattle.answer_delivery.specs.declared.answer.Answer.{Answer}
+use Rattle.answer_delivery.specs.declared.complaint.Complaint.{Complaint}
+use Rattle.answer_delivery.specs.declared.delivering.Said.{Said}
+use Rattle.answer_delivery.specs.declared.status.Failure.{Failure}
+use Rattle.answer_delivery.specs.declared.status.Failure.TheVariants as failures
+use Rattle.answer_delivery.specs.AnswerForms.{refused}
 use Rattle.job_answers.specs.Answers.{AnswersSaved, SavedMayFallShort, Responds, MayStopShort}
-use Rattle.job_answers.specs.Complaints.{message_of, byte_line}
-use Rattle.job_answers.specs.Delivery.{Delivers, DeliversSome}
+use Rattle.answer_delivery.specs.Complaints.{message_of, byte_line}
+use Rattle.answer_delivery.specs.Delivery.{Delivers, DeliversSome}
 use Rattle.job_answers.specs.SavedComplaints.{IsSavedComplaint}
 use Rattle.job_answers.specs.SavedReading.{ReadsSaved}
 use Rattle.job_answers.proofs.SavedModels.{saved_model_valid}

@@ -8,11 +8,11 @@ use Rattle.model_core.specs.EventGraph.{EventGraph}
 use Rattle.model_core.specs.Rules.Reduction.{RuleApplication}
 use Rattle.model_core.specs.Static.Reading.{ReadsDocument}
 use Rattle.model_core.specs.Code.Views.{graph_of, application_of}
-use Rattle.job_answers.specs.declared.answer.Answer.{Answer}
-use Rattle.job_answers.specs.declared.complaint.Complaint.{Complaint}
-use Rattle.job_answers.specs.AnswerForms.{refused}
+use Rattle.answer_delivery.specs.declared.answer.Answer.{Answer}
+use Rattle.answer_delivery.specs.declared.complaint.Complaint.{Complaint}
+use Rattle.answer_delivery.specs.AnswerForms.{refused}
 use Rattle.job_answers.specs.Answers.{AnswersDocument, Responds}
-use Rattle.job_answers.specs.Complaints.{message_of, byte_line}
+use Rattle.answer_delivery.specs.Complaints.{message_of, byte_line}
 use Rattle.job_answers.specs.DocumentComplaints.{IsDocumentComplaint}
 use Rattle.job_answers.proofs.answering.document_text_answer.Goals as goal
 

@@ -3,8 +3,8 @@ use Rattle.std.proofs.Common.{◌≡◌, inl, inr, List, ℕ, refl}
 use Rattle.command_words.specs.declared.reading.DocumentJob.TheVariants.{Certify}
 use Rattle.command_words.specs.declared.reading.Reading.TheVariants.{Document}
 use Rattle.model_core.specs.Rules.Verdict.{Verdict, Sound, Rejected, Differs, verdict}
-use Rattle.job_answers.specs.declared.answer.Answer.TheVariants.{Given}
-use Rattle.job_answers.specs.declared.status.End.TheVariants as ends
+use Rattle.answer_delivery.specs.declared.answer.Answer.TheVariants.{Given}
+use Rattle.answer_delivery.specs.declared.status.End.TheVariants as ends
 use Rattle.job_answers.specs.Answers.{Responds, Answers}
 use Rattle.job_answers.specs.CertifyAnswer.{answer_of_verdict, Certifies}
 use Rattle.job_answers.proofs.GivenAnswers.{given_is_no_refusal}

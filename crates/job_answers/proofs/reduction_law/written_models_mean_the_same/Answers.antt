@@ -4,8 +4,8 @@ use Rattle.command_words.specs.declared.reading.ModelJob.TheVariants.{Reduce}
 use Rattle.command_words.specs.declared.reading.Reading.TheVariants.{Model}
 use Rattle.model_core.specs.EventGraph.{EventGraph}
 use Rattle.model_core.specs.Static.Reading.{Reads, IsValid}
-use Rattle.job_answers.specs.declared.answer.Answer.TheVariants.{Given}
-use Rattle.job_answers.specs.declared.status.End.{End}
+use Rattle.answer_delivery.specs.declared.answer.Answer.TheVariants.{Given}
+use Rattle.answer_delivery.specs.declared.status.End.{End}
 use Rattle.job_answers.specs.Answers.{Responds, Answers}
 use Rattle.job_answers.specs.ReduceAnswer.{Reduces, KeepsMeaning}
 use Rattle.job_answers.proofs.GivenAnswers.{given_is_no_refusal, given_bytes}

@@ -5,10 +5,11 @@ use Rattle.model_core.specs.Code.Views.{graph_of}
 use Rattle.command_words.specs.declared.replicate_options.ReplicateOptions.{ReplicateOptions}
 use Rattle.tally_report.specs.ReportText.{header_row}
 use Rattle.tally_report.specs.Totalling.{RunTotals, no_totals}
-use Rattle.job_answers.specs.declared.status.Failure.{Failure}
+use Rattle.answer_delivery.specs.declared.status.Failure.{Failure}
 use Rattle.job_answers.specs.ReplicateAnswer.{report}
 use Rattle.job_answers.specs.Inner.ReportSteps.{left_from, IsWrittenUpTo}
-use Rattle.job_answers.specs.Inner.WritingSteps.{Written, InPieces}
+use Rattle.answer_delivery.specs.Writing.{Written}
+use Rattle.job_answers.specs.Inner.WritingSteps.{InPieces}
 use Rattle.job_answers.proofs.PiecesWritten.{at_last, at_once, broken_further, further, passed_failure}
 use Rattle.job_answers.proofs.ReplicateLaws.{Left, header_first}
 use Rattle.job_answers.proofs.replicating.tell_report.Goals as goal

@@ -3,7 +3,7 @@ use Rattle.std.proofs.Common.{Err, ap, drop}
 use Rattle.std.proofs.lemmas.Result.{err_from_is_err_and}
 use Rattle.model_core.specs.Code.WrittenViews.{written_model}
 use Rattle.model_lex.specs.Lexemes.{lexemes}
-use Rattle.job_answers.specs.declared.complaint.Complaint.TheVariants as complaints
+use Rattle.answer_delivery.specs.declared.complaint.Complaint.TheVariants as complaints
 use Rattle.job_answers.specs.declared.reading_error.ReadingError.TheVariants.{At}
 use Rattle.job_answers.specs.DocumentComplaints.{IsFrontComplaint}
 use Rattle.job_answers.specs.SavedComplaints.{IsSavedComplaint, in_model, in_snapshot, of_saved_tokens}

@@ -4,7 +4,7 @@ use Rattle.std.proofs.lemmas.Result.{err_from_is_err_and}
 use Rattle.model_core.specs.Code.Views.{graph_of}
 use Rattle.model_core.specs.Code.WrittenViews.{written_model}
 use Rattle.model_lex.specs.Lexemes.{lexemes}
-use Rattle.job_answers.specs.declared.complaint.Complaint.TheVariants as complaints
+use Rattle.answer_delivery.specs.declared.complaint.Complaint.TheVariants as complaints
 use Rattle.job_answers.specs.declared.reading_error.ReadingError.TheVariants.{At}
 use Rattle.job_answers.specs.SavedComplaints.{IsSavedComplaint, of_model, of_snapshot}
 use Rattle.job_answers.proofs.PassedOn.{one_error, passed_on}

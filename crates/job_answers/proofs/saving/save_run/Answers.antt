@@ -1,7 +1,7 @@
 use Rattle.std.proofs.Common.{◌≡◌, subst}
 use Rattle.std.specs.Prelude.{IfOk}
 use Rattle.model_core.specs.Code.Views.{graph_of}
-use Rattle.job_answers.specs.declared.answer.Answer.{Answer}
+use Rattle.answer_delivery.specs.declared.answer.Answer.{Answer}
 use Rattle.job_answers.specs.SaveAnswer.{saving_answer, save_answer}
 use Rattle.job_answers.proofs.SaveLaws.{begun_told}
 use Rattle.job_answers.proofs.StartLaws.{start_refused}

@@ -2,7 +2,7 @@ use Rattle.std.proofs.Common.{◌≡◌, Option, subst}
 use Rattle.std.specs.Prelude.{IfOk}
 use Rattle.model_core.specs.Code.Views.{graph_of}
 use Rattle.model_core.specs.Saved.SavedRun.{SavedRun}
-use Rattle.job_answers.specs.declared.answer.Answer.{Answer}
+use Rattle.answer_delivery.specs.declared.answer.Answer.{Answer}
 use Rattle.job_answers.specs.Inner.SaveSteps.{SavedOrFinished}
 use Rattle.job_answers.proofs.SaveLaws.{saved_is_good, saved_told, finished_told}
 use Rattle.job_answers.proofs.saving.saving.Goals as goal

@@ -3,7 +3,7 @@ use Rattle.std.proofs.Common.{Err, ap}
 use Rattle.std.proofs.lemmas.Result.{err_from_is_err_and}
 use Rattle.model_lex.specs.Lexemes.{lexemes}
 use Rattle.job_answers.specs.declared.reading_error.ReadingError.TheVariants.{At}
-use Rattle.job_answers.specs.Complaints.{IsComplaint}
+use Rattle.answer_delivery.specs.Complaints.{IsComplaint}
 use Rattle.job_answers.specs.Inner.Refusals.{unread}
 use Rattle.job_answers.proofs.PassedOn.{same_error}
 use Rattle.job_answers.proofs.ToldErrors.{of_unread}

@@ -3,9 +3,9 @@ use Rattle.std.proofs.Common.{◌≡◌, ℕ, List, Result, Ok, Err, refl, sym, 
 use Rattle.std.specs.Prelude.{IfOk}
 use Rattle.sig_base.specs.Sink.{Outlet}
 use Rattle.sig_base.specs.Source.{Inlet}
-use Rattle.job_answers.specs.declared.status.Status.{Status}
-use Rattle.job_answers.specs.declared.status.Status.TheVariants as statuses
-use Rattle.job_answers.specs.Statuses.{exit_status_of}
+use Rattle.answer_delivery.specs.declared.status.Status.{Status}
+use Rattle.answer_delivery.specs.declared.status.Status.TheVariants as statuses
+use Rattle.answer_delivery.specs.Statuses.{exit_status_of}
 use Rattle.sigma_top.specs.Promises.{KeepsPromises}
 use Rattle.sigma_cli.proofs.program.program.Goals as goal
 

@@ -10,8 +10,8 @@ use Rattle.model_core.specs.Text.VersionNeeded.{needs_version_two}
 use Rattle.model_core.specs.Text.Canonical.{variable_line, table_line, watch_line, vertex_lines, version_line, canonical}
 use Rattle.command_words.specs.declared.job.Job.TheVariants as jobs
 use Rattle.command_words.specs.declared.run_options.TheConstants.{ROOM_USUAL}
-use Rattle.job_answers.specs.declared.complaint.Complaint.TheVariants as complaints
-use Rattle.job_answers.specs.declared.status.End.TheVariants as ends
+use Rattle.answer_delivery.specs.declared.complaint.Complaint.TheVariants as complaints
+use Rattle.answer_delivery.specs.declared.status.End.TheVariants as ends
 use Rattle.job_answers.specs.RunAnswer.{refused_or, told_of}
 use Rattle.job_answers.specs.CertifyAnswer.{answer_of_verdict}
 use Rattle.sigma_tests.proofs.endings.calls_end_so.Goals as goal

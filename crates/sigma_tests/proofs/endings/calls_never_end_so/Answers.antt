@@ -9,8 +9,8 @@ use Rattle.sig_base.specs.Source.{Inlet}
 use Rattle.command_words.specs.declared.job.Job.{Job}
 use Rattle.command_words.specs.declared.job.Job.TheVariants as jobs
 use Rattle.command_words.specs.Readings.{reading_of}
-use Rattle.job_answers.specs.declared.status.End.TheVariants as ends
-use Rattle.job_answers.specs.declared.status.Refusal.TheVariants as refusals
+use Rattle.answer_delivery.specs.declared.status.End.TheVariants as ends
+use Rattle.answer_delivery.specs.declared.status.Refusal.TheVariants as refusals
 use Rattle.sigma_top.specs.StatusTable.{WritesAnswer, Refuses, FailsToRead, FailsToWrite, LacksMemory, ForJob}
 use Rattle.sigma_tests.specs.Devices.{input_of, output_of}
 use Rattle.sigma_tests.proofs.endings.calls_never_end_so.Goals as goal

@@ -2,7 +2,7 @@
 use Rattle.std.proofs.Common.{Ok, Err, ap, ◌∙◌, subst}
 use Rattle.sigma_top.specs.declared.text_taking.Taken.TheVariants as taken
 use Rattle.job_answers.specs.Answers.{Responds, MayStopShort}
-use Rattle.job_answers.specs.Delivery.{DeliversSome}
+use Rattle.answer_delivery.specs.Delivery.{DeliversSome}
 use Rattle.sigma_top.proofs.Performing.{performed, performed_long, not_taken, taken_as}
 use Rattle.sigma_top.proofs.frame.perform.Goals as goal
 

@@ -8,15 +8,15 @@ use Rattle.command_words.specs.declared.reading.Reading.TheVariants.{Model}
 use Rattle.model_core.specs.EventGraph.{EventGraph}
 use Rattle.model_core.specs.Static.Reading.{Reads}
 use Rattle.model_core.specs.Code.Views.{graph_of}
-use Rattle.job_answers.specs.declared.answer.Answer.{Answer}
-use Rattle.job_answers.specs.declared.complaint.Complaint.{Complaint}
-use Rattle.job_answers.specs.declared.delivering.Said.{Said}
-use Rattle.job_answers.specs.declared.status.Failure.{Failure}
-use Rattle.job_answers.specs.declared.status.Failure.TheVariants as failures
-use Rattle.job_answers.specs.AnswerForms.{refused}
+use Rattle.answer_delivery.specs.declared.answer.Answer.{Answer}
+use Rattle.answer_delivery.specs.declared.complaint.Complaint.{Complaint}
+use Rattle.answer_delivery.specs.declared.delivering.Said.{Said}
+use Rattle.answer_delivery.specs.declared.status.Failure.{Failure}
+use Rattle.answer_delivery.specs.declared.status.Failure.TheVariants as failures
+use Rattle.answer_delivery.specs.AnswerForms.{refused}
 use Rattle.job_answers.specs.Answers.{AnswersModel, MayFallShort, Responds, MayStopShort}
-use Rattle.job_answers.specs.Complaints.{IsComplaint, message_of, byte_line}
-use Rattle.job_answers.specs.Delivery.{Delivers, DeliversSome}
+use Rattle.answer_delivery.specs.Complaints.{IsComplaint, message_of, byte_line}
+use Rattle.answer_delivery.specs.Delivery.{Delivers, DeliversSome}
 use Rattle.sigma_top.proofs.frame.respond_to_model.Goals as goal
 
 module _ {K : Type 0} (seen : K → Outlet) (job : ModelJob) (text : List ℕ) (r : Result Said Failure) (o p : K) where

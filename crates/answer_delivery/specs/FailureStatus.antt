@@ -1,8 +1,8 @@
 -- With which status a call ends that has no answer. The table of statuses says it row by row.
-use Rattle.job_answers.specs.declared.status.Failure.{Failure}
-use Rattle.job_answers.specs.declared.status.Failure.TheVariants as failures
-use Rattle.job_answers.specs.declared.status.Status.{Status}
-use Rattle.job_answers.specs.declared.status.Status.TheVariants as statuses
+use Rattle.answer_delivery.specs.declared.status.Failure.{Failure}
+use Rattle.answer_delivery.specs.declared.status.Failure.TheVariants as failures
+use Rattle.answer_delivery.specs.declared.status.Status.{Status}
+use Rattle.answer_delivery.specs.declared.status.Status.TheVariants as statuses
 
 -- the status where there is no answer
 abbrev pub status_of_failure : Failure → Status

@@ -1,8 +1,8 @@
 //! The answer's way to the output: its bytes are written, at once or as they come, and then finished.
 
 ghost use Rattle.std.specs.Prelude.{◌≡◌, ◌≢◌, Err, MatchResult};
-ghost use Rattle.job_answers.specs.Delivery.{Delivers};
-ghost use Rattle.job_answers.specs.Inner.WritingSteps.{Written, Closed};
+ghost use Rattle.answer_delivery.specs.Delivery.{Delivers};
+ghost use Rattle.answer_delivery.specs.Writing.{Written, Closed};
 
 use crate::answer::Answer;
 use crate::status::{End, Failure, Refusal};
@@ -18,7 +18,7 @@ pub enum Said {
 }
 
 /// Writes all of the bytes, as one piece.
-pub(crate) fn write_all<K: Sink>(output: &mut K, bytes: &[u8]) -> Result<(), Failure>
+pub fn write_all<K: Sink>(output: &mut K, bytes: &[u8]) -> Result<(), Failure>
     ensures { Written bytes.now result (K.seen output.old) (K.seen output.new) }
 {
     match put(output, bytes) {
@@ -28,7 +28,7 @@ pub(crate) fn write_all<K: Sink>(output: &mut K, bytes: &[u8]) -> Result<(), Fai
 }
 
 /// Finishes the output behind the bytes of an answer.
-pub(crate) fn close<K: Sink>(output: &mut K, end: End) -> Result<Said, Failure>
+pub fn close<K: Sink>(output: &mut K, end: End) -> Result<Said, Failure>
     ensures { Closed end result (K.seen output.old) (K.seen output.new) }
 {
     match output.finish() {

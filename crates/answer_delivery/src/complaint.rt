@@ -1,7 +1,7 @@
 //! What there is to complain of in a text that reads as no model.
 
 ghost use Rattle.std.specs.Prelude.{◌≡◌, IfOk};
-ghost use Rattle.job_answers.specs.Complaints.{static_message, message_of, byte_line};
+ghost use Rattle.answer_delivery.specs.Complaints.{static_message, message_of, byte_line};
 
 use model_core::StaticKind;
 use sig_base::{NoMemory, Text, put_bytes, put_number};

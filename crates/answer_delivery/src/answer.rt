@@ -1,8 +1,8 @@
 //! What is answered to a text, and the answers that refuse one.
 
 ghost use Rattle.std.specs.Prelude.{◌≡◌, IfOk};
-ghost use Rattle.job_answers.specs.AnswerForms.{refused, too_long};
-ghost use Rattle.job_answers.specs.Complaints.{message_of, byte_line};
+ghost use Rattle.answer_delivery.specs.AnswerForms.{refused, too_long};
+ghost use Rattle.answer_delivery.specs.Complaints.{message_of, byte_line};
 
 use crate::complaint::Complaint;
 use crate::status::{End, Refusal};

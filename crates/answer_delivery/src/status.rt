@@ -1,9 +1,9 @@
 //! How the program ends.
 
 ghost use Rattle.std.specs.Prelude.{◌≡◌};
-ghost use Rattle.job_answers.specs.declared.status.Failure.TheVariants.{NoMemory as OutOfMemory};
-ghost use Rattle.job_answers.specs.Statuses.{exit_status_of, status_of_end, status_of_refusal, failure_line};
-ghost use Rattle.job_answers.specs.FailureStatus.{status_of_failure};
+ghost use Rattle.answer_delivery.specs.declared.status.Failure.TheVariants.{NoMemory as OutOfMemory};
+ghost use Rattle.answer_delivery.specs.Statuses.{exit_status_of, status_of_end, status_of_refusal, failure_line};
+ghost use Rattle.answer_delivery.specs.FailureStatus.{status_of_failure};
 
 use sig_base::NoMemory;
 

@@ -1,15 +1,15 @@
 -- How the program ends: its status, and the line on the error output.
 use Rattle.std.specs.Prelude.{ℕ, List, [], codes}
-use Rattle.job_answers.specs.declared.answer.Answer.{Answer}
-use Rattle.job_answers.specs.declared.answer.Answer.TheVariants.{Given, Refused}
-use Rattle.job_answers.specs.declared.status.Status.{Status}
-use Rattle.job_answers.specs.declared.status.Status.TheVariants as statuses
-use Rattle.job_answers.specs.declared.status.End.{End}
-use Rattle.job_answers.specs.declared.status.End.TheVariants as ends
-use Rattle.job_answers.specs.declared.status.Refusal.{Refusal}
-use Rattle.job_answers.specs.declared.status.Refusal.TheVariants as refusals
-use Rattle.job_answers.specs.declared.status.Failure.{Failure}
-use Rattle.job_answers.specs.declared.status.Failure.TheVariants as failures
+use Rattle.answer_delivery.specs.declared.answer.Answer.{Answer}
+use Rattle.answer_delivery.specs.declared.answer.Answer.TheVariants.{Given, Refused}
+use Rattle.answer_delivery.specs.declared.status.Status.{Status}
+use Rattle.answer_delivery.specs.declared.status.Status.TheVariants as statuses
+use Rattle.answer_delivery.specs.declared.status.End.{End}
+use Rattle.answer_delivery.specs.declared.status.End.TheVariants as ends
+use Rattle.answer_delivery.specs.declared.status.Refusal.{Refusal}
+use Rattle.answer_delivery.specs.declared.status.Refusal.TheVariants as refusals
+use Rattle.answer_delivery.specs.declared.status.Failure.{Failure}
+use Rattle.answer_delivery.specs.declared.status.Failure.TheVariants as failures
 
 -- the exit status of the program
 abbrev pub exit_status_of : Status → ℕ
