@@ -51,7 +51,7 @@ from-or-after place y at = grind arith
 
 -- those from a place on that are passed over, one more, and those behind it
 pub passed-on : (g : EventGraph) (keep from place to : ℕ) → ((y : ℕ) → from ≤ y → y < place → are_alike g keep y ≡ false) → are_alike g keep place ≡ false → ((y : ℕ) → place + 1 ≤ y → y < to → are_alike g keep y ≡ false) → (y : ℕ) → from ≤ y → y < to → are_alike g keep y ≡ false
-passed-on g keep from place to none here more y at less = by (cases_lt place y) where
+passed-on g keep from place to none here more y at less = by (cases_lt y place) where
   behind : (y ≡ place) ⊎ (place + 1 ≤ y) → are_alike g keep y ≡ false
   behind (inl same) = ap (are_alike g keep) same ∙ here
   behind (inr later) = more y later less
@@ -61,7 +61,7 @@ passed-on g keep from place to none here more y at less = by (cases_lt place y) 
   by (inr from_here) = behind (from-or-after place y from_here)
 
 pub known-until : (g : EventGraph) (keep from to : ℕ) → ((y : ℕ) → y < from → are_alike g keep y ≡ false) → ((y : ℕ) → from ≤ y → y < to → are_alike g keep y ≡ false) → (y : ℕ) → y < to → are_alike g keep y ≡ false
-known-until g keep from to none more y less = by (cases_lt from y) where
+known-until g keep from to none more y less = by (cases_lt y from) where
   by : (y < from) ⊎ (from ≤ y) → are_alike g keep y ≡ false
   by (inl before) = none y before
   by (inr at) = more y at less
@@ -73,7 +73,7 @@ beyond-all g keep y past = by (are_alike g keep y) refl where
   by true told = let less = (alike_told g keep y told).within in absurd (omega (arith, less, past))
 
 pub none-at-all : (g : EventGraph) (keep from : ℕ) → length g.vertices ≤ from → ((y : ℕ) → y < from → are_alike g keep y ≡ false) → NoneAlikeWith g keep None
-none-at-all g keep from past none y = by (cases_lt from y) where
+none-at-all g keep from past none y = by (cases_lt y from) where
   by : (y < from) ⊎ (from ≤ y) → are_alike g keep y ≡ false
   by (inl before) = none y before
   by (inr at) = beyond-all g keep y (omega (arith, past, at))
