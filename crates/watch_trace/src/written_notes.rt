@@ -23,6 +23,8 @@ impl<K: Sink> NoteTaker<K> for Line {
         end(self, onto);
     }
 
+    // Not inlined, so that a step without a note has no part in it.
+    #[inline(never)]
     fn take_on(&mut self, onto: &mut K, model: &Model, state: &State, time: u64, place: usize) {
         put_on(self, onto, model, state, time, place);
         end(self, onto);

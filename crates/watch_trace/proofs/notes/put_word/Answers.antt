@@ -1,5 +1,0 @@
-use Rattle.watch_trace.specs.Inner.AddedLines.{two}
-use Rattle.watch_trace.proofs.notes.put_word.Goals as goal
-
-pub returns : goal.returns
-returns g c = two (two c.put_byte.ensures c.put_byte-2.ensures) c.put_byte-3.ensures
