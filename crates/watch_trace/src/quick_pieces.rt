@@ -17,14 +17,23 @@ fn add_bytes(bytes: &mut Vec<u8>, others: &[u8])
     bytes.extend_from_slice(others).unwrap();
 }
 
-/// Adds a number of any length in decimal, for which there is room. Not inlined, since most values have one digit.
-#[inline(never)]
+/// Adds a number of any length in decimal, for which there is room.
+#[inline(always)]
 fn add_digits(bytes: &mut Vec<u8>, number: u64)
     requires { vec_len bytes.old + 20 ≤ vec_capacity bytes.old }
     ensures { bytes.new.items ≡ bytes.old.items ++ decimal number }
 {
     let mut buffer = Buffer::new();
     add_bytes(bytes, buffer.format(number).as_bytes());
+}
+
+/// Adds a number as `add_digits` does. Not inlined, since most values have one digit.
+#[inline(never)]
+fn add_long(bytes: &mut Vec<u8>, number: u64)
+    requires { vec_len bytes.old + 20 ≤ vec_capacity bytes.old }
+    ensures { bytes.new.items ≡ bytes.old.items ++ decimal number }
+{
+    add_digits(bytes, number);
 }
 
 /// Adds a number in decimal, for which there is room.
@@ -37,7 +46,7 @@ fn add_number(bytes: &mut Vec<u8>, number: u64)
         bytes.push_reserved(b'0' + number as u8);
         return;
     }
-    add_digits(bytes, number);
+    add_long(bytes, number);
 }
 
 /// Adds a number in decimal with a `-` where it is below 0, for which there is room. Not inlined, since few are.
@@ -73,7 +82,7 @@ pub fn add_head(bytes: &mut Vec<u8>, first: u8, second: u8, number: u64) -> Resu
     bytes.push_reserved(first);
     bytes.push_reserved(second);
     bytes.push_reserved(b' ');
-    add_number(bytes, number);
+    add_digits(bytes, number);
     Ok(())
 }
 
