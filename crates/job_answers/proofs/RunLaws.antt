@@ -1,6 +1,6 @@
 -- From a run that was begun and followed to what is told of it, and the laws of the answer of `run`.
-use Rattle.std.proofs.Common.{◌≡◌, inr, ℕ, ◌+◌, ◌≤◌, ℤ, List, length, None, Result, Ok, Err, refl, sym, ap, ap₂, ◌∙◌, subst, arith}
-use Rattle.std.specs.Prelude.{IsTrue, Option}
+use Rattle.std.proofs.Common.{◌≡◌, inr, ℕ, ◌+◌, ◌≤◌, ℤ, List, length, None, Result, refl, sym, ap, ap₂, ◌∙◌, subst, arith}
+use Rattle.std.specs.Prelude.{Option}
 use Rattle.command_words.specs.declared.reading.ModelJob.TheVariants.{Run}
 use Rattle.command_words.specs.declared.reading.Reading.TheVariants.{Model as OfModel}
 use Rattle.command_words.specs.declared.run_options.RunOptions.{RunOptions}
@@ -8,7 +8,7 @@ use Rattle.sig_base.specs.Sink.{Outlet}
 use Rattle.model_core.specs.declared.model.Model.{Model}
 use Rattle.model_core.specs.EventGraph.{EventGraph}
 use Rattle.model_core.specs.Code.Views.{graph_of}
-use Rattle.model_core.specs.Run.History.{Moment, start, allowed, look}
+use Rattle.model_core.specs.Run.History.{Moment, start, look}
 use Rattle.model_core.specs.Run.Step.{Configuration}
 use Rattle.run_control.specs.Beginning.{BegunRun}
 use Rattle.run_control.specs.Running.{Running}

@@ -10,8 +10,8 @@ returns-in-Err g c =
     start_refused g.K.Sink.seen (graph_of c.args.model.now) options.starts _ _ c.in-Err.error c.refuse_start.result c.args.output.now (λ line told. c.in-Err.ensures.err) c.refuse_start.ensures
 
 -- the history, from the run's beginning on
-pub returns-in-Ok-begin-2 : goal.returns-in-Ok-begin-2
-returns-in-Ok-begin-2 g c =
+pub returns-in-Ok-begin : goal.returns-in-Ok-begin
+returns-in-Ok-begin g c =
     let options = c.args.options.now in
-    run_delivered g.K.Sink.seen c.args.model.now options.until options.seed options.events options.room options.starts c.in-Ok.run' c.in-Ok-begin-2.tracer c.tell_from.result c.args.output.now c.tell_from.new.output c.in-Ok.ensures.ok
-    (ap (λ t. t.noted) c.in-Ok-begin-2.ensures) c.tell_from.ensures
+    run_delivered g.K.Sink.seen c.args.model.now options.until options.seed options.events options.room options.starts c.in-Ok.run' c.in-Ok-begin.tracer c.tell_from.result c.args.output.now c.tell_from.new.output c.in-Ok.ensures.ok
+    (ap (λ t. t.noted) c.in-Ok-begin.ensures) c.tell_from.ensures
