@@ -1,7 +1,8 @@
 -- A model with each part of the language, and its canonical text.
 use Rattle.std.specs.Prelude.{ℕ, pos, negsuc, true, false, List, [], ◌∷◌, ◌++◌, codes}
 use Rattle.model_core.specs.declared.model.Kind.TheVariants as kinds
-use Rattle.model_core.specs.EventGraph.{Expression, Truth, Scalar, Not, Binary, Add, Subtract, Multiply, WatchedVariable, WatchedVertex, Uniform, ByTable, Set, Draw, EventEdge, EdgeKind, Fixed, Schedule, Urgent, CancelNext, CancelEqual, CancelAll, EventVertex, EventGraph}
+use Rattle.model_core.specs.EventGraph.{Operator, Equal, NotEqual, Below, AtMost, Above, AtLeast, Expression, Truth, Scalar, Not, Binary, Add, Subtract, Multiply, WatchedVariable, WatchedVertex, Uniform, ByTable, Set, Draw, EventEdge, EdgeKind, Fixed, Schedule, Urgent, CancelNext, CancelEqual, CancelAll, EventVertex, EventGraph}
+use Rattle.model_core.specs.Text.Canonical.{expression_text}
 use Rattle.worked_runs.specs.Building.{whole, at_variable, at_cell}
 
 -- the expressions that stand in the texts: `n` is the variable N, and `is_open` is OPEN
@@ -77,3 +78,11 @@ desk_text =
     ++ codes "  cancel all COME when OPEN;\n"
     ++ codes "}\n"
     ++ codes "end\n"
+
+-- the text of an operator between an operand and the same once more
+abbrev pub beside_itself : Expression → Operator → List ℕ
+beside_itself a op = expression_text desk (Binary op a a)
+
+-- the operators that compare
+abbrev pub all_comparisons : List Operator
+all_comparisons = Equal ∷ NotEqual ∷ Below ∷ AtMost ∷ Above ∷ AtLeast ∷ []

@@ -1,10 +1,10 @@
 //! Tokens: the longest one each time, what may stand between them, and the first byte that begins none.
 
-ghost use Rattle.std.specs.Prelude.{◌≡◌, pos, Some, None, Ok, Err, [], ◌∷◌, codes};
+ghost use Rattle.std.specs.Prelude.{◌≡◌, pos, Some, None, Ok, Err, [], ◌∷◌, length, map, codes};
 ghost use Rattle.model_core.specs.declared.token.Word.TheVariants as words;
 ghost use Rattle.model_core.specs.declared.token.Symbol.TheVariants as symbols;
-ghost use Rattle.model_core.specs.Text.Lexing.{tokens_of, NameOf, Reserved, NumberOf, Mark};
-ghost use Rattle.worked_runs.specs.Tokens.{token};
+ghost use Rattle.model_core.specs.Text.Lexing.{tokens_of, reserved_words, all_symbols, NameOf, Reserved, NumberOf, Mark};
+ghost use Rattle.worked_runs.specs.Tokens.{token, kinds_of};
 
 /// The longest token is taken each time.
 pub fn longest_tokens_are_taken()
@@ -15,6 +15,14 @@ pub fn longest_tokens_are_taken()
     ensures range { tokens_of (codes "0..9") ≡ Ok (token 0 1 (NumberOf (Some (pos 0)) 0) ∷ token 1 3 (Mark symbols.To) ∷ token 3 4 (NumberOf (Some (pos 9)) 9) ∷ []) }
     ensures colons { tokens_of (codes ":==:") ≡ Ok (token 0 2 (Mark symbols.Becomes) ∷ token 2 3 (Mark symbols.Equal) ∷ token 3 4 (Mark symbols.Colon) ∷ []) }
     ensures comparisons { tokens_of (codes "<><=>=<") ≡ Ok (token 0 2 (Mark symbols.NotEqual) ∷ token 2 4 (Mark symbols.AtMost) ∷ token 4 6 (Mark symbols.AtLeast) ∷ token 6 7 (Mark symbols.Below) ∷ []) }
+{}
+
+/// Each reserved word and each symbol has its spelling, and there is no other.
+pub fn words_and_symbols_are_spelled_so()
+    ensures words { kinds_of (tokens_of (codes "model var bool clip table watch vertex set draw from in by schedule urgent cancel all after priority when end not and or if then else true false clk min max version certificate prune settle drop merge slice")) ≡ map Reserved (words.Model ∷ words.Var ∷ words.Bool ∷ words.Clip ∷ words.Table ∷ words.Watch ∷ words.Vertex ∷ words.Set ∷ words.Draw ∷ words.From ∷ words.In ∷ words.By ∷ words.Schedule ∷ words.Urgent ∷ words.Cancel ∷ words.All ∷ words.After ∷ words.Priority ∷ words.When ∷ words.End ∷ words.Not ∷ words.And ∷ words.Or ∷ words.If ∷ words.Then ∷ words.Else ∷ words.True ∷ words.False ∷ words.Clk ∷ words.Min ∷ words.Max ∷ words.Version ∷ words.Certificate ∷ words.Prune ∷ words.Settle ∷ words.Drop ∷ words.Merge ∷ words.Slice ∷ []) }
+    ensures no_other_word { length reserved_words ≡ 38 }
+    ensures symbols { kinds_of (tokens_of (codes ":= .. <> <= >= ; , : = < > + - * / % ( ) [ ] { }")) ≡ map Mark (symbols.Becomes ∷ symbols.To ∷ symbols.NotEqual ∷ symbols.AtMost ∷ symbols.AtLeast ∷ symbols.Semicolon ∷ symbols.Comma ∷ symbols.Colon ∷ symbols.Equal ∷ symbols.Below ∷ symbols.Above ∷ symbols.Plus ∷ symbols.Minus ∷ symbols.Times ∷ symbols.Over ∷ symbols.Percent ∷ symbols.OpenParenthesis ∷ symbols.CloseParenthesis ∷ symbols.OpenBracket ∷ symbols.CloseBracket ∷ symbols.OpenBrace ∷ symbols.CloseBrace ∷ []) }
+    ensures no_other_symbol { length all_symbols ≡ 22 }
 {}
 
 /// Spaces, tabs, line ends and comments stand between tokens.

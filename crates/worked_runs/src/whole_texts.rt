@@ -4,7 +4,7 @@ ghost use Rattle.std.specs.Prelude.{◌≡◌, ◌++◌, [], ◌∷◌, Some, No
 ghost use Rattle.model_core.specs.declared.static_kind.StaticKind.TheVariants as rules;
 ghost use Rattle.worked_runs.specs.Texts.{desk_text};
 ghost use Rattle.worked_runs.specs.WrittenParts.{static_fault};
-ghost use Rattle.worked_runs.specs.WholeTexts.{fault_in, printed_as};
+ghost use Rattle.worked_runs.specs.WholeTexts.{fault_in, printed_as, expressions_text};
 
 /// The fault that is told of a text stands at the byte of its text.
 pub fn texts_have_their_faults_told()
@@ -27,4 +27,5 @@ pub fn texts_are_printed()
     ensures parentheses { printed_as (codes "model M; vertex RUN { schedule RUN after ((1) + (2)) * 3; } end")
         ≡ Some (codes "model M;" ++ 10 ∷ codes "vertex RUN {" ++ 10 ∷ codes "  schedule RUN after (1 + 2) * 3;" ++ 10 ∷ codes "}" ++ 10 ∷ codes "end" ++ 10 ∷ []) }
     ensures desk { printed_as desk_text ≡ Some desk_text }
+    ensures expressions { printed_as expressions_text ≡ Some expressions_text }
 {}

@@ -12,4 +12,5 @@ returns c = record {
   defaults = refl;
   parentheses = refl;
   desk = refl;
+  expressions = refl;
 }
