@@ -3,6 +3,7 @@
 //! them do nothing.
 #![tactic(auto)]
 
+mod answers;
 mod arguments;
 mod descriptions;
 mod jobs;
@@ -15,6 +16,7 @@ mod tallies;
 mod totals;
 mod trials;
 
+pub use answers::{answers_have_forms, answers_have_limits, models_are_answered};
 pub use arguments::{
     arguments_are_looked_up, options_are_given_once, values_are_read, words_give_arguments,
     words_have_forms,
