@@ -24,6 +24,7 @@ mod large_inputs;
 mod models;
 #[cfg(test)]
 mod places;
+mod promises;
 #[cfg(test)]
 mod reductions;
 #[cfg(test)]
@@ -38,3 +39,4 @@ mod trials;
 mod versions;
 
 pub use endings::{calls_end_so, calls_never_end_so, no_status_ends_otherwise};
+pub use promises::promises_are_of_what_is_written;
