@@ -4,4 +4,4 @@ pub mod Statuses
 pub mod FailureStatus
 pub mod FrontWritten
 pub mod Delivery
-pub mod Writing
+pub mod DeliverySteps

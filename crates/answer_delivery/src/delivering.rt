@@ -2,7 +2,7 @@
 
 ghost use Rattle.std.specs.Prelude.{◌≡◌, ◌≢◌, Err, MatchResult};
 ghost use Rattle.answer_delivery.specs.Delivery.{Delivers};
-ghost use Rattle.answer_delivery.specs.Writing.{Written, Closed};
+ghost use Rattle.answer_delivery.specs.DeliverySteps.{Written, Closed};
 
 use crate::answer::Answer;
 use crate::status::{End, Failure, Refusal};
