@@ -1,12 +1,13 @@
 -- One step of merging two heaps.
-use Rattle.std.proofs.Common.{◌≡◌, ℕ, suc, ◌+◌, ◌^◌, ◌<◌, ◌≤◌, true, false, List, set, Option, Some, None, IsSome, refl, sym, ap, subst, arith}
+use Rattle.std.proofs.Common.{◌≡◌, ℕ, suc, ◌+◌, ◌^◌, ◌<◌, ◌≤◌, true, false, List, set, length, Option, Some, None, IsSome, refl, sym, ◌∙◌, ap, subst, arith, get_or-set_same}
+use Rattle.std.proofs.lemmas.Bool.Decides.{nat_tests}
 use Rattle.event_heap.specs.declared.node.Item.{Item}
 use Rattle.event_heap.specs.declared.node.Node.{Node}
-use Rattle.event_heap.specs.Inner.Tree.{Tree, Leaf, Fork, leftist_rank, times_in, precedes, seat, merged_heap}
-use Rattle.event_heap.specs.Inner.Stands.{node_at, item_at, rank_at, IsFork, StandsFrom, StandApart, IsRebuilt}
-use Rattle.event_heap.specs.Inner.Seated.{seated, CanSeat, CanCompare}
-use Rattle.event_heap.proofs.TreeLaws.{times_in-merged, leftist_rank-merged}
-use Rattle.event_heap.proofs.StandsLaws.{rank_at-stands, root-there, seat-rebuilds}
+use Rattle.event_heap.specs.Inner.Tree.{Tree, Leaf, Fork, leftist_rank, times_in, precedes, merged_heap, heap_over}
+use Rattle.event_heap.specs.Inner.Stands.{no_node, node_at, item_at, rank_at, IsFork, StandsFrom, StandApart, IsRebuilt}
+use Rattle.event_heap.specs.Inner.Seated.{hung, seated, CanCompare}
+use Rattle.event_heap.proofs.TreeLaws.{times_in-merged, leftist_rank-merged, second_over, first_over}
+use Rattle.event_heap.proofs.StandsLaws.{rank_at-stands, IsHung, hung_by_set, hung_already, hung_stands, seat-rebuilds}
 
 -- a tree as what stands from a node on
 pub record Opened (nodes : List Node) (p : ℕ) (t : Tree) (x : Item) (l r : Tree) : Type 0 where
@@ -33,21 +34,28 @@ rebuilt_alone nodes Leaf Leaf a h = record { stands = h.one; others = λ p e. re
 rebuilt_alone nodes (Fork p x l r) Leaf a h = record { stands = h.one; others = λ p e. refl; count = refl; items = refl }
 rebuilt_alone nodes s (Fork p x l r) a h = absurd h.other
 
-second_over : (s t : Tree) (i j : ℕ) (x y : Item) (l r m u : Tree) → s ≡ Fork i x l r → t ≡ Fork j y m u → precedes y x ≡ true → merged_heap s t ≡ seat j y m (merged_heap s u)
-second_over s t i j x y l r m u a b e = rw (a, b, e) refl
+-- where both have roots the one that comes first is on top
+pub merged_second : (nodes : List Node) (s t : Tree) (i j : ℕ) → StandApart nodes s t (Some i) (Some j) → ((y x : Item) → item_at nodes j ≡ Some y → item_at nodes i ≡ Some x → precedes y x ≡ true) → merged_heap s t ≡ heap_over t s
+merged_second nodes s t i j h before =
+    let (x, l, r, o) = opened nodes s i h.one in
+    let (y, m, u, n) = opened nodes t j h.other in
+    rw (o.is, n.is) (second_over i j x y l r m u (before y x n.fork.item o.fork.item))
 
-first_over : (s t : Tree) (i j : ℕ) (x y : Item) (l r m u : Tree) → s ≡ Fork i x l r → t ≡ Fork j y m u → precedes y x ≡ false → merged_heap s t ≡ seat i x l (merged_heap r t)
-first_over s t i j x y l r m u a b e = rw (a, b, e) refl
+pub merged_first : (nodes : List Node) (s t : Tree) (i j : ℕ) → StandApart nodes s t (Some i) (Some j) → ((y x : Item) → item_at nodes j ≡ Some y → item_at nodes i ≡ Some x → precedes y x ≡ false) → merged_heap s t ≡ heap_over s t
+merged_first nodes s t i j h before =
+    let (x, l, r, o) = opened nodes s i h.one in
+    let (y, m, u, n) = opened nodes t j h.other in
+    rw (o.is, n.is) (first_over i j x y l r m u (before y x n.fork.item o.fork.item))
 
--- after the inner merge the node can be put over its left heap and the merged one
-seat_after : (nodes mid : List Node) (p : ℕ) (x : Item) (w l r s t : Tree) (below : ℕ) → Opened nodes p w x l r → IsRebuilt nodes mid (merged_heap s t) (Some below) → leftist_rank s + leftist_rank t + 1 < 2 ^ 32 → CanSeat mid p below
-seat_after nodes mid p x w l r s t below o built ranks =
-    let rank_is : (node_at mid below).rank ≡ leftist_rank (merged_heap s t) = rank_at-stands mid (merged_heap s t) (Some below) built.stands in
-    record {
-      top_there = omega (arith, built.count, o.fork.within);
-      below_there = root-there mid (merged_heap s t) (Some below) built.stands;
-      rank_fits = omega (arith, rank_is, leftist_rank-merged s t, ranks);
-    }
+pub apart_turned : (nodes : List Node) (s t : Tree) (a b : Option ℕ) → StandApart nodes s t a b → StandApart nodes t s b a
+apart_turned nodes s t a b h = record { one = h.other; other = h.one; apart = λ p. omega (arith, h.apart p); ranks = omega (arith, h.ranks) }
+
+-- what the merge below the root that comes first gives
+pub rebuilt_second : (nodes new : List Node) (s t : Tree) (i j : ℕ) → ((y x : Item) → item_at nodes j ≡ Some y → item_at nodes i ≡ Some x → precedes y x ≡ true) → ((s t : Tree) → StandApart nodes s t (Some j) (Some i) → IsRebuilt nodes new (heap_over s t) (Some j)) → StandApart nodes s t (Some i) (Some j) → IsRebuilt nodes new (merged_heap s t) (Some j)
+rebuilt_second nodes new s t i j before merges h = subst (λ u. IsRebuilt nodes new u (Some j)) (sym (merged_second nodes s t i j h before)) (merges t s (apart_turned nodes s t (Some i) (Some j) h))
+
+pub rebuilt_first : (nodes new : List Node) (s t : Tree) (i j : ℕ) → ((y x : Item) → item_at nodes j ≡ Some y → item_at nodes i ≡ Some x → precedes y x ≡ false) → ((s t : Tree) → StandApart nodes s t (Some i) (Some j) → IsRebuilt nodes new (heap_over s t) (Some i)) → StandApart nodes s t (Some i) (Some j) → IsRebuilt nodes new (merged_heap s t) (Some i)
+rebuilt_first nodes new s t i j before merges h = subst (λ u. IsRebuilt nodes new u (Some i)) (sym (merged_first nodes s t i j h before)) (merges s t h)
 
 module _ (nodes : List Node) (s t : Tree) (i j : ℕ) where
   pub can_compare : StandApart nodes s t (Some i) (Some j) → CanCompare nodes j i
@@ -56,113 +64,121 @@ module _ (nodes : List Node) (s t : Tree) (i j : ℕ) where
       let (y, m, u, n) = opened nodes t j h.other in
       record { one_there = n.fork.within; other_there = o.fork.within; one = some_is nodes j y n.fork.item; other = some_is nodes i x o.fork.item }
 
-  -- the first heap and the right heap of the second one stand apart
-  pub apart_second : (a : Option ℕ) → StandApart nodes s t a (Some j) → (u : Tree) × StandApart nodes s u a (node_at nodes j).right
-  apart_second a h =
-      let (y, m, u, n) = opened nodes t j h.other in
-      let apart : (p : ℕ) → times_in p s + times_in p (Fork j y m u) ≤ 1 = subst (λ t. (p : ℕ) → times_in p s + times_in p t ≤ 1) n.is h.apart in
-      let ranks : leftist_rank s + leftist_rank (Fork j y m u) < 2 ^ 32 = subst (λ t. leftist_rank s + leftist_rank t < 2 ^ 32) n.is h.ranks in
-      (u, record { one = h.one; other = n.right; apart = λ p. omega (arith, apart p); ranks = omega (arith, ranks) })
+  pub top_there : (b : Option ℕ) → StandApart nodes s t (Some i) b → i < length nodes
+  top_there b h = let (x, l, r, o) = opened nodes s i h.one in o.fork.within
 
-  pub apart_first : (b : Option ℕ) → StandApart nodes s t (Some i) b → (u : Tree) × StandApart nodes u t (node_at nodes i).right b
+  -- the right heap of the first one and the other heap stand apart
+  pub apart_first : (b : Option ℕ) → StandApart nodes s t (Some i) b → (x : Item) × (l : Tree) × (r : Tree) × Opened nodes i s x l r × StandApart nodes r t (node_at nodes i).right b × (times_in i r ≡ 0) × (times_in i t ≡ 0)
   apart_first b h =
-      let (x, l, u, n) = opened nodes s i h.one in
-      let apart : (p : ℕ) → times_in p (Fork i x l u) + times_in p t ≤ 1 = subst (λ s. (p : ℕ) → times_in p s + times_in p t ≤ 1) n.is h.apart in
-      let ranks : leftist_rank (Fork i x l u) + leftist_rank t < 2 ^ 32 = subst (λ s. leftist_rank s + leftist_rank t < 2 ^ 32) n.is h.ranks in
-      (u, record { one = n.right; other = h.other; apart = λ p. omega (arith, apart p); ranks = omega (arith, ranks) })
-
-  -- what the inner merge gives, whatever the trees are
-  abbrev pub Merges : List Node → Option ℕ → Option ℕ → ℕ → Type 0
-  Merges mid a b below = (s t : Tree) → StandApart nodes s t a b → IsRebuilt nodes mid (merged_heap s t) (Some below)
-
-  pub seat_second : (a : Option ℕ) (mid : List Node) (below : ℕ) → StandApart nodes s t a (Some j) → Merges mid a (node_at nodes j).right below → CanSeat mid j below
-  seat_second a mid below h merges =
-      let (y, m, u, n) = opened nodes t j h.other in
-      let apart : (p : ℕ) → times_in p s + times_in p (Fork j y m u) ≤ 1 = subst (λ t. (p : ℕ) → times_in p s + times_in p t ≤ 1) n.is h.apart in
-      let ranks : leftist_rank s + leftist_rank (Fork j y m u) < 2 ^ 32 = subst (λ t. leftist_rank s + leftist_rank t < 2 ^ 32) n.is h.ranks in
-      let inner : StandApart nodes s u a (node_at nodes j).right = record { one = h.one; other = n.right; apart = λ p. omega (arith, apart p); ranks = omega (arith, ranks) } in
-      seat_after nodes mid j y t m u s u below n (merges s u inner) (omega (arith, ranks))
-
-  pub seat_first : (b : Option ℕ) (mid : List Node) (below : ℕ) → StandApart nodes s t (Some i) b → Merges mid (node_at nodes i).right b below → CanSeat mid i below
-  seat_first b mid below h merges =
       let (x, l, r, o) = opened nodes s i h.one in
       let apart : (p : ℕ) → times_in p (Fork i x l r) + times_in p t ≤ 1 = subst (λ s. (p : ℕ) → times_in p s + times_in p t ≤ 1) o.is h.apart in
       let ranks : leftist_rank (Fork i x l r) + leftist_rank t < 2 ^ 32 = subst (λ s. leftist_rank s + leftist_rank t < 2 ^ 32) o.is h.ranks in
-      let inner : StandApart nodes r t (node_at nodes i).right b = record { one = o.right; other = h.other; apart = λ p. omega (arith, apart p); ranks = omega (arith, ranks) } in
-      seat_after nodes mid i x s l r r t below o (merges r t inner) (omega (arith, ranks))
+      let here = apart i in
+      (x, l, r, o, record { one = o.right; other = h.other; apart = λ p. omega (arith, apart p); ranks = omega (arith, ranks) }, grind (arith, nat_tests), grind (arith, nat_tests))
 
-  pub rebuilt_second : (mid new : List Node) (below : ℕ) → StandApart nodes s t (Some i) (Some j) → Merges mid (Some i) (node_at nodes j).right below → ((y x : Item) → item_at nodes j ≡ Some y → item_at nodes i ≡ Some x → precedes y x ≡ true) → new ≡ set mid j (seated mid (node_at mid j) below) → IsRebuilt nodes new (merged_heap s t) (Some j)
-  rebuilt_second mid new below h merges before e =
-      let (x, l, r, o) = opened nodes s i h.one in
-      let (y, m, u, n) = opened nodes t j h.other in
-      let first : precedes y x ≡ true = before y x n.fork.item o.fork.item in
-      let apart : (p : ℕ) → times_in p s + times_in p (Fork j y m u) ≤ 1 = subst (λ t. (p : ℕ) → times_in p s + times_in p t ≤ 1) n.is h.apart in
-      let ranks : leftist_rank s + leftist_rank (Fork j y m u) < 2 ^ 32 = subst (λ t. leftist_rank s + leftist_rank t < 2 ^ 32) n.is h.ranks in
-      let inner : StandApart nodes s u (Some i) (node_at nodes j).right = record { one = h.one; other = n.right; apart = λ p. omega (arith, apart p); ranks = omega (arith, ranks) } in
-      let built = seat-rebuilds nodes mid new j y m u (merged_heap s u) below n.fork n.left (merges s u inner) (λ q. omega (arith, times_in-merged q s u, apart q)) e in
-      let tree : merged_heap s t ≡ seat j y m (merged_heap s u) = second_over s t i j x y l r m u o.is n.is first in
-      subst (λ t. IsRebuilt nodes new t (Some j)) (sym tree) built
+  -- the same where that right heap has its root at a place
+  pub apart_right : (right : ℕ) → Some right ≡ (node_at nodes i).right → StandApart nodes s t (Some i) (Some j) → (r : Tree) × StandApart nodes r t (Some right) (Some j) × (leftist_rank s ≡ suc (leftist_rank r))
+  apart_right right e h =
+      let (x, l, r, o, apart, no_r, no_t) = apart_first (Some j) h in
+      (r, subst (λ (a : Option ℕ). StandApart nodes r t a (Some j)) (sym e) apart, ap leftist_rank o.is)
 
-  pub rebuilt_first : (mid new : List Node) (below : ℕ) → StandApart nodes s t (Some i) (Some j) → Merges mid (node_at nodes i).right (Some j) below → ((y x : Item) → item_at nodes j ≡ Some y → item_at nodes i ≡ Some x → precedes y x ≡ false) → new ≡ set mid i (seated mid (node_at mid i) below) → IsRebuilt nodes new (merged_heap s t) (Some i)
-  rebuilt_first mid new below h merges before e =
-      let (x, l, r, o) = opened nodes s i h.one in
-      let (y, m, u, n) = opened nodes t j h.other in
-      let first : precedes y x ≡ false = before y x n.fork.item o.fork.item in
-      let apart : (p : ℕ) → times_in p (Fork i x l r) + times_in p t ≤ 1 = subst (λ s. (p : ℕ) → times_in p s + times_in p t ≤ 1) o.is h.apart in
-      let ranks : leftist_rank (Fork i x l r) + leftist_rank t < 2 ^ 32 = subst (λ s. leftist_rank s + leftist_rank t < 2 ^ 32) o.is h.ranks in
-      let inner : StandApart nodes r t (node_at nodes i).right (Some j) = record { one = o.right; other = h.other; apart = λ p. omega (arith, apart p); ranks = omega (arith, ranks) } in
-      let built = seat-rebuilds nodes mid new i x l r (merged_heap r t) below o.fork o.left (merges r t inner) (λ q. omega (arith, times_in-merged q r t, apart q)) e in
-      let tree : merged_heap s t ≡ seat i x l (merged_heap r t) = first_over s t i j x y l r m u o.is n.is first in
-      subst (λ t. IsRebuilt nodes new t (Some i)) (sym tree) built
+  -- and where the other heap was hung on its right
+  pub apart_hung : (at : List Node) (right : ℕ) → Some right ≡ (node_at nodes i).right → StandApart nodes s t (Some i) (Some j) → IsHung nodes at i j → (r : Tree) × StandApart at t r (Some j) (Some right) × (leftist_rank s ≡ suc (leftist_rank r))
+  apart_hung at right e h k =
+      let (x, l, r, o, apart, no_r, no_t) = apart_first (Some j) h in
+      let right_stands : StandsFrom nodes r (Some right) = subst (λ (a : Option ℕ). StandsFrom nodes r a) (sym e) apart.one in
+      (r, record { one = hung_stands nodes at i j t (Some j) k no_t h.other; other = hung_stands nodes at i j r (Some right) k no_r right_stands; apart = λ p. omega (arith, apart.apart p); ranks = omega (arith, apart.ranks) }, ap leftist_rank o.is)
 
--- what a merge with the right heap gives, where there is one and where there is none
-pub below_second : (nodes mid : List Node) (i j right below : ℕ) → Some right ≡ (node_at nodes j).right → ((s t : Tree) → StandApart nodes s t (Some i) (Some right) → IsRebuilt nodes mid (merged_heap s t) (Some below)) → (s t : Tree) → StandApart nodes s t (Some i) (node_at nodes j).right → IsRebuilt nodes mid (merged_heap s t) (Some below)
-below_second nodes mid i j right below e merged s t h = merged s t (subst (λ (r : Option ℕ). StandApart nodes s t (Some i) r) (sym e) h)
+-- a heap was hung on the right of a root
+pub hung_on : (nodes at : List Node) (s t : Tree) (i j : ℕ) → StandApart nodes s t (Some i) (Some j) → at ≡ set nodes i (hung (node_at nodes i) j) → IsHung nodes at i j
+hung_on nodes at s t i j h e = hung_by_set nodes at i j (top_there nodes s t i j (Some j) h) e
 
-pub below_first : (nodes mid : List Node) (i j right below : ℕ) → Some right ≡ (node_at nodes i).right → ((s t : Tree) → StandApart nodes s t (Some right) (Some j) → IsRebuilt nodes mid (merged_heap s t) (Some below)) → (s t : Tree) → StandApart nodes s t (node_at nodes i).right (Some j) → IsRebuilt nodes mid (merged_heap s t) (Some below)
-below_first nodes mid i j right below e merged s t h = merged s t (subst (λ (r : Option ℕ). StandApart nodes s t r (Some j)) (sym e) h)
+-- a heap is on the right of a root, and there it was merged with the one that was there
+pub record IsBelow (nodes at mid : List Node) (s t : Tree) (i below : ℕ) : Type 0 where
+  pub event : Item
+  pub left : Tree
+  pub right : Tree
+  pub top : Opened nodes i s event left right
+  pub hung : IsHung nodes at i below
+  pub built : IsRebuilt at mid (merged_heap right t) (Some below)
 
-pub alone_second : (nodes : List Node) (i j : ℕ) → None ≡ (node_at nodes j).right → (s t : Tree) → StandApart nodes s t (Some i) (node_at nodes j).right → IsRebuilt nodes nodes (merged_heap s t) (Some i)
-alone_second nodes i j e s t h = rebuilt_alone nodes s t (Some i) (subst (λ (r : Option ℕ). StandApart nodes s t (Some i) r) (sym e) h)
+pub below_none : (nodes at : List Node) (s t : Tree) (i j : ℕ) → None ≡ (node_at nodes i).right → IsHung nodes at i j → StandApart nodes s t (Some i) (Some j) → IsBelow nodes at at s t i j
+below_none nodes at s t i j e k h =
+    let (x, l, r, o, apart, no_r, no_t) = apart_first nodes s t i j (Some j) h in
+    let none : StandsFrom nodes r None = subst (λ (a : Option ℕ). StandsFrom nodes r a) (sym e) apart.one in
+    record { event = x; left = l; right = r; top = o; hung = k; built = by r none } where
+      by : (r : Tree) → StandsFrom nodes r None → IsRebuilt at at (merged_heap r t) (Some j)
+      by Leaf none =
+          let (x, l, r, o, apart, no_r, no_t) = apart_first nodes s t i j (Some j) h in
+          record { stands = hung_stands nodes at i j t (Some j) k no_t h.other; others = λ p z. refl; count = refl; items = refl }
+      by (Fork p x l r) none = absurd none
 
-pub alone_first : (nodes : List Node) (i j : ℕ) → None ≡ (node_at nodes i).right → (s t : Tree) → StandApart nodes s t (node_at nodes i).right (Some j) → IsRebuilt nodes nodes (merged_heap s t) (Some j)
-alone_first nodes i j e s t h = rebuilt_none nodes s t (Some j) (subst (λ (r : Option ℕ). StandApart nodes s t r (Some j)) (sym e) h)
+-- the other heap's root comes first
+pub below_hung : (nodes at mid : List Node) (s t : Tree) (i j right : ℕ) → Some right ≡ (node_at nodes i).right → IsHung nodes at i j → ((y x : Item) → item_at nodes j ≡ Some y → item_at nodes right ≡ Some x → precedes y x ≡ true) → ((s t : Tree) → StandApart at s t (Some j) (Some right) → IsRebuilt at mid (heap_over s t) (Some j)) → StandApart nodes s t (Some i) (Some j) → IsBelow nodes at mid s t i j
+below_hung nodes at mid s t i j right e k before merges h =
+    let (x, l, r, o, apart, no_r, no_t) = apart_first nodes s t i j (Some j) h in
+    let apart_r : StandApart nodes r t (Some right) (Some j) = subst (λ (a : Option ℕ). StandApart nodes r t a (Some j)) (sym e) apart in
+    let inner : StandApart at t r (Some j) (Some right) = record { one = hung_stands nodes at i j t (Some j) k no_t h.other; other = hung_stands nodes at i j r (Some right) k no_r apart_r.one; apart = λ p. omega (arith, apart.apart p); ranks = omega (arith, apart.ranks) } in
+    record { event = x; left = l; right = r; top = o; hung = k; built = subst (λ u. IsRebuilt at mid u (Some j)) (sym (merged_second nodes r t right j apart_r before)) (merges t r inner) }
 
--- each step goes down one rank
-pub rank_at-right_second : (nodes : List Node) (s t : Tree) (a : Option ℕ) (j : ℕ) → StandApart nodes s t a (Some j) → suc (rank_at nodes (node_at nodes j).right) ≡ rank_at nodes (Some j)
-rank_at-right_second nodes s t a j h =
-    let (y, m, u, n) = opened nodes t j h.other in
-    rw (rank_at-stands nodes u (node_at nodes j).right n.right) (sym n.fork.rank_is)
+-- the root of the right heap does
+pub below_kept : (nodes mid : List Node) (s t : Tree) (i j right : ℕ) → Some right ≡ (node_at nodes i).right → ((y x : Item) → item_at nodes j ≡ Some y → item_at nodes right ≡ Some x → precedes y x ≡ false) → ((s t : Tree) → StandApart nodes s t (Some right) (Some j) → IsRebuilt nodes mid (heap_over s t) (Some right)) → StandApart nodes s t (Some i) (Some j) → IsBelow nodes nodes mid s t i right
+below_kept nodes mid s t i j right e before merges h =
+    let (x, l, r, o, apart, no_r, no_t) = apart_first nodes s t i j (Some j) h in
+    let apart_r : StandApart nodes r t (Some right) (Some j) = subst (λ (a : Option ℕ). StandApart nodes r t a (Some j)) (sym e) apart in
+    record { event = x; left = l; right = r; top = o; hung = hung_already nodes i right o.fork.within (sym e); built = subst (λ u. IsRebuilt nodes mid u (Some right)) (sym (merged_first nodes r t right j apart_r before)) (merges r t apart_r) }
 
-pub rank_at-right_first : (nodes : List Node) (s t : Tree) (i : ℕ) (b : Option ℕ) → StandApart nodes s t (Some i) b → suc (rank_at nodes (node_at nodes i).right) ≡ rank_at nodes (Some i)
-rank_at-right_first nodes s t i b h =
+module _ (nodes at mid : List Node) (s t : Tree) (i j below c : ℕ) (h : StandApart nodes s t (Some i) (Some j)) (k : IsBelow nodes at mid s t i below) where
+  pub seat_there : i < length mid
+  seat_there = omega (arith, k.built.count, k.hung.count, k.hung.within)
+
+  module _ (rank : c ≡ (node_at mid below).rank) where
+    rank_is : c ≡ leftist_rank (merged_heap k.right t)
+    rank_is = rank ∙ rank_at-stands mid (merged_heap k.right t) (Some below) k.built.stands
+
+    -- a rank one higher fits
+    pub seat_fits : c + 1 < 2 ^ 32
+    seat_fits =
+        let whole : leftist_rank s ≡ suc (leftist_rank k.right) = ap leftist_rank k.top.is in
+        omega (arith, rank_is, leftist_rank-merged k.right t, whole, h.ranks)
+
+    pub seated_over : (new : List Node) → new ≡ set mid i (seated (node_at mid i) c) → IsRebuilt nodes new (heap_over s t) (Some i)
+    seated_over new e =
+        let apart : (p : ℕ) → times_in p (Fork i k.event k.left k.right) + times_in p t ≤ 1 = subst (λ s. (p : ℕ) → times_in p s + times_in p t ≤ 1) k.top.is h.apart in
+        let built = seat-rebuilds nodes at mid new i k.event k.left k.right (merged_heap k.right t) below c k.top.fork k.top.left k.hung k.built (λ q. omega (arith, times_in-merged q k.right t, apart q)) rank_is e in
+        subst (λ s. IsRebuilt nodes new (heap_over s t) (Some i)) (sym k.top.is) built
+
+  -- the rank that is answered is that of the node
+  pub seated_rank : (new : List Node) (result : ℕ) → new ≡ set mid i (seated (node_at mid i) c) → result ≡ (seated (node_at mid i) c).rank → result ≡ (node_at new i).rank
+  seated_rank new result e f =
+      let is : node_at new i ≡ seated (node_at mid i) c = rw e (get_or-set_same mid i (seated (node_at mid i) c) no_node seat_there) in
+      f ∙ ap (λ (n : Node). n.rank) (sym is)
+
+-- the inner merge has less to do
+module _ (nodes : List Node) (s t : Tree) (i j right : ℕ) (e : Some right ≡ (node_at nodes i).right) (h : StandApart nodes s t (Some i) (Some j)) where
+  pub less_hung : (at : List Node) (n : ℕ) → IsHung nodes at i j → rank_at nodes (Some i) + rank_at nodes (Some j) ≡ n → rank_at at (Some j) + rank_at at (Some right) < n
+  less_hung at n k is =
+      let (r, inner, whole) = apart_hung nodes s t i j at right e h k in
+      omega (arith, is, whole, rank_at-stands nodes s (Some i) h.one, rank_at-stands nodes t (Some j) h.other, rank_at-stands at t (Some j) inner.one, rank_at-stands at r (Some right) inner.other)
+
+  pub less_kept : (n : ℕ) → rank_at nodes (Some i) + rank_at nodes (Some j) ≡ n → rank_at nodes (Some right) + rank_at nodes (Some j) < n
+  less_kept n is =
+      let (r, inner, whole) = apart_right nodes s t i j right e h in
+      omega (arith, is, whole, rank_at-stands nodes s (Some i) h.one, rank_at-stands nodes r (Some right) inner.one)
+
+  -- and takes fewer comparisons
+  pub ticks_hung : (at : List Node) (start mid end : ℕ) → IsHung nodes at i j → mid ≡ start + 1 → ((s t : Tree) → StandApart at s t (Some j) (Some right) → end + 1 ≤ mid + (leftist_rank s + leftist_rank t)) → end + 1 ≤ start + (leftist_rank s + leftist_rank t)
+  ticks_hung at start mid end k one inner =
+      let (r, apart, whole) = apart_hung nodes s t i j at right e h k in
+      omega (arith, one, whole, inner t r apart)
+
+  pub ticks_kept : (start mid end : ℕ) → mid ≡ start + 1 → ((s t : Tree) → StandApart nodes s t (Some right) (Some j) → end + 1 ≤ mid + (leftist_rank s + leftist_rank t)) → end + 1 ≤ start + (leftist_rank s + leftist_rank t)
+  ticks_kept start mid end one inner =
+      let (r, apart, whole) = apart_right nodes s t i j right e h in
+      omega (arith, one, whole, inner r t apart)
+
+pub ticks_none : (nodes : List Node) (s t : Tree) (i : ℕ) (b : Option ℕ) (start : ℕ) → StandApart nodes s t (Some i) b → start + 1 ≤ start + (leftist_rank s + leftist_rank t)
+ticks_none nodes s t i b start h =
     let (x, l, r, o) = opened nodes s i h.one in
-    rw (rank_at-stands nodes r (node_at nodes i).right o.right) (sym o.fork.rank_is)
-
--- so the inner merge has less to do
-pub less_second : (nodes : List Node) (s t : Tree) (i j right n : ℕ) → rank_at nodes (Some i) + rank_at nodes (Some j) ≡ n → Some right ≡ (node_at nodes j).right → StandApart nodes s t (Some i) (Some j) → rank_at nodes (Some i) + rank_at nodes (Some right) < n
-less_second nodes s t i j right n e r h =
-    let below : rank_at nodes (Some right) ≡ rank_at nodes (node_at nodes j).right = ap (rank_at nodes) r in
-    omega (arith, rank_at-right_second nodes s t (Some i) j h)
-
-pub less_first : (nodes : List Node) (s t : Tree) (i j right n : ℕ) → rank_at nodes (Some i) + rank_at nodes (Some j) ≡ n → Some right ≡ (node_at nodes i).right → StandApart nodes s t (Some i) (Some j) → rank_at nodes (Some right) + rank_at nodes (Some j) < n
-less_first nodes s t i j right n e r h =
-    let below : rank_at nodes (Some right) ≡ rank_at nodes (node_at nodes i).right = ap (rank_at nodes) r in
-    omega (arith, rank_at-right_first nodes s t i (Some j) h)
-
--- and takes fewer comparisons
-pub ticks_second : (nodes : List Node) (s t : Tree) (a : Option ℕ) (j start mid end : ℕ) → mid ≡ start + 1 → StandApart nodes s t a (Some j) → ((s t : Tree) → StandApart nodes s t a (node_at nodes j).right → end ≤ mid + (leftist_rank s + leftist_rank t)) → end ≤ start + (leftist_rank s + leftist_rank t)
-ticks_second nodes s t a j start mid end e h inner =
-    let (u, apart) = apart_second nodes s t j j a h in
-    let at_root = rank_at-stands nodes t (Some j) h.other in
-    let below = rank_at-right_second nodes s t a j h in
-    let at_right = rank_at-stands nodes u (node_at nodes j).right apart.other in
-    omega (arith, inner s u apart)
-
-pub ticks_first : (nodes : List Node) (s t : Tree) (i : ℕ) (b : Option ℕ) (start mid end : ℕ) → mid ≡ start + 1 → StandApart nodes s t (Some i) b → ((s t : Tree) → StandApart nodes s t (node_at nodes i).right b → end ≤ mid + (leftist_rank s + leftist_rank t)) → end ≤ start + (leftist_rank s + leftist_rank t)
-ticks_first nodes s t i b start mid end e h inner =
-    let (u, apart) = apart_first nodes s t i i b h in
-    let at_root = rank_at-stands nodes s (Some i) h.one in
-    let below = rank_at-right_first nodes s t i b h in
-    let at_right = rank_at-stands nodes u (node_at nodes i).right apart.one in
-    omega (arith, inner u t apart)
+    let whole : leftist_rank s ≡ suc (leftist_rank r) = ap leftist_rank o.is in
+    omega (arith, whole)
