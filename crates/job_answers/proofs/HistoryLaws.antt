@@ -26,7 +26,7 @@ use Rattle.answer_delivery.specs.declared.status.Status.TheVariants as statuses
 use Rattle.answer_delivery.specs.FrontWritten.{GrowsByFront}
 use Rattle.job_answers.specs.RunAnswer.{end_of, told_of, refused_or, ExceedsRoomFrom}
 use Rattle.answer_delivery.specs.Statuses.{status_of_answer}
-use Rattle.answer_delivery.specs.Writing.{Closed}
+use Rattle.answer_delivery.specs.DeliverySteps.{Closed}
 use Rattle.job_answers.specs.Inner.WritingSteps.{Streamed}
 use Rattle.job_answers.specs.Inner.RunSteps.{ending, DeliversHistory}
 use Rattle.job_answers.proofs.GivenAnswers.{given_is_no_refusal, some_bytes, end_unrefused}

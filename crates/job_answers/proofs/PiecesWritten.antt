@@ -12,7 +12,7 @@ use Rattle.answer_delivery.specs.declared.status.Failure.{Failure}
 use Rattle.answer_delivery.specs.declared.status.Failure.TheVariants as failures
 use Rattle.answer_delivery.specs.Delivery.{Delivers}
 use Rattle.answer_delivery.specs.FrontWritten.{GrowsByFront}
-use Rattle.answer_delivery.specs.Writing.{Written}
+use Rattle.answer_delivery.specs.DeliverySteps.{Written}
 use Rattle.job_answers.specs.Inner.WritingSteps.{InPieces}
 use Rattle.job_answers.specs.Inner.ReportSteps.{IsWrittenUpTo}
 

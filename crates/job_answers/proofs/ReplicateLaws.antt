@@ -1,5 +1,5 @@
 -- From the pieces that `replicate` wrote to its report, and the laws of its answer.
-use Rattle.std.proofs.Common.{◌≡◌, inl, inr, ℕ, zero, suc, ◌+◌, ◌<◌, ◌≤◌, ℤ, List, ◌++◌, append_assoc, length, map, Option, Some, None, Result, Ok, Err, refl, sym, ap, ap₂, ◌∙◌, subst, arith}
+use Rattle.std.proofs.Common.{◌≡◌, inl, inr, ℕ, zero, suc, ◌+◌, ◌<◌, ◌≤◌, List, ◌++◌, append_assoc, length, map, Option, Some, None, Result, Ok, Err, refl, sym, ap, ap₂, ◌∙◌, subst, arith}
 use Rattle.std.specs.Prelude.{IsTrue, ◌-◌}
 use Rattle.std.specs.List.{flat_map, range_with_len}
 use Rattle.std.proofs.lemmas.List.{length-append}
@@ -26,7 +26,7 @@ use Rattle.job_answers.specs.RunAnswer.{refused_or}
 use Rattle.job_answers.specs.StartingValues.{start_refusal}
 use Rattle.answer_delivery.specs.Statuses.{status_of_answer}
 use Rattle.job_answers.specs.Inner.ReportSteps.{left_from, IsWrittenUpTo}
-use Rattle.answer_delivery.specs.Writing.{Closed}
+use Rattle.answer_delivery.specs.DeliverySteps.{Closed}
 use Rattle.job_answers.specs.Inner.WritingSteps.{InPieces}
 use Rattle.job_answers.proofs.GivenAnswers.{given_is_no_refusal, some_bytes}
 use Rattle.job_answers.proofs.PiecesWritten.{all_left, further, broken_further, broken_answer}

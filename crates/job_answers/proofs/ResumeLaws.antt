@@ -1,5 +1,5 @@
 -- From a saved run that was resumed to what is told of it, and the laws of the answer of `resume`.
-use Rattle.std.proofs.Common.{◌≡◌, inl, inr, ℕ, ◌+◌, ◌≤◌, List, length, Some, None, Result, Ok, Err, refl, sym, ap, ◌∙◌, subst}
+use Rattle.std.proofs.Common.{◌≡◌, inl, inr, ℕ, ◌+◌, ◌≤◌, List, length, Some, None, Result, Ok, refl, sym, ap, ◌∙◌, subst}
 use Rattle.std.specs.Prelude.{max}
 use Rattle.command_words.specs.declared.reading.Reading.TheVariants.{Saved as OfSaved}
 use Rattle.command_words.specs.declared.reading.SavedJob.TheVariants.{Resume}

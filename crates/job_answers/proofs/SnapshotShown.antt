@@ -1,5 +1,5 @@
 -- The tokens of a good snapshot are those of the text of the saved run that it stands for, but for the sign of a zero.
-use Rattle.std.proofs.Common.{◌≡◌, ℕ, ◌+◌, ◌-◌, ◌*◌, ◌/◌, ◌%◌, ◌^◌, ◌<◌, not, nat_lt, List, [], ◌∷◌, ◌++◌, length, map, replicate, None, refl, sym, ap, ap₂, ◌∙◌, arith}
+use Rattle.std.proofs.Common.{◌≡◌, ℕ, ◌+◌, ◌*◌, ◌/◌, ◌%◌, ◌^◌, ◌<◌, nat_lt, List, [], ◌∷◌, ◌++◌, map, replicate, None, refl, sym, ap, ap₂, ◌∙◌, arith}
 use Rattle.std.specs.Prelude.{codes, Ok}
 use Rattle.std.specs.List.{flat_map}
 use Rattle.std.specs.Option.{option_map}
@@ -12,8 +12,7 @@ use Rattle.model_core.specs.Static.OwnRules.{KeepsStaticRules}
 use Rattle.model_core.specs.Text.SnapshotGrammar.{WrittenValue, WrittenNoted, WrittenSnapshot, snapshot_format, IsSnapshot}
 use Rattle.model_core.specs.Text.SnapshotText.{snapshot_text}
 use Rattle.model_core.specs.Saved.SavedRun.{SavedRun, IsGood}
-use Rattle.model_core.specs.Saved.GoodSnapshots.{number_or_zero, is_at_most, signed_values, JudgedPart, stream_parts, value_parts, noted_parts, pending_part, snapshot_parts, bad_at, with_taken, saved_entry, saved_run}
-use Rattle.model_core.proofs.BothTrue.{and_first, and_second}
+use Rattle.model_core.specs.Saved.GoodSnapshots.{number_or_zero, signed_values, bad_at, with_taken, saved_entry, saved_run}
 use Rattle.job_answers.specs.PlainKinds.{plain_kinds}
 use Rattle.job_answers.proofs.GoodRuns.{good_parts, good_run}
 use Rattle.job_answers.proofs.Showing.{number, AreExact, tokens-exact, exact-behind, Showing, Shows, Makes, makes, Stays, stays, Maybe, Each, AWordSo, ANumberSo, shows-yields, shows-then, shows-past, shows-maybe, shows-many, shows-this_name, shows-reserved, shows-number}

@@ -17,7 +17,7 @@ use Rattle.answer_delivery.specs.declared.status.Failure.{Failure}
 use Rattle.answer_delivery.specs.declared.status.Failure.TheVariants as failures
 use Rattle.answer_delivery.specs.Delivery.{Delivers, DeliversSome}
 use Rattle.answer_delivery.specs.FrontWritten.{GrowsByFront}
-use Rattle.answer_delivery.specs.Writing.{Written, Closed}
+use Rattle.answer_delivery.specs.DeliverySteps.{Written, Closed}
 use Rattle.job_answers.specs.Inner.WritingSteps.{Streamed}
 
 -- ---- a piece that was written at once

@@ -10,9 +10,9 @@ ghost use Rattle.job_answers.specs.DocumentComplaints.{IsDocumentComplaint};
 
 use crate::reading_error::ReadingError;
 use model_core::{Application, Model, RawModel};
-use model_lex::{Tokens, tokens};
-use model_read::parse_front;
-use reduction_cert::read_certificate;
+use model_lex::{Pieces, pieces};
+use model_read::parse_front_pieces;
+use reduction_cert::read_certificate_pieces;
 use sig_base::{DOCUMENT_MAX, List};
 use sig_types::check;
 use std::alloc::Global;
@@ -36,19 +36,19 @@ struct RawDocument {
 
 /// The parts that the tokens spell, one behind the other. The program ends behind parts that aren't all spelled, so those
 /// that are read then aren't taken apart.
-fn parts(alloc: Global, tokens: &Tokens<'_>) -> Result<RawDocument, ReadingError>
-    ensures ok { IfOk result (λ d. SpellsDocument tokens.now.text.now (written_model d.first) (map application_of d.applications) (written_model d.second)) }
-    ensures complaint { (what : Complained) (at : ℕ) → result ≡ Err (ReadingError.At what at) → IsDocumentComplaint tokens.now.text.now what at }
+fn parts(alloc: Global, pieces: &Pieces<'_>) -> Result<RawDocument, ReadingError>
+    ensures ok { IfOk result (λ d. SpellsDocument pieces.now.text.now (written_model d.first) (map application_of d.applications) (written_model d.second)) }
+    ensures complaint { (what : Complained) (at : ℕ) → result ≡ Err (ReadingError.At what at) → IsDocumentComplaint pieces.now.text.now what at }
 {
-    let (first, behind_first) = parse_front(alloc, tokens, 0)?;
-    let (second, behind_second) = match parse_front(alloc, tokens, behind_first) {
+    let (first, behind_first) = parse_front_pieces(alloc, pieces, 0)?;
+    let (second, behind_second) = match parse_front_pieces(alloc, pieces, behind_first) {
         Ok(read) => read,
         Err(error) => {
             forget(first);
             return Err(ReadingError::from(error));
         }
     };
-    let applications = match read_certificate(alloc, tokens, behind_second) {
+    let applications = match read_certificate_pieces(alloc, pieces, behind_second) {
         Ok(read) => read,
         Err(error) => {
             forget(first);
@@ -68,8 +68,8 @@ fn written_parts(alloc: Global, text: &[u8]) -> Result<RawDocument, ReadingError
     ensures ok { IfOk result (λ d. SpellsDocument text.now (written_model d.first) (map application_of d.applications) (written_model d.second)) }
     ensures complaint { (what : Complained) (at : ℕ) → result ≡ Err (ReadingError.At what at) → IsDocumentComplaint text.now what at }
 {
-    let tokens = tokens(alloc, text)?;
-    parts(alloc, &tokens)
+    let pieces = pieces(alloc, text)?;
+    parts(alloc, &pieces)
 }
 
 /// The two models that the document reads as, and the applications of its certificate. The program ends behind a model

@@ -9,7 +9,7 @@ ghost use Rattle.answer_delivery.specs.Complaints.{IsComplaint};
 use crate::reading_error::ReadingError;
 use crate::written_reading::read_as_written;
 use model_core::Model;
-use model_lex::tokens;
+use model_lex::pieces;
 use one_pass::{NotRead, read_model};
 use sig_base::TEXT_MAX;
 use std::alloc::Global;
@@ -21,10 +21,10 @@ pub fn model_of(alloc: Global, text: &[u8]) -> Result<Model, ReadingError>
     ensures ok { IfOk result (λ model. Reads text.now (graph_of model)) }
     ensures complaint { (what : Complained) (at : ℕ) → result ≡ Err (ReadingError.At what at) → IsComplaint text.now what at }
 {
-    let tokens = tokens(alloc, text)?;
-    match read_model(alloc, &tokens) {
+    let pieces = pieces(alloc, text)?;
+    match read_model(alloc, &pieces) {
         Ok(model) => Ok(model),
         Err(NotRead::NoMemory) => Err(ReadingError::NoMemory),
-        Err(NotRead::Unexpected | NotRead::Broken) => read_as_written(alloc, &tokens),
+        Err(NotRead::Unexpected | NotRead::Broken) => read_as_written(alloc, &pieces),
     }
 }

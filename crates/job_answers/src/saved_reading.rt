@@ -6,7 +6,7 @@ ghost use Rattle.model_core.specs.Code.WrittenViews.{written_model};
 ghost use Rattle.model_core.specs.Saved.SavedRun.{IsGood};
 ghost use Rattle.model_core.specs.Text.DocumentText.{BeginsWithModel};
 ghost use Rattle.model_core.specs.Text.SnapshotGrammar.{WrittenSnapshot, IsSnapshot};
-ghost use Rattle.model_lex.specs.Lexemes.{lexemes};
+ghost use Rattle.model_lex.specs.PiecesOfText.{pieces_lexemes};
 ghost use Rattle.answer_delivery.specs.declared.complaint.Complaint.{Complaint as Complained};
 ghost use Rattle.job_answers.specs.SavedComplaints.{IsSavedComplaint};
 ghost use Rattle.job_answers.specs.SavedReading.{ReadsSaved};
@@ -14,9 +14,9 @@ ghost use Rattle.job_answers.specs.SavedReading.{ReadsSaved};
 use crate::reading_error::ReadingError;
 use answer_delivery::Complaint;
 use model_core::{Model, RawModel};
-use model_lex::{Tokens, tokens};
-use model_read::parse_front;
-use run_snapshot::{Snapshot, SnapshotError, read_snapshot, snapshot_fault};
+use model_lex::{Pieces, pieces};
+use model_read::parse_front_pieces;
+use run_snapshot::{Snapshot, SnapshotError, read_snapshot_pieces, snapshot_fault_pieces};
 use sig_base::DOCUMENT_MAX;
 use sig_types::check;
 use std::alloc::Global;
@@ -32,13 +32,13 @@ pub struct SavedDocument {
 /// The model that the tokens begin with, as it is written, and the place behind it, from which on they are a snapshot. A
 /// place is here the number of tokens before it. The program ends behind tokens that aren't spelled so, so the model isn't
 /// taken apart then.
-fn parts(alloc: Global, tokens: &Tokens<'_>) -> Result<(RawModel, usize), ReadingError>
-    ensures begins { IfOk result (λ r. BeginsWithModel (lexemes tokens.now) (written_model r.0) (drop r.1 (lexemes tokens.now))) }
-    ensures ends { IfOk result (λ r. (w : WrittenSnapshot) × IsSnapshot (drop r.1 (lexemes tokens.now)) w) }
-    ensures complaint { (what : Complained) (at : ℕ) → result ≡ Err (ReadingError.At what at) → IsSavedComplaint tokens.now.text.now what at }
+fn parts(alloc: Global, pieces: &Pieces<'_>) -> Result<(RawModel, usize), ReadingError>
+    ensures begins { IfOk result (λ r. BeginsWithModel (pieces_lexemes pieces.now) (written_model r.0) (drop r.1 (pieces_lexemes pieces.now))) }
+    ensures ends { IfOk result (λ r. (w : WrittenSnapshot) × IsSnapshot (drop r.1 (pieces_lexemes pieces.now)) w) }
+    ensures complaint { (what : Complained) (at : ℕ) → result ≡ Err (ReadingError.At what at) → IsSavedComplaint pieces.now.text.now what at }
 {
-    let (model, behind) = parse_front(alloc, tokens, 0)?;
-    match snapshot_fault(tokens, behind) {
+    let (model, behind) = parse_front_pieces(alloc, pieces, 0)?;
+    match snapshot_fault_pieces(pieces, behind) {
         None => Ok((model, behind)),
         Some(at) => {
             forget(model);
@@ -52,17 +52,17 @@ fn parts(alloc: Global, tokens: &Tokens<'_>) -> Result<(RawModel, usize), Readin
 
 /// The model and the snapshot that the tokens read as. The program ends behind a snapshot that isn't good, so the model isn't
 /// taken apart then.
-fn saved_in(alloc: Global, tokens: &Tokens<'_>) -> Result<SavedDocument, ReadingError>
-    requires { length tokens.now.text.now ≤ DOCUMENT_MAX }
-    ensures ok { IfOk result (λ d. ReadsSaved tokens.now.text.now (graph_of d.model) d.snapshot) }
-    ensures complaint { (what : Complained) (at : ℕ) → result ≡ Err (ReadingError.At what at) → IsSavedComplaint tokens.now.text.now what at }
+fn saved_in(alloc: Global, pieces: &Pieces<'_>) -> Result<SavedDocument, ReadingError>
+    requires { length pieces.now.text.now ≤ DOCUMENT_MAX }
+    ensures ok { IfOk result (λ d. ReadsSaved pieces.now.text.now (graph_of d.model) d.snapshot) }
+    ensures complaint { (what : Complained) (at : ℕ) → result ≡ Err (ReadingError.At what at) → IsSavedComplaint pieces.now.text.now what at }
 {
-    let (raw, behind) = parts(alloc, tokens)?;
+    let (raw, behind) = parts(alloc, pieces)?;
     let model = match check(alloc, raw) {
         Ok(model) => model,
         Err(error) => return Err(ReadingError::from(error)),
     };
-    match read_snapshot(alloc, &model, tokens, behind) {
+    match read_snapshot_pieces(alloc, &model, pieces, behind) {
         Ok(snapshot) => Ok(SavedDocument { model, snapshot }),
         Err(SnapshotError::Bad { at }) => {
             forget(model);
@@ -85,6 +85,6 @@ pub fn saved_document_of(alloc: Global, text: &[u8]) -> Result<SavedDocument, Re
     ensures good { IfOk result (λ d. IsGood (graph_of d.model) d.snapshot) }
     ensures complaint { (what : Complained) (at : ℕ) → result ≡ Err (ReadingError.At what at) → IsSavedComplaint text.now what at }
 {
-    let tokens = tokens(alloc, text)?;
-    saved_in(alloc, &tokens)
+    let pieces = pieces(alloc, text)?;
+    saved_in(alloc, &pieces)
 }

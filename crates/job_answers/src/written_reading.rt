@@ -8,18 +8,18 @@ ghost use Rattle.answer_delivery.specs.Complaints.{IsComplaint};
 
 use crate::reading_error::ReadingError;
 use model_core::Model;
-use model_lex::Tokens;
-use model_read::parse;
+use model_lex::Pieces;
+use model_read::parse_pieces;
 use sig_base::TEXT_MAX;
 use sig_types::check;
 use std::alloc::Global;
 
 /// The model that the tokens read as.
-pub(crate) fn read_as_written(alloc: Global, tokens: &Tokens<'_>) -> Result<Model, ReadingError>
-    requires { length tokens.now.text.now ≤ TEXT_MAX }
-    ensures ok { IfOk result (λ model. Reads tokens.now.text.now (graph_of model)) }
-    ensures complaint { (what : Complained) (at : ℕ) → result ≡ Err (ReadingError.At what at) → IsComplaint tokens.now.text.now what at }
+pub(crate) fn read_as_written(alloc: Global, pieces: &Pieces<'_>) -> Result<Model, ReadingError>
+    requires { length pieces.now.text.now ≤ TEXT_MAX }
+    ensures ok { IfOk result (λ model. Reads pieces.now.text.now (graph_of model)) }
+    ensures complaint { (what : Complained) (at : ℕ) → result ≡ Err (ReadingError.At what at) → IsComplaint pieces.now.text.now what at }
 {
-    let raw = parse(alloc, tokens)?;
+    let raw = parse_pieces(alloc, pieces)?;
     Ok(check(alloc, raw)?)
 }

@@ -1,21 +1,10 @@
 -- The digits of a number.
-use Rattle.std.proofs.Common.{◌≡◌, ℕ, ◌+◌, ◌-◌, ◌*◌, ◌^◌, ◌<◌, ◌≤◌, Bool, cond, List, length, take, drop, map, ap, arith, get_or, pos}
+use Rattle.std.proofs.Common.{◌≡◌, ℕ, ◌+◌, ◌-◌, ◌*◌, ◌^◌, ◌<◌, ◌≤◌, cond, List, length, drop, map, ap, arith, get_or, pos}
 use Rattle.std.specs.Prelude.{Some, None}
-use Rattle.std.specs.List.{AllPass, prefix_len}
 use Rattle.std.specs.Int.Digits.{number_from_digits_after}
 use Rattle.std.proofs.lemmas.Bool.{le-ltb}
-use Rattle.std.proofs.lemmas.List.{get_or-take, length-take-le}
-use Rattle.std.proofs.lemmas.List.Sums.{prefix_len_passes, prefix_len-le-length}
 use Rattle.sig_base.proofs.DigitsTaken.{digit-le-number}
 use Rattle.model_core.specs.Text.Lexing.{literal_value}
-
--- the elements up to the first that fails all pass
-pub AllPass-prefix : {X : Type 0} (p : X → Bool) (xs : List X) → AllPass p (take (prefix_len p xs) xs)
-AllPass-prefix p xs k d below =
-    let fits = prefix_len-le-length p xs in
-    let l = length-take-le (prefix_len p xs) xs fits in
-    let k_in : k < prefix_len p xs = omega arith in
-    rw (get_or-take (prefix_len p xs) xs k d k_in) (prefix_len_passes p xs k d k_in)
 
 -- what the digits from a place on make of the value before them
 abbrev pub number_on : ℕ → List ℕ → ℕ

@@ -7,3 +7,4 @@ pub mod TokensAdded
 pub mod ReservedWords
 pub mod SymbolsAmong
 pub mod FrontByFront
+pub mod PiecesAndTokens

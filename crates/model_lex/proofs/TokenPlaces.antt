@@ -5,6 +5,8 @@ use Rattle.std.proofs.lemmas.List.{length-map, get_or-map}
 use Rattle.model_core.specs.declared.token.Token.{Token}
 use Rattle.model_core.specs.Text.Lexing.{Lexeme, Front, Between, Longest, Neither, front, front_length, after_front, tokens_from, tokens_of}
 use Rattle.model_core.specs.Code.TokenViews.{lexeme_of}
+use Rattle.model_lex.specs.declared.piece.Piece.{Piece}
+use Rattle.model_lex.specs.PieceViews.{piece_of}
 use Rattle.model_lex.specs.TokenOrder.{StandInOrder}
 use Rattle.model_lex.proofs.FrontLemmas.{Fits, front-front_at, front_at-fits}
 
@@ -63,3 +65,11 @@ tokens_in_text text ts is k d k_in =
     let k_in_map : k < length (map (lexeme_of text) ts) = omega (arith, length-map ts (lexeme_of text)) in
     let here = in_text 0 (map (lexeme_of text) ts) (length text) (tokens_of-in_order text (map (lexeme_of text) ts) is) k (lexeme_of text d) k_in_map in
     subst (λ l. (l.from < l.to) × (l.to ≤ length text)) same here
+
+pub pieces_in_text : (text : List ℕ) (ps : List Piece) → tokens_of text ≡ Ok (map (piece_of text) ps) → (k : ℕ) (d : Piece) → k < length ps → (0 < (get_or ps k d).length) × ((get_or ps k d).from + (get_or ps k d).length ≤ length text)
+pieces_in_text text ps is k d k_in =
+    let same = get_or-map (piece_of text) ps k d (piece_of text d) k_in in
+    let k_in_map : k < length (map (piece_of text) ps) = omega (arith, length-map ps (piece_of text)) in
+    let here = in_text 0 (map (piece_of text) ps) (length text) (tokens_of-in_order text (map (piece_of text) ps) is) k (piece_of text d) k_in_map in
+    let there : ((get_or ps k d).from < (get_or ps k d).from + (get_or ps k d).length) × ((get_or ps k d).from + (get_or ps k d).length ≤ length text) = subst (λ l. (l.from < l.to) × (l.to ≤ length text)) same here in
+    (omega (arith, there.0), there.1)

@@ -1,4 +1,6 @@
 pub mod Lexemes
+pub mod PieceViews
+pub mod PiecesOfText
 pub mod LexemeSets
 pub mod TokenOrder
 pub mod TextCut

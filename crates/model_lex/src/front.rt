@@ -1,25 +1,26 @@
 //! What a text has at a place: blanks and comments are passed over, tokens are added to a list.
 
 ghost use Rattle.std.specs.Prelude.{◌≡◌, ◌≢◌, ◌<◌, ◌+◌, ◌^◌, ◌∷◌, ◌++◌, [], ℕ, Err, drop, length, map, IfOk, OnOk, vec_len, vec_capacity};
-ghost use Rattle.model_core.specs.Code.TokenViews.{lexeme_of};
 ghost use Rattle.model_core.specs.Text.Lexing.{Neither, symbol_among, all_symbols};
+ghost use Rattle.model_lex.specs.PieceViews.{piece_of};
 ghost use Rattle.model_lex.specs.Inner.Fronts.{front_at, symbol_seen, Passes};
 
 use crate::classes::{Class, class_of};
 use crate::lex_error::LexError;
-use crate::numbers::literal_value;
+use crate::piece::{Piece, PieceKind};
 use crate::runs::{comment_length, digits_length, word_length};
 use crate::symbols::{symbol_of_one, symbol_of_two};
 use crate::words::word_kind;
-use model_core::{Symbol, Token, TokenKind};
+use model_core::Symbol;
 use sig_base::NoMemory;
 
 /// Passes over what the text has at a place, and gives the place behind it. Where that is a token, the longest one, it is
 /// added. Inlined with what it calls, since it is asked at each token and at each blank.
 #[inline(always)]
-pub(crate) fn pass_over(list: &mut Vec<Token>, text: &[u8], at: usize) -> Result<usize, LexError>
-    requires { at < length text.now }
-    ensures passes { IfOk result (λ to. Passes at (front_at (drop at text.now)) (map (lexeme_of text.now) list.old.items) (map (lexeme_of text.now) list.new.items) to) }
+pub(crate) fn pass_over(list: &mut Vec<Piece>, text: &[u8], at: usize) -> Result<usize, LexError>
+    requires inside { at < length text.now }
+    requires few { length text.now < 2 ^ 32 }
+    ensures passes { IfOk result (λ to. Passes at (front_at (drop at text.now)) (map (piece_of text.now) list.old.items) (map (piece_of text.now) list.new.items) to) }
     ensures bad_byte { (place : ℕ) → result ≡ Err (LexError.BadByte place) → (place ≡ at) × (front_at (drop at text.now) ≡ Neither) }
 {
     let bytes = &text[at..];
@@ -32,21 +33,20 @@ pub(crate) fn pass_over(list: &mut Vec<Token>, text: &[u8], at: usize) -> Result
     match class_of(first) {
         Class::Blank => Ok(at + 1),
         Class::Comment => Ok(at + comment_length(bytes)),
-        Class::Name => add(list, TokenKind::Name, at, word_length(bytes), left),
+        Class::Name => add(list, PieceKind::Name, at, word_length(bytes), left),
         Class::Word => {
             let length = word_length(bytes);
             add(list, word_kind(&bytes[..length]), at, length, left)
         }
         Class::Digit => {
             let length = digits_length(bytes);
-            let value = literal_value(&bytes[..length]);
-            add(list, TokenKind::Number(value), at, length, left)
+            add(list, PieceKind::Number, at, length, left)
         }
         Class::Pair => match symbol_front(bytes) {
-            Some((length, symbol)) => add(list, TokenKind::Symbol(symbol), at, length, left),
+            Some((length, symbol)) => add(list, PieceKind::Symbol(symbol), at, length, left),
             None => Err(LexError::BadByte { at }),
         },
-        Class::Alone(symbol) => add(list, TokenKind::Symbol(symbol), at, 1, left),
+        Class::Alone(symbol) => add(list, PieceKind::Symbol(symbol), at, 1, left),
         Class::Nothing => Err(LexError::BadByte { at }),
     }
 }
@@ -70,23 +70,26 @@ fn symbol_front(bytes: &[u8]) -> Option<(usize, Symbol)>
 /// Adds the token of so many bytes at a place, at which `left` bytes of the text are left, and gives the place behind it.
 #[inline(always)]
 fn add(
-    list: &mut Vec<Token>,
-    kind: TokenKind,
+    list: &mut Vec<Piece>,
+    kind: PieceKind,
     at: usize,
     length: usize,
     left: usize,
 ) -> Result<usize, LexError>
     requires left { 0 < left }
-    requires inside { at + length < 2 ^ 64 }
-    ensures added { IfOk result (λ to. (to ≡ at + length) × (list.new.items ≡ list.old.items ++ record { kind = kind; from = at; to = at + length } ∷ [])) }
+    requires inside { at + length < 2 ^ 32 }
+    ensures added { IfOk result (λ to. (to ≡ at + length) × (list.new.items ≡ list.old.items ++ record { from = at; length = length; kind = kind } ∷ [])) }
     ensures no_memory { (place : ℕ) → result ≢ Err (LexError.BadByte place) }
 {
     if list.len() == list.capacity() {
         make_room(list, left)?;
     }
-    let to = at + length;
-    list.push_reserved(Token { kind, from: at, to });
-    Ok(to)
+    list.push_reserved(Piece {
+        from: at as u32,
+        length: length as u32,
+        kind,
+    });
+    Ok(at + length)
 }
 
 /// How many tokens a list has room for at first.
@@ -95,7 +98,7 @@ const FIRST_ROOM: usize = 64;
 /// Makes room in a full list for as many tokens more as it has, but for no more than there are bytes left, since each token
 /// takes one at least.
 #[cold]
-fn make_room(list: &mut Vec<Token>, left: usize) -> Result<(), NoMemory>
+fn make_room(list: &mut Vec<Piece>, left: usize) -> Result<(), NoMemory>
     requires { 0 < left }
     ensures items { list.new.items ≡ list.old.items }
     ensures room { OnOk result (vec_len list.new < vec_capacity list.new) }

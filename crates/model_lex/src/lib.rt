@@ -8,13 +8,20 @@ mod lexer;
 mod numbers;
 mod order;
 mod parse_error;
+mod piece;
+mod piece_list;
 mod runs;
 mod symbols;
 mod token_list;
 mod words;
 
 pub use lex_error::LexError;
-pub use lexer::tokens;
-pub use order::{texts_are_cut, tokens_stand_in_order};
+pub use lexer::{pieces, tokens};
+pub use numbers::literal_value;
+pub use order::{
+    pieces_are_the_tokens, pieces_stand_in_text, texts_are_cut, tokens_stand_in_order,
+};
 pub use parse_error::ParseError;
+pub use piece::{Piece, PieceKind};
+pub use piece_list::Pieces;
 pub use token_list::Tokens;

@@ -1,8 +1,6 @@
 //! The value that digits write.
 
 ghost use Rattle.std.specs.Prelude.{◌≡◌};
-ghost use Rattle.std.specs.List.{AllPass};
-ghost use Rattle.std.specs.Char.{is_ascii_digit};
 ghost use Rattle.model_core.specs.Text.Lexing.{literal_value};
 
 /// The first number that is no literal.
@@ -13,8 +11,7 @@ const TENTH: u64 = 922_337_203_685_477_580;
 
 /// The number that the digits write in decimal, or `None` above 2^63 - 1.
 #[inline(always)]
-pub(crate) fn literal_value(digits: &[u8]) -> Option<i64>
-    requires { AllPass is_ascii_digit digits.now }
+pub fn literal_value(digits: &[u8]) -> Option<i64>
     ensures { result ≡ literal_value digits.now }
 {
     let mut value: u64 = 0;
@@ -22,7 +19,7 @@ pub(crate) fn literal_value(digits: &[u8]) -> Option<i64>
         if value > TENTH {
             return None;
         }
-        value = value * 10 + u64::from(*digit - b'0');
+        value = value * 10 + u64::from(digit.saturating_sub(b'0'));
     }
     if value < BEYOND {
         Some(value as i64)

@@ -1,17 +1,18 @@
 //! The reserved words.
 
 ghost use Rattle.std.specs.Prelude.{◌≡◌, ◌<◌, length, map};
-ghost use Rattle.model_core.specs.Code.TokenViews.{lexeme_kind_of};
+ghost use Rattle.model_lex.specs.PieceViews.{piece_kind};
 ghost use Rattle.model_core.specs.Text.Lexing.{reserved_words, same_bytes, word_among};
 ghost use Rattle.model_lex.specs.Inner.Fronts.{words_with_first};
 
-use model_core::{TokenKind, Word};
+use crate::piece::PieceKind;
+use model_core::Word;
 
 /// What a word is: a reserved word or a name.
 #[inline(always)]
-pub(crate) fn word_kind(word: &[u8]) -> TokenKind
+pub(crate) fn word_kind(word: &[u8]) -> PieceKind
     requires { 0 < length word.now }
-    ensures { lexeme_kind_of word.now result ≡ word_among reserved_words word.now }
+    ensures { piece_kind word.now result ≡ word_among reserved_words word.now }
 {
     kind_with(word[0], word)
 }
@@ -19,8 +20,8 @@ pub(crate) fn word_kind(word: &[u8]) -> TokenKind
 /// What a word is, where it begins with the letter. It is compared with the reserved words that do, of which there are at
 /// most four. Each comparison is inlined, so that it looks at no byte of these words: they stand in the code.
 #[inline(always)]
-fn kind_with(letter: u8, word: &[u8]) -> TokenKind
-    ensures { lexeme_kind_of word.now result ≡ word_among (words_with_first letter) word.now }
+fn kind_with(letter: u8, word: &[u8]) -> PieceKind
+    ensures { piece_kind word.now result ≡ word_among (words_with_first letter) word.now }
 {
     match letter {
         b'a' => kind_among(
@@ -87,21 +88,21 @@ fn kind_with(letter: u8, word: &[u8]) -> TokenKind
             word,
         ),
         b'w' => kind_among(&[(b"watch", Word::Watch), (b"when", Word::When)], word),
-        _ => TokenKind::Name,
+        _ => PieceKind::Name,
     }
 }
 
 /// What a word is, where these are the reserved words.
 #[inline(always)]
-fn kind_among(words: &[(&[u8], Word)], word: &[u8]) -> TokenKind
-    ensures { lexeme_kind_of word.now result ≡ word_among (map (λ w. (w.0.now, w.1)) words.now) word.now }
+fn kind_among(words: &[(&[u8], Word)], word: &[u8]) -> PieceKind
+    ensures { piece_kind word.now result ≡ word_among (map (λ w. (w.0.now, w.1)) words.now) word.now }
 {
     for (spelling, reserved) in words {
         if is_spelled(word, spelling) {
-            return TokenKind::Word(*reserved);
+            return PieceKind::Word(*reserved);
         }
     }
-    TokenKind::Name
+    PieceKind::Name
 }
 
 /// Whether a word is spelled so. A loop in place of `==`, whose loop isn't unrolled.

@@ -4,3 +4,4 @@ mod OpeningSteps
 mod WholeText
 mod PlacedReads
 mod NamesInTables
+mod PiecesFrom

@@ -2,10 +2,10 @@
 use Rattle.std.proofs.Common.{◌≡◌, ℕ, zero, suc, ◌+◌, ◌<◌, ◌≤◌, Bool, true, false, List, [], ◌∷◌, arith, length, get_or, map, drop, refl, sym, ap, ◌∙◌}
 use Rattle.std.proofs.lemmas.List.{drop-drop, drop-map, drop_more, get_or-drop, length-drop}
 use Rattle.std.specs.Prelude.{Option}
-use Rattle.model_core.specs.declared.token.Token.{Token}
+use Rattle.model_lex.specs.declared.piece.Piece.{Piece}
 use Rattle.model_core.specs.Text.Lexing.{Lexeme, LexemeKind}
 use Rattle.model_core.specs.Text.Openings.{ends_part, is_opening}
-use Rattle.model_core.specs.Code.TokenViews.{lexeme_kind_of, lexeme_of}
+use Rattle.model_lex.specs.PieceViews.{piece_kind, piece_of}
 use Rattle.text_laws.specs.OpeningCount.{deep_from}
 
 ended : (limit room : ℕ) (t : Lexeme) (tokens : List Lexeme) → ends_part t.kind ≡ true → deep_from limit room (t ∷ tokens) ≡ deep_from limit limit tokens
@@ -19,35 +19,35 @@ passed : (limit room : ℕ) (t : Lexeme) (tokens : List Lexeme) → ends_part t.
 passed limit zero t tokens e f = rw (e, f) refl
 passed limit (suc room) t tokens e f = rw (e, f) refl
 
-further : (limit room after : ℕ) (text : List ℕ) (tokens : List Token) (i : ℕ) (d : Token) (total : Option ℕ) → i < length tokens
-    → ((others : List Lexeme) → deep_from limit room (lexeme_of text (get_or tokens i d) ∷ others) ≡ deep_from limit after others)
-    → deep_from limit room (map (lexeme_of text) (drop i tokens)) ≡ total → deep_from limit after (map (lexeme_of text) (drop (i + 1) tokens)) ≡ total
+further : (limit room after : ℕ) (text : List ℕ) (tokens : List Piece) (i : ℕ) (d : Piece) (total : Option ℕ) → i < length tokens
+    → ((others : List Lexeme) → deep_from limit room (piece_of text (get_or tokens i d) ∷ others) ≡ deep_from limit after others)
+    → deep_from limit room (map (piece_of text) (drop i tokens)) ≡ total → deep_from limit after (map (piece_of text) (drop (i + 1) tokens)) ≡ total
 further limit room after text tokens i d total h step so_far =
-    sym (step (map (lexeme_of text) (drop (i + 1) tokens)))
-    ∙ sym (ap (λ (ts : List Token). deep_from limit room (map (lexeme_of text) ts)) (drop_more tokens i d h))
+    sym (step (map (piece_of text) (drop (i + 1) tokens)))
+    ∙ sym (ap (λ (ts : List Piece). deep_from limit room (map (piece_of text) ts)) (drop_more tokens i d h))
     ∙ so_far
 
 -- what a function tells of a token's kind, whatever bytes it has
-abbrev TellsOfKind : (LexemeKind → Bool) → Bool → Token → Type 0
-TellsOfKind f b t = (bytes : List ℕ) → b ≡ f (lexeme_kind_of bytes t.kind)
+abbrev TellsOfKind : (LexemeKind → Bool) → Bool → Piece → Type 0
+TellsOfKind f b t = (bytes : List ℕ) → b ≡ f (piece_kind bytes t.kind)
 
 -- one token more: it ends a part
-pub behind-end : (limit room after : ℕ) (text : List ℕ) (tokens : List Token) (i : ℕ) (d : Token) (total : Option ℕ) (ends : Bool) → i < length tokens → TellsOfKind ends_part ends (get_or tokens i d) → ends ≡ true → after ≡ limit
-    → deep_from limit room (map (lexeme_of text) (drop i tokens)) ≡ total → deep_from limit after (map (lexeme_of text) (drop (i + 1) tokens)) ≡ total
+pub behind-end : (limit room after : ℕ) (text : List ℕ) (tokens : List Piece) (i : ℕ) (d : Piece) (total : Option ℕ) (ends : Bool) → i < length tokens → TellsOfKind ends_part ends (get_or tokens i d) → ends ≡ true → after ≡ limit
+    → deep_from limit room (map (piece_of text) (drop i tokens)) ≡ total → deep_from limit after (map (piece_of text) (drop (i + 1) tokens)) ≡ total
 behind-end limit room after text tokens i d total ends h tells e f =
-    further limit room after text tokens i d total h (λ others. ended limit room (lexeme_of text (get_or tokens i d)) others (sym (tells _) ∙ e) ∙ ap (λ (n : ℕ). deep_from limit n others) (sym f))
+    further limit room after text tokens i d total h (λ others. ended limit room (piece_of text (get_or tokens i d)) others (sym (tells _) ∙ e) ∙ ap (λ (n : ℕ). deep_from limit n others) (sym f))
 
 -- it is an opening, for which there is room
-pub behind-opening : (limit room after : ℕ) (text : List ℕ) (tokens : List Token) (i : ℕ) (d : Token) (total : Option ℕ) (ends opens : Bool) → i < length tokens → TellsOfKind ends_part ends (get_or tokens i d) → ends ≡ false → TellsOfKind is_opening opens (get_or tokens i d) → opens ≡ true → room ≡ suc after
-    → deep_from limit room (map (lexeme_of text) (drop i tokens)) ≡ total → deep_from limit after (map (lexeme_of text) (drop (i + 1) tokens)) ≡ total
+pub behind-opening : (limit room after : ℕ) (text : List ℕ) (tokens : List Piece) (i : ℕ) (d : Piece) (total : Option ℕ) (ends opens : Bool) → i < length tokens → TellsOfKind ends_part ends (get_or tokens i d) → ends ≡ false → TellsOfKind is_opening opens (get_or tokens i d) → opens ≡ true → room ≡ suc after
+    → deep_from limit room (map (piece_of text) (drop i tokens)) ≡ total → deep_from limit after (map (piece_of text) (drop (i + 1) tokens)) ≡ total
 behind-opening limit room after text tokens i d total ends opens h tells e says f g =
-    further limit room after text tokens i d total h (λ others. opened limit room after (lexeme_of text (get_or tokens i d)) others (sym (tells _) ∙ e) (sym (says _) ∙ f) g)
+    further limit room after text tokens i d total h (λ others. opened limit room after (piece_of text (get_or tokens i d)) others (sym (tells _) ∙ e) (sym (says _) ∙ f) g)
 
 -- it is neither
-pub behind-other : (limit room after : ℕ) (text : List ℕ) (tokens : List Token) (i : ℕ) (d : Token) (total : Option ℕ) (ends opens : Bool) → i < length tokens → TellsOfKind ends_part ends (get_or tokens i d) → ends ≡ false → TellsOfKind is_opening opens (get_or tokens i d) → opens ≡ false → after ≡ room
-    → deep_from limit room (map (lexeme_of text) (drop i tokens)) ≡ total → deep_from limit after (map (lexeme_of text) (drop (i + 1) tokens)) ≡ total
+pub behind-other : (limit room after : ℕ) (text : List ℕ) (tokens : List Piece) (i : ℕ) (d : Piece) (total : Option ℕ) (ends opens : Bool) → i < length tokens → TellsOfKind ends_part ends (get_or tokens i d) → ends ≡ false → TellsOfKind is_opening opens (get_or tokens i d) → opens ≡ false → after ≡ room
+    → deep_from limit room (map (piece_of text) (drop i tokens)) ≡ total → deep_from limit after (map (piece_of text) (drop (i + 1) tokens)) ≡ total
 behind-other limit room after text tokens i d total ends opens h tells e says f g =
-    further limit room after text tokens i d total h (λ others. passed limit room (lexeme_of text (get_or tokens i d)) others (sym (tells _) ∙ e) (sym (says _) ∙ f) ∙ ap (λ (n : ℕ). deep_from limit n others) (sym g))
+    further limit room after text tokens i d total h (λ others. passed limit room (piece_of text (get_or tokens i d)) others (sym (tells _) ∙ e) (sym (says _) ∙ f) ∙ ap (λ (n : ℕ). deep_from limit n others) (sym g))
 
 -- Up to the end of a part that has fewer tokens before it than there is room for openings nothing is found, and behind it
 -- there is all the room again.
@@ -63,21 +63,21 @@ at_end limit (suc n) (suc room) (l ∷ ls) rest t is ends fits within = go (ends
     go false false e f more = rw (e, f) (more (suc room) (omega arith) (omega arith))
 
 -- where a part ends that so many tokens before it can't fill, what is found behind it is what is found from here
-pub passed_over : (limit at n : ℕ) (text : List ℕ) (tokens : List Token) (d : Token) (total : Option ℕ) → n ≤ limit → at + n < length tokens → ends_part (lexeme_of text (get_or tokens (at + n) d)).kind ≡ true
-    → deep_from limit limit (map (lexeme_of text) (drop at tokens)) ≡ total → deep_from limit limit (map (lexeme_of text) (drop (at + (n + 1)) tokens)) ≡ total
+pub passed_over : (limit at n : ℕ) (text : List ℕ) (tokens : List Piece) (d : Piece) (total : Option ℕ) → n ≤ limit → at + n < length tokens → ends_part (piece_of text (get_or tokens (at + n) d)).kind ≡ true
+    → deep_from limit limit (map (piece_of text) (drop at tokens)) ≡ total → deep_from limit limit (map (piece_of text) (drop (at + (n + 1)) tokens)) ≡ total
 passed_over limit at n text tokens d total fits below ends so_far =
-    let behind : drop n (map (lexeme_of text) (drop at tokens)) ≡ lexeme_of text (get_or tokens (at + n) d) ∷ map (lexeme_of text) (drop (at + n + 1) tokens) =
-    drop-map (lexeme_of text) n (drop at tokens) ∙ ap (map (lexeme_of text)) (drop-drop n at tokens ∙ drop_more tokens (at + n) d below) in
+    let behind : drop n (map (piece_of text) (drop at tokens)) ≡ piece_of text (get_or tokens (at + n) d) ∷ map (piece_of text) (drop (at + n + 1) tokens) =
+    drop-map (piece_of text) n (drop at tokens) ∙ ap (map (piece_of text)) (drop-drop n at tokens ∙ drop_more tokens (at + n) d below) in
     let same : at + n + 1 ≡ at + (n + 1) = omega arith in
-    ap (λ k. deep_from limit limit (map (lexeme_of text) (drop k tokens))) (sym same)
-    ∙ sym (at_end limit n limit (map (lexeme_of text) (drop at tokens)) _ (lexeme_of text (get_or tokens (at + n) d)) behind ends fits (omega arith))
+    ap (λ k. deep_from limit limit (map (piece_of text) (drop k tokens))) (sym same)
+    ∙ sym (at_end limit n limit (map (piece_of text) (drop at tokens)) _ (piece_of text (get_or tokens (at + n) d)) behind ends fits (omega arith))
     ∙ so_far
 
 -- the same of the tokens from a place on
-pub passed_on : (limit at n : ℕ) (text : List ℕ) (tokens rest : List Token) (d : Token) (total : Option ℕ) → rest ≡ drop at tokens → at ≤ length tokens → n ≤ limit → n < length rest → ((bytes : List ℕ) (d : Token) → ends_part (lexeme_kind_of bytes (get_or rest n d).kind) ≡ true)
-    → deep_from limit limit (map (lexeme_of text) (drop at tokens)) ≡ total → deep_from limit limit (map (lexeme_of text) (drop (at + (n + 1)) tokens)) ≡ total
+pub passed_on : (limit at n : ℕ) (text : List ℕ) (tokens rest : List Piece) (d : Piece) (total : Option ℕ) → rest ≡ drop at tokens → at ≤ length tokens → n ≤ limit → n < length rest → ((bytes : List ℕ) (d : Piece) → ends_part (piece_kind bytes (get_or rest n d).kind) ≡ true)
+    → deep_from limit limit (map (piece_of text) (drop at tokens)) ≡ total → deep_from limit limit (map (piece_of text) (drop (at + (n + 1)) tokens)) ≡ total
 passed_on limit at n text tokens rest d total is inside fits below ends so_far =
     let same : get_or tokens (at + n) d ≡ get_or rest n d = sym (get_or-drop at tokens n d) ∙ ap (λ ts. get_or ts n d) (sym is) in
     let room = length-drop at tokens ∙ refl in
     let long = ap length is in
-    passed_over limit at n text tokens d total fits (omega (arith, room, long)) (ap (λ t. ends_part (lexeme_of text t).kind) same ∙ ends _ d) so_far
+    passed_over limit at n text tokens d total fits (omega (arith, room, long)) (ap (λ t. ends_part (piece_of text t).kind) same ∙ ends _ d) so_far

@@ -4,20 +4,20 @@ use Rattle.std.specs.Prelude.{Option, Result, Ok, Err, IfOk}
 use Rattle.std.proofs.lemmas.List.{length-drop, length-append, drop-drop}
 use Rattle.std.proofs.Math.Seq.{drop-append_seam}
 use Rattle.model_core.specs.declared.raw.RawModel.{RawModel}
-use Rattle.model_core.specs.declared.token.Token.{Token}
+use Rattle.model_lex.specs.declared.piece.Piece.{Piece}
 use Rattle.model_core.specs.Text.Lexing.{Lexeme}
 use Rattle.model_core.specs.Text.Written.{WrittenModel}
 use Rattle.model_core.specs.Text.Language.{text_format, IsText, BeginsWithText}
 use Rattle.model_core.specs.Text.FirstWrong.{told_place, IsUnexpectedAt}
 use Rattle.model_core.specs.Text.Openings.{is_end_word, front_to_end, too_deep_at, HasFewOpenings}
 use Rattle.model_core.specs.Code.WrittenViews.{written_model}
-use Rattle.model_core.specs.Code.TokenViews.{lexeme_of}
+use Rattle.model_lex.specs.PieceViews.{piece_of}
 use Rattle.text_laws.specs.FormatReader.{took, stuck}
 use Rattle.text_laws.specs.LanguageReader.{text_and_rest, text_read}
 use Rattle.text_laws.proofs.Formats.TextLaws.{read-is_spelled, spelled-is_read, stuck-is_wrong, whole-is_spelled, refused-is_unexpected}
 use Rattle.text_laws.proofs.Formats.EndWord.{front-is_text, text-is_front, wrong-in_front}
 use Rattle.text_laws.proofs.Formats.OneTokenDecides.{text-fine}
-use Rattle.text_laws.proofs.TokensFrom.{some-are}
+use Rattle.model_read.proofs.PiecesFrom.{cut-is_dropped}
 use Rattle.model_lex.specs.declared.parse_error.ParseError.{ParseError}
 use Rattle.model_lex.specs.declared.parse_error.ParseError.TheVariants as errors
 use Rattle.model_read.proofs.PlacedReads.{Tells}
@@ -95,9 +95,9 @@ front-unexpected text tokens rest at (e, told) = record {
 
 -- ---- what is counted of the front
 
-pub front-counted : (text : List ℕ) (slice list : List Token) (from n limit : ℕ) (found : Option ℕ) → slice ≡ list → found ≡ too_deep_at limit (map (lexeme_of text) (take n (take (length slice - from) (drop from slice))))
-    → map (lexeme_of text) (take n (take (length slice - from) (drop from slice))) ≡ front_to_end (map (lexeme_of text) (take (length slice - from) (drop from slice))) → found ≡ too_deep_at limit (front_to_end (drop from (map (lexeme_of text) list)))
-front-counted text slice list from n limit found e f g = f ∙ ap (too_deep_at limit) (g ∙ ap front_to_end (some-are text slice list from e))
+pub front-counted : (text : List ℕ) (slice list : List Piece) (from n limit : ℕ) (found : Option ℕ) → slice ≡ list → found ≡ too_deep_at limit (map (piece_of text) (take n (take (length slice - from) (drop from slice))))
+    → map (piece_of text) (take n (take (length slice - from) (drop from slice))) ≡ front_to_end (map (piece_of text) (take (length slice - from) (drop from slice))) → found ≡ too_deep_at limit (front_to_end (drop from (map (piece_of text) list)))
+front-counted text slice list from n limit found e f g = f ∙ ap (too_deep_at limit) (g ∙ ap front_to_end (cut-is_dropped text slice list from e))
 
 -- ---- an error that is passed on
 

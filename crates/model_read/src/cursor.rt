@@ -1,6 +1,6 @@
 //! What is left to read of a text's tokens.
 
-ghost use Rattle.std.specs.Prelude.{◌≡◌, ◌≢◌, ℕ, ◌+◌, ◌≤◌, true, false, None, List, [], drop, length, map, IfOk, IfErr};
+ghost use Rattle.std.specs.Prelude.{◌≡◌, ◌≢◌, ℕ, ◌+◌, ◌≤◌, true, false, None, List, [], drop, length, map, slice_range, IfOk, IfErr};
 ghost use Rattle.std.specs.Option.{option_map, IfSome};
 ghost use Rattle.model_core.specs.declared.token.Word.TheVariants.{Not};
 ghost use Rattle.model_core.specs.Code.WrittenViews.{written_name, written_number};
@@ -17,7 +17,8 @@ ghost use Rattle.model_read.specs.Spelled.{spelled_name, digits_written};
 
 use crate::operators::{CONJUNCTIONS, Infix, infix_of};
 use crate::stop::Stop;
-use model_core::{RawName, RawNumber, Symbol, Token, TokenKind, Word};
+use model_core::{RawName, RawNumber, Symbol, Word};
+use model_lex::{Piece, PieceKind, Pieces, literal_value, pieces_stand_in_text};
 use sig_base::Name;
 use std::alloc::Global;
 use std::marker::Model;
@@ -29,21 +30,38 @@ pub struct Spelling<'t> {
     pub at: usize,
 }
 
+/// The bytes of a piece of the text.
+#[inline(always)]
+fn bytes_of<'t>(text: &'t [u8], piece: &Piece) -> &'t [u8]
+    requires { piece.now.from + piece.now.length ≤ length text.now }
+    ensures { result.now ≡ slice_range text.now piece.now.from (piece.now.from + piece.now.length) }
+{
+    let from = piece.from as usize;
+    &text[from..from + piece.length as usize]
+}
+
+/// The pieces from a place on. Behind the last there are none.
+fn pieces_from(pieces: &[Piece], from: usize) -> &[Piece]
+    ensures { result.now ≡ drop from pieces.now }
+{
+    &pieces[from.min(pieces.len())..]
+}
+
 /// The tokens of a text that are left to read, which contracts see as the plain list of what they stand for.
 #[derive(Drop)]
 pub struct Cursor<'t> {
     text: &'t [u8],
-    tokens: &'t [Token],
+    tokens: &'t [Piece],
 }
 
 impl<'t> Model for Cursor<'t> {
     ghost use Rattle.std.specs.Prelude.{List, map};
     ghost use Rattle.model_core.specs.Text.Lexing.{Lexeme};
-    ghost use Rattle.model_core.specs.Code.TokenViews.{lexeme_of};
+    ghost use Rattle.model_lex.specs.PieceViews.{piece_of};
 
     ghost Value = { List Lexeme };
 
-    ghost view = { λ c. map (lexeme_of c.text.now) c.tokens.now };
+    ghost view = { λ c. map (piece_of c.text.now) c.tokens.now };
 
     ghost use Rattle.model_read.specs.InText.{AreInText};
 
@@ -51,15 +69,24 @@ impl<'t> Model for Cursor<'t> {
 }
 
 impl<'t> Cursor<'t> {
-    ghost use Rattle.model_core.specs.Code.TokenViews.{lexeme_of};
+    ghost use Rattle.model_lex.specs.PieceViews.{piece_of};
+    ghost use Rattle.model_lex.specs.PiecesOfText.{pieces_lexemes};
     ghost use Rattle.model_read.specs.InText.{AreInText};
 
     /// The tokens, all of which are left to read.
-    pub fn new(text: &'t [u8], tokens: &'t [Token]) -> Cursor<'t>
+    pub fn new(text: &'t [u8], tokens: &'t [Piece]) -> Cursor<'t>
         requires { AreInText text.now tokens.now }
-        ensures { result ≡ map (lexeme_of text.now) tokens.now }
+        ensures { result ≡ map (piece_of text.now) tokens.now }
     {
         Cursor { text, tokens }
+    }
+
+    /// The pieces of a text from a place on, all of which are left to read. A place is here the number of pieces before it.
+    pub fn from_place(pieces: &'t Pieces<'_>, from: usize) -> Cursor<'t>
+        ensures { result ≡ drop from (pieces_lexemes pieces.now) }
+    {
+        pieces_stand_in_text();
+        Cursor::new(pieces.text, pieces_from(pieces.list.as_slice(), from))
     }
 
     /// The byte at which the next token begins, or where none is left the number `end`.
@@ -68,7 +95,7 @@ impl<'t> Cursor<'t> {
     {
         match self.tokens {
             [] => end,
-            [first, ..] => first.from,
+            [first, ..] => first.from as usize,
         }
     }
 
@@ -83,46 +110,28 @@ impl<'t> Cursor<'t> {
     pub fn begins_word(&self, word: Word) -> bool
         ensures { result ≡ begins_as (AWord word) self.now }
     {
-        matches!(self.tokens, [first, ..] if first.kind == TokenKind::Word(word))
+        matches!(self.tokens, [first, ..] if first.kind == PieceKind::Word(word))
     }
 
     /// Whether the next token is the symbol.
     pub fn begins_symbol(&self, symbol: Symbol) -> bool
         ensures { result ≡ begins_as (ASymbol symbol) self.now }
     {
-        matches!(self.tokens, [first, ..] if first.kind == TokenKind::Symbol(symbol))
+        matches!(self.tokens, [first, ..] if first.kind == PieceKind::Symbol(symbol))
     }
 
     /// Whether the next token is a number.
     pub fn begins_number(&self) -> bool
         ensures { result ≡ begins_as ANumber self.now }
     {
-        matches!(
-            self.tokens,
-            [
-                Token {
-                    kind: TokenKind::Number(_),
-                    ..
-                },
-                ..
-            ]
-        )
+        matches!(self.tokens, [first, ..] if first.kind == PieceKind::Number)
     }
 
     /// Whether the next token is a name.
     pub fn begins_name(&self) -> bool
         ensures { result ≡ begins_as AName self.now }
     {
-        matches!(
-            self.tokens,
-            [
-                Token {
-                    kind: TokenKind::Name,
-                    ..
-                },
-                ..
-            ]
-        )
+        matches!(self.tokens, [first, ..] if first.kind == PieceKind::Name)
     }
 
     /// Whether the next token is the name with this spelling.
@@ -132,7 +141,7 @@ impl<'t> Cursor<'t> {
         let [first, ..] = self.tokens else {
             return false;
         };
-        first.kind == TokenKind::Name && &self.text[first.from..first.to] == spelling
+        first.kind == PieceKind::Name && bytes_of(self.text, first) == spelling
     }
 
     /// Refuses any token that is left.
@@ -152,9 +161,9 @@ impl<'t> Cursor<'t> {
         ensures unexpected { IfErr result (λ e. e ≡ Stop.Unexpected) }
     {
         match self.tokens {
-            [first, rest @ ..] if first.kind == TokenKind::Word(word) => {
+            [first, rest @ ..] if first.kind == PieceKind::Word(word) => {
                 self.tokens = rest;
-                Ok(first.from)
+                Ok(first.from as usize)
             }
             _ => Err(Stop::Unexpected),
         }
@@ -167,9 +176,9 @@ impl<'t> Cursor<'t> {
         ensures unexpected { IfErr result (λ e. e ≡ Stop.Unexpected) }
     {
         match self.tokens {
-            [first, rest @ ..] if first.kind == TokenKind::Symbol(symbol) => {
+            [first, rest @ ..] if first.kind == PieceKind::Symbol(symbol) => {
                 self.tokens = rest;
-                Ok(first.from)
+                Ok(first.from as usize)
             }
             _ => Err(Stop::Unexpected),
         }
@@ -184,7 +193,7 @@ impl<'t> Cursor<'t> {
         match self.tokens {
             [first, rest @ ..] if self.begins_spelled(spelling) => {
                 self.tokens = rest;
-                Ok(first.from)
+                Ok(first.from as usize)
             }
             _ => Err(Stop::Unexpected),
         }
@@ -251,12 +260,13 @@ impl<'t> Cursor<'t> {
         ensures unexpected { IfErr result (λ e. e ≡ Stop.Unexpected) }
     {
         if let [first, rest @ ..] = self.tokens
-            && let TokenKind::Number(value) = first.kind
+            && let PieceKind::Number = first.kind
         {
+            let value = literal_value(bytes_of(self.text, first));
             self.tokens = rest;
             return Ok(RawNumber {
                 value,
-                at: first.from,
+                at: first.from as usize,
             });
         }
         Err(Stop::Unexpected)
@@ -270,13 +280,13 @@ impl<'t> Cursor<'t> {
         ensures unexpected { IfErr result (λ e. e ≡ Stop.Unexpected) }
     {
         if let [first, rest @ ..] = self.tokens
-            && let TokenKind::Number(_) = first.kind
+            && let PieceKind::Number = first.kind
         {
-            let bytes = &self.text[first.from..first.to];
+            let bytes = bytes_of(self.text, first);
             self.tokens = rest;
             return Ok(Spelling {
                 bytes,
-                at: first.from,
+                at: first.from as usize,
             });
         }
         Err(Stop::Unexpected)
@@ -289,13 +299,13 @@ impl<'t> Cursor<'t> {
         ensures unexpected { IfErr result (λ e. e ≡ Stop.Unexpected) }
     {
         if let [first, rest @ ..] = self.tokens
-            && let TokenKind::Name = first.kind
+            && let PieceKind::Name = first.kind
         {
-            let bytes = &self.text[first.from..first.to];
+            let bytes = bytes_of(self.text, first);
             self.tokens = rest;
             return Ok(Spelling {
                 bytes,
-                at: first.from,
+                at: first.from as usize,
             });
         }
         Err(Stop::Unexpected)

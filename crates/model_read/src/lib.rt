@@ -13,6 +13,7 @@ mod places;
 mod signed;
 mod stop;
 mod text;
+mod token_calls;
 mod vertices;
 
 pub use changes::{RawSource, source};
@@ -22,5 +23,6 @@ pub use operators::{CONJUNCTIONS, Infix, LEVELS, next_level};
 pub use phrase::{Phrase, Repeated, many, packed, separated};
 pub use places::Places;
 pub use stop::{Stop, placed};
-pub use text::{begun_model, parse, parse_front};
+pub use text::{begun_model, parse_front_pieces, parse_pieces};
+pub use token_calls::{parse, parse_front};
 pub use vertices::begun_vertex;

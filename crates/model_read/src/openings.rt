@@ -2,21 +2,22 @@
 
 ghost use Rattle.std.specs.Prelude.{◌≡◌, ◌<◌, ◌≤◌, ℕ, List, length, map, slice_index_or, take, true};
 ghost use Rattle.std.specs.Option.{IfSome};
-ghost use Rattle.model_core.specs.declared.token.Token.{Token};
-ghost use Rattle.model_core.specs.Code.TokenViews.{lexeme_kind_of, lexeme_of};
+ghost use Rattle.model_lex.specs.declared.piece.Piece.{Piece};
+ghost use Rattle.model_lex.specs.PieceViews.{piece_kind, piece_of};
 ghost use Rattle.model_core.specs.Text.Lexing.{Mark};
 ghost use Rattle.model_core.specs.Text.Openings.{ends_part, too_deep_at, front_to_end};
 ghost use Rattle.model_read.specs.Inner.CountedTokens.{IsCounted};
 
-use model_core::{Symbol, Token, TokenKind, Word};
+use model_core::{Symbol, Word};
+use model_lex::{Piece, PieceKind};
 
 /// Whether a token of the kind ends a part of a text.
-fn ends_part(kind: TokenKind) -> bool
-    ensures { (bytes : List ℕ) → result ≡ ends_part (lexeme_kind_of bytes kind) }
+fn ends_part(kind: PieceKind) -> bool
+    ensures { (bytes : List ℕ) → result ≡ ends_part (piece_kind bytes kind) }
 {
     match kind {
-        TokenKind::Symbol(Symbol::Semicolon | Symbol::OpenBrace | Symbol::CloseBrace) => true,
-        TokenKind::Symbol(_) | TokenKind::Name | TokenKind::Number(_) | TokenKind::Word(_) => false,
+        PieceKind::Symbol(Symbol::Semicolon | Symbol::OpenBrace | Symbol::CloseBrace) => true,
+        PieceKind::Symbol(_) | PieceKind::Name | PieceKind::Number | PieceKind::Word(_) => false,
     }
 }
 
@@ -59,22 +60,22 @@ fn count_of_symbol(symbol: Symbol) -> Counted
 
 /// What a token of the kind is to a count of openings.
 #[inline(always)]
-fn count_of(kind: TokenKind) -> Counted
-    ensures { (bytes : List ℕ) → IsCounted result (lexeme_kind_of bytes kind) }
+fn count_of(kind: PieceKind) -> Counted
+    ensures { (bytes : List ℕ) → IsCounted result (piece_kind bytes kind) }
 {
     match kind {
-        TokenKind::Symbol(symbol) => count_of_symbol(symbol),
-        TokenKind::Word(Word::Or | Word::And | Word::Not | Word::If | Word::Min | Word::Max) => {
+        PieceKind::Symbol(symbol) => count_of_symbol(symbol),
+        PieceKind::Word(Word::Or | Word::And | Word::Not | Word::If | Word::Min | Word::Max) => {
             Counted::Opening
         }
-        TokenKind::Word(_) | TokenKind::Name | TokenKind::Number(_) => Counted::Other,
+        PieceKind::Word(_) | PieceKind::Name | PieceKind::Number => Counted::Other,
     }
 }
 
 /// The last token that ends a part and has at most so many tokens before it.
-fn last_end(tokens: &[Token], limit: usize) -> Option<usize>
+fn last_end(tokens: &[Piece], limit: usize) -> Option<usize>
     ensures { IfSome result (λ place. (place ≤ limit) × (place < length tokens.now)
-        × ((bytes : List ℕ) (d : Token) → ends_part (lexeme_kind_of bytes (slice_index_or tokens.now place d).kind) ≡ true)) }
+        × ((bytes : List ℕ) (d : Piece) → ends_part (piece_kind bytes (slice_index_or tokens.now place d).kind) ≡ true)) }
 {
     let mut place = tokens.len();
     if place > limit {
@@ -91,8 +92,8 @@ fn last_end(tokens: &[Token], limit: usize) -> Option<usize>
 
 /// The byte, from 0, of the first opening that is one more than the limit in its part. Tokens are passed over up to the last
 /// end of a part that so many can't reach, and counted where a part is longer.
-pub fn first_too_deep(tokens: &[Token], limit: usize) -> Option<usize>
-    ensures { (text : List ℕ) → result ≡ too_deep_at limit (map (lexeme_of text) tokens.now) }
+pub fn first_too_deep(tokens: &[Piece], limit: usize) -> Option<usize>
+    ensures { (text : List ℕ) → result ≡ too_deep_at limit (map (piece_of text) tokens.now) }
 {
     let mut at = 0;
     while let Some(end) = last_end(&tokens[at..], limit) {
@@ -102,15 +103,15 @@ pub fn first_too_deep(tokens: &[Token], limit: usize) -> Option<usize>
 }
 
 /// The same by a count of the openings of each part.
-fn counted_too_deep(tokens: &[Token], limit: usize) -> Option<usize>
-    ensures { (text : List ℕ) → result ≡ too_deep_at limit (map (lexeme_of text) tokens.now) }
+fn counted_too_deep(tokens: &[Piece], limit: usize) -> Option<usize>
+    ensures { (text : List ℕ) → result ≡ too_deep_at limit (map (piece_of text) tokens.now) }
 {
     let mut room = limit;
     for token in tokens {
         match count_of(token.kind) {
             Counted::Opening => {
                 if room == 0 {
-                    return Some(token.from);
+                    return Some(token.from as usize);
                 }
                 room -= 1;
             }
@@ -122,12 +123,12 @@ fn counted_too_deep(tokens: &[Token], limit: usize) -> Option<usize>
 }
 
 /// How many tokens there are up to and with the first word `end`, or in all where there is none.
-pub(crate) fn front_length(tokens: &[Token]) -> usize
+pub(crate) fn front_length(tokens: &[Piece]) -> usize
     ensures inside { result ≤ length tokens.now }
-    ensures front { (text : List ℕ) → map (lexeme_of text) (take result tokens.now) ≡ front_to_end (map (lexeme_of text) tokens.now) }
+    ensures front { (text : List ℕ) → map (piece_of text) (take result tokens.now) ≡ front_to_end (map (piece_of text) tokens.now) }
 {
     for (place, token) in tokens.iter().enumerate() {
-        if token.kind == TokenKind::Word(Word::End) {
+        if token.kind == PieceKind::Word(Word::End) {
             return place + 1;
         }
     }

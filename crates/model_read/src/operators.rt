@@ -2,12 +2,13 @@
 
 ghost use Rattle.std.specs.Prelude.{◌≡◌, ℕ, List};
 ghost use Rattle.std.specs.Option.{option_map};
-ghost use Rattle.model_core.specs.Code.TokenViews.{lexeme_kind_of};
+ghost use Rattle.model_lex.specs.PieceViews.{piece_kind};
 ghost use Rattle.model_core.specs.Text.Lexing.{Reserved, Mark};
 ghost use Rattle.text_laws.specs.Ladder.{infix_of_kind, next_level};
 ghost use Rattle.model_read.specs.Infixes.{infix_of};
 
-use model_core::{Op, Symbol, TokenKind, Word};
+use model_core::{Op, Symbol, Word};
+use model_lex::PieceKind;
 
 /// An operator between two operands. A level that is higher binds more loosely: 0 for products, 1 for sums, 2 for
 /// comparisons, 3 for `and`, 4 for `or`.
@@ -38,13 +39,13 @@ pub fn next_level(level: usize) -> usize
 }
 
 /// The operator that a token of the kind is, if any.
-pub(crate) fn infix_of(kind: TokenKind) -> Option<Infix>
-    ensures { (bytes : List ℕ) → option_map infix_of result ≡ infix_of_kind (lexeme_kind_of bytes kind) }
+pub(crate) fn infix_of(kind: PieceKind) -> Option<Infix>
+    ensures { (bytes : List ℕ) → option_map infix_of result ≡ infix_of_kind (piece_kind bytes kind) }
 {
     match kind {
-        TokenKind::Symbol(symbol) => infix_symbol(symbol),
-        TokenKind::Word(word) => infix_word(word),
-        TokenKind::Name | TokenKind::Number(_) => None,
+        PieceKind::Symbol(symbol) => infix_symbol(symbol),
+        PieceKind::Word(word) => infix_word(word),
+        PieceKind::Name | PieceKind::Number => None,
     }
 }
 

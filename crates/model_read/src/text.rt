@@ -9,7 +9,7 @@ ghost use Rattle.model_core.specs.Text.Language.{VersionLine, version_format, te
 ghost use Rattle.model_core.specs.Text.FirstWrong.{IsUnexpectedAt};
 ghost use Rattle.model_core.specs.Text.Openings.{front_to_end, too_deep_at, HasFewOpenings};
 ghost use Rattle.text_laws.specs.LanguageReader.{language_reader, text_and_rest, text_read};
-ghost use Rattle.model_lex.specs.Lexemes.{lexemes};
+ghost use Rattle.model_lex.specs.PiecesOfText.{pieces_lexemes};
 ghost use Rattle.model_read.specs.Beginnings.{with_vertices, model_beginning};
 ghost use Rattle.model_read.specs.ReadCalls.{Returned};
 ghost use Rattle.model_read.specs.Inner.Versions.{written_version};
@@ -20,7 +20,7 @@ use crate::openings::{first_too_deep, front_length};
 use crate::phrase::{at_least_one, many};
 use crate::stop::{Stop, placed};
 use model_core::{RawModel, RawNumber, Symbol, Word};
-use model_lex::{ParseError, Tokens, tokens_stand_in_order};
+use model_lex::{ParseError, Pieces, pieces_stand_in_text};
 use sig_base::{Held, List, OPENINGS_MAX};
 use std::alloc::Global;
 
@@ -113,55 +113,55 @@ fn whole(alloc: Global, cursor: &mut Cursor<'_>) -> Result<RawModel, Stop>
     Ok(model.free())
 }
 
-/// The model that all of the tokens spell, with its names, numbers and places as they are written.
+/// The model that all of the pieces spell, with its names, numbers and places as they are written.
 ///
 /// `TooDeep` comes first: it tells the first opening that is more than a part may have. `Unexpected` tells the first byte
 /// from which no continuation makes a model text: that of a token, or the text's length.
-pub fn parse(alloc: Global, tokens: &Tokens<'_>) -> Result<RawModel, ParseError>
+pub fn parse_pieces(alloc: Global, pieces: &Pieces<'_>) -> Result<RawModel, ParseError>
     // What is read is spelled, with few openings.
-    ensures ok { IfOk result (λ m. IsText (lexemes tokens.now) (written_model m) × HasFewOpenings OPENINGS_MAX (lexemes tokens.now)) }
-    // What is refused is spelled by no model, and this is where the tokens stop to begin one.
+    ensures ok { IfOk result (λ m. IsText (pieces_lexemes pieces.now) (written_model m) × HasFewOpenings OPENINGS_MAX (pieces_lexemes pieces.now)) }
+    // What is refused is spelled by no model, and this is where the pieces stop to begin one.
     ensures unexpected { (at : ℕ) → result ≡ Err (ParseError.Unexpected at)
-        → (too_deep_at OPENINGS_MAX (lexemes tokens.now) ≡ None) × IsUnexpectedAt tokens.now.text.now (lexemes tokens.now) at }
-    ensures too_deep { (at : ℕ) → result ≡ Err (ParseError.TooDeep at) → too_deep_at OPENINGS_MAX (lexemes tokens.now) ≡ Some at }
+        → (too_deep_at OPENINGS_MAX (pieces_lexemes pieces.now) ≡ None) × IsUnexpectedAt pieces.now.text.now (pieces_lexemes pieces.now) at }
+    ensures too_deep { (at : ℕ) → result ≡ Err (ParseError.TooDeep at) → too_deep_at OPENINGS_MAX (pieces_lexemes pieces.now) ≡ Some at }
 {
-    tokens_stand_in_order();
-    let list = tokens.list.as_slice();
+    pieces_stand_in_text();
+    let list = pieces.list.as_slice();
     if let Some(at) = first_too_deep(list, OPENINGS_MAX) {
         return Err(ParseError::TooDeep { at });
     }
-    let mut cursor = Cursor::new(tokens.text, list);
+    let mut cursor = Cursor::new(pieces.text, list);
     let read = whole(alloc, &mut cursor);
-    placed(read, &cursor, tokens.text.len())
+    placed(read, &cursor, pieces.text.len())
 }
 
-/// The model that the tokens from the place on begin with, and the place after its word `end`. A place is here the number
-/// of tokens before it.
+/// The model that the pieces from the place on begin with, and the place after its word `end`. A place is here the number
+/// of pieces before it.
 ///
-/// The errors are those of `parse`, for the tokens from the place up to and with the first word `end` there, or for all
+/// The errors are those of `parse_pieces`, for the pieces from the place up to and with the first word `end` there, or for all
 /// of them where there is none.
-pub fn parse_front(
+pub fn parse_front_pieces(
     alloc: Global,
-    tokens: &Tokens<'_>,
+    pieces: &Pieces<'_>,
     from: usize,
 ) -> Result<(RawModel, usize), ParseError>
-    requires { from ≤ length tokens.now.list }
-    // What is read stands there, with few openings, and what is left are the tokens from the answer's place on.
-    ensures ok { IfOk result (λ r. BeginsWithText (drop from (lexemes tokens.now)) (written_model r.0) (drop r.1 (lexemes tokens.now)) × HasFewOpenings OPENINGS_MAX (front_to_end (drop from (lexemes tokens.now)))) }
-    ensures inside { IfOk result (λ r. r.1 ≤ length tokens.now.list) }
+    requires { from ≤ length pieces.now.list }
+    // What is read stands there, with few openings, and what is left are the pieces from the answer's place on.
+    ensures ok { IfOk result (λ r. BeginsWithText (drop from (pieces_lexemes pieces.now)) (written_model r.0) (drop r.1 (pieces_lexemes pieces.now)) × HasFewOpenings OPENINGS_MAX (front_to_end (drop from (pieces_lexemes pieces.now)))) }
+    ensures inside { IfOk result (λ r. r.1 ≤ length pieces.now.list) }
     ensures unexpected { (at : ℕ) → result ≡ Err (ParseError.Unexpected at)
-        → (too_deep_at OPENINGS_MAX (front_to_end (drop from (lexemes tokens.now))) ≡ None) × IsUnexpectedAt tokens.now.text.now (front_to_end (drop from (lexemes tokens.now))) at }
+        → (too_deep_at OPENINGS_MAX (front_to_end (drop from (pieces_lexemes pieces.now))) ≡ None) × IsUnexpectedAt pieces.now.text.now (front_to_end (drop from (pieces_lexemes pieces.now))) at }
     ensures too_deep { (at : ℕ) → result ≡ Err (ParseError.TooDeep at)
-        → too_deep_at OPENINGS_MAX (front_to_end (drop from (lexemes tokens.now))) ≡ Some at }
+        → too_deep_at OPENINGS_MAX (front_to_end (drop from (pieces_lexemes pieces.now))) ≡ Some at }
 {
-    tokens_stand_in_order();
-    let some = &tokens.list.as_slice()[from..];
+    pieces_stand_in_text();
+    let some = &pieces.list.as_slice()[from..];
     if let Some(at) = first_too_deep(&some[..front_length(some)], OPENINGS_MAX) {
         return Err(ParseError::TooDeep { at });
     }
-    let mut cursor = Cursor::new(tokens.text, some);
+    let mut cursor = Cursor::new(pieces.text, some);
     let read = model(alloc, &mut cursor);
     let left = cursor.len();
-    let model = placed(read, &cursor, tokens.text.len())?;
-    Ok((model, tokens.list.len() - left))
+    let model = placed(read, &cursor, pieces.text.len())?;
+    Ok((model, pieces.list.len() - left))
 }

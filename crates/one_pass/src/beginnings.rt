@@ -7,7 +7,8 @@ ghost use Rattle.model_read.specs.InText.{AreInText};
 ghost use Rattle.one_pass.specs.Inner.ReadParts.{BeginAlike};
 
 use crate::not_read::NotRead;
-use model_core::{RawName, RawVertex, Token, TokenKind, Word};
+use model_core::{RawName, RawVertex, Word};
+use model_lex::{Piece, PieceKind};
 use model_read::{Cursor, begun_vertex};
 use sig_base::List;
 use sig_types::items;
@@ -17,13 +18,13 @@ use std::alloc::Global;
 pub(crate) fn beginnings(
     alloc: Global,
     text: &[u8],
-    tokens: &[Token],
+    tokens: &[Piece],
 ) -> Result<List<RawVertex>, NotRead>
     requires { AreInText text.now tokens.now }
 {
     let mut begun = List::new(alloc);
     for (place, token) in tokens.iter().enumerate() {
-        if token.kind == TokenKind::Word(Word::Vertex) {
+        if token.kind == PieceKind::Word(Word::Vertex) {
             let mut cursor = Cursor::new(text, &tokens[place..]);
             begun.push(begun_vertex(alloc, &mut cursor)?)?;
         }

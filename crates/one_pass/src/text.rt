@@ -14,7 +14,7 @@ ghost use Rattle.model_core.specs.Static.PartFaults.{use_faults, repeated_names,
 ghost use Rattle.model_core.specs.Static.ModelFaults.{model_meaning};
 ghost use Rattle.text_laws.specs.FormatReader.{took};
 ghost use Rattle.text_laws.specs.LanguageReader.{language_reader};
-ghost use Rattle.model_lex.specs.Lexemes.{lexemes};
+ghost use Rattle.model_lex.specs.PiecesOfText.{pieces_lexemes};
 ghost use Rattle.model_read.specs.Beginnings.{with_vertices, model_beginning};
 ghost use Rattle.static_laws.specs.Checked.{CheckedPart};
 ghost use Rattle.static_laws.specs.DeclaredFaults.{faults_of_declared};
@@ -27,7 +27,7 @@ use crate::refusing::refuse_told;
 use crate::versions::refuse_version;
 use crate::vertices::vertices;
 use model_core::{Model, RawModel, RawName, RawTable, RawVar, RawVertex, Var, Vertex, Watch, Word};
-use model_lex::{Tokens, tokens_stand_in_order};
+use model_lex::{Pieces, pieces_stand_in_text};
 use model_read::{Cursor, begun_model, first_too_deep};
 use sig_base::{List, OPENINGS_MAX, Table};
 use sig_types::{
@@ -168,18 +168,18 @@ fn text(
     Ok(model)
 }
 
-/// The model that all of the tokens spell, where it keeps every static rule. Where none is given, it isn't known that there
+/// The model that all of the pieces spell, where it keeps every static rule. Where none is given, it isn't known that there
 /// is none: `model_read` with `sig_types` tells what is wrong.
-pub fn read_model(alloc: Global, tokens: &Tokens<'_>) -> Result<Model, NotRead>
-    ensures { IfOk result (λ model. AreAccepted (lexemes tokens.now) (graph_of model)) }
+pub fn read_model(alloc: Global, pieces: &Pieces<'_>) -> Result<Model, NotRead>
+    ensures { IfOk result (λ model. AreAccepted (pieces_lexemes pieces.now) (graph_of model)) }
 {
-    tokens_stand_in_order();
-    let list = tokens.list.as_slice();
+    pieces_stand_in_text();
+    let list = pieces.list.as_slice();
     if let Some(_) = first_too_deep(list, OPENINGS_MAX) {
         return Err(NotRead::Unexpected);
     }
-    let expected = beginnings(alloc, tokens.text, list)?;
-    let mut cursor = Cursor::new(tokens.text, list);
+    let expected = beginnings(alloc, pieces.text, list)?;
+    let mut cursor = Cursor::new(pieces.text, list);
     let mut told = Told::new();
     let model = text(alloc, &mut cursor, expected, &mut told)?;
     refuse_told(&told)?;

@@ -7,6 +7,7 @@ mod certificate;
 mod chain_law;
 mod checking;
 mod reading;
+mod token_calls;
 mod without_vertices;
 
 pub use certificate::{print_certificate, put_certificate};
@@ -15,5 +16,6 @@ pub use chain_law::{
     verdicts_tell_chains,
 };
 pub use checking::{Verdict, check_chain};
-pub use reading::read_certificate;
+pub use reading::read_certificate_pieces;
+pub use token_calls::read_certificate;
 pub use without_vertices::known_without;

@@ -1,17 +1,17 @@
 //! Reads a certificate from the tokens of a text.
 
-ghost use Rattle.std.specs.Prelude.{◌≡◌, ◌≤◌, ℕ, drop, length, map, IfOk, Err};
+ghost use Rattle.std.specs.Prelude.{◌≡◌, ℕ, drop, map, IfOk, Err};
 ghost use Rattle.model_core.specs.Code.Views.{application_of};
 ghost use Rattle.model_core.specs.Text.Format.{Many, at_least_one};
 ghost use Rattle.model_core.specs.Text.CertificateText.{edge_number, plain_name_format, edge_number_format, prune_format, settle_format, drop_format, merge_format, slice_format, application_format, certificate_format, IsCertificate, IsNoCertificateAt};
 ghost use Rattle.text_laws.specs.FirstTokens.{first_sorts, begins_among};
 ghost use Rattle.text_laws.specs.FormatReader.{and_next, with_front, whole_read};
 ghost use Rattle.text_laws.specs.LanguageReader.{level_lookahead, language_reader};
-ghost use Rattle.model_lex.specs.Lexemes.{lexemes};
+ghost use Rattle.model_lex.specs.PiecesOfText.{pieces_lexemes};
 ghost use Rattle.model_read.specs.ReadCalls.{Returned};
 
 use model_core::{Application, Word};
-use model_lex::{ParseError, Tokens, tokens_stand_in_order};
+use model_lex::{ParseError, Pieces};
 use model_read::{Cursor, Stop, placed};
 use sig_base::{List, Name};
 use std::alloc::Global;
@@ -181,26 +181,23 @@ fn whole(alloc: Global, cursor: &mut Cursor<'_>) -> Result<List<Application>, St
     Ok(applications)
 }
 
-/// Reads the tokens from a place on, which all together must be one certificate, as its applications. A place is here the number of tokens
-/// before it.
+/// Reads the pieces from a place on, which all together must be one certificate, as its applications. A place is here the
+/// number of pieces before it.
 ///
-/// `Unexpected` tells the first byte from which no continuation makes a certificate: that of a token, or the text's length.
+/// `Unexpected` tells the first byte from which no continuation makes a certificate: that of a piece, or the text's length.
 /// No openings are counted.
-pub fn read_certificate(
+pub fn read_certificate_pieces(
     alloc: Global,
-    tokens: &Tokens<'_>,
+    pieces: &Pieces<'_>,
     from: usize,
 ) -> Result<List<Application>, ParseError>
-    requires { from ≤ length tokens.now.list }
     // What is read is a certificate of these applications.
-    ensures ok { IfOk result (λ applications. IsCertificate (drop from (lexemes tokens.now)) (map application_of applications)) }
-    // What is refused is none, and this is where the tokens stop to begin one.
-    ensures unexpected { (at : ℕ) → result ≡ Err (ParseError.Unexpected at) → IsNoCertificateAt tokens.now.text.now (drop from (lexemes tokens.now)) at }
+    ensures ok { IfOk result (λ applications. IsCertificate (drop from (pieces_lexemes pieces.now)) (map application_of applications)) }
+    // What is refused is none, and this is where the pieces stop to begin one.
+    ensures unexpected { (at : ℕ) → result ≡ Err (ParseError.Unexpected at) → IsNoCertificateAt pieces.now.text.now (drop from (pieces_lexemes pieces.now)) at }
     ensures never_too_deep { (at : ℕ) → result ≡ Err (ParseError.TooDeep at) → ⊥ }
 {
-    tokens_stand_in_order();
-    let some = &tokens.list.as_slice()[from..];
-    let mut cursor = Cursor::new(tokens.text, some);
+    let mut cursor = Cursor::from_place(pieces, from);
     let read = whole(alloc, &mut cursor);
-    placed(read, &cursor, tokens.text.len())
+    placed(read, &cursor, pieces.text.len())
 }

@@ -9,4 +9,7 @@ mod saving;
 pub use laws::{due_order_decides, saved_runs_resume, stopped_runs_go_on};
 pub use resumed::{Resumed, resume};
 pub use saving::save;
-pub use snapshot_text::{Snapshot, SnapshotError, print_snapshot, read_snapshot, snapshot_fault};
+pub use snapshot_text::{
+    Snapshot, SnapshotError, print_snapshot, read_snapshot, read_snapshot_pieces, snapshot_fault,
+    snapshot_fault_pieces,
+};

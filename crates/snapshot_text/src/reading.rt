@@ -1,4 +1,4 @@
-//! Reads the parts of a snapshot from tokens.
+//! Reads the parts of a snapshot from its tokens.
 
 ghost use Rattle.std.specs.Prelude.{◌≡◌, drop, map, IfOk};
 ghost use Rattle.std.specs.Option.{option_map};
@@ -9,15 +9,14 @@ ghost use Rattle.model_core.specs.Text.Language.{signed_format};
 ghost use Rattle.model_core.specs.Text.SnapshotGrammar.{stream_format, value_format, noted_format, carried_format, carries_format, pending_format, snapshot_format, IsSnapshot};
 ghost use Rattle.text_laws.specs.FormatReader.{and_next, with_front, whole_read};
 ghost use Rattle.text_laws.specs.LanguageReader.{language_reader};
-ghost use Rattle.model_lex.specs.Lexemes.{lexemes};
+ghost use Rattle.model_lex.specs.PiecesOfText.{pieces_lexemes};
 ghost use Rattle.model_read.specs.ReadCalls.{Returned};
 ghost use Rattle.snapshot_text.specs.Inner.SnapshotHead.{with_parts, head_format};
 ghost use Rattle.snapshot_text.specs.Inner.RawParts.{written_stream, written_value, written_noted, written_carried, written_pending, written_snapshot};
 
 use crate::parts::{RawCarried, RawHead, RawNoted, RawPending, RawSnapshot, RawStream, RawValue};
-use crate::skimming::tokens_from;
 use model_core::{RawSigned, Symbol, Word};
-use model_lex::{Tokens, tokens_stand_in_order};
+use model_lex::Pieces;
 use model_read::{Cursor, Stop, separated};
 use sig_base::{List, NoMemory};
 use std::alloc::Global;
@@ -256,19 +255,18 @@ fn whole<'t>(alloc: Global, cursor: &mut Cursor<'t>) -> Result<RawSnapshot<'t>, 
     Ok(raw)
 }
 
-/// Reads the tokens from a place on, which all together are one snapshot.
+/// Reads the pieces from a place on, which all together are one snapshot.
 pub(crate) fn raw_snapshot<'t>(
     alloc: Global,
-    tokens: &'t Tokens<'_>,
+    pieces: &'t Pieces<'_>,
     from: usize,
 ) -> Result<RawSnapshot<'t>, NoMemory>
-    ensures { IfOk result (λ raw. IsSnapshot (drop from (lexemes tokens.now)) (written_snapshot raw)) }
+    ensures { IfOk result (λ raw. IsSnapshot (drop from (pieces_lexemes pieces.now)) (written_snapshot raw)) }
 {
-    tokens_stand_in_order();
-    let mut cursor = Cursor::new(tokens.text, tokens_from(tokens.list.as_slice(), from));
+    let mut cursor = Cursor::from_place(pieces, from);
     match whole(alloc, &mut cursor) {
         Ok(raw) => Ok(raw),
-        // Not since the tokens aren't a snapshot, which is known of them.
+        // Not since the pieces aren't a snapshot, which is known of them.
         Err(_) => Err(NoMemory),
     }
 }

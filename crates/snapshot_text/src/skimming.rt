@@ -11,12 +11,12 @@ ghost use Rattle.model_core.specs.Text.SnapshotGrammar.{WrittenStream, WrittenVa
 ghost use Rattle.text_laws.specs.FirstTokens.{nullable, first_sorts, begins_among};
 ghost use Rattle.text_laws.specs.LanguageReader.{level_lookahead};
 ghost use Rattle.text_laws.specs.SomeTokens.{signed-some};
-ghost use Rattle.model_lex.specs.Lexemes.{lexemes};
+ghost use Rattle.model_lex.specs.PiecesOfText.{pieces_lexemes};
 ghost use Rattle.snapshot_text.specs.Inner.Skimming.{skims, skims_whole, Passed};
 ghost use Rattle.snapshot_text.specs.Inner.SomeParts.{stream-some, value-some, carried-some, pending-some};
 
-use model_core::{Symbol, Token, Word};
-use model_lex::{Tokens, tokens_stand_in_order};
+use model_core::{Symbol, Word};
+use model_lex::Pieces;
 use model_read::{Cursor, Stop};
 
 /// A part that a list may have many of, whose first token tells that it comes.
@@ -314,24 +314,16 @@ fn skim_whole(cursor: &mut Cursor<'_>) -> Result<(), Stop>
     Ok(())
 }
 
-/// The tokens from a place on. Behind the last there are none.
-pub(crate) fn tokens_from(tokens: &[Token], from: usize) -> &[Token]
-    ensures { result.now ≡ drop from tokens.now }
+/// Where the pieces from a place on stop to begin a snapshot, and `None` exactly where they all together are one. A place is
+/// here the number of pieces before it; what is told is the first byte from which no continuation makes a snapshot: that of
+/// a piece, or the text's length. No openings are counted.
+pub fn snapshot_fault_pieces(pieces: &Pieces<'_>, from: usize) -> Option<usize>
+    ensures none { result ≡ None → (w : WrittenSnapshot) × IsSnapshot (drop from (pieces_lexemes pieces.now)) w }
+    ensures some { (at : ℕ) → result ≡ Some at → IsNoSnapshotAt pieces.now.text.now (drop from (pieces_lexemes pieces.now)) at }
 {
-    &tokens[from.min(tokens.len())..]
-}
-
-/// Where the tokens from a place on stop to begin a snapshot, and `None` exactly where they all together are one. A place is
-/// here the number of tokens before it; what is told is the first byte from which no continuation makes a snapshot: that of
-/// a token, or the text's length. No openings are counted.
-pub fn snapshot_fault(tokens: &Tokens<'_>, from: usize) -> Option<usize>
-    ensures none { result ≡ None → (w : WrittenSnapshot) × IsSnapshot (drop from (lexemes tokens.now)) w }
-    ensures some { (at : ℕ) → result ≡ Some at → IsNoSnapshotAt tokens.now.text.now (drop from (lexemes tokens.now)) at }
-{
-    tokens_stand_in_order();
-    let mut cursor = Cursor::new(tokens.text, tokens_from(tokens.list.as_slice(), from));
+    let mut cursor = Cursor::from_place(pieces, from);
     match skim_whole(&mut cursor) {
         Ok(()) => None,
-        Err(_) => Some(cursor.place(tokens.text.len())),
+        Err(_) => Some(cursor.place(pieces.text.len())),
     }
 }

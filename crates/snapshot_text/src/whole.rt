@@ -7,7 +7,7 @@ ghost use Rattle.model_core.specs.EventGraph.{EventVertex};
 ghost use Rattle.model_core.specs.Code.Views.{graph_of};
 ghost use Rattle.model_core.specs.Text.SnapshotGrammar.{WrittenSnapshot, IsSnapshot};
 ghost use Rattle.model_core.specs.Saved.GoodSnapshots.{bad_at, saved_run};
-ghost use Rattle.model_lex.specs.Lexemes.{lexemes};
+ghost use Rattle.model_lex.specs.PiecesOfText.{pieces_lexemes};
 
 use crate::judging::judged;
 use crate::laws::snapshots_have_one_reading;
@@ -15,26 +15,26 @@ use crate::reading::raw_snapshot;
 use crate::snapshot::Snapshot;
 use crate::snapshot_error::SnapshotError;
 use model_core::Model;
-use model_lex::Tokens;
+use model_lex::Pieces;
 use std::alloc::Global;
 
-/// Reads the tokens from a place on, which all together are one snapshot, as `snapshot_fault` tells: the saved run that it
-/// stands for, if it is good for the model. A place is here the number of tokens before it; no vertex of the model has more
-/// parameters than the limit.
-pub fn read_snapshot(
+/// Reads the pieces from a place on, which all together are one snapshot, as `snapshot_fault_pieces` tells: the saved run
+/// that it stands for, if it is good for the model. A place is here the number of pieces before it; no vertex of the model
+/// has more parameters than the limit.
+pub fn read_snapshot_pieces(
     alloc: Global,
     model: &Model,
-    tokens: &Tokens<'_>,
+    pieces: &Pieces<'_>,
     from: usize,
 ) -> Result<Snapshot, SnapshotError>
     requires few { AllByRecursion (λ (v : EventVertex). length v.parameters ≤ PARAMETERS_MAX) (graph_of model.now).vertices }
-    requires spelled { (w : WrittenSnapshot) × IsSnapshot (drop from (lexemes tokens.now)) w }
+    requires spelled { (w : WrittenSnapshot) × IsSnapshot (drop from (pieces_lexemes pieces.now)) w }
     // What is read is good, and the saved run that it stands for.
-    ensures good { IfOk result (λ snapshot. (w : WrittenSnapshot) → IsSnapshot (drop from (lexemes tokens.now)) w → (bad_at (graph_of model.now) w ≡ None) × (snapshot ≡ saved_run (graph_of model.now) w)) }
+    ensures good { IfOk result (λ snapshot. (w : WrittenSnapshot) → IsSnapshot (drop from (pieces_lexemes pieces.now)) w → (bad_at (graph_of model.now) w ≡ None) × (snapshot ≡ saved_run (graph_of model.now) w)) }
     // What is refused isn't good, and this is where its first part that breaks a rule begins.
-    ensures bad { (at : ℕ) → result ≡ Err (SnapshotError.Bad at) → (w : WrittenSnapshot) → IsSnapshot (drop from (lexemes tokens.now)) w → bad_at (graph_of model.now) w ≡ Some at }
+    ensures bad { (at : ℕ) → result ≡ Err (SnapshotError.Bad at) → (w : WrittenSnapshot) → IsSnapshot (drop from (pieces_lexemes pieces.now)) w → bad_at (graph_of model.now) w ≡ Some at }
 {
     snapshots_have_one_reading();
-    let raw = raw_snapshot(alloc, tokens, from)?;
+    let raw = raw_snapshot(alloc, pieces, from)?;
     judged(alloc, model, &raw)
 }

@@ -3,7 +3,7 @@
 ghost use Rattle.std.specs.Prelude.{◌≤◌, length};
 
 use describe::describe;
-use model_lex::tokens;
+use model_lex::pieces;
 use one_pass::read_model;
 use sig_base::{NoMemory, TEXT_MAX, Text};
 use std::alloc::Global;
@@ -79,8 +79,8 @@ After LEAVE, every pending LEAVE is cancelled.
 fn described(alloc: Global, text: &[u8]) -> Result<Text, NoMemory>
     requires { length text.now ≤ TEXT_MAX }
 {
-    let tokens = tokens(alloc, text).map_err(|_| NoMemory)?;
-    match read_model(alloc, &tokens) {
+    let pieces = pieces(alloc, text).map_err(|_| NoMemory)?;
+    match read_model(alloc, &pieces) {
         Ok(model) => describe(alloc, &model),
         Err(_) => Err(NoMemory),
     }

@@ -5,7 +5,7 @@ ghost use Rattle.model_core.specs.Static.Reading.{IsValid};
 ghost use Rattle.model_core.specs.Code.Views.{graph_of};
 
 use model_core::{Model, RuleError};
-use model_lex::tokens;
+use model_lex::pieces;
 use model_print::print;
 use one_pass::read_model;
 use range_infer::{RangeVerdict, VarRange, check_ranges, infer, narrow, narrow_to_needed};
@@ -56,8 +56,8 @@ fn valid_model(alloc: Global, text: &[u8]) -> Result<Model, NoMemory>
     requires { length text.now ≤ TEXT_MAX }
     ensures { IfOk result (λ model. IsValid (graph_of model)) }
 {
-    let tokens = tokens(alloc, text).map_err(|_| NoMemory)?;
-    match read_model(alloc, &tokens) {
+    let pieces = pieces(alloc, text).map_err(|_| NoMemory)?;
+    match read_model(alloc, &pieces) {
         Ok(model) => Ok(model),
         Err(_) => Err(NoMemory),
     }

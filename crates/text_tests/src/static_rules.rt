@@ -1,7 +1,7 @@
 //! Which static fault is told of a text, and where.
 
 use model_core::{Model, RawModel, StaticKind, same_model};
-use model_lex::{ParseError, tokens};
+use model_lex::{ParseError, pieces, tokens};
 use model_read::parse;
 use one_pass::read_model;
 use sig_types::{StaticError, check};
@@ -23,8 +23,8 @@ pub fn checked(alloc: Global, text: &[u8]) -> Result<Model, StaticError> {
 
 /// The model that is read of a text in one pass.
 fn read_at_once(alloc: Global, text: &[u8]) -> Option<Model> {
-    let tokens = tokens(alloc, text).ok()?;
-    read_model(alloc, &tokens).ok()
+    let pieces = pieces(alloc, text).ok()?;
+    read_model(alloc, &pieces).ok()
 }
 
 /// The fault that is told of a text.

@@ -1,7 +1,7 @@
 -- The first part that isn't spelled tells what there is to complain of.
 use Rattle.std.proofs.Common.{Err, sym, ◌∙◌, ap, drop}
 use Rattle.std.proofs.lemmas.Result.{err_from_is_err_and}
-use Rattle.model_lex.specs.Lexemes.{lexemes}
+use Rattle.model_lex.specs.PiecesOfText.{pieces_lexemes}
 use Rattle.model_core.specs.Code.WrittenViews.{written_model}
 use Rattle.job_answers.specs.declared.reading_error.ReadingError.TheVariants.{At}
 use Rattle.job_answers.specs.Inner.Refusals.{unread}
@@ -12,33 +12,33 @@ use Rattle.job_answers.proofs.document_reading.parts.Goals as goal
 
 pub returns-in_err-first-clause-complaint : goal.returns-in_err-first-clause-complaint
 returns-in_err-first-clause-complaint c = λ what at e.
-    let tokens = c.args.tokens.now in
+    let pieces = c.args.pieces.now in
     let error = c.in_err-first.field-0.0 in
     let told = c.in_err-first.ensures in
     let p = err_from_is_err_and c.from_residual.result c.from_residual.ensures.1 in
-    of_tokens (lexemes tokens) tokens.are_its
+    of_tokens (pieces_lexemes pieces) pieces.are_its
     (in_first
-    (of_unread (IsFrontComplaint tokens.text.now (lexemes tokens)) error (λ i is. told.unexpected i (ap (λ x. Err x) is)) (λ i is. told.too_deep i (ap (λ x. Err x) is))
+    (of_unread (IsFrontComplaint pieces.text.now (pieces_lexemes pieces)) error (λ i is. told.unexpected i (ap (λ x. Err x) is)) (λ i is. told.too_deep i (ap (λ x. Err x) is))
     what at (same_error c.from_residual.result p.0 (unread error) (At what at) p.1 p.2 e)))
 
 pub returns-in-Err-clause-complaint : goal.returns-in-Err-clause-complaint
 returns-in-Err-clause-complaint c = λ what at e.
-    let tokens = c.args.tokens.now in
+    let pieces = c.args.pieces.now in
     let told = c.in-Err.ensures in
-    let left = drop c.in_ok-first.behind_first (lexemes tokens) in
-    of_tokens (lexemes tokens) tokens.are_its
+    let left = drop c.in_ok-first.behind_first (pieces_lexemes pieces) in
+    of_tokens (pieces_lexemes pieces) pieces.are_its
     (in_second (written_model c.in_ok-first.first) left (record { derived = c.in_ok-first.ensures.ok.0; few_openings = c.in_ok-first.ensures.ok.1 })
-    (of_unread (IsFrontComplaint tokens.text.now left) c.in-Err.error (λ i is. told.unexpected i (ap (λ x. Err x) is)) (λ i is. told.too_deep i (ap (λ x. Err x) is))
+    (of_unread (IsFrontComplaint pieces.text.now left) c.in-Err.error (λ i is. told.unexpected i (ap (λ x. Err x) is)) (λ i is. told.too_deep i (ap (λ x. Err x) is))
     what at (sym c.from.ensures ∙ one_error c.from.result (At what at) e)))
 
-pub returns-in-Err-read_certificate-clause-complaint : goal.returns-in-Err-read_certificate-clause-complaint
-returns-in-Err-read_certificate-clause-complaint c = λ what at e.
-    let tokens = c.args.tokens.now in
-    let told = c.in-Err-read_certificate.ensures in
-    let last = drop c.in-Ok.read.1 (lexemes tokens) in
-    of_tokens (lexemes tokens) tokens.are_its
-    (in_certificate (written_model c.in_ok-first.first) (written_model c.in-Ok.read.0) (drop c.in_ok-first.behind_first (lexemes tokens)) last
+pub returns-in-Err-read_certificate_pieces-clause-complaint : goal.returns-in-Err-read_certificate_pieces-clause-complaint
+returns-in-Err-read_certificate_pieces-clause-complaint c = λ what at e.
+    let pieces = c.args.pieces.now in
+    let told = c.in-Err-read_certificate_pieces.ensures in
+    let last = drop c.in-Ok.read.1 (pieces_lexemes pieces) in
+    of_tokens (pieces_lexemes pieces) pieces.are_its
+    (in_certificate (written_model c.in_ok-first.first) (written_model c.in-Ok.read.0) (drop c.in_ok-first.behind_first (pieces_lexemes pieces)) last
     (record { derived = c.in_ok-first.ensures.ok.0; few_openings = c.in_ok-first.ensures.ok.1 })
     (record { derived = c.in-Ok.ensures.ok.0; few_openings = c.in-Ok.ensures.ok.1 })
-    (of_unread (IsCertificateComplaint tokens.text.now last) c.in-Err-read_certificate.error (λ i is. told.unexpected i (ap (λ x. Err x) is)) (λ i is. absurd (told.never_too_deep i (ap (λ x. Err x) is)))
-    what at (sym c.from-in-Err-read_certificate.ensures ∙ one_error c.from-in-Err-read_certificate.result (At what at) e)))
+    (of_unread (IsCertificateComplaint pieces.text.now last) c.in-Err-read_certificate_pieces.error (λ i is. told.unexpected i (ap (λ x. Err x) is)) (λ i is. absurd (told.never_too_deep i (ap (λ x. Err x) is)))
+    what at (sym c.from-in-Err-read_certificate_pieces.ensures ∙ one_error c.from-in-Err-read_certificate_pieces.result (At what at) e)))

@@ -3,4 +3,4 @@ use Rattle.job_answers.specs.DocumentComplaints.{IsDocumentComplaint}
 use Rattle.job_answers.proofs.document_reading.written_parts.Goals as goal
 
 pub returns-clause-complaint : goal.returns-clause-complaint
-returns-clause-complaint c = λ what at e. subst (λ t. IsDocumentComplaint t what at) c.in_ok-tokens.ensures.ok.0 (c.parts.ensures.complaint what at e)
+returns-clause-complaint c = λ what at e. subst (λ t. IsDocumentComplaint t what at) c.in_ok-pieces.ensures.ok.0 (c.parts.ensures.complaint what at e)

@@ -8,7 +8,7 @@ use Rattle.tally_report.specs.Totalling.{RunTotals, no_totals}
 use Rattle.answer_delivery.specs.declared.status.Failure.{Failure}
 use Rattle.job_answers.specs.ReplicateAnswer.{report}
 use Rattle.job_answers.specs.Inner.ReportSteps.{left_from, IsWrittenUpTo}
-use Rattle.answer_delivery.specs.Writing.{Written}
+use Rattle.answer_delivery.specs.DeliverySteps.{Written}
 use Rattle.job_answers.specs.Inner.WritingSteps.{InPieces}
 use Rattle.job_answers.proofs.PiecesWritten.{at_last, at_once, broken_further, further, passed_failure}
 use Rattle.job_answers.proofs.ReplicateLaws.{Left, header_first}

@@ -1,9 +1,9 @@
-use Rattle.std.proofs.Common.{ℕ, ◌+◌, ◌-◌, List, Result, sym, ap, ◌∙◌, subst, arith}
+use Rattle.std.proofs.Common.{ℕ, ◌+◌, List, Result, sym, ap, ◌∙◌, subst, arith}
 use Rattle.model_core.specs.Code.Views.{graph_of}
 use Rattle.tally_report.specs.ReportText.{run_rows, total_rows}
 use Rattle.answer_delivery.specs.declared.status.Failure.{Failure}
 use Rattle.job_answers.specs.Inner.ReportSteps.{left_from}
-use Rattle.answer_delivery.specs.Writing.{Written}
+use Rattle.answer_delivery.specs.DeliverySteps.{Written}
 use Rattle.job_answers.specs.Inner.WritingSteps.{InPieces}
 use Rattle.job_answers.proofs.PiecesWritten.{at_last, at_once, passed_failure, passed_memory, stopped}
 use Rattle.job_answers.proofs.ReplicateLaws.{Left, run_broken, run_told, totals_last}

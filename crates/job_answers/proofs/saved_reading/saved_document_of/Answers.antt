@@ -14,7 +14,7 @@ all_good text (Ok d) reads = good_reading text (graph_of d.model) d.snapshot rea
 all_good text (Err e) reads = tt
 
 pub returns-clause-good : goal.returns-clause-good
-returns-clause-good c = all_good c.in_ok-tokens.tokens.text.now c.saved_in.result c.saved_in.ensures.ok
+returns-clause-good c = all_good c.in_ok-pieces.pieces.text.now c.saved_in.result c.saved_in.ensures.ok
 
 pub returns-clause-complaint : goal.returns-clause-complaint
-returns-clause-complaint c = λ what at e. subst (λ t. IsSavedComplaint t what at) c.in_ok-tokens.ensures.ok.0 (c.saved_in.ensures.complaint what at e)
+returns-clause-complaint c = λ what at e. subst (λ t. IsSavedComplaint t what at) c.in_ok-pieces.ensures.ok.0 (c.saved_in.ensures.complaint what at e)

@@ -3,7 +3,7 @@ use Rattle.std.proofs.Common.{Err, refl, sym, ◌∙◌, ap, drop}
 use Rattle.std.proofs.lemmas.Result.{err_from_is_err_and}
 use Rattle.model_core.specs.Code.Views.{graph_of}
 use Rattle.model_core.specs.Code.WrittenViews.{written_model}
-use Rattle.model_lex.specs.Lexemes.{lexemes}
+use Rattle.model_lex.specs.PiecesOfText.{pieces_lexemes}
 use Rattle.answer_delivery.specs.declared.complaint.Complaint.TheVariants as complaints
 use Rattle.job_answers.specs.declared.reading_error.ReadingError.TheVariants.{At}
 use Rattle.job_answers.specs.SavedComplaints.{IsSavedComplaint, of_model, of_snapshot}
@@ -12,8 +12,8 @@ use Rattle.job_answers.proofs.SavedModels.{few_parameters}
 use Rattle.job_answers.proofs.ToldErrors.{of_unaccepted, same_complaint}
 use Rattle.job_answers.proofs.saved_reading.saved_in.Goals as goal
 
-pub read_snapshot-requires-clause-few : goal.read_snapshot-requires-clause-few
-read_snapshot-requires-clause-few c = few_parameters (written_model c.in_ok-raw.raw) (graph_of c.in-Ok.model) c.in-Ok.ensures.accepted
+pub read_snapshot_pieces-requires-clause-few : goal.read_snapshot_pieces-requires-clause-few
+read_snapshot_pieces-requires-clause-few c = few_parameters (written_model c.in_ok-raw.raw) (graph_of c.in-Ok.model) c.in-Ok.ensures.accepted
 
 pub returns-in_err-raw-clause-complaint : goal.returns-in_err-raw-clause-complaint
 returns-in_err-raw-clause-complaint c = λ what at e.
@@ -22,23 +22,23 @@ returns-in_err-raw-clause-complaint c = λ what at e.
 
 pub returns-in-Err-clause-complaint : goal.returns-in-Err-clause-complaint
 returns-in-Err-clause-complaint c = λ what at e.
-    let tokens = c.args.tokens.now in
+    let pieces = c.args.pieces.now in
     let snapshot = c.in_ok-raw.ensures.ends in
-    of_unaccepted (IsSavedComplaint tokens.text.now) c.in-Err.error
-    (λ kind i is. of_model (written_model c.in_ok-raw.raw) snapshot.0 (record { tokens = lexemes tokens; cut = tokens.are_its; behind = drop c.in_ok-raw.behind (lexemes tokens); begins = c.in_ok-raw.ensures.begins; ends = snapshot.1 }) kind refl
+    of_unaccepted (IsSavedComplaint pieces.text.now) c.in-Err.error
+    (λ kind i is. of_model (written_model c.in_ok-raw.raw) snapshot.0 (record { tokens = pieces_lexemes pieces; cut = pieces.are_its; behind = drop c.in_ok-raw.behind (pieces_lexemes pieces); begins = c.in_ok-raw.ensures.begins; ends = snapshot.1 }) kind refl
     (c.in-Err.ensures.told kind i (ap (λ x. Err x) is)))
     what at (sym c.from.ensures ∙ one_error c.from.result (At what at) e)
 
-pub returns-in-Ok-read_snapshot-clause-ok : goal.returns-in-Ok-read_snapshot-clause-ok
-returns-in-Ok-read_snapshot-clause-ok c =
-    let tokens = c.args.tokens.now in
+pub returns-in-Ok-read_snapshot_pieces-clause-ok : goal.returns-in-Ok-read_snapshot_pieces-clause-ok
+returns-in-Ok-read_snapshot_pieces-clause-ok c =
+    let pieces = c.args.pieces.now in
     let snapshot = c.in_ok-raw.ensures.ends in
-    let good = c.in-Ok-read_snapshot.ensures.good snapshot.0 snapshot.1 in
+    let good = c.in-Ok-read_snapshot_pieces.ensures.good snapshot.0 snapshot.1 in
     record {
       fits = c.requires;
       model = written_model c.in_ok-raw.raw;
       snapshot = snapshot.0;
-      spells = record { tokens = lexemes tokens; cut = tokens.are_its; behind = drop c.in_ok-raw.behind (lexemes tokens); begins = c.in_ok-raw.ensures.begins; ends = snapshot.1 };
+      spells = record { tokens = pieces_lexemes pieces; cut = pieces.are_its; behind = drop c.in_ok-raw.behind (pieces_lexemes pieces); begins = c.in_ok-raw.ensures.begins; ends = snapshot.1 };
       accepted = c.in-Ok.ensures.accepted;
       good = good.0;
       stands = sym good.1;
@@ -46,9 +46,9 @@ returns-in-Ok-read_snapshot-clause-ok c =
 
 pub returns-in-Err-Bad-clause-complaint : goal.returns-in-Err-Bad-clause-complaint
 returns-in-Err-Bad-clause-complaint c = λ what at e.
-    let tokens = c.args.tokens.now in
+    let pieces = c.args.pieces.now in
     let place = c.in-Err-Bad.at in
     let snapshot = c.in_ok-raw.ensures.ends in
-    same_complaint (IsSavedComplaint tokens.text.now) complaints.BadSnapshot what place at (one_error (At complaints.BadSnapshot place) (At what at) e)
-    (of_snapshot (written_model c.in_ok-raw.raw) snapshot.0 (record { tokens = lexemes tokens; cut = tokens.are_its; behind = drop c.in_ok-raw.behind (lexemes tokens); begins = c.in_ok-raw.ensures.begins; ends = snapshot.1 })
-    (graph_of c.in-Ok.model) c.in-Ok.ensures.accepted refl (c.read_snapshot.ensures.bad place (c.in-Err-Bad.is ∙ ap (λ x. Err x) c.in-Err-Bad.field-0-is) snapshot.0 snapshot.1))
+    same_complaint (IsSavedComplaint pieces.text.now) complaints.BadSnapshot what place at (one_error (At complaints.BadSnapshot place) (At what at) e)
+    (of_snapshot (written_model c.in_ok-raw.raw) snapshot.0 (record { tokens = pieces_lexemes pieces; cut = pieces.are_its; behind = drop c.in_ok-raw.behind (pieces_lexemes pieces); begins = c.in_ok-raw.ensures.begins; ends = snapshot.1 })
+    (graph_of c.in-Ok.model) c.in-Ok.ensures.accepted refl (c.read_snapshot_pieces.ensures.bad place (c.in-Err-Bad.is ∙ ap (λ x. Err x) c.in-Err-Bad.field-0-is) snapshot.0 snapshot.1))

@@ -1,7 +1,7 @@
 -- What isn't parsed or isn't accepted is told as it was.
 use Rattle.std.proofs.Common.{Err, ap}
 use Rattle.std.proofs.lemmas.Result.{err_from_is_err_and}
-use Rattle.model_lex.specs.Lexemes.{lexemes}
+use Rattle.model_lex.specs.PiecesOfText.{pieces_lexemes}
 use Rattle.job_answers.specs.declared.reading_error.ReadingError.TheVariants.{At}
 use Rattle.answer_delivery.specs.Complaints.{IsComplaint}
 use Rattle.job_answers.specs.Inner.Refusals.{unread}
@@ -11,10 +11,10 @@ use Rattle.job_answers.proofs.written_reading.read_as_written.Goals as goal
 
 pub returns-in_err-raw-clause-complaint : goal.returns-in_err-raw-clause-complaint
 returns-in_err-raw-clause-complaint c = λ what at e.
-    let tokens = c.args.tokens.now in
+    let pieces = c.args.pieces.now in
     let error = c.in_err-raw.field-0.0 in
     let p = err_from_is_err_and c.from_residual.result c.from_residual.ensures.1 in
-    of_unread (IsComplaint tokens.text.now) error
-    (λ i is. let told = c.in_err-raw.ensures.unexpected i (ap (λ x. Err x) is) in (lexemes tokens, tokens.are_its, told.0, told.1))
-    (λ i is. (lexemes tokens, tokens.are_its, c.in_err-raw.ensures.too_deep i (ap (λ x. Err x) is)))
+    of_unread (IsComplaint pieces.text.now) error
+    (λ i is. let told = c.in_err-raw.ensures.unexpected i (ap (λ x. Err x) is) in (pieces_lexemes pieces, pieces.are_its, told.0, told.1))
+    (λ i is. (pieces_lexemes pieces, pieces.are_its, c.in_err-raw.ensures.too_deep i (ap (λ x. Err x) is)))
     what at (same_error c.from_residual.result p.0 (unread error) (At what at) p.1 p.2 e)

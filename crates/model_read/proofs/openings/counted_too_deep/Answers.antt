@@ -1,6 +1,6 @@
 -- A token ends a part, or opens, or neither.
 use Rattle.std.proofs.Common.{map, sym, ap, arith}
-use Rattle.model_core.specs.Code.TokenViews.{lexeme_of}
+use Rattle.model_lex.specs.PieceViews.{piece_of}
 use Rattle.text_laws.proofs.OpeningLaws.{deep-is_counted}
 use Rattle.model_read.specs.Inner.CountedTokens.{is_end, opens}
 use Rattle.model_read.proofs.OpeningSteps.{behind-end, behind-opening, behind-other}
@@ -8,7 +8,7 @@ use Rattle.model_read.proofs.openings.counted_too_deep.Goals.{in-Opening+else-ro
 use Rattle.model_read.proofs.openings.counted_too_deep.Goals as goal
 
 pub loop-token-init : goal.loop-token-init
-loop-token-init c = λ text. sym (deep-is_counted c.args.limit (map (lexeme_of text) c.args.tokens.now))
+loop-token-init c = λ text. sym (deep-is_counted c.args.limit (map (piece_of text) c.args.tokens.now))
 
 pub loop-token-preserved : goal.loop-token-preserved
 loop-token-preserved c = λ text.

@@ -1,17 +1,17 @@
 -- Nothing was told of the model, so it is accepted.
 use Rattle.std.proofs.Common.{◌≡◌, [], map, sym, ap, ◌∙◌}
 use Rattle.sig_base.specs.declared.limits.TheConstants.{OPENINGS_MAX}
-use Rattle.model_core.specs.Code.TokenViews.{lexeme_of}
+use Rattle.model_lex.specs.PieceViews.{piece_of}
 use Rattle.text_laws.proofs.Formats.TextLaws.{whole-is_spelled}
 use Rattle.text_laws.proofs.OpeningLaws.{none-is_few}
-use Rattle.model_lex.specs.Lexemes.{lexemes}
+use Rattle.model_lex.specs.PiecesOfText.{pieces_lexemes}
 use Rattle.one_pass.proofs.text.read_model.Goals as goal
 
 pub returns : goal.returns
 returns c =
-    let text = c.args.tokens.now.text.now in
-    let ls = lexemes c.args.tokens.now in
-    let are : c.new-cursor.result ≡ ls = c.new-cursor.ensures ∙ ap (map (lexeme_of text)) c.as_slice-list.ensures in
+    let text = c.args.pieces.now.text.now in
+    let ls = pieces_lexemes c.args.pieces.now in
+    let are : c.new-cursor.result ≡ ls = c.new-cursor.ensures ∙ ap (map (piece_of text)) c.as_slice-list.ensures in
     let read = rw are at c.in_ok-model.ensures in
     record {
       written = read.written;

@@ -1,5 +1,5 @@
 -- The first token is the name, and the others are left.
-use Rattle.std.proofs.Common.{refl, sym, ap, ◌∙◌}
+use Rattle.std.proofs.Common.{sym, ap, ◌∙◌}
 use Rattle.model_core.specs.Text.Format.{any_name}
 use Rattle.text_laws.specs.LanguageReader.{language_reader}
 use Rattle.model_read.proofs.FirstToken.{others_in_text, name-first}
@@ -11,4 +11,4 @@ invariant_of-self c = others_in_text c.self.inside.text.now c.self.inside.tokens
 pub returns-clause-reads : goal.returns-clause-reads
 returns-clause-reads c =
     ap (language_reader any_name) (sym c.self.view_is)
-    ∙ name-first c.self.inside.text.now c.self.inside.tokens.now _ _ c.in-len1-up.len_at_least c.in-Name.is refl
+    ∙ name-first c.self.inside.text.now c.self.inside.tokens.now _ _ c.in-len1-up.len_at_least c.in-Name.is c.bytes_of-bytes.ensures

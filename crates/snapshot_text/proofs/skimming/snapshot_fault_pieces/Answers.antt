@@ -1,28 +1,26 @@
 -- What was passed over is a snapshot, and where it stopped none goes on.
-use Rattle.std.proofs.Common.{◌≡◌, ℕ, drop, map, refl, ap, ◌∙◌, subst, sym}
-use Rattle.std.proofs.lemmas.List.{drop-map}
+use Rattle.std.proofs.Common.{◌≡◌, ℕ, drop, refl, ◌∙◌, subst, sym}
 use Rattle.std.proofs.lemmas.Option.{same_Some}
 use Rattle.model_core.specs.Text.FirstWrong.{told_place}
 use Rattle.model_core.specs.Text.SnapshotGrammar.{snapshot_format, IsNoSnapshotAt}
-use Rattle.model_core.specs.Code.TokenViews.{lexeme_of}
-use Rattle.model_lex.specs.Lexemes.{lexemes}
+use Rattle.model_lex.specs.PiecesOfText.{pieces_lexemes}
 use Rattle.snapshot_text.specs.Inner.Skimming.{skims_whole, Passed}
 use Rattle.snapshot_text.proofs.PassingOver.{whole-is_snapshot, stuck-is_none}
-use Rattle.snapshot_text.proofs.skimming.snapshot_fault.Goals as goal
+use Rattle.snapshot_text.proofs.skimming.snapshot_fault_pieces.Goals as goal
 
 pub returns-in-Ok-clause-none : goal.returns-in-Ok-clause-none
 returns-in-Ok-clause-none c = λ e.
-    let text = c.args.tokens.now.text.now in
-    let tokens = drop c.args.from (lexemes c.args.tokens.now) in
-    let are : c.new-cursor.result ≡ tokens = c.new-cursor.ensures ∙ ap (map (lexeme_of text)) (c.tokens_from.ensures ∙ ap (drop c.args.from) c.as_slice.ensures) ∙ sym (drop-map (lexeme_of text) c.args.from c.args.tokens.now.list) in
+    let text = c.args.pieces.now.text.now in
+    let tokens = drop c.args.from (pieces_lexemes c.args.pieces.now) in
+    let are : c.from_place-cursor.result ≡ tokens = c.from_place-cursor.ensures in
     let passed : Passed c.skim_whole.result c.skim_whole.new.cursor (skims_whole snapshot_format tokens) = rw are at c.skim_whole.ensures in
     whole-is_snapshot tokens c.skim_whole.new.cursor (rw c.in-Ok.is at passed)
 
 pub returns-in-Err-clause-some : goal.returns-in-Err-clause-some
 returns-in-Err-clause-some c = λ at e.
-    let text = c.args.tokens.now.text.now in
-    let tokens = drop c.args.from (lexemes c.args.tokens.now) in
-    let are : c.new-cursor.result ≡ tokens = c.new-cursor.ensures ∙ ap (map (lexeme_of text)) (c.tokens_from.ensures ∙ ap (drop c.args.from) c.as_slice.ensures) ∙ sym (drop-map (lexeme_of text) c.args.from c.args.tokens.now.list) in
+    let text = c.args.pieces.now.text.now in
+    let tokens = drop c.args.from (pieces_lexemes c.args.pieces.now) in
+    let are : c.from_place-cursor.result ≡ tokens = c.from_place-cursor.ensures in
     let passed : Passed c.skim_whole.result c.skim_whole.new.cursor (skims_whole snapshot_format tokens) = rw are at c.skim_whole.ensures in
     let place : c.place.result ≡ told_place text c.skim_whole.new.cursor = c.place.ensures text refl in
     subst (λ (n : ℕ). IsNoSnapshotAt text tokens n) (sym place ∙ same_Some c.place.result at e)

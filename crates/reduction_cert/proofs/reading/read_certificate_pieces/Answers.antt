@@ -5,18 +5,17 @@ use Rattle.model_core.specs.Text.CertificateText.{certificate_format}
 use Rattle.model_core.specs.Text.FirstWrong.{told_place}
 use Rattle.text_laws.specs.FormatReader.{and_next, whole_read}
 use Rattle.text_laws.specs.LanguageReader.{language_reader}
-use Rattle.text_laws.proofs.TokensFrom.{some-are}
-use Rattle.model_lex.specs.Lexemes.{lexemes}
+use Rattle.model_lex.specs.PiecesOfText.{pieces_lexemes}
 use Rattle.model_read.specs.ReadCalls.{Returned, placed_at}
 use Rattle.reduction_cert.proofs.CertificateReads.{certificate-ok, certificate-unexpected, certificate-never_deep}
-use Rattle.reduction_cert.proofs.reading.read_certificate.Goals as goal
+use Rattle.reduction_cert.proofs.reading.read_certificate_pieces.Goals as goal
 
 pub returns : goal.returns
 returns c =
-    let text = c.args.tokens.now.text.now in
-    let tokens = drop c.args.from (lexemes c.args.tokens.now) in
+    let text = c.args.pieces.now.text.now in
+    let tokens = drop c.args.from (pieces_lexemes c.args.pieces.now) in
     let left = c.whole-read.new.cursor in
-    let are : c.new-cursor.result ≡ tokens = c.new-cursor.ensures ∙ some-are text c.as_slice.result.now c.args.tokens.now.list c.args.from c.as_slice.ensures in
+    let are : c.from_place-cursor.result ≡ tokens = c.from_place-cursor.ensures in
     let read : Returned (map application_of) c.whole-read.result left (and_next whole_read (language_reader certificate_format tokens)) = rw are at c.whole-read.ensures in
     let placed : c.placed.result ≡ placed_at (told_place text left) c.whole-read.result = c.placed.ensures text refl in
     record {
