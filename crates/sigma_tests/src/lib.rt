@@ -17,6 +17,8 @@ mod error_output;
 #[cfg(test)]
 mod failing_devices;
 #[cfg(test)]
+mod failing_once;
+#[cfg(test)]
 mod histories;
 #[cfg(test)]
 mod large_inputs;

@@ -4,7 +4,7 @@ use Rattle.std.specs.Prelude.{IfOk}
 use Rattle.std.specs.String.{string_bytes}
 use Rattle.sigma_top.specs.Promises.{KeepsPromises}
 use Rattle.sigma_top.specs.StatusTable.{Ends}
-use Rattle.sigma_cli.proofs.program.work.Goals as goal
+use Rattle.sigma_top.proofs.exit_status.work.Goals as goal
 
 of_words : {A B E : Type 0} (words : Result A E) (given : A) (items : A → B) (shown : B) (P : B → Type 0) → words ≡ Ok given → shown ≡ items given → P shown → IfOk words (λ w. P (items w))
 of_words (Ok w) given items shown P is lent h = let same : w ≡ given = cc in subst (λ v. P (items v)) (sym same) (subst P lent h)

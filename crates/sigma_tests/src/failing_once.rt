@@ -1,8 +1,8 @@
 //! An output that fails at one call and is sound at each other one: no call is made on it after the one that failed, though
 //! bytes are left in the buffer.
 
-use crate::buffered;
 use sig_base::{StdSink, StdSource};
+use sigma_top::buffered;
 use std::alloc::{AllocError, Global};
 use std::io;
 use std::io::{BufWriter, Error, ErrorKind, Write};

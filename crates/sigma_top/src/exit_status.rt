@@ -10,8 +10,9 @@ ghost use Rattle.answer_delivery.specs.Statuses.{exit_status_of, failure_line};
 ghost use Rattle.sigma_top.specs.Promises.{KeepsPromises};
 ghost use Rattle.sigma_top.specs.StatusTable.{Told, Ends};
 
+use crate::frame::sigma;
+use answer_delivery::Status;
 use sig_base::{Sink, Source, put};
-use sigma_top::{Status, sigma};
 use std::alloc::Global;
 use std::io;
 use std::io::ErrorKind;

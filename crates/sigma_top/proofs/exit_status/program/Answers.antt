@@ -7,7 +7,7 @@ use Rattle.answer_delivery.specs.declared.status.Status.{Status}
 use Rattle.answer_delivery.specs.declared.status.Status.TheVariants as statuses
 use Rattle.answer_delivery.specs.Statuses.{exit_status_of}
 use Rattle.sigma_top.specs.Promises.{KeepsPromises}
-use Rattle.sigma_cli.proofs.program.program.Goals as goal
+use Rattle.sigma_top.proofs.exit_status.program.Goals as goal
 
 is_done : (status : Status) → exit_status_of status ≡ 0 → status ≡ statuses.Done
 is_done statuses.Done e = refl
