@@ -1,47 +1,56 @@
--- What is left of lists where some variables go, one more element at a time.
-use Rattle.std.proofs.Common.{◌≡◌, ℕ, zero, suc, Bool, true, false, cond, List, [], ◌∷◌, ◌++◌, map, drop, refl, sym, ap, ◌∙◌, append_assoc}
-use Rattle.model_core.specs.EventGraph.{Expression}
+-- What is left of lists where some variables go, one element after the other.
+use Rattle.std.proofs.Common.{◌≡◌, ℕ, zero, suc, ◌<◌, Bool, true, false, cond, List, [], ◌∷◌, ◌++◌, map, drop, length, get_or, slice_get, Some, refl, sym, ap, ap₂, ◌∙◌, arith}
+use Rattle.model_core.specs.declared.vertex.Target.{Target}
+use Rattle.model_core.specs.EventGraph.{Expression, Location}
 use Rattle.model_core.specs.Rules.MarkedPlaces.{rank, is_marked, marked_of}
-use Rattle.model_core.specs.Rules.Slice.{expression_renumbered, kept_beside, values_left, parameters_left}
+use Rattle.model_core.specs.Rules.Slice.{expression_renumbered, location_renumbered, kept_beside, values_left, parameters_left, targets_left}
+use Rattle.model_core.specs.Code.Views.{location_of}
 use Rattle.mark_laws.proofs.Marks.{marked_of-drop}
 use Rattle.var_slicing.specs.Inner.Beside.{keeps_beside}
 
--- ---- any list, of which an element is put behind those before it where it stays
+-- ---- an element that stays or goes
 
-pub left-step : {A : Type 0} (x : A) (left after later total before : List A) (b c : Bool) → before ≡ cond b (x ∷ []) [] ++ later → b ≡ c → after ≡ left ++ cond c (x ∷ []) [] → left ++ before ≡ total → after ++ later ≡ total
-left-step x left after later total before b c splits same added so_far =
-    ap (λ ys. ys ++ later) (added ∙ ap (λ d. left ++ cond d (x ∷ []) []) (sym same)) ∙ append_assoc left (cond b (x ∷ []) []) later ∙ ap (λ ys. left ++ ys) (sym splits) ∙ so_far
+told : {A : Type 0} {b c : Bool} {x y : A} (rest : List A) → b ≡ c → x ≡ y → cond b (x ∷ []) [] ++ rest ≡ cond c (y ∷ []) [] ++ rest
+told {A} rest same is = ap₂ (λ (b : Bool) (x : A). cond b (x ∷ []) [] ++ rest) same is
+
+first_or_none : {A : Type 0} (b : Bool) (x : A) (xs : List A) → cond b (x ∷ xs) xs ≡ cond b (x ∷ []) [] ++ xs
+first_or_none true x xs = refl
+first_or_none false x xs = refl
 
 -- ---- values beside variables
 
-values-at : (marks : List Bool) (vars : List ℕ) (i : ℕ) (x : Expression) (rest : List Expression) → values_left marks (drop i vars) (x ∷ rest) ≡ cond (keeps_beside marks vars i) (expression_renumbered (rank marks) x ∷ []) [] ++ values_left marks (drop (suc i) vars) rest
-values-at marks [] zero x rest = refl
-values-at marks [] (suc i) x rest = refl
-values-at marks (v ∷ vs) zero x rest = tested (is_marked marks v) where
+values-first : (marks : List Bool) (vars : List ℕ) (i : ℕ) (x : Expression) (rest : List Expression) → values_left marks (drop i vars) (x ∷ rest) ≡ cond (keeps_beside marks vars i) (expression_renumbered (rank marks) x ∷ []) [] ++ values_left marks (drop (suc i) vars) rest
+values-first marks [] zero x rest = refl
+values-first marks [] (suc i) x rest = refl
+values-first marks (v ∷ vs) zero x rest = tested (is_marked marks v) where
   tested : (b : Bool) → map (expression_renumbered (rank marks)) (cond b (x ∷ kept_beside marks vs rest) (kept_beside marks vs rest)) ≡ cond b (expression_renumbered (rank marks) x ∷ []) [] ++ values_left marks vs rest
   tested true = refl
   tested false = refl
-values-at marks (v ∷ vs) (suc i) x rest = values-at marks vs i x rest
+values-first marks (v ∷ vs) (suc i) x rest = values-first marks vs i x rest
 
-pub values-more : (marks : List Bool) (vars : List ℕ) (xs : List Expression) (i : ℕ) (x : Expression) → drop i xs ≡ x ∷ drop (suc i) xs → values_left marks (drop i vars) (drop i xs) ≡ cond (keeps_beside marks vars i) (expression_renumbered (rank marks) x ∷ []) [] ++ values_left marks (drop (suc i) vars) (drop (suc i) xs)
-values-more marks vars xs i x is = ap (values_left marks (drop i vars)) is ∙ values-at marks vars i x (drop (suc i) xs)
+pub values-at : (marks : List Bool) (vars : List ℕ) (i : ℕ) (x y : Expression) (b : Bool) → b ≡ keeps_beside marks vars i → y ≡ expression_renumbered (rank marks) x → (rest : List Expression) → values_left marks (drop i vars) (x ∷ rest) ≡ cond b (y ∷ []) [] ++ values_left marks (drop (suc i) vars) rest
+values-at marks vars i x y b stays is rest = values-first marks vars i x rest ∙ told _ (sym stays) (sym is)
 
 pub values-none : (marks : List Bool) (vars : List ℕ) → values_left marks vars [] ≡ []
 values-none marks [] = refl
 values-none marks (v ∷ vs) = refl
 
--- ---- parameters
+-- the variable of a target
+pub variable_there : (ts : List Target) (k : ℕ) (t : Target) → k < length ts → t ≡ get_or ts k t → slice_get (map (λ (l : Location). l.variable) (map location_of ts)) k ≡ Some t.var
+variable_there [] k t there is = absurd (omega arith)
+variable_there (u ∷ ts) zero t there is = ap (λ (x : Target). Some x.var) (sym is)
+variable_there (u ∷ ts) (suc k) t there is = variable_there ts k t (omega arith) is
 
-pub parameters-more : (marks : List Bool) (params : List ℕ) (i v : ℕ) → drop i params ≡ v ∷ drop (suc i) params → parameters_left marks (drop i params) ≡ cond (is_marked marks v) (rank marks v ∷ []) [] ++ parameters_left marks (drop (suc i) params)
-parameters-more marks params i v is = ap (parameters_left marks) is ∙ tested (is_marked marks v) where
-  tested : (b : Bool) → cond b (rank marks v ∷ parameters_left marks (drop (suc i) params)) (parameters_left marks (drop (suc i) params)) ≡ cond b (rank marks v ∷ []) [] ++ parameters_left marks (drop (suc i) params)
-  tested true = refl
-  tested false = refl
+-- ---- parameters, targets and marked elements
 
--- ---- marked elements
+pub parameters-at : (marks : List Bool) (v r : ℕ) (b : Bool) → b ≡ is_marked marks v → r ≡ rank marks v → (rest : List ℕ) → parameters_left marks (v ∷ rest) ≡ cond b (r ∷ []) [] ++ parameters_left marks rest
+parameters-at marks v r b stays is rest = first_or_none (is_marked marks v) (rank marks v) (parameters_left marks rest) ∙ told _ (sym stays) (sym is)
 
-pub marked-more : {A : Type 0} (marks : List Bool) (xs : List A) (i : ℕ) (x : A) → drop i xs ≡ x ∷ drop (suc i) xs → marked_of (drop i marks) (drop i xs) ≡ cond (is_marked marks i) (x ∷ []) [] ++ marked_of (drop (suc i) marks) (drop (suc i) xs)
-marked-more marks xs i x is = ap (marked_of (drop i marks)) is ∙ marked_of-drop marks i x (drop (suc i) xs)
+pub targets-at : (marks : List Bool) (l m : Location) (b : Bool) → b ≡ is_marked marks l.variable → m ≡ location_renumbered (rank marks) l → (rest : List Location) → targets_left marks (l ∷ rest) ≡ cond b (m ∷ []) [] ++ targets_left marks rest
+targets-at marks l m b stays is rest = first_or_none (is_marked marks l.variable) (location_renumbered (rank marks) l) (targets_left marks rest) ∙ told _ (sym stays) (sym is)
+
+pub marked-at : {A : Type 0} (marks : List Bool) (i : ℕ) (b : Bool) → b ≡ is_marked marks i → (x : A) (rest : List A) → marked_of (drop i marks) (x ∷ rest) ≡ cond b (x ∷ []) [] ++ marked_of (drop (suc i) marks) rest
+marked-at marks i b stays x rest = marked_of-drop marks i x rest ∙ told _ (sym stays) refl
 
 pub marked-none : {A : Type 0} (marks : List Bool) → marked_of {A = A} marks [] ≡ []
 marked-none [] = refl

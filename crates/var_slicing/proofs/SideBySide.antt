@@ -1,13 +1,7 @@
 -- Two lists walked side by side.
-use Rattle.std.proofs.Common.{◌≡◌, ℕ, zero, suc, ◌<◌, ◌≤◌, List, [], ◌∷◌, ◌++◌, map, zip, drop, length, min, get_or, refl, sym, ap, ap₂, ◌∙◌, arith, append-nil, append_assoc}
+use Rattle.std.proofs.Common.{◌≡◌, ℕ, zero, suc, ◌<◌, List, [], ◌∷◌, ◌++◌, map, zip, drop, length, min, get_or, refl, sym, ap, ap₂, ◌∙◌, arith, append-nil, append_assoc}
 use Rattle.std.specs.List.{flat_map}
 use Rattle.var_slicing.specs.Inner.Needing.{along}
-
-pub drop-beyond : {A : Type 0} (as_ : List A) (i : ℕ) → length as_ ≤ i → drop i as_ ≡ []
-drop-beyond [] zero beyond = refl
-drop-beyond [] (suc i) beyond = refl
-drop-beyond (a ∷ as_) zero beyond = absurd (omega arith)
-drop-beyond (a ∷ as_) (suc i) beyond = drop-beyond as_ i (omega arith)
 
 pub drop-viewed : {X A : Type 0} (view : X → A) (xs : List X) (i : ℕ) (x : X) → i < length xs → x ≡ get_or xs i x → drop i (map view xs) ≡ view x ∷ drop (suc i) (map view xs)
 drop-viewed view [] i x below is = absurd (omega arith)

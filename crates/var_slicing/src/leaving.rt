@@ -1,284 +1,187 @@
-//! What is left of a model where some variables go: a copy without them, in which the others have their new numbers.
+//! What is left of a model where some variables go. The lists of the model are walked once, and all is done in place: what
+//! is stored in a variable that goes is taken out, and the other variables get their new numbers.
 
-ghost use Rattle.std.specs.Prelude.{◌≡◌, ◌++◌, map, OnOk, IfOk};
+ghost use Rattle.std.specs.Prelude.{◌≡◌, map, cond, slice_index_or, [], ◌∷◌};
 ghost use Rattle.std.specs.List.{flat_map};
-ghost use Rattle.std.specs.Option.{option_map};
-ghost use Rattle.model_core.specs.Rules.MarkedPlaces.{rank};
-ghost use Rattle.model_core.specs.Rules.Slice.{expression_renumbered, location_renumbered, values_left, parameters_left, targets_left, set_or_nothing, change_left, delay_renumbered, kind_left, edge_left, vertex_left};
-ghost use Rattle.model_core.specs.Code.Views.{graph_of, vertex_of, edge_of, expression_of, location_of, edge_delay_of, edge_kind_of, change_of};
-ghost use Rattle.var_slicing.specs.Inner.Beside.{keeps_beside};
+ghost use Rattle.model_core.specs.Rules.MarkedPlaces.{rank, is_marked, marked_of};
+ghost use Rattle.model_core.specs.Rules.Slice.{location_renumbered, values_left, parameters_left, targets_left, change_left, of_marked_variables};
+ghost use Rattle.model_core.specs.Code.Views.{graph_of, vertex_of, edge_of, expression_of, location_of, change_of, variable_of};
+ghost use Rattle.var_slicing.specs.Inner.Leaving.{edge_left_in, edges_left_in, own_parts_left};
 
+use crate::beside::{HasVars, stays_beside};
+use crate::moving_up::keep;
+use crate::new_numbers::{renumber_expr, renumber_form, renumber_target, renumber_watched_vars};
 use marked_walks::Staying;
-use model_core::{Change, Delay, Edge, EdgeForm, Expr, Model, Target, Vertex, copy_name};
-use sig_base::{List, NoMemory};
+use model_core::{Change, Edge, Expr, Model, Target, Var, Vertex};
+use sig_base::List;
 use std::alloc::Global;
-use use_analysis::add_target_vars;
+use std::mem;
 
-/// An expression with the new numbers, in a box.
-#[cycle(leaving)]
-fn boxed_left(alloc: Global, staying: &Staying, expr: &Expr) -> Result<Box<Expr>, NoMemory>
-    ensures { IfOk result (λ left. expression_of left.value ≡ expression_renumbered (rank staying.now) (expression_of expr.now)) }
+/// Takes the declarations out whose variables go.
+fn leave_vars(staying: &Staying, vars: &mut Vec<Var>)
+    ensures { map variable_of vars.new.items ≡ marked_of staying.now (map variable_of vars.old.items) }
 {
-    Ok(Box::new(alloc, expr_left(alloc, staying, expr)?)?)
-}
-
-/// An expression with the new numbers.
-#[cycle(leaving)]
-fn expr_left(alloc: Global, staying: &Staying, expr: &Expr) -> Result<Expr, NoMemory>
-    ensures { IfOk result (λ left. expression_of left ≡ expression_renumbered (rank staying.now) (expression_of expr.now)) }
-{
-    match expr {
-        Expr::Int(number) => Ok(Expr::Int(*number)),
-        Expr::Truth(truth) => Ok(Expr::Truth(*truth)),
-        Expr::Clk => Ok(Expr::Clk),
-        Expr::Scalar(var) => Ok(Expr::Scalar(staying.number(*var))),
-        Expr::Cell(var, index) => Ok(Expr::Cell(
-            staying.number(*var),
-            boxed_left(alloc, staying, index)?,
-        )),
-        Expr::Neg(number) => Ok(Expr::Neg(boxed_left(alloc, staying, number)?)),
-        Expr::Not(truth) => Ok(Expr::Not(boxed_left(alloc, staying, truth)?)),
-        Expr::Binary(op, left, right) => Ok(Expr::Binary(
-            *op,
-            boxed_left(alloc, staying, left)?,
-            boxed_left(alloc, staying, right)?,
-        )),
-        Expr::If(test, yes, no) => Ok(Expr::If(
-            boxed_left(alloc, staying, test)?,
-            boxed_left(alloc, staying, yes)?,
-            boxed_left(alloc, staying, no)?,
-        )),
+    let mut kept = 0;
+    for place in 0..vars.len() {
+        kept = keep(vars, staying.keeps(place), kept, place);
     }
+    vars.truncate(kept);
 }
 
-/// An index with the new numbers, where there is one.
-fn index_left(
-    alloc: Global,
-    staying: &Staying,
-    index: &Option<Expr>,
-) -> Result<Option<Expr>, NoMemory>
-    ensures { IfOk result (λ left. option_map expression_of left ≡ option_map (expression_renumbered (rank staying.now)) (option_map expression_of index.now)) }
+/// Gives a parameter its new number, and says whether it stays.
+fn leave_param(staying: &Staying, param: &mut usize) -> bool
+    ensures stays { result ≡ is_marked staying.now param.old }
+    ensures renumbered { param.new ≡ rank staying.now param.old }
 {
-    match index {
-        Some(index) => Ok(Some(expr_left(alloc, staying, index)?)),
-        None => Ok(None),
+    let stays = staying.keeps(*param);
+    *param = staying.number(*param);
+    stays
+}
+
+/// Takes the parameters out that go.
+fn leave_params(staying: &Staying, params: &mut Vec<usize>)
+    ensures { params.new.items ≡ parameters_left staying.now params.old.items }
+{
+    let mut kept = 0;
+    for place in 0..params.len() {
+        let stays = leave_param(staying, &mut params[place]);
+        kept = keep(params, stays, kept, place);
     }
+    params.truncate(kept);
 }
 
-/// A target with the new numbers.
-fn target_left(alloc: Global, staying: &Staying, target: &Target) -> Result<Target, NoMemory>
-    ensures { IfOk result (λ left. location_of left ≡ location_renumbered (rank staying.now) (location_of target.now)) }
+/// Takes the values out that stand beside variables that go.
+fn leave_values<V: HasVars>(staying: &Staying, beside: &V, values: &mut Vec<Expr>)
+    ensures { map expression_of values.new.items ≡ values_left staying.now (V.vars beside.now) (map expression_of values.old.items) }
 {
-    Ok(Target {
-        var: staying.number(target.var),
-        index: index_left(alloc, staying, &target.index)?,
-    })
-}
-
-/// A delay with the new numbers.
-fn delay_left(alloc: Global, staying: &Staying, delay: &Delay) -> Result<Delay, NoMemory>
-    ensures { IfOk result (λ left. edge_delay_of left ≡ delay_renumbered (rank staying.now) (edge_delay_of delay.now)) }
-{
-    match delay {
-        Delay::Fixed(expr) => Ok(Delay::Fixed(expr_left(alloc, staying, expr)?)),
-        Delay::Drawn { stream, choice } => Ok(Delay::Drawn {
-            stream: *stream,
-            choice: *choice,
-        }),
+    let mut kept = 0;
+    for place in 0..values.len() {
+        renumber_expr(staying, &mut values[place]);
+        kept = keep(values, stays_beside(staying, beside, place), kept, place);
     }
+    values.truncate(kept);
 }
 
-/// What an edge does, with the new numbers.
-fn form_left(alloc: Global, staying: &Staying, form: &EdgeForm) -> Result<EdgeForm, NoMemory>
-    ensures { IfOk result (λ left. edge_kind_of left ≡ kind_left staying.now (edge_kind_of form.now)) }
+/// Gives a target its new numbers, and says whether its variable stays.
+fn leave_target(staying: &Staying, target: &mut Target) -> bool
+    ensures stays { result ≡ is_marked staying.now target.old.var }
+    ensures renumbered { location_of target.new ≡ location_renumbered (rank staying.now) (location_of target.old) }
 {
-    match form {
-        EdgeForm::Schedule { delay, priority } => Ok(EdgeForm::Schedule {
-            delay: delay_left(alloc, staying, delay)?,
-            priority: *priority,
-        }),
-        EdgeForm::Urgent => Ok(EdgeForm::Urgent),
-        EdgeForm::CancelNext => Ok(EdgeForm::CancelNext),
-        EdgeForm::CancelEqual => Ok(EdgeForm::CancelEqual),
-        EdgeForm::CancelAll => Ok(EdgeForm::CancelAll),
-    }
+    let stays = staying.keeps(target.var);
+    renumber_target(staying, target);
+    stays
 }
 
-/// The parameters that stay, by their new numbers.
-fn params_left(alloc: Global, staying: &Staying, params: &[usize]) -> Result<List<usize>, NoMemory>
-    ensures { IfOk result (λ left. left ≡ parameters_left staying.now params.now) }
+/// Takes the targets out whose variables go.
+fn leave_targets(staying: &Staying, targets: &mut Vec<Target>)
+    ensures { map location_of targets.new.items ≡ targets_left staying.now (map location_of targets.old.items) }
 {
-    let mut left = Vec::new(alloc);
-    for param in params {
-        if staying.keeps(*param) {
-            left.push(staying.number(*param))?;
-        }
+    let mut kept = 0;
+    for place in 0..targets.len() {
+        let stays = leave_target(staying, &mut targets[place]);
+        kept = keep(targets, stays, kept, place);
     }
-    Ok(List::from_vec(left))
+    targets.truncate(kept);
 }
 
-/// Whether what stands at a place beside these variables stays: where its variable stays, or it has none.
-fn stays_beside(staying: &Staying, vars: &[usize], place: usize) -> bool
-    ensures { result ≡ keeps_beside staying.now vars.now place }
-{
-    match vars.get(place) {
-        Some(var) => staying.keeps(*var),
-        None => true,
-    }
-}
-
-/// The values that stand beside variables that stay, with the new numbers.
-fn values_left(
-    alloc: Global,
-    staying: &Staying,
-    vars: &[usize],
-    values: &[Expr],
-) -> Result<List<Expr>, NoMemory>
-    ensures { IfOk result (λ left. map expression_of left ≡ values_left staying.now vars.now (map expression_of values.now)) }
-{
-    let mut left = Vec::new(alloc);
-    for (place, value) in values.iter().enumerate() {
-        if stays_beside(staying, vars, place) {
-            left.push(expr_left(alloc, staying, value)?)?;
-        }
-    }
-    Ok(List::from_vec(left))
-}
-
-/// The targets whose variables stay, with the new numbers.
-fn targets_left(
-    alloc: Global,
-    staying: &Staying,
-    targets: &[Target],
-) -> Result<List<Target>, NoMemory>
-    ensures { IfOk result (λ left. map location_of left ≡ targets_left staying.now (map location_of targets.now)) }
-{
-    let mut left = Vec::new(alloc);
-    for target in targets {
-        if staying.keeps(target.var) {
-            left.push(target_left(alloc, staying, target)?)?;
-        }
-    }
-    Ok(List::from_vec(left))
-}
-
-/// Adds a `set` of these targets, unless there is no target and no right side.
-fn add_set(out: &mut Vec<Change>, targets: List<Target>, values: List<Expr>) -> Result<(), NoMemory>
-    ensures { OnOk result (map change_of out.new.items ≡ map change_of out.old.items ++ set_or_nothing (map location_of targets) (map expression_of values)) }
-{
-    if targets.len() > 0 || values.len() > 0 {
-        out.push(Change::Set { targets, values })?;
-    }
-    Ok(())
-}
-
-/// Adds what is left of a change.
-fn add_change_left(
-    alloc: Global,
-    staying: &Staying,
-    out: &mut Vec<Change>,
-    change: &Change,
-) -> Result<(), NoMemory>
-    ensures { OnOk result (map change_of out.new.items ≡ map change_of out.old.items ++ change_left staying.now (change_of change.now)) }
+/// Takes out of a change what is stored in variables that go, and says whether anything is left.
+fn leave_change(staying: &Staying, change: &mut Change) -> bool
+    ensures { cond result (change_of change.new ∷ []) [] ≡ change_left staying.now (change_of change.old) }
 {
     match change {
         Change::Set { targets, values } => {
-            let mut vars = Vec::new(alloc);
-            add_target_vars(&mut vars, targets.as_slice())?;
-            let kept = targets_left(alloc, staying, targets.as_slice())?;
-            let rights = values_left(alloc, staying, vars.as_slice(), values.as_slice())?;
-            add_set(out, kept, rights)
+            leave_values(staying, targets, values.as_mut_vec());
+            leave_targets(staying, targets.as_mut_vec());
+            targets.len() > 0 || values.len() > 0
         }
         Change::Draw {
             target,
-            stream,
-            choice,
-        } => {
-            if staying.keeps(target.var) {
-                let target = target_left(alloc, staying, target)?;
-                out.push(Change::Draw {
-                    target,
-                    stream: *stream,
-                    choice: *choice,
-                })?;
-            }
-            Ok(())
-        }
+            stream: _,
+            choice: _,
+        } => leave_target(staying, target),
     }
 }
 
-/// What is left of changes.
-fn changes_left(
-    alloc: Global,
-    staying: &Staying,
-    changes: &[Change],
-) -> Result<List<Change>, NoMemory>
-    ensures { IfOk result (λ left. map change_of left ≡ flat_map (change_left staying.now) (map change_of changes.now)) }
+/// Takes out of changes what is stored in variables that go.
+fn leave_changes(staying: &Staying, changes: &mut Vec<Change>)
+    ensures { map change_of changes.new.items ≡ flat_map (change_left staying.now) (map change_of changes.old.items) }
 {
-    let mut left = Vec::new(alloc);
-    for change in changes {
-        add_change_left(alloc, staying, &mut left, change)?;
+    let mut kept = 0;
+    for place in 0..changes.len() {
+        let stays = leave_change(staying, &mut changes[place]);
+        kept = keep(changes, stays, kept, place);
     }
-    Ok(List::from_vec(left))
+    changes.truncate(kept);
 }
 
-/// What is left of an edge of a model.
-fn edge_left(alloc: Global, staying: &Staying, model: &Model, edge: &Edge) -> Result<Edge, NoMemory>
-    ensures { IfOk result (λ left. edge_of left ≡ edge_left (graph_of model.now) staying.now (edge_of edge.now)) }
-{
-    let params = model.parameters_at(edge.target);
-    Ok(Edge {
-        target: edge.target,
-        values: values_left(alloc, staying, params, edge.values.as_slice())?,
-        condition: expr_left(alloc, staying, &edge.condition)?,
-        form: form_left(alloc, staying, &edge.form)?,
-    })
-}
-
-/// What is left of edges of a model.
-fn edges_left(
+/// Takes the values out that are carried to the vertex at a place for parameters that go.
+fn leave_carried(
     alloc: Global,
     staying: &Staying,
-    model: &Model,
-    edges: &[Edge],
-) -> Result<List<Edge>, NoMemory>
-    ensures { IfOk result (λ left. map edge_of left ≡ map (edge_left (graph_of model.now) staying.now) (map edge_of edges.now)) }
+    vertices: &[Vertex],
+    target: usize,
+    values: &mut Vec<Expr>,
+)
+    ensures { map expression_of values.new.items ≡ values_left staying.now (slice_index_or (map (λ (v : Vertex). v.params) vertices.now) target []) (map expression_of values.old.items) }
 {
-    let mut left = Vec::new(alloc);
-    for edge in edges {
-        left.push(edge_left(alloc, staying, model, edge)?)?;
+    match vertices.get(target) {
+        Some(vertex) => leave_values(staying, &vertex.params, values),
+        None => leave_values(staying, &List::<usize>::new(alloc), values),
     }
-    Ok(List::from_vec(left))
 }
 
-/// What is left of a vertex of a model.
-fn vertex_left(
-    alloc: Global,
-    staying: &Staying,
-    model: &Model,
-    vertex: &Vertex,
-) -> Result<Vertex, NoMemory>
-    ensures { IfOk result (λ left. vertex_of left ≡ vertex_left (graph_of model.now) staying.now (vertex_of vertex.now)) }
+/// Takes out of an edge to one of these vertices the values that it carries for parameters that go.
+fn leave_edge(alloc: Global, staying: &Staying, vertices: &[Vertex], edge: &mut Edge)
+    ensures { edge_of edge.new ≡ edge_left_in (map (λ (v : Vertex). v.params) vertices.now) staying.now (edge_of edge.old) }
 {
-    Ok(Vertex {
-        name: copy_name(alloc, &vertex.name)?,
-        params: params_left(alloc, staying, vertex.params.as_slice())?,
-        changes: changes_left(alloc, staying, vertex.changes.as_slice())?,
-        edges: edges_left(alloc, staying, model, vertex.edges.as_slice())?,
-    })
+    leave_carried(
+        alloc,
+        staying,
+        vertices,
+        edge.target,
+        edge.values.as_mut_vec(),
+    );
+    renumber_expr(staying, &mut edge.condition);
+    renumber_form(staying, &mut edge.form);
 }
 
-/// What is left of the vertices of a model.
-pub(crate) fn vertices_left(
-    alloc: Global,
-    staying: &Staying,
-    model: &Model,
-) -> Result<List<Vertex>, NoMemory>
-    ensures { IfOk result (λ left. map vertex_of left ≡ map (vertex_left (graph_of model.now) staying.now) (map vertex_of model.now.vertices)) }
+/// The same for edges to these vertices.
+fn leave_edges(alloc: Global, staying: &Staying, vertices: &[Vertex], edges: &mut Vec<Edge>)
+    ensures { map edge_of edges.new.items ≡ map (edge_left_in (map (λ (v : Vertex). v.params) vertices.now) staying.now) (map edge_of edges.old.items) }
 {
-    let mut left = Vec::new(alloc);
-    for vertex in model.vertices.as_slice() {
-        left.push(vertex_left(alloc, staying, model, vertex)?)?;
+    for edge in edges.iter_mut() {
+        leave_edge(alloc, staying, vertices, edge);
     }
-    Ok(List::from_vec(left))
+}
+
+/// The same for the edges of all vertices, whose parameters stay as they are.
+fn leave_all_edges(alloc: Global, staying: &Staying, vertices: &mut Vec<Vertex>)
+    ensures { map vertex_of vertices.new.items ≡ map (edges_left_in (map (λ (v : Vertex). v.params) vertices.old.items) staying.now) (map vertex_of vertices.old.items) }
+{
+    for place in 0..vertices.len() {
+        let mut edges = mem::replace(&mut vertices[place].edges, List::new(alloc)).into_vec();
+        leave_edges(alloc, staying, vertices.as_slice(), &mut edges);
+        vertices[place].edges = List::from_vec(edges);
+    }
+}
+
+/// Takes the parameters out of vertices that go, and out of their changes what is stored in variables that go.
+fn leave_all_stores(staying: &Staying, vertices: &mut Vec<Vertex>)
+    ensures { map vertex_of vertices.new.items ≡ map (own_parts_left staying.now) (map vertex_of vertices.old.items) }
+{
+    for vertex in vertices.iter_mut() {
+        leave_params(staying, vertex.params.as_mut_vec());
+        leave_changes(staying, vertex.changes.as_mut_vec());
+    }
+}
+
+/// Leaves the variables that stay alone, each with its new number. The edges come first, since what they carry goes by the
+/// parameters that their targets have.
+pub(crate) fn leave(alloc: Global, model: &mut Model, staying: &Staying)
+    ensures { graph_of model.new ≡ of_marked_variables (graph_of model.old) staying.now }
+{
+    leave_vars(staying, model.vars.as_mut_vec());
+    renumber_watched_vars(staying, model.watch.as_mut_vec());
+    leave_all_edges(alloc, staying, model.vertices.as_mut_vec());
+    leave_all_stores(staying, model.vertices.as_mut_vec());
 }

@@ -1,12 +1,15 @@
 //! Slice: which variables are needed, and the model without the others.
 #![tactic(auto)]
 
+mod beside;
 mod delays;
 mod law;
 mod leaving;
 mod linking;
 mod marking;
+mod moving_up;
 mod needs;
+mod new_numbers;
 mod slicing;
 mod streams;
 

@@ -1,0 +1,19 @@
+//! One step of a walk that takes items out of a list in place: those that stay move up.
+
+ghost use Rattle.std.specs.Prelude.{◌≡◌, ◌++◌, ◌+◌, ◌<◌, ◌≤◌, [], length, cond, take, drop};
+
+/// Moves the item at a place up behind those that were kept, if it stays, and says how many are kept then.
+pub(crate) fn keep<T>(items: &mut Vec<T>, stays: bool, kept: usize, place: usize) -> usize
+    requires before { kept ≤ place }
+    requires there { place < length items.old.items }
+    ensures count { result ≡ kept + cond stays 1 0 }
+    ensures front { take result items.new.items ≡ take kept items.old.items ++ cond stays (take 1 (drop place items.old.items)) [] }
+    ensures rest { drop (place + 1) items.new.items ≡ drop (place + 1) items.old.items }
+    ensures long { length items.new.items ≡ length items.old.items }
+{
+    if !stays {
+        return kept;
+    }
+    items.swap(kept, place);
+    kept + 1
+}
