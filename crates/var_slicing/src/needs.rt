@@ -24,6 +24,8 @@ pub(crate) struct Needs {
     pub(crate) pairs: Vec<(usize, usize)>,
     pub(crate) draws: Vec<StreamDraw>,
     delays: Vec<usize>,
+    // What is read for one variable, collected in one list again and again, so that its memory is asked for once.
+    reads: Vec<usize>,
 }
 
 /// Adds the variables of a watch list.
@@ -82,22 +84,22 @@ fn add_faulting_targets(
 
 /// Adds what a target needs: what its index and its right side read.
 fn add_target_needs(
-    alloc: Global,
+    reads: &mut Vec<usize>,
     pairs: &mut Vec<(usize, usize)>,
     target: &Target,
     value: &Expr,
 ) -> Result<(), NoMemory>
     ensures { OnOk result (pairs.new.items ≡ pairs.old.items ++ each_beside target.now.var (location_reads (location_of target.now) ++ variables_in (expression_of value.now))) }
 {
-    let mut reads = Vec::new(alloc);
-    add_index_reads(&mut reads, target)?;
-    add_variables(&mut reads, value)?;
+    reads.clear();
+    add_index_reads(reads, target)?;
+    add_variables(reads, value)?;
     add_beside(pairs, target.var, reads.as_slice())
 }
 
 /// Adds what targets need.
 fn add_all_target_needs(
-    alloc: Global,
+    reads: &mut Vec<usize>,
     pairs: &mut Vec<(usize, usize)>,
     targets: &[Target],
     values: &[Expr],
@@ -105,21 +107,21 @@ fn add_all_target_needs(
     ensures { OnOk result (pairs.new.items ≡ pairs.old.items ++ flat_map (λ ((l, e) : Location × Expression). each_beside l.variable (location_reads l ++ variables_in e)) (zip (map location_of targets.now) (map expression_of values.now))) }
 {
     for (target, value) in targets.iter().zip(values) {
-        add_target_needs(alloc, pairs, target, value)?;
+        add_target_needs(reads, pairs, target, value)?;
     }
     Ok(())
 }
 
 /// Adds what a draw's target needs: what its index reads.
 fn add_draw_needs(
-    alloc: Global,
+    reads: &mut Vec<usize>,
     pairs: &mut Vec<(usize, usize)>,
     target: &Target,
 ) -> Result<(), NoMemory>
     ensures { OnOk result (pairs.new.items ≡ pairs.old.items ++ each_beside target.now.var (location_reads (location_of target.now))) }
 {
-    let mut reads = Vec::new(alloc);
-    add_index_reads(&mut reads, target)?;
+    reads.clear();
+    add_index_reads(reads, target)?;
     add_beside(pairs, target.var, reads.as_slice())
 }
 
@@ -215,21 +217,21 @@ fn add_faulting_parameters(out: &mut Vec<usize>, model: &Model, edge: &Edge) -> 
 
 /// Adds what a parameter needs: what the value that is carried for it reads.
 fn add_value_needs(
-    alloc: Global,
+    reads: &mut Vec<usize>,
     pairs: &mut Vec<(usize, usize)>,
     param: usize,
     value: &Expr,
 ) -> Result<(), NoMemory>
     ensures { OnOk result (pairs.new.items ≡ pairs.old.items ++ each_beside param (variables_in (expression_of value.now))) }
 {
-    let mut reads = Vec::new(alloc);
-    add_variables(&mut reads, value)?;
+    reads.clear();
+    add_variables(reads, value)?;
     add_beside(pairs, param, reads.as_slice())
 }
 
 /// Adds what parameters need.
 fn add_all_value_needs(
-    alloc: Global,
+    reads: &mut Vec<usize>,
     pairs: &mut Vec<(usize, usize)>,
     params: &[usize],
     values: &[Expr],
@@ -237,14 +239,14 @@ fn add_all_value_needs(
     ensures { OnOk result (pairs.new.items ≡ pairs.old.items ++ flat_map (λ ((v, x) : ℕ × Expression). each_beside v (variables_in x)) (zip params.now (map expression_of values.now))) }
 {
     for (param, value) in params.iter().zip(values) {
-        add_value_needs(alloc, pairs, *param, value)?;
+        add_value_needs(reads, pairs, *param, value)?;
     }
     Ok(())
 }
 
 /// Adds what the parameters of an edge's target need for the values that it carries.
 fn add_parameter_needs(
-    alloc: Global,
+    reads: &mut Vec<usize>,
     pairs: &mut Vec<(usize, usize)>,
     model: &Model,
     edge: &Edge,
@@ -252,7 +254,7 @@ fn add_parameter_needs(
     ensures { OnOk result (pairs.new.items ≡ pairs.old.items ++ needed_by_parameters (graph_of model.now) (edge_of edge.now)) }
 {
     add_all_value_needs(
-        alloc,
+        reads,
         pairs,
         model.parameters_at(edge.target),
         edge.values.as_slice(),
@@ -271,11 +273,12 @@ impl Needs {
             pairs: Vec::new(alloc),
             draws: Vec::new(alloc),
             delays: Vec::new(alloc),
+            reads: Vec::new(alloc),
         }
     }
 
     /// Adds what a change needs.
-    fn add_change(&mut self, alloc: Global, model: &Model, change: &Change) -> Result<(), NoMemory>
+    fn add_change(&mut self, model: &Model, change: &Change) -> Result<(), NoMemory>
         ensures { OnOk result (collected_of self.new ≡ with_change (graph_of model.now) (change_of change.now) (collected_of self.old)) }
     {
         match change {
@@ -287,7 +290,7 @@ impl Needs {
                     values.as_slice(),
                 )?;
                 add_all_target_needs(
-                    alloc,
+                    &mut self.reads,
                     &mut self.pairs,
                     targets.as_slice(),
                     values.as_slice(),
@@ -301,7 +304,7 @@ impl Needs {
                 if !quiet_change(model, change) {
                     self.first.push(target.var)?;
                 }
-                add_draw_needs(alloc, &mut self.pairs, target)?;
+                add_draw_needs(&mut self.reads, &mut self.pairs, target)?;
                 self.draws.push((usize::from(*stream), target.var))?;
                 Ok(())
             }
@@ -309,67 +312,52 @@ impl Needs {
     }
 
     /// Adds what changes need.
-    fn add_changes(
-        &mut self,
-        alloc: Global,
-        model: &Model,
-        changes: &[Change],
-    ) -> Result<(), NoMemory>
+    fn add_changes(&mut self, model: &Model, changes: &[Change]) -> Result<(), NoMemory>
         ensures { OnOk result (collected_of self.new ≡ with_changes (graph_of model.now) (map change_of changes.now) (collected_of self.old)) }
     {
         for change in changes {
-            self.add_change(alloc, model, change)?;
+            self.add_change(model, change)?;
         }
         Ok(())
     }
 
     /// Adds what the changes of vertices need.
-    fn add_all_changes(
-        &mut self,
-        alloc: Global,
-        model: &Model,
-        vertices: &[Vertex],
-    ) -> Result<(), NoMemory>
+    fn add_all_changes(&mut self, model: &Model, vertices: &[Vertex]) -> Result<(), NoMemory>
         ensures { OnOk result (collected_of self.new ≡ with_all_changes (graph_of model.now) (map vertex_of vertices.now) (collected_of self.old)) }
     {
         for vertex in vertices {
-            self.add_changes(alloc, model, vertex.changes.as_slice())?;
+            self.add_changes(model, vertex.changes.as_slice())?;
         }
         Ok(())
     }
 
     /// Adds what an edge needs.
-    fn add_edge(&mut self, alloc: Global, model: &Model, edge: &Edge) -> Result<(), NoMemory>
+    fn add_edge(&mut self, model: &Model, edge: &Edge) -> Result<(), NoMemory>
         ensures { OnOk result (collected_of self.new ≡ with_edge (graph_of model.now) (edge_of edge.now) (collected_of self.old)) }
     {
         add_compared(&mut self.first, model, edge)?;
         add_deciding_reads(&mut self.first, edge)?;
         add_faulting_parameters(&mut self.first, model, edge)?;
         add_delay_stream(&mut self.delays, edge)?;
-        add_parameter_needs(alloc, &mut self.pairs, model, edge)
+        add_parameter_needs(&mut self.reads, &mut self.pairs, model, edge)
     }
 
     /// Adds what edges need.
-    fn add_edges(&mut self, alloc: Global, model: &Model, edges: &[Edge]) -> Result<(), NoMemory>
+    fn add_edges(&mut self, model: &Model, edges: &[Edge]) -> Result<(), NoMemory>
         ensures { OnOk result (collected_of self.new ≡ with_edges (graph_of model.now) (map edge_of edges.now) (collected_of self.old)) }
     {
         for edge in edges {
-            self.add_edge(alloc, model, edge)?;
+            self.add_edge(model, edge)?;
         }
         Ok(())
     }
 
     /// Adds what the edges of vertices need.
-    fn add_all_edges(
-        &mut self,
-        alloc: Global,
-        model: &Model,
-        vertices: &[Vertex],
-    ) -> Result<(), NoMemory>
+    fn add_all_edges(&mut self, model: &Model, vertices: &[Vertex]) -> Result<(), NoMemory>
         ensures { OnOk result (collected_of self.new ≡ with_all_edges (graph_of model.now) (map vertex_of vertices.now) (collected_of self.old)) }
     {
         for vertex in vertices {
-            self.add_edges(alloc, model, vertex.edges.as_slice())?;
+            self.add_edges(model, vertex.edges.as_slice())?;
         }
         Ok(())
     }
@@ -381,8 +369,8 @@ impl Needs {
         let mut needs = Needs::begin(alloc);
         add_watched(&mut needs.first, model.watch.as_slice())?;
         add_places(&mut needs.first, model.parameters_at(0))?;
-        needs.add_all_changes(alloc, model, model.vertices.as_slice())?;
-        needs.add_all_edges(alloc, model, model.vertices.as_slice())?;
+        needs.add_all_changes(model, model.vertices.as_slice())?;
+        needs.add_all_edges(model, model.vertices.as_slice())?;
         add_drawn_from(
             &mut needs.first,
             needs.delays.as_slice(),
