@@ -16,6 +16,7 @@ use crate::truth_rows::{
 use model_core::{Bounds, Op};
 
 /// The bounds of what an operator gives, from those of its operands.
+#[inline(always)]
 pub fn operator_bounds(op: Op, a: &Bounds, b: &Bounds) -> Bounds
     ensures { result ≡ operator_bounds (operator_of op) a.now b.now }
 {

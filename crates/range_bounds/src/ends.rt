@@ -1,7 +1,7 @@
 //! Pairs of ends, which are computed in 128 bits and moved to the nearest numbers of 64 bits.
 #![tactic(auto, using(model_core::proofs::SignedBits::signed_bits))]
 
-ghost use Rattle.std.specs.Prelude.{◌≡◌, ◌≤◌, ◌^◌, ◌&&◌};
+ghost use Rattle.std.specs.Prelude.{◌≡◌, ◌≤◌, ◌^◌, true, ◌&&◌};
 ghost use Rattle.model_core.specs.Rules.BoundsTable.{number_bounds, truth_bounds, nearest, fits, exact_bounds, least_of, greatest_of, has_zero, magnitude};
 
 use model_core::Bounds;
@@ -32,16 +32,33 @@ pub fn truth_bounds(can_false: bool, can_true: bool, quiet: bool) -> Bounds
     }
 }
 
-fn nearest(x: i128) -> i64
+fn fits(x: i128) -> bool
+    ensures { result ≡ fits x }
+{
+    i64::MIN as i128 <= x && x <= i64::MAX as i128
+}
+
+#[cold]
+#[inline(never)]
+fn moved(x: i128) -> i64
     ensures { result ≡ nearest x }
 {
     x.min(i64::MAX as i128).max(i64::MIN as i128) as i64
 }
 
-fn fits(x: i128) -> bool
-    ensures { result ≡ fits x }
+fn unmoved(x: i128) -> i64
+    requires { fits x ≡ true }
+    ensures { result ≡ nearest x }
 {
-    i64::MIN as i128 <= x && x <= i64::MAX as i128
+    x as i64
+}
+
+// Mostly it is the number itself, which is told without a call.
+#[inline(always)]
+fn nearest(x: i128) -> i64
+    ensures { result ≡ nearest x }
+{
+    if fits(x) { unmoved(x) } else { moved(x) }
 }
 
 fn both_fit(x: i128, y: i128) -> bool
@@ -57,6 +74,7 @@ fn quiet_where(quiet: bool, x: i128, y: i128) -> bool
 }
 
 /// A pair that is quiet where neither end had to be moved.
+#[inline(always)]
 #[tactic(auto, unfolding(model_core::specs::Rules::BoundsTable::exact_bounds))]
 pub(crate) fn exact_bounds(lo: i128, hi: i128, quiet: bool) -> Bounds
     ensures { result ≡ exact_bounds lo hi quiet }
@@ -86,6 +104,7 @@ fn greatest_of(p: i128, q: i128, r: i128, s: i128) -> i128
 }
 
 /// The least and the greatest of the results at four pairs of ends.
+#[inline(always)]
 pub(crate) fn of_four(p: i128, q: i128, r: i128, s: i128, quiet: bool) -> Bounds
     ensures { result ≡ exact_bounds (least_of p q r s) (greatest_of p q r s) quiet }
 {

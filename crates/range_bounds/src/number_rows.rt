@@ -1,4 +1,5 @@
-//! The rows of the table that give numbers, one function each.
+//! The rows of the table that give numbers, one function each. A row is computed where it is asked for, and so its bounds needn't
+//! go through memory.
 #![tactic(auto, using(model_core::proofs::SignedBits::signed_bits))]
 
 ghost use Rattle.std.specs.Prelude.{◌≡◌, pos, ◌+ℤ◌, ◌-ℤ◌, ◌*ℤ◌, ◌≤ℤ◌, neg_ℤ, int_div, int_le, cond, ◌&&◌, not};
@@ -10,6 +11,7 @@ use crate::ends::{both_quiet, exact_bounds, has_zero, magnitude, number_bounds, 
 use model_core::Bounds;
 
 /// The bounds of `-a`, from those of `a`.
+#[inline(always)]
 pub fn negative_bounds(a: &Bounds) -> Bounds
     ensures { result ≡ negative_bounds a.now }
 {
@@ -23,6 +25,7 @@ fn plus(a: i64, b: i64) -> i128
 }
 
 /// The bounds of `a + b`.
+#[inline(always)]
 pub(crate) fn sum_bounds(a: &Bounds, b: &Bounds) -> Bounds
     ensures { result ≡ operator_bounds Add a.now b.now }
 {
@@ -36,6 +39,7 @@ fn minus(a: i64, b: i64) -> i128
 }
 
 /// The bounds of `a - b`.
+#[inline(always)]
 pub(crate) fn difference_bounds(a: &Bounds, b: &Bounds) -> Bounds
     ensures { result ≡ operator_bounds Subtract a.now b.now }
 {
@@ -49,6 +53,7 @@ fn times(a: i64, b: i64) -> i128
 }
 
 /// The bounds of `a * b`.
+#[inline(always)]
 pub(crate) fn product_bounds(a: &Bounds, b: &Bounds) -> Bounds
     ensures { result ≡ operator_bounds Multiply a.now b.now }
 {
@@ -61,7 +66,10 @@ pub(crate) fn product_bounds(a: &Bounds, b: &Bounds) -> Bounds
     )
 }
 
-fn over(a: i64, b: i64) -> i128
+/// The quotient in 128 bits, of which only that of the least number of 64 bits by -1 has need.
+#[cold]
+#[inline(never)]
+fn wide_over(a: i64, b: i64) -> i128
     ensures { result ≡ int_div a b }
 {
     if b == 0 {
@@ -70,7 +78,18 @@ fn over(a: i64, b: i64) -> i128
     a as i128 / b as i128
 }
 
+#[inline(always)]
+fn over(a: i64, b: i64) -> i128
+    ensures { result ≡ int_div a b }
+{
+    match a.checked_div(b) {
+        Some(quotient) => quotient as i128,
+        None => wide_over(a, b),
+    }
+}
+
 /// The bounds of `a / b`.
+#[inline(always)]
 pub(crate) fn quotient_bounds(a: &Bounds, b: &Bounds) -> Bounds
     ensures { result ≡ quotient_bounds a.now b.now }
 {
@@ -114,6 +133,7 @@ fn apart(a: &Bounds, b: &Bounds) -> bool
 }
 
 /// The bounds of `a % b`.
+#[inline(always)]
 pub(crate) fn remainder_bounds(a: &Bounds, b: &Bounds) -> Bounds
     ensures { result ≡ remainder_bounds a.now b.now }
 {
@@ -122,6 +142,7 @@ pub(crate) fn remainder_bounds(a: &Bounds, b: &Bounds) -> Bounds
 }
 
 /// The bounds of `min(a, b)`.
+#[inline(always)]
 pub(crate) fn least_bounds(a: &Bounds, b: &Bounds) -> Bounds
     ensures { result ≡ operator_bounds Least a.now b.now }
 {
@@ -129,6 +150,7 @@ pub(crate) fn least_bounds(a: &Bounds, b: &Bounds) -> Bounds
 }
 
 /// The bounds of `max(a, b)`.
+#[inline(always)]
 pub(crate) fn greatest_bounds(a: &Bounds, b: &Bounds) -> Bounds
     ensures { result ≡ operator_bounds Greatest a.now b.now }
 {

@@ -9,6 +9,7 @@ use crate::ends::{both_quiet, truth_bounds};
 use model_core::Bounds;
 
 /// The bounds of `not a`, from those of `a`.
+#[inline(always)]
 pub fn opposite(a: &Bounds) -> Bounds
     ensures { result ≡ opposite a.now }
 {
@@ -16,6 +17,7 @@ pub fn opposite(a: &Bounds) -> Bounds
 }
 
 /// The bounds of `a < b`.
+#[inline(always)]
 pub(crate) fn below_bounds(a: &Bounds, b: &Bounds) -> Bounds
     ensures { result ≡ below_bounds a.now b.now }
 {
@@ -23,6 +25,7 @@ pub(crate) fn below_bounds(a: &Bounds, b: &Bounds) -> Bounds
 }
 
 /// The bounds of `a <= b`.
+#[inline(always)]
 pub(crate) fn at_most_bounds(a: &Bounds, b: &Bounds) -> Bounds
     ensures { result ≡ at_most_bounds a.now b.now }
 {
@@ -60,6 +63,7 @@ fn can_differ(a: &Bounds, b: &Bounds) -> bool
 }
 
 /// The bounds of `a = b`.
+#[inline(always)]
 pub(crate) fn equal_bounds(a: &Bounds, b: &Bounds) -> Bounds
     ensures { result ≡ equal_bounds a.now b.now }
 {
@@ -71,6 +75,7 @@ pub(crate) fn equal_bounds(a: &Bounds, b: &Bounds) -> Bounds
 }
 
 /// The bounds of `a and b`.
+#[inline(always)]
 pub(crate) fn and_bounds(a: &Bounds, b: &Bounds) -> Bounds
     ensures { result ≡ operator_bounds And a.now b.now }
 {
@@ -82,6 +87,7 @@ pub(crate) fn and_bounds(a: &Bounds, b: &Bounds) -> Bounds
 }
 
 /// The bounds of `a or b`.
+#[inline(always)]
 pub(crate) fn or_bounds(a: &Bounds, b: &Bounds) -> Bounds
     ensures { result ≡ operator_bounds Or a.now b.now }
 {

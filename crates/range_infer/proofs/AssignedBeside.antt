@@ -1,5 +1,6 @@
 -- What variables take of the values beside them, one after the other.
-use Rattle.std.proofs.Common.{◌≡◌, ℕ, zero, suc, ◌+◌, ◌<◌, Bool, cond, List, [], ◌∷◌, ◌++◌, append_assoc, append-nil, length, map, drop, slice_index_or, refl, sym, ◌∙◌, ap, arith}
+use Rattle.std.proofs.Common.{◌≡◌, ℕ, zero, suc, ◌+◌, ◌<◌, Bool, false, cond, List, [], ◌∷◌, ◌++◌, append_assoc, append-nil, length, map, drop, slice_index_or, refl, sym, ◌∙◌, ap, ap₂, arith}
+use Rattle.std.specs.List.{list_any}
 use Rattle.std.proofs.Math.Seq.{drop-cons}
 use Rattle.model_core.specs.declared.vertex.Target.{Target}
 use Rattle.model_core.specs.EventGraph.{Variable, Expression, Location}
@@ -11,6 +12,7 @@ use Rattle.model_core.specs.Rules.BoundsOf.{bounds_under}
 use Rattle.model_core.specs.Rules.Uses.{variables_in}
 use Rattle.model_core.specs.Ranges.Refined.{refined}
 use Rattle.model_core.specs.Ranges.Incoming.{assigned}
+use Rattle.model_core.proofs.EachOne.{either_false}
 use Rattle.range_infer.specs.Inner.PartReads.{each_reads}
 use Rattle.range_infer.specs.Inner.LookedAt.{looks_at, assigned_seen}
 use Rattle.range_infer.proofs.AllSeen.{nothing}
@@ -31,6 +33,14 @@ module _ (all : Bool) (moved : List Bool) (rs : List Variable) where
   none_seen : (vs : List ℕ) → seen vs [] ≡ []
   none_seen [] = refl
   none_seen (v ∷ vs) = refl
+
+  -- where no value is looked at nothing is seen
+  pub nothing_seen : (vs : List ℕ) (es : List Expression) → list_any (looks_at all moved) (each_reads es) ≡ false → seen vs es ≡ []
+  nothing_seen [] es none = refl
+  nothing_seen (v ∷ vs) [] none = refl
+  nothing_seen (v ∷ vs) (e ∷ es) none =
+      let (here, later) = either_false (looks_at all moved (variables_in e)) (list_any (looks_at all moved) (each_reads es)) none in
+      ap₂ (λ (b : Bool) (is : List Incoming). cond b (record { variable = v; bounds = bounds_under refined rs e } ∷ []) [] ++ is) here (nothing_seen vs es later)
 
   -- the first variable, and then the others
   split : (v : ℕ) (vs : List ℕ) (es : List Expression) (p : ℕ) → seen (v ∷ vs) (drop p es) ≡ seen (v ∷ []) (drop p es) ++ seen vs (drop (suc p) es)

@@ -19,11 +19,12 @@ use Rattle.model_core.specs.Ranges.OtherRanges.{declared_range, with_range, with
 use Rattle.model_core.specs.Ranges.Incoming.{kept_range, assigned, into_change, into_edge, into_vertex, incoming}
 use Rattle.model_core.specs.Ranges.Inductive.{is_fixed, Encloses}
 use Rattle.model_core.specs.Ranges.Inference.{hull, grown_range, ends_moved, each_variable, next_range, round}
-use Rattle.model_core.proofs.EachOne.{either_false, every-front, every-behind, every-flat_map, every-map, every-fails}
+use Rattle.model_core.proofs.EachOne.{every-front, every-behind, every-flat_map, every-map, every-fails}
 use Rattle.range_infer.specs.Inner.Moved.{is_moved, MarksMoved}
 use Rattle.range_infer.specs.Inner.PartReads.{each_reads}
 use Rattle.range_infer.specs.Inner.LookedAt.{looks_at, assigned_seen, change_seen, values_seen, edge_seen, vertex_seen, incoming_seen, TakesAgain}
 use Rattle.range_infer.proofs.AllSeen.{all_values}
+use Rattle.range_infer.proofs.AssignedBeside.{nothing_seen}
 use Rattle.range_infer.proofs.ModelWithRanges.{range_given, as_many_variables}
 use Rattle.range_infer.proofs.OneRound.{holds-itself, holds-trans, wider, Growing, all-holds, all-inside, all-taken, ends_moved-takes, ordered, round-growing, variable_given, variables_given}
 use Rattle.range_infer.proofs.NarrowModels.{fits_everywhere}
@@ -83,14 +84,6 @@ module _ (g : EventGraph) (v : ℕ) (in_order : (variable_at g v).lo ≤ℤ (var
         (λ none. ap (λ (b : Bounds). record { variable = v; bounds = b } ∷ []) (bounds_stay moved e old new stay (every-fails (is_moved moved) (variables_in e) none))))
         (assigned_alike old new stay vs es held.1)
 
-    -- where no value is looked at nothing is seen
-    nothing_seen : (ranges : List Variable) (vs : List ℕ) (es : List Expression) → list_any (looks_at false moved) (each_reads es) ≡ false → assigned_seen false moved ranges vs es ≡ []
-    nothing_seen ranges [] es none = refl
-    nothing_seen ranges (v ∷ vs) [] none = refl
-    nothing_seen ranges (v ∷ vs) (e ∷ es) none =
-        let (here, later) = either_false (looks_at false moved (variables_in e)) (list_any (looks_at false moved) (each_reads es)) none in
-        ap₂ (λ (b : Bool) (is : List Incoming). cond b (record { variable = v; bounds = bounds_under refined ranges e } ∷ []) [] ++ is) here (nothing_seen ranges vs es later)
-
   -- ---- the parts of a model
 
   module _ (moved : List Bool) (old new : List Variable) (stay : StayElsewhere moved old new) where
@@ -125,7 +118,7 @@ module _ (g : EventGraph) (v : ℕ) (in_order : (variable_at g v).lo ≤ℤ (var
       unread none held =
           let still : Unmoved moved (variables_in e.condition) = every-fails (is_moved moved) (variables_in e.condition) none in
           let same : gives old ≡ gives new = ap (λ (b : Bounds). b.can_true) (bounds_stay moved e.condition old new stay still) in
-          by_values (known moved e.condition true old new stay still) (is_scheduling e.kind) (gives new) (list_any (looks_at false moved) (each_reads e.values)) (nothing_seen moved known_new params e.values)
+          by_values (known moved e.condition true old new stay still) (is_scheduling e.kind) (gives new) (list_any (looks_at false moved) (each_reads e.values)) (nothing_seen false moved known_new params e.values)
           (subst (λ (t : Bool). AllByRecursion IsHeld (cond (is_scheduling e.kind && t) (assigned known_old params e.values) [])) same held)
 
       edge_alike : AllByRecursion IsHeld (into_edge g old e) → GrowAlike (edge_seen g false moved new e) (into_edge g new e)

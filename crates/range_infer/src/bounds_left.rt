@@ -2,6 +2,7 @@
 #![tactic(auto, using(crate::proofs::LedBack::leading_back))]
 
 ghost use Rattle.std.specs.Prelude.{◌≡◌, List, pos, int_le, int_lt, ◌&&◌, true, false, IfOk, OnOk};
+ghost use Rattle.model_core.specs.EventGraph.{Variable, Expression};
 ghost use Rattle.model_core.specs.Run.State.{variable_at};
 ghost use Rattle.model_core.specs.Rules.BoundsTable.{kind_bounds, variable_bounds, quiet_index};
 ghost use Rattle.model_core.specs.Rules.BoundsOf.{ranged_at, beside, bounds_under};
@@ -28,6 +29,7 @@ fn kind_bounds(kind: Kind, range: VarRange, quiet: bool) -> Bounds
 }
 
 /// The bounds of what the variable at this place holds.
+#[inline(always)]
 fn variable_bounds(left: &RangesLeft, var: usize, quiet: bool) -> Bounds
     ensures { result ≡ variable_bounds (ranged_at (variables_left left.now) var) quiet }
 {
@@ -60,9 +62,16 @@ fn quiet_index(model: &Model, var: usize, index: &Bounds) -> bool
     lies_inside(index, size_at(model, var))
 }
 
-/// The bounds of an operand, as `bounds_left` finds them.
-// Most operands are variables or numbers: their bounds are told without a call.
+/// Whether what the left operand of this operator is tells nothing of the ranges under which the right one is evaluated.
+fn stays_beside(op: Op) -> bool
+    ensures { result ≡ true → (first : Expression) (ranges : List Variable) → beside refined (operator_of op) first ranges ≡ ranges }
+{
+    !matches!(op, Op::And | Op::Or)
+}
+
+/// The bounds of an expression, as `bounds_left` finds them. Those of variables and numbers are told without a call.
 #[cycle(bounds_left)]
+#[inline(always)]
 fn operand_left(left: &mut RangesLeft, expr: &Expr) -> Result<Bounds, NoMemory>
     ensures bounds { IfOk result (λ b. b ≡ bounds_under refined (variables_left left.old) (expression_of expr.now)) }
     ensures left { OnOk result (StaysLeft left.old left.new) }
@@ -70,7 +79,8 @@ fn operand_left(left: &mut RangesLeft, expr: &Expr) -> Result<Bounds, NoMemory>
     match expr {
         Expr::Scalar(var) => Ok(variable_bounds(left, *var, true)),
         Expr::Int(n) => Ok(number_bounds(*n, *n, true)),
-        _ => bounds_left(left, expr),
+        Expr::Binary(..) => bounds_left(left, expr),
+        _ => any_bounds_left(left, expr),
     }
 }
 
@@ -92,8 +102,26 @@ fn bounds_beside(left: &mut RangesLeft, op: Op, first: &Expr) -> Result<Bounds, 
 }
 
 /// The bounds of an expression under the ranges that are left. What is replaced on the way is put back.
+// Most expressions are operators that replace nothing. They go first, in a function with few locals.
 #[cycle(bounds_left)]
 pub(crate) fn bounds_left(left: &mut RangesLeft, expr: &Expr) -> Result<Bounds, NoMemory>
+    ensures bounds { IfOk result (λ b. b ≡ bounds_under refined (variables_left left.old) (expression_of expr.now)) }
+    ensures left { OnOk result (StaysLeft left.old left.new) }
+{
+    if let Expr::Binary(op, first, second) = expr {
+        if stays_beside(*op) {
+            let a = operand_left(left, first)?;
+            let b = operand_left(left, second)?;
+            return Ok(operator_bounds(*op, &a, &b));
+        }
+    }
+    any_bounds_left(left, expr)
+}
+
+/// The same, of an expression of any form.
+#[cycle(bounds_left)]
+#[inline(never)]
+fn any_bounds_left(left: &mut RangesLeft, expr: &Expr) -> Result<Bounds, NoMemory>
     ensures bounds { IfOk result (λ b. b ≡ bounds_under refined (variables_left left.old) (expression_of expr.now)) }
     ensures left { OnOk result (StaysLeft left.old left.new) }
 {
@@ -103,16 +131,16 @@ pub(crate) fn bounds_left(left: &mut RangesLeft, expr: &Expr) -> Result<Bounds, 
         Expr::Clk => Ok(number_bounds(0, 1 << 48, true)),
         Expr::Scalar(v) => Ok(variable_bounds(left, *v, true)),
         Expr::Cell(v, i) => {
-            let index = bounds_left(left, i)?;
+            let index = operand_left(left, i)?;
             let quiet = quiet_index(left.model, *v, &index);
             Ok(variable_bounds(left, *v, quiet))
         }
         Expr::Neg(a) => {
-            let bounds = bounds_left(left, a)?;
+            let bounds = operand_left(left, a)?;
             Ok(negative_bounds(&bounds))
         }
         Expr::Not(a) => {
-            let bounds = bounds_left(left, a)?;
+            let bounds = operand_left(left, a)?;
             Ok(opposite(&bounds))
         }
         Expr::Binary(op, first, second) => {

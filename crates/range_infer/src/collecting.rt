@@ -82,6 +82,26 @@ fn add_targets(
     Ok(())
 }
 
+/// Adds what targets take of the values beside them, if one of these is looked at.
+// Behind the first round few are. So values that aren't are passed over together.
+fn add_set(
+    out: &mut Vec<Incoming>,
+    left: &mut RangesLeft,
+    look: &Look,
+    targets: &[Target],
+    values: &[Expr],
+    reads: &[List<usize>],
+) -> Result<(), NoMemory>
+    requires reads { reads.now ≡ each_reads (map expression_of values.now) }
+    ensures out { OnOk result (out.new.items ≡ out.old.items ++ assigned_seen look.now.all look.now.moved.now (variables_left left.old) (map (λ (l : Location). l.variable) (map location_of targets.now)) (map expression_of values.now)) }
+    ensures left { OnOk result (StaysLeft left.old left.new) }
+{
+    if looks_at_one(look, reads) {
+        add_targets(out, left, look, targets, values, reads)?;
+    }
+    Ok(())
+}
+
 /// Adds what parameters take of the values beside them.
 fn add_parameters(
     out: &mut Vec<Incoming>,
@@ -116,7 +136,7 @@ fn add_change(
     match change {
         Change::Set { targets, values } => {
             let targets = targets.as_slice();
-            add_targets(out, left, look, targets, values.as_slice(), reads)
+            add_set(out, left, look, targets, values.as_slice(), reads)
         }
         Change::Draw {
             target,
