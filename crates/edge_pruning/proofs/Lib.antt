@@ -14,3 +14,4 @@ pub mod AllReached
 pub mod RulesOfEdges
 pub mod ReachedAfterMerge
 pub mod PlacesLeftOut
+pub mod GoneAlone

@@ -26,7 +26,7 @@ one-more : (v j : ℕ) (vs : List ℕ) → cond (v == j) false (not (list_any (�
 one-more v j [] = none-or (v == j)
 one-more v j (w ∷ vs) = none-beside (v == j) (w == j) (list_any (λ w. w == j) vs) (list_any (λ w. w == j) (vs ++ v ∷ [])) (one-more v j vs)
 
-one-more-left-out : (vs : List ℕ) (v n : ℕ) → with_place (λ mark. false) v (staying_marks vs n) ≡ staying_marks (vs ++ v ∷ []) n
+pub one-more-left-out : (vs : List ℕ) (v n : ℕ) → with_place (λ mark. false) v (staying_marks vs n) ≡ staying_marks (vs ++ v ∷ []) n
 one-more-left-out vs v n =
     place-mapped (λ mark. false) (λ k. not (list_any (λ w. w == k) vs)) v v 0 n (omega arith)
     ∙ same_on_range (λ j. cond (v == j) false (not (list_any (λ w. w == j) vs))) (λ j. not (list_any (λ w. w == j) (vs ++ v ∷ []))) 0 n (λ j from. one-more v j vs)

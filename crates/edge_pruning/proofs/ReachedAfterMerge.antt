@@ -80,7 +80,7 @@ module _ (test : ℕ → Bool) (b : ℕ) where
         ap (λ t. cond t (a ∷ rest) rest) (others a (omega arith) apart)
         ∙ later (let l : a + 1 ≤ b = grind (arith, nat_tests) in l) (omega (arith, below)) passes (λ k below. others k (omega (arith, below)))
 
-one_unmarked : (marks : List Bool) (b : ℕ) → b < length marks → is_marked marks b ≡ false → ((k : ℕ) → k < length marks → (k == b) ≡ false → Marked marks k) → unmarked_places marks ≡ b ∷ []
+pub one_unmarked : (marks : List Bool) (b : ℕ) → b < length marks → is_marked marks b ≡ false → ((k : ℕ) → k < length marks → (k == b) ≡ false → Marked marks k) → unmarked_places marks ≡ b ∷ []
 one_unmarked marks b below unmarked others =
     one-passes (λ k. not (is_marked marks k)) b 0 (length marks) (omega arith) (omega (arith, below)) (ap not unmarked)
     (λ k below apart. ap not (others k (omega (arith, below)) apart))

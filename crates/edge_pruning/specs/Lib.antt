@@ -1,2 +1,3 @@
 pub mod EdgeRules
+pub mod VertexChanged
 pub mod Inner

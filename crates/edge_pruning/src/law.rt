@@ -16,6 +16,7 @@ ghost use Rattle.model_core.specs.Rules.Reached.{reached_marks, unreached};
 ghost use Rattle.model_core.specs.Rules.LeastRelations.{Reachable};
 ghost use Rattle.model_core.specs.Rules.Drop.{drop_conditions, dropped};
 ghost use Rattle.model_core.specs.Rules.Merge.{leads_to, merged, merge_conditions};
+ghost use Rattle.edge_pruning.specs.VertexChanged.{with_vertex};
 
 use range_bounds::values_lie_in_bounds;
 use round_trip::validity_is_by_parts;
@@ -67,6 +68,17 @@ pub fn dropping_takes_lines()
     ensures { (g : EventGraph) (vertices : List ℕ) → first_failed (drop_conditions g vertices) ≡ None
         → needs_version_two g ≡ false
         → length (canonical (dropped g vertices)) + length (flat_map (λ k. vertex_lines g (vertex_at g k)) vertices) ≡ length (canonical g) }
+{}
+
+/// A drop of one vertex alone takes no notice of what stands in that vertex: whatever is put in its place, the conditions and
+/// the result are the same, and it is the only one that can't be reached where it was.
+pub fn dropping_takes_no_notice_of_the_vertex()
+    ensures conditions { (g : EventGraph) (f : EventVertex → EventVertex) (gone : ℕ)
+        → drop_conditions (with_vertex f gone g) (gone ∷ []) ≡ drop_conditions g (gone ∷ []) }
+    ensures unreached { (g : EventGraph) (f : EventVertex → EventVertex) (gone : ℕ)
+        → unreached g ≡ gone ∷ [] → unreached (with_vertex f gone g) ≡ gone ∷ [] }
+    ensures left { (g : EventGraph) (f : EventVertex → EventVertex) (gone : ℕ)
+        → dropped (with_vertex f gone g) (gone ∷ []) ≡ dropped g (gone ∷ []) }
 {}
 
 /// The vertices that passes over edges mark are exactly those that can be reached.
