@@ -4,3 +4,4 @@ pub mod MergedText
 pub mod RulesOfMergedEdges
 pub mod ConditionsAsked
 pub mod PairsBetweenMerges
+pub mod HollowedText

@@ -15,13 +15,21 @@ use Rattle.merge_rules.specs.declared.growth.Growth.{Growth}
 abbrev pub body_lines : EventGraph → EventVertex → List ℕ
 body_lines g v = flat_map (change_line g) v.changes ++ flat_map (edge_line g) v.edges
 
+-- the line by which the parameters of the target of this edge take the edge's values, where there are any
+abbrev pub lines_set : EventGraph → EventEdge → List ℕ
+lines_set g e = flat_map (change_line g) (set_parameters (vertex_at g e.target).parameters e.values)
+
 -- the lines by which another vertex does what the target of this edge does once it has taken the edge's values
 abbrev pub lines_taken_over : EventGraph → EventEdge → List ℕ
-lines_taken_over g e = flat_map (change_line g) (set_parameters (vertex_at g e.target).parameters e.values) ++ body_lines g (vertex_at g e.target)
+lines_taken_over g e = lines_set g e ++ body_lines g (vertex_at g e.target)
 
 -- how many bytes the merge adds to the text, and how many it takes from it
 abbrev pub bytes_added : EventGraph → ℕ → ℕ
 bytes_added g first = option_map_or (λ e. length (lines_taken_over g e)) (plain_urgent_edge (vertex_at g first)) 0
+
+-- how many it adds where the target gives its changes and edges away, whose lines only move then
+abbrev pub bytes_set : EventGraph → ℕ → ℕ
+bytes_set g first = option_map_or (λ e. length (lines_set g e)) (plain_urgent_edge (vertex_at g first)) 0
 
 abbrev pub bytes_gone : EventGraph → ℕ → ℕ
 bytes_gone g first = option_map_or (λ e. length (edge_line g e)) (plain_urgent_edge (vertex_at g first)) 0
@@ -33,6 +41,10 @@ capped n = min n (2 ^ 64 - 1)
 -- both numbers
 abbrev pub growth : EventGraph → ℕ → Growth
 growth g first = record { added = capped (bytes_added g first); gone = capped (bytes_gone g first) }
+
+-- both numbers where the target gives its changes and edges away
+abbrev pub moved_growth : EventGraph → ℕ → Growth
+moved_growth g first = record { added = capped (bytes_set g first); gone = capped (bytes_gone g first) }
 
 -- where the two fit
 abbrev pub pair_growth : EventGraph → ℕ → Option Growth

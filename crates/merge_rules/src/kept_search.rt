@@ -2,6 +2,7 @@
 //! changed is looked at again.
 
 ghost use Rattle.std.specs.Prelude.{◌≡◌, ◌<◌, [], ◌∷◌, true, false, None, Some, map, length, slice_index_or, IfOk, OnOk};
+ghost use Rattle.model_core.specs.EventGraph.{EventGraph};
 ghost use Rattle.model_core.specs.Run.Step.{no_vertex, vertex_at};
 ghost use Rattle.model_core.specs.Static.Reading.{IsValid};
 ghost use Rattle.model_core.specs.Rules.Conditions.{first_failed};
@@ -21,6 +22,7 @@ use crate::kept_pairs::{
     KeptPair, Standing, add_all_edges, all_unasked, move_up, take_edges, take_over_pairs,
 };
 use crate::known::Known;
+use crate::law::merging_keeps_the_meaning;
 use crate::within_limits::{has_short_text, keeps_few_parts};
 use model_core::{Edge, Model, Vertex, is_watched};
 use round_trip::validity_is_by_parts;
@@ -127,10 +129,9 @@ impl KeptPairs {
     }
 
     /// Whether an edge leads to the vertex at this place.
-    pub fn is_led_to(&self, model: &Model, vertex: usize) -> bool
-        requires kept { ArePairs (graph_of model.now) self.now }
-        requires there { vertex < length model.now.vertices }
-        ensures { result ≡ has_incoming (graph_of model.now) vertex }
+    pub fn is_led_to(&self, vertex: usize) -> bool
+        requires there { vertex < length self.now }
+        ensures { (g : EventGraph) → ArePairs g self.now → result ≡ has_incoming g vertex }
     {
         self.pairs[vertex].incoming > 0
     }
@@ -340,6 +341,18 @@ impl KeptPairs {
         take_over_pairs(&mut self.pairs, first, second, edges)
     }
 
+    /// Tells that a vertex is dropped that has these edges, to which no edge leads and which isn't watched.
+    fn take_away(&mut self, edges: &[Edge], gone: usize)
+        requires { gone < length self.old }
+        ensures { (g : EventGraph) → ArePairs g self.old → IsValid g → has_incoming g gone ≡ false → is_watched_vertex g gone ≡ false
+            → map edge_of edges.now ≡ (vertex_at g gone).edges → ArePairs (dropped g (gone ∷ [])) self.new }
+    {
+        validity_is_by_parts();
+        take_edges(&mut self.pairs, edges);
+        self.pairs.remove(gone);
+        move_up(&mut self.pairs, gone);
+    }
+
     /// Tells that a vertex of the model is to be dropped to which no edge leads and which isn't watched.
     pub fn tell_drop(&mut self, model: &Model, gone: usize)
         requires kept { ArePairs (graph_of model.now) self.old }
@@ -349,9 +362,19 @@ impl KeptPairs {
         requires unwatched { is_watched_vertex (graph_of model.now) gone ≡ false }
         ensures { ArePairs (dropped (graph_of model.now) (gone ∷ [])) self.new }
     {
-        validity_is_by_parts();
-        take_edges(&mut self.pairs, edges_at(model.vertices.as_slice(), gone));
-        self.pairs.remove(gone);
-        move_up(&mut self.pairs, gone);
+        self.take_away(edges_at(model.vertices.as_slice(), gone), gone);
+    }
+
+    /// Tells that the second of two vertices of the model is to be dropped behind their merge, which was told, where no edge
+    /// leads to it then.
+    pub fn tell_drop_behind(&mut self, model: &Model, first: usize, second: usize)
+        requires kept { ArePairs (merged (graph_of model.now) first second) self.old }
+        requires valid { IsValid (graph_of model.now) }
+        requires holds { first_failed (merge_conditions (graph_of model.now) first second) ≡ None }
+        requires unled { has_incoming (merged (graph_of model.now) first second) second ≡ false }
+        ensures { ArePairs (dropped (merged (graph_of model.now) first second) (second ∷ [])) self.new }
+    {
+        merging_keeps_the_meaning();
+        self.take_away(edges_at(model.vertices.as_slice(), second), second);
     }
 }

@@ -10,6 +10,7 @@ mod kept_search;
 mod known;
 mod law;
 mod merging;
+mod moving;
 mod other_edges;
 mod reads_written;
 mod taking_over;
@@ -22,4 +23,5 @@ pub use law::{
     at_most_one_event_is_urgent, merging_adds_the_growth, merging_brings_no_rule_of_edges,
     merging_keeps_the_meaning, merging_takes_an_urgent_edge,
 };
-pub use merging::{merge, merge_measured};
+pub use merging::{merge, merge_holding, merge_measured};
+pub use moving::{merge_measured_moving, merge_moving};

@@ -16,6 +16,7 @@ use crate::reads_written::ReadsWritten;
 use crate::taking_over::put_together;
 use crate::within_limits::{is_within_limits, merged_length, urgent_place};
 use model_core::{Model, RuleError};
+use sig_base::NoMemory;
 use std::alloc::Global;
 use use_analysis::UseCounts;
 
@@ -44,6 +45,32 @@ pub(crate) fn failed_merge<R: ReadsWritten>(
     }
 }
 
+/// Does what `merge_measured` does, where no condition of merge fails.
+pub fn merge_holding(
+    alloc: Global,
+    model: &mut Model,
+    known: &mut Known,
+    vertex: usize,
+    target: usize,
+) -> Result<(), NoMemory>
+    requires known { IsKnown (graph_of model.old) known.old }
+    requires holds { first_failed (merge_conditions (graph_of model.old) vertex target) ≡ None }
+    ensures done { OnOk result (graph_of model.new ≡ merged (graph_of model.old) vertex target) }
+    ensures unchanged { OnErr result (graph_of model.new ≡ graph_of model.old) }
+    ensures known { IsKnown (graph_of model.new) known.new }
+    ensures told { OnOk result (known.new ≡ record { bytes = Some (length (canonical (graph_of model.new))); single = Some true }) }
+{
+    let growth = growth_of(model, vertex, target);
+    let bytes = merged_length(model, known.bytes, vertex, target, growth);
+    let place = urgent_place(&model.vertices.as_slice()[vertex]);
+    put_together(alloc, model, vertex, place, target)?;
+    *known = Known {
+        bytes: Some(bytes),
+        single: Some(true),
+    };
+    Ok(())
+}
+
 /// Does what `merge` does. It may be told what is known of the model, and tells what is known then: of a result how many bytes
 /// its canonical text has, and that it is single urgent. The counts, in which
 /// nothing is counted, serve to tell what edges read; they are given back as they were.
@@ -68,14 +95,7 @@ pub fn merge_measured(
     if let Some(condition) = failed_merge(model, known, counts, vertex, target) {
         return Err(RuleError::Refused { condition });
     }
-    let growth = growth_of(model, vertex, target);
-    let bytes = merged_length(model, known.bytes, vertex, target, growth);
-    let place = urgent_place(&model.vertices.as_slice()[vertex]);
-    put_together(alloc, model, vertex, place, target)?;
-    *known = Known {
-        bytes: Some(bytes),
-        single: Some(true),
-    };
+    merge_holding(alloc, model, known, vertex, target)?;
     Ok(())
 }
 

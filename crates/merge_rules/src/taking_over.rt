@@ -1,7 +1,7 @@
-//! A vertex takes over what another one does: the changes and edges of the other stand in place of its plain urgent edge.
-//! All memory is taken before anything changes.
+//! A vertex takes over what another one does: the changes and edges of the other stand in place of its plain urgent edge. The
+//! other one keeps what it does, or gives it away.
 
-ghost use Rattle.std.specs.Prelude.{◌≡◌, ◌+◌, ◌++◌, ◌<◌, ◌≤◌, Some, [], map, length, slice_get, OnOk, OnErr, IfOk};
+ghost use Rattle.std.specs.Prelude.{◌≡◌, ◌+◌, ◌++◌, ◌<◌, ◌≤◌, ◌==◌, Some, [], false, map, length, slice_get, OnOk, OnErr, IfOk};
 ghost use Rattle.std.specs.Vec.{vec_len, vec_capacity};
 ghost use Rattle.std.specs.List.{remove};
 ghost use Rattle.std.specs.Option.{option_map_or};
@@ -11,10 +11,12 @@ ghost use Rattle.model_core.specs.Rules.PlacedEdges.{with_place};
 ghost use Rattle.model_core.specs.Rules.Merge.{set_parameters, merged_with, merged};
 ghost use Rattle.model_core.specs.Run.Step.{vertex_at};
 ghost use Rattle.model_core.specs.Code.Views.{graph_of, expression_of, location_of, change_of, edge_of, vertex_of};
+ghost use Rattle.merge_rules.specs.Hollowed.{hollow, hollowed};
 
-use model_core::{Change, Edge, Expr, Model, Target, Vertex, copy_vertex};
+use model_core::{Change, Edge, Expr, Model, Target, Vertex, copy_name, copy_vertex};
 use sig_base::{List, NoMemory};
 use std::alloc::Global;
+use std::mem;
 
 /// The scalars at these places, as what takes values.
 fn scalar_targets(alloc: Global, vars: &[usize]) -> Result<List<Target>, NoMemory>
@@ -136,7 +138,7 @@ fn take_over_at(
 }
 
 /// Makes the vertex at the first place, whose plain urgent edge stands at the second, do what the one at the third does.
-/// Where memory is refused the model stays as it was.
+/// All memory is taken before anything changes: where it is refused the model stays as it was.
 pub(crate) fn put_together(
     alloc: Global,
     model: &mut Model,
@@ -152,5 +154,48 @@ pub(crate) fn put_together(
 {
     let other = copy_vertex(alloc, &model.vertices.as_slice()[second])?;
     let targets = scalar_targets(alloc, other.params.as_slice())?;
+    take_over_at(model, first, place, targets, other)
+}
+
+/// A vertex of the same name and parameters that does nothing.
+fn hollow_copy(alloc: Global, vertex: &Vertex) -> Result<Vertex, NoMemory>
+    ensures { IfOk result (λ copy. vertex_of copy ≡ hollow (vertex_of vertex.now)) }
+{
+    Ok(Vertex {
+        name: copy_name(alloc, &vertex.name)?,
+        params: List::from_vec(Vec::from_slice(alloc, vertex.params.as_slice())?),
+        changes: List::new(alloc),
+        edges: List::new(alloc),
+    })
+}
+
+/// Puts a vertex that does nothing in the place of one, which is given.
+fn give_away(model: &mut Model, place: usize, empty: Vertex) -> Vertex
+    requires there { place < length model.old.vertices }
+    requires empty { vertex_of empty ≡ hollow (vertex_at (graph_of model.old) place) }
+    ensures given { vertex_of result ≡ vertex_at (graph_of model.old) place }
+    ensures left { graph_of model.new ≡ hollowed (graph_of model.old) place }
+{
+    mem::replace(&mut model.vertices.as_mut_vec()[place], empty)
+}
+
+/// Makes the vertex at the first place, whose plain urgent edge stands at the second, do what the one at the third does, which
+/// gives that away.
+pub(crate) fn put_together_moving(
+    alloc: Global,
+    model: &mut Model,
+    first: usize,
+    place: usize,
+    second: usize,
+) -> Result<(), NoMemory>
+    requires first { first < length model.old.vertices }
+    requires second { second < length model.old.vertices }
+    requires apart { (first == second) ≡ false }
+    requires at { plain_urgent (vertex_at (graph_of model.old) first) ≡ Some place }
+    ensures { OnOk result (graph_of model.new ≡ hollowed (merged (graph_of model.old) first second) second) }
+{
+    let empty = hollow_copy(alloc, &model.vertices.as_slice()[second])?;
+    let targets = scalar_targets(alloc, empty.params.as_slice())?;
+    let other = give_away(model, second, empty);
     take_over_at(model, first, place, targets, other)
 }

@@ -24,7 +24,7 @@ use Rattle.mark_laws.proofs.EntailedMarks.{entailed_marks-long}
 use Rattle.mark_laws.proofs.ReachedLong.{reached_marks-long}
 use Rattle.model_core.proofs.AllHold.{every-holds}
 use Rattle.model_core.proofs.BothTrue.{and_first, and_second}
-use Rattle.reducer.specs.Inner.LaterRules.{NoEdgeRule, Made}
+use Rattle.reducer.specs.Inner.LaterRules.{NoEdgeRule, Made, nothing_more, MadeOn}
 use Rattle.reducer.proofs.PlacesByName.{variables_distinct, vertices_distinct, place_of_its_name, places_of_their_names}
 
 -- ---- the first rule where no rule of edges is applicable
@@ -62,6 +62,20 @@ merge_is_made g k h before between after none false true d m (no_drop, same, unn
       subst (λ (k : EventGraph). applied k a ≡ Some h) same made,
       noted ∙ ap (λ (before : List RuleApplication). before ++ a ∷ []) unnoted,
     )
+
+-- the same where the drop behind the merge may be made as well
+pub merge_on_is_made : (g k h : EventGraph) (before between after : List RuleApplication) → NoEdgeRule g → (dropped merged : Bool) → dropped ≡ false → merged ≡ true → Made (drop_of g (unreached g)) dropped g k before between → MadeOn (λ g. merge_of g (first_merge g)) merged k h between after → MadeOn first_rule true g h before after
+merge_on_is_made g k h before between after none dropped true d m drop (next, middle, merge, more) = (next, middle, merge_is_made g k next before between middle none dropped true d refl drop merge, more)
+merge_on_is_made g k h before between after none dropped false d m drop merge = cc
+
+-- an application alone, or none
+pub one_made : (rule : EventGraph → Option RuleApplication) (g h : EventGraph) (before after : List RuleApplication) (made : Bool) → Made (rule g) made g h before after → MadeOn rule made g h before after
+one_made rule g h before after true made = (h, after, made, nothing_more refl refl)
+one_made rule g h before after false none = none
+
+pub none_made : (rule : EventGraph → Option RuleApplication) (g h : EventGraph) (before after : List RuleApplication) (made : Bool) → made ≡ false → MadeOn rule made g h before after → Made (rule g) made g h before after
+none_made rule g h before after true e made = cc
+none_made rule g h before after false e none = none
 
 -- nothing to drop nor to merge, and a slice or none
 pub slice_is_made : (g k l h : EventGraph) (before between later after : List RuleApplication) → NoEdgeRule g → (dropped merged : Bool) → dropped ≡ false → merged ≡ false → Made (drop_of g (unreached g)) dropped g k before between → Made (merge_of k (first_merge k)) merged k l between later → (made : Bool) → Made (slice_of l (unneeded l)) made l h later after → Made (first_rule g) made g h before after

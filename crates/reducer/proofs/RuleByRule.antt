@@ -1,5 +1,5 @@
 -- One application after the other, each the first rule's: what the code's loop keeps, and the strategy's end.
-use Rattle.std.proofs.Common.{◌≡◌, ℕ, ◌<◌, Bool, true, false, List, [], ◌∷◌, ◌++◌, map, Option, Some, None, Result, Ok, Err, OnOk, IfOk, IfErr, refl, sym, ap, ◌∙◌, subst, append_assoc}
+use Rattle.std.proofs.Common.{◌≡◌, ℕ, ◌<◌, Bool, true, false, List, [], ◌∷◌, ◌++◌, map, Option, Some, None, Result, Ok, Err, OnOk, IfOk, IfErr, refl, sym, ap, ◌∙◌, subst, append_assoc, arith}
 use Rattle.sig_base.specs.declared.no_memory.NoMemory.{NoMemory}
 use Rattle.model_core.specs.declared.application.Application.{Application}
 use Rattle.model_core.specs.declared.rule_error.RuleError.{RuleError}
@@ -9,7 +9,8 @@ use Rattle.model_core.specs.EventGraph.{EventGraph}
 use Rattle.model_core.specs.Static.Reading.{IsValid}
 use Rattle.model_core.specs.Rules.ConditionTold.{TellsCondition}
 use Rattle.model_core.specs.Rules.Reduction.{RuleApplication, applied, first_rule, Strategy}
-use Rattle.reducer.specs.Inner.LaterRules.{NoEdgeRule, Made, Finished}
+use Rattle.reducer.specs.Inner.LaterRules.{NoEdgeRule, Made, MaybeDropped, nothing_more, dropped_too, MadeOn, Finished}
+use Rattle.reducer.proofs.FirstLaterRule.{drop_is_made}
 use Rattle.reducer.proofs.FirstRules.{AreFirst, are_first-append, are_first-strategy}
 use Rattle.reducer.proofs.NoEdgeRuleAnew.{LeavesEdges, none-applied}
 use Rattle.reducer.proofs.StrategyEnds.{measure, MergesTakeOne, applied_leaves_less}
@@ -29,7 +30,7 @@ append_nothing (x ∷ xs) = ap (λ xs. x ∷ xs) (append_nothing xs)
 pub led_begins : {g : EventGraph} {before : List RuleApplication} → IsValid g → NoEdgeRule g → Led g g before before
 led_begins {g} {before} valid none = record { later = []; noted = append_nothing before; first = refl; valid = valid; none = none }
 
-pub led_on : LeavesEdges → ((g h : EventGraph) (a : RuleApplication) → IsValid g → applied g a ≡ Some h → IsValid h) → (g h k : EventGraph) (before between after : List RuleApplication) (made : Bool) → made ≡ true → Led g h before between → Made (first_rule h) made h k between after → Led g k before after
+led_on : LeavesEdges → ((g h : EventGraph) (a : RuleApplication) → IsValid g → applied g a ≡ Some h → IsValid h) → (g h k : EventGraph) (before between after : List RuleApplication) (made : Bool) → made ≡ true → Led g h before between → Made (first_rule h) made h k between after → Led g k before after
 led_on leaves one_valid g h k before between after true e led (a, is, made, noted) = record {
   later = led.later ++ a ∷ [];
   noted = noted ∙ ap (λ (xs : List RuleApplication). xs ++ a ∷ []) led.noted ∙ append_assoc before led.later (a ∷ []);
@@ -39,17 +40,38 @@ led_on leaves one_valid g h k before between after true e led (a, is, made, note
 }
 led_on leaves one_valid g h k before between after false e led made = cc
 
-pub led_to_the_end : (g h k : EventGraph) (before between after : List RuleApplication) (made : Bool) → made ≡ false → Led g h before between → Made (first_rule h) made h k between after → Finished g k before after
+-- where the drop behind the application may be made as well
+module _ (leaves : LeavesEdges) (one_valid : (g h : EventGraph) (a : RuleApplication) → IsValid g → applied g a ≡ Some h → IsValid h) where
+  pub led_further : (g h k : EventGraph) (before between after : List RuleApplication) (made : Bool) → made ≡ true → Led g h before between → MadeOn first_rule made h k between after → Led g k before after
+  led_further g h k before between after false e led made = cc
+  led_further g h k before between after true e led (next, middle, first, more) = behind more (led_on leaves one_valid g h next before between middle true refl led first) where
+    behind : MaybeDropped next k middle after → Led g next before middle → Led g k before after
+    behind (nothing_more same unnoted) led = subst (λ (k : EventGraph). Led g k before after) (sym same) (subst (λ (as_ : List RuleApplication). Led g next before as_) (sym unnoted) led)
+    behind (dropped_too drop) led = led_on leaves one_valid g next k before middle after true refl led (drop_is_made next k middle after led.none true refl drop)
+
+  pub leaves_less : MergesTakeOne → (g h k : EventGraph) (before between after : List RuleApplication) (made : Bool) → made ≡ true → Led g h before between → MadeOn first_rule made h k between after → measure k < measure h
+  leaves_less takes g h k before between after false e led made = cc
+  leaves_less takes g h k before between after true e led (next, middle, first, more) = behind more where
+    one_less : (h k : EventGraph) (between after : List RuleApplication) → NoEdgeRule h → Made (first_rule h) true h k between after → measure k < measure h
+    one_less h k between after none (a, is, made, noted) = applied_leaves_less takes h k a none is made
+
+    fewer : measure next < measure h
+    fewer = one_less h next between middle led.none first
+
+    behind : MaybeDropped next k middle after → measure k < measure h
+    behind (nothing_more same unnoted) = subst (λ (k : EventGraph). measure k < measure h) (sym same) fewer
+    behind (dropped_too drop) =
+        let none = (led_on leaves one_valid g h next before between middle true refl led first).none in
+        let fewer_still = one_less next k middle after none (drop_is_made next k middle after none true refl drop) in
+        omega (arith, fewer, fewer_still)
+
+pub led_to_the_end : (g h k : EventGraph) (before between after : List RuleApplication) (made : Bool) → made ≡ false → Led g h before between → MadeOn first_rule made h k between after → Finished g k before after
 led_to_the_end g h k before between after true e led made = cc
 led_to_the_end g h k before between after false e led (no_rule, same, unnoted) = (
   led.later,
   unnoted ∙ led.noted,
   subst (λ (xs : List RuleApplication). Strategy g xs k) (sym (append_nothing led.later)) (are_first-strategy led.later [] g h k led.first (no_rule, sym same)),
 )
-
-pub leaves_less : MergesTakeOne → (g h : EventGraph) (before after : List RuleApplication) (made : Bool) → made ≡ true → NoEdgeRule g → Made (first_rule g) made g h before after → measure h < measure g
-leaves_less takes g h before after true e none (a, is, made, noted) = applied_leaves_less takes g h a none is made
-leaves_less takes g h before after false e none made = cc
 
 -- ---- one application in code
 

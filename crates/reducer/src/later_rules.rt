@@ -1,26 +1,31 @@
-//! The rules behind those of edges, one application at a time: drop, merge and slice. Between two applications it is kept what
-//! is known of the model: after a merge, or the drop behind it, only what can have changed is looked at again.
+//! The rules behind those of edges: drop, merge and slice, one application at a time, but that a merge and a drop of its second
+//! vertex alone are made together. Between two applications it is kept what is known of the model: after a merge only what can
+//! have changed is looked at again.
 
-ghost use Rattle.std.specs.Prelude.{◌≡◌, [], map, length, OnOk, IfOk, true};
+ghost use Rattle.std.specs.Prelude.{◌≡◌, [], ◌∷◌, ◌++◌, map, length, OnOk, IfOk, true};
 ghost use Rattle.model_core.specs.Static.Reading.{IsValid};
 ghost use Rattle.model_core.specs.Code.Views.{graph_of, application_of};
 ghost use Rattle.model_core.specs.Rules.Reached.{unreached};
+ghost use Rattle.model_core.specs.Text.Canonical.{vertex_name};
 ghost use Rattle.model_core.specs.Rules.Drop.{dropped};
-ghost use Rattle.model_core.specs.Rules.Reduction.{first_rule};
+ghost use Rattle.model_core.specs.Rules.Merge.{merged};
+ghost use Rattle.model_core.specs.Rules.Reduction.{Drop, first_rule};
 ghost use Rattle.reducer.specs.Inner.LaterRules.{NoEdgeRule, Finished};
-ghost use Rattle.reducer.specs.Inner.Progress.{OneAlone};
-ghost use Rattle.reducer.specs.Inner.Underway.{drop_rule, merge_rule, slice_rule, IsUnderway, ByRule, MadeUnderway};
+ghost use Rattle.reducer.specs.Inner.Progress.{OneAlone, IsMerging};
+ghost use Rattle.reducer.specs.Inner.Underway.{drop_rule, merge_rule, slice_rule, IsUnderway, ByRule, ByRuleOn, IsMerged, MadeUnderway};
 
 use crate::naming::{Declared, name_at, names_at};
-use crate::progress::{Progress, Unreached, unreached_by_merge};
+use crate::progress::{Progress, is_left_alone};
 use crate::strategy::Reduced;
 use edge_pruning::{
-    drop_unreached, dropping_brings_no_rule_of_edges, dropping_keeps_the_meaning, unreached,
+    drop_unreached, dropping_brings_no_rule_of_edges, dropping_keeps_the_meaning,
+    dropping_takes_no_notice_of_the_vertex, unreached,
 };
 use merge_rules::{
-    KeptPairs, merge_measured, merging_brings_no_rule_of_edges, merging_takes_an_urgent_edge,
+    KeptPairs, merge_holding, merge_moving, merging_brings_no_rule_of_edges,
+    merging_keeps_the_meaning, merging_takes_an_urgent_edge,
 };
-use model_core::{Application, Model, RuleError, was_made};
+use model_core::{Application, Model, was_made};
 use reduction_cert::{chains_keep_the_meaning, known_without};
 use sig_base::{List, NoMemory};
 use std::alloc::Global;
@@ -68,12 +73,30 @@ pub(crate) fn apply_later_rules(
     })
 }
 
+/// Notes that these vertices of the model are dropped.
+fn note_drop(
+    alloc: Global,
+    model: &Model,
+    applications: &mut Vec<Application>,
+    vertices: &List<usize>,
+) -> Result<(), NoMemory>
+    ensures { OnOk result (map application_of applications.new.items
+        ≡ map application_of applications.old.items ++ Drop (map (vertex_name (graph_of model.now)) vertices.now) ∷ []) }
+{
+    let names = names_at(alloc, model, Declared::Vertices, vertices.as_slice())?;
+    applications.push(Application::Drop {
+        vertices: List::from_vec(names),
+    })?;
+    Ok(())
+}
+
 impl Underway {
-    /// Applies the first rule, where no rule of edges is applicable, and notes that, or says that there is none.
+    /// Applies the first rule, where no rule of edges is applicable, and notes that, or says that there is none. Behind a merge
+    /// that leaves a vertex which can't be reached it drops that vertex as well.
     fn apply_one(&mut self, alloc: Global) -> Result<bool, NoMemory>
         requires underway { IsUnderway self.old }
         requires no_edge_rule { NoEdgeRule (graph_of self.old.model) }
-        ensures { IfOk result (λ made. ByRule first_rule made self.old self.new) }
+        ensures { IfOk result (λ made. ByRuleOn first_rule made self.old self.new) }
     {
         if self.drop_first(alloc)? {
             return Ok(true);
@@ -90,14 +113,10 @@ impl Underway {
         ensures by_rule { IfOk result (λ made. ByRule drop_rule made self.old self.new) }
         ensures all { OnOk result (unreached (graph_of self.new.model) ≡ []) }
     {
-        match self.progress.unreached {
-            Unreached::Unknown => self.drop_sought(alloc),
-            Unreached::Nobody => Ok(false),
-            Unreached::One(gone) => {
-                self.drop_alone(alloc, gone)?;
-                Ok(true)
-            }
+        if self.progress.all_reached {
+            return Ok(false);
         }
+        self.drop_sought(alloc)
     }
 
     /// The same, where they have to be sought.
@@ -107,7 +126,7 @@ impl Underway {
         ensures all { OnOk result (unreached (graph_of self.new.model) ≡ []) }
     {
         let vertices = unreached(alloc, &self.model)?;
-        self.progress.unreached = Unreached::Nobody;
+        self.progress.all_reached = true;
         if vertices.len() == 0 {
             return Ok(false);
         }
@@ -115,20 +134,6 @@ impl Underway {
         self.progress.known = self.progress.known.behind_drop();
         self.progress.pairs = KeptPairs::begin(alloc, &self.model)?;
         Ok(true)
-    }
-
-    /// The same for the vertex at this place, which alone can't be reached.
-    fn drop_alone(&mut self, alloc: Global, gone: usize) -> Result<(), NoMemory>
-        requires underway { IsUnderway self.old }
-        requires alone { OneAlone (graph_of self.old.model) gone }
-        ensures by_rule { OnOk result (ByRule drop_rule true self.old self.new) }
-        ensures all { OnOk result (unreached (graph_of self.new.model) ≡ []) }
-    {
-        let vertices = List::from_vec(Vec::from_elem(alloc, gone, 1)?);
-        self.progress.pairs.tell_drop(&self.model, gone);
-        self.progress.known = known_without(&self.model, self.progress.known, vertices.as_slice());
-        self.progress.unreached = Unreached::Nobody;
-        self.drop_these(alloc, &vertices)
     }
 
     /// Drops these vertices, which can't be reached, and notes that. What is known stays as it is.
@@ -142,19 +147,16 @@ impl Underway {
         ensures known { self.new.progress ≡ self.old.progress }
     {
         dropping_keeps_the_meaning();
-        let names = names_at(alloc, &self.model, Declared::Vertices, vertices.as_slice())?;
-        self.applications.push(Application::Drop {
-            vertices: List::from_vec(names),
-        })?;
+        note_drop(alloc, &self.model, &mut self.applications, vertices)?;
         drop_unreached(alloc, &mut self.model, vertices)
     }
 
     /// Merges the first vertex that can be merged, and notes that, or says that there is none, where all vertices can be
-    /// reached.
+    /// reached. Where its second vertex can't be reached any more it is dropped, and that is noted as well.
     fn merge_first(&mut self, alloc: Global) -> Result<bool, NoMemory>
         requires underway { IsUnderway self.old }
         requires all { unreached (graph_of self.old.model) ≡ [] }
-        ensures { IfOk result (λ made. ByRule merge_rule made self.old self.new) }
+        ensures { IfOk result (λ made. ByRuleOn merge_rule made self.old self.new) }
     {
         let progress = &mut self.progress;
         let Some((first, second)) = progress
@@ -168,16 +170,53 @@ impl Underway {
         self.applications
             .push(Application::Merge { vertex, target })?;
         progress.pairs.tell_merge(&self.model, first, second)?;
-        let known = &mut progress.known;
-        let counts = &mut progress.counts;
-        match merge_measured(alloc, &mut self.model, known, counts, first, second) {
-            Ok(()) => {
-                progress.unreached = unreached_by_merge(&self.model, &progress.pairs, second);
-                Ok(true)
-            }
-            Err(RuleError::Refused { condition: _ }) => Ok(false),
-            Err(RuleError::NoMemory) => Err(NoMemory),
+        self.merge_these(alloc, first, second)?;
+        Ok(true)
+    }
+
+    /// Merges these two, which is noted and told.
+    fn merge_these(&mut self, alloc: Global, first: usize, second: usize) -> Result<(), NoMemory>
+        requires valid { IsValid (graph_of self.old.model) }
+        requires all { unreached (graph_of self.old.model) ≡ [] }
+        requires merging { IsMerging (graph_of self.old.model) first second self.old.progress }
+        ensures { OnOk result (IsMerged first second self.old self.new) }
+    {
+        if is_left_alone(&self.progress.pairs, second) {
+            self.merge_away(alloc, first, second)
+        } else {
+            self.merge_beside(alloc, first, second)
         }
+    }
+
+    /// The same, where all vertices can be reached then.
+    fn merge_beside(&mut self, alloc: Global, first: usize, second: usize) -> Result<(), NoMemory>
+        requires merging { IsMerging (graph_of self.old.model) first second self.old.progress }
+        requires all { unreached (merged (graph_of self.old.model) first second) ≡ [] }
+        ensures { OnOk result (IsMerged first second self.old self.new) }
+    {
+        self.progress.all_reached = true;
+        let known = &mut self.progress.known;
+        merge_holding(alloc, &mut self.model, known, first, second)
+    }
+
+    /// The same, where the second one alone can't be reached then: it gives away what it does, and is dropped.
+    fn merge_away(&mut self, alloc: Global, first: usize, second: usize) -> Result<(), NoMemory>
+        requires valid { IsValid (graph_of self.old.model) }
+        requires merging { IsMerging (graph_of self.old.model) first second self.old.progress }
+        requires alone { OneAlone (merged (graph_of self.old.model) first second) second }
+        ensures { OnOk result (IsMerged first second self.old self.new) }
+    {
+        merging_keeps_the_meaning();
+        dropping_keeps_the_meaning();
+        dropping_takes_no_notice_of_the_vertex();
+        let gone = List::from_vec(Vec::from_elem(alloc, second, 1)?);
+        note_drop(alloc, &self.model, &mut self.applications, &gone)?;
+        let progress = &mut self.progress;
+        progress.pairs.tell_drop_behind(&self.model, first, second);
+        merge_moving(alloc, &mut self.model, &mut progress.known, first, second)?;
+        progress.known = known_without(&self.model, progress.known, gone.as_slice());
+        progress.all_reached = true;
+        drop_unreached(alloc, &mut self.model, &gone)
     }
 
     /// Slices the variables that aren't needed away, and notes that, or says that there are none.

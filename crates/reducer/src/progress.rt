@@ -7,7 +7,7 @@ ghost use Rattle.model_core.specs.Rules.Conditions.{first_failed};
 ghost use Rattle.model_core.specs.Rules.Reached.{unreached};
 ghost use Rattle.model_core.specs.Rules.Merge.{merge_conditions, merged};
 ghost use Rattle.merge_rules.specs.KeptPairs.{ArePairs};
-ghost use Rattle.reducer.specs.Inner.Progress.{TellsUnreached, IsProgress};
+ghost use Rattle.reducer.specs.Inner.Progress.{TellsAlone, IsProgress};
 
 use edge_pruning::merging_leaves_vertices_reached;
 use merge_rules::{KeptPairs, Known};
@@ -16,24 +16,14 @@ use sig_base::NoMemory;
 use std::alloc::Global;
 use use_analysis::UseCounts;
 
-/// Which vertices can't be reached.
-#[derive(Clone, Copy)]
-pub(crate) enum Unreached {
-    /// They haven't been sought.
-    Unknown,
-    /// All can be reached.
-    Nobody,
-    /// This one alone can't. It isn't watched, and no edge leads to it.
-    One(usize),
-}
-
 /// What is known of a model.
 #[derive(Drop)]
 pub(crate) struct Progress {
     pub(crate) known: Known,
     /// Nothing is counted here between two calls that use it.
     pub(crate) counts: UseCounts,
-    pub(crate) unreached: Unreached,
+    /// Whether it is known that all vertices can be reached.
+    pub(crate) all_reached: bool,
     pub(crate) pairs: KeptPairs,
 }
 
@@ -45,26 +35,21 @@ impl Progress {
         Ok(Progress {
             known: Known::nothing(),
             counts: UseCounts::begin(alloc, model)?,
-            unreached: Unreached::Unknown,
+            all_reached: false,
             pairs: KeptPairs::begin(alloc, model)?,
         })
     }
 }
 
-/// Which vertices can't be reached after a merge with the vertex at this place, where all could be before it.
-pub(crate) fn unreached_by_merge(model: &Model, pairs: &KeptPairs, second: usize) -> Unreached
-    requires kept { ArePairs (graph_of model.now) pairs.now }
-    requires there { second < length model.now.vertices }
+/// Whether a merge, which was told, leaves its second vertex as the only one that can't be reached, where all could be before.
+pub(crate) fn is_left_alone(pairs: &KeptPairs, second: usize) -> bool
+    requires there { second < length pairs.now }
     ensures { (g : EventGraph) (first : ℕ) → unreached g ≡ [] → first_failed (merge_conditions g first second) ≡ None
-        → graph_of model.now ≡ merged g first second → TellsUnreached (graph_of model.now) result }
+        → ArePairs (merged g first second) pairs.now → TellsAlone (merged g first second) second result }
 {
     merging_leaves_vertices_reached();
     if second == 0 {
-        return Unreached::Nobody;
+        return false;
     }
-    if pairs.is_led_to(model, second) {
-        Unreached::Nobody
-    } else {
-        Unreached::One(second)
-    }
+    !pairs.is_led_to(second)
 }

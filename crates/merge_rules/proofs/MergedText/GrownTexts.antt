@@ -1,5 +1,5 @@
 -- The text of the result of a merge is longer by the lines that the merge adds, and shorter by that of the plain urgent edge.
-use Rattle.std.proofs.Common.{◌≡◌, ℕ, zero, suc, ◌+◌, ◌<◌, List, [], ◌∷◌, length, slice_get, slice_index_or, Option, Some, refl, ◌∙◌, ap, arith, length-append}
+use Rattle.std.proofs.Common.{◌≡◌, ℕ, zero, suc, ◌+◌, ◌<◌, List, [], ◌∷◌, length, slice_get, slice_index_or, Option, Some, refl, sym, ◌∙◌, ap, arith, length-append}
 use Rattle.std.specs.List.{flat_map}
 use Rattle.std.specs.Option.{option_map_or, option_and_then}
 use Rattle.model_core.specs.EventGraph.{EventGraph, EventVertex, EventEdge}
@@ -8,7 +8,7 @@ use Rattle.model_core.specs.Text.Canonical.{canonical, change_line, edge_line}
 use Rattle.model_core.specs.Rules.Prune.{pruned}
 use Rattle.model_core.specs.Rules.UrgentEdges.{plain_urgent_edge}
 use Rattle.model_core.specs.Rules.Merge.{set_parameters, merged}
-use Rattle.merge_rules.specs.Growth.{body_lines, lines_taken_over, bytes_added, bytes_gone}
+use Rattle.merge_rules.specs.Growth.{body_lines, lines_set, lines_taken_over, bytes_added, bytes_set, bytes_gone}
 use Rattle.merge_rules.proofs.OneStepForTwo.EdgesAside.{urgent_edge}
 use Rattle.merge_rules.proofs.SingleUrgentModels.PlainEdges.{PlainEdge}
 use Rattle.merge_rules.proofs.MergedText.MergedLength.{added, rest_length, merged_length}
@@ -28,8 +28,14 @@ module _ (g : EventGraph) (first second : ℕ) (p : PlainEdge (vertex_at g first
   pub gone-is : bytes_gone g first ≡ length (edge_line g (urgent_edge second p.values))
   gone-is = ap (λ (o : Option EventEdge). option_map_or (λ (e : EventEdge). length (edge_line g e)) o 0) edge-is
 
+  pub set-is : bytes_set g first ≡ length (flat_map (change_line g) (set_parameters b.parameters p.values))
+  set-is = ap (λ (o : Option EventEdge). option_map_or (λ (e : EventEdge). length (lines_set g e)) o 0) edge-is
+
   pub added-is : bytes_added g first ≡ length (flat_map (change_line g) (set_parameters b.parameters p.values)) + length (body_lines g b)
   added-is = ap (λ (o : Option EventEdge). option_map_or (λ (e : EventEdge). length (lines_taken_over g e)) o 0) edge-is ∙ length-append (flat_map (change_line g) (set_parameters b.parameters p.values)) (body_lines g b)
+
+  pub added-parts : bytes_added g first ≡ bytes_set g first + length (body_lines g b)
+  added-parts = added-is ∙ ap (λ n. n + length (body_lines g b)) (sym set-is)
 
   body-is : length (body_lines g b) ≡ length (flat_map (change_line g) b.changes) + length (flat_map (edge_line g) b.edges)
   body-is = length-append (flat_map (change_line g) b.changes) (flat_map (edge_line g) b.edges)

@@ -22,8 +22,8 @@ use Rattle.model_core.proofs.AllHold.{every-holds}
 use Rattle.merge_rules.proofs.OneStepForTwo.MergeHolds.{read_at, is_below}
 use Rattle.merge_rules.proofs.SingleUrgentModels.PlainEdges.{PlainEdge, plain_edge_of, plain_within}
 use Rattle.merge_rules.proofs.OneStepForTwo.EdgesAside.{urgent_edge}
-use Rattle.merge_rules.specs.Growth.{body_lines, bytes_added, bytes_gone}
-use Rattle.merge_rules.proofs.MergedText.GrownTexts.{gone-is, added-is, shorter, grown}
+use Rattle.merge_rules.specs.Growth.{body_lines, bytes_added, bytes_set, bytes_gone}
+use Rattle.merge_rules.proofs.MergedText.GrownTexts.{gone-is, set-is, added-parts, shorter, grown}
 
 -- ---- the first condition
 
@@ -66,6 +66,10 @@ module _ (g : EventGraph) (first second : ℕ) (none : first_failed (take 7 (mer
   -- it is longer by what is added, and shorter by what goes, which was a part of it
   pub text_grown : length (canonical (merged g first second)) + bytes_gone g first ≡ length (canonical g) + bytes_added g first
   text_grown = grown g first second leads.edge (is_below first (length g.vertices) leads.exists)
+
+  -- of what is added the lines of the target's changes and edges are a part
+  pub text_added : bytes_added g first ≡ bytes_set g first + length (body_lines g (vertex_at g second))
+  text_added = added-parts g first second leads.edge
 
   pub gone_within : bytes_gone g first ≤ length (canonical g)
   gone_within = let whole = shorter g first second leads.edge (is_below first (length g.vertices) leads.exists) in omega (arith, whole)
@@ -112,16 +116,16 @@ module _ (g : EventGraph) (first second : ℕ) (h : Leads g first second) where
       let found : Some e ≡ Some (urgent_edge second p.values) = sym is ∙ ap (λ (v : EventVertex). slice_get v.edges place) (sym here) ∙ ap (slice_get (vertex_at g first).edges) one ∙ p.there in
       cc
 
-  -- the lines that go and that are added, as the code reads them
+  -- the lines that go and that the `set` adds, as the code reads them
   edge_gone : (a : EventVertex) (place : ℕ) (e : EventEdge) → slice_get g.vertices first ≡ Some a → plain_urgent a ≡ Some place → slice_get a.edges place ≡ Some e → bytes_gone g first ≡ length (edge_line g e)
   edge_gone a place e there at is = gone-is g first second p ∙ ap (λ (e : EventEdge). length (edge_line g e)) (sym (edge_found a place e there at is))
 
-  lines_added : (a b : EventVertex) (place : ℕ) (e : EventEdge) → slice_get g.vertices first ≡ Some a → slice_get g.vertices second ≡ Some b → plain_urgent a ≡ Some place → slice_get a.edges place ≡ Some e
-      → bytes_added g first ≡ length (flat_map (change_line g) (set_parameters b.parameters e.values)) + length (body_lines g (vertex_at g second))
-  lines_added a b place e there target at is =
+  lines_set : (a b : EventVertex) (place : ℕ) (e : EventEdge) → slice_get g.vertices first ≡ Some a → slice_get g.vertices second ≡ Some b → plain_urgent a ≡ Some place → slice_get a.edges place ≡ Some e
+      → bytes_set g first ≡ length (flat_map (change_line g) (set_parameters b.parameters e.values))
+  lines_set a b place e there target at is =
       let values : e.values ≡ p.values = ap (λ (e : EventEdge). e.values) (edge_found a place e there at is) in
       let second_is : vertex_at g second ≡ b = read_at g.vertices second no_vertex b target in
-      added-is g first second p ∙ ap₂ (λ (v : EventVertex) values. length (flat_map (change_line g) (set_parameters v.parameters values)) + length (body_lines g (vertex_at g second))) second_is (sym values)
+      set-is g first second p ∙ ap₂ (λ (v : EventVertex) values. length (flat_map (change_line g) (set_parameters v.parameters values))) second_is (sym values)
 
   -- the text without the edge
   without_edge : (a : EventVertex) (place : ℕ) → slice_get g.vertices first ≡ Some a → plain_urgent a ≡ Some place → length (canonical (pruned g first place)) + bytes_gone g first ≡ length (canonical g)
@@ -180,5 +184,5 @@ module _ (m : Model) (first second : ℕ) (none : first_failed (take 7 (merge_co
     pub gone_here : bytes_gone (graph_of m) first ≡ length (edge_line (graph_of m) (edge_of e))
     gone_here = edge_gone (graph_of m) first second holds (vertex_of a) place (edge_of e) (first_there a is_a) at edge_there
 
-    pub added_here : (b : Vertex) → b ≡ get_or seen second b → bytes_added (graph_of m) first ≡ length (flat_map (change_line (graph_of m)) (set_parameters b.params (map expression_of e.values))) + length (body_lines (graph_of m) (vertex_at (graph_of m) second))
-    added_here b is_b = lines_added (graph_of m) first second holds (vertex_of a) (vertex_of b) place (edge_of e) (first_there a is_a) (second_there b is_b) at edge_there
+    pub set_here : (b : Vertex) → b ≡ get_or seen second b → bytes_set (graph_of m) first ≡ length (flat_map (change_line (graph_of m)) (set_parameters b.params (map expression_of e.values)))
+    set_here b is_b = lines_set (graph_of m) first second holds (vertex_of a) (vertex_of b) place (edge_of e) (first_there a is_a) (second_there b is_b) at edge_there

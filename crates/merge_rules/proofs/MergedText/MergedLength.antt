@@ -22,7 +22,7 @@ use Rattle.merge_rules.proofs.OneStepForTwo.MergeResult.{joined_is}
 use Rattle.merge_rules.proofs.MergedText.ValidMerged.{name_stays}
 use Rattle.merge_rules.proofs.MergedText.VersionMerged.{needed-pruned, needed-merged}
 
-abbrev total : {A : Type 0} → (A → List ℕ) → List A → ℕ
+abbrev pub total : {A : Type 0} → (A → List ℕ) → List A → ℕ
 total gives xs = length (flat_map gives xs)
 
 total_joined : {A : Type 0} (gives : A → List ℕ) (xs ys : List A) → total gives (xs ++ ys) ≡ total gives xs + total gives ys
@@ -33,13 +33,13 @@ total_more gives x xs = length-append (gives x) (flat_map gives xs)
 
 -- ---- a vertex's lines, by those of its changes and of its edges
 
-abbrev heading : EventGraph → List ℕ → List ℕ → List ℕ
+abbrev pub heading : EventGraph → List ℕ → List ℕ → List ℕ
 heading g name parameters = codes "vertex " ++ name ++ in_parentheses (map (variable_name g) parameters) ++ codes " {\n"
 
-abbrev closing : List ℕ
+abbrev pub closing : List ℕ
 closing = codes "}\n"
 
-lines_length : (g : EventGraph) (v : EventVertex) → length (vertex_lines g v) ≡ length (heading g v.name v.parameters) + total (change_line g) v.changes + total (edge_line g) v.edges + length closing
+pub lines_length : (g : EventGraph) (v : EventVertex) → length (vertex_lines g v) ≡ length (heading g v.name v.parameters) + total (change_line g) v.changes + total (edge_line g) v.edges + length closing
 lines_length g v =
     length-append (heading g v.name v.parameters ++ flat_map (change_line g) v.changes ++ flat_map (edge_line g) v.edges) closing ∙
     ap (λ n. n + length closing) (length-append (heading g v.name v.parameters ++ flat_map (change_line g) v.changes) (flat_map (edge_line g) v.edges) ∙
@@ -48,7 +48,7 @@ lines_length g v =
 -- ---- a text in which one vertex is changed
 
 module _ (g : EventGraph) (f : EventVertex → EventVertex) (name_kept : (x : EventVertex) → (f x).name ≡ x.name) (first : ℕ) where
-  abbrev changed : EventGraph
+  abbrev pub changed : EventGraph
   changed = record g { vertices = with_place f first g.vertices }
 
   same_names : SameNames g changed
@@ -69,7 +69,7 @@ module _ (g : EventGraph) (f : EventVertex → EventVertex) (name_kept : (x : Ev
       ∙ ap (λ n. n + length (codes "end\n")) (length-append (opening needed ++ watch) lines ∙ ap (λ n. n + length lines) (length-append (opening needed) watch))
 
   -- the text has the vertex's new lines in place of its lines
-  changed_length : needs_version_two changed ≡ needs_version_two g → (v : EventVertex) → slice_get g.vertices first ≡ Some v → length (canonical changed) + length (vertex_lines g (vertex_at g first)) ≡ length (canonical g) + length (vertex_lines g (f (vertex_at g first)))
+  pub changed_length : needs_version_two changed ≡ needs_version_two g → (v : EventVertex) → slice_get g.vertices first ≡ Some v → length (canonical changed) + length (vertex_lines g (vertex_at g first)) ≡ length (canonical g) + length (vertex_lines g (f (vertex_at g first)))
   changed_length needed v there =
       let new = canonical_length (needs_version_two changed) (watch_line changed) (flat_map (vertex_lines changed) changed.vertices) in
       let old = canonical_length (needs_version_two g) (watch_line g) (flat_map (vertex_lines g) g.vertices) in

@@ -16,7 +16,7 @@ use Rattle.model_core.specs.Rules.UrgentEdges.{plain_urgent}
 use Rattle.model_core.proofs.Among.{either_true, first_true, second_true}
 use Rattle.merge_rules.proofs.SingleUrgentModels.PlainEdges.{plain_undrawn}
 
-same_truth : (b c : Bool) → (b ≡ true → c ≡ true) → (c ≡ true → b ≡ true) → b ≡ c
+pub same_truth : (b c : Bool) → (b ≡ true → c ≡ true) → (c ≡ true → b ≡ true) → b ≡ c
 same_truth true true there back = refl
 same_truth true false there back = sym (there refl)
 same_truth false true there back = back refl
@@ -35,7 +35,7 @@ module _ (f : EventVertex → EventVertex) (more : Bool) where
   abbrev Keeps : EventVertex → Type 0
   Keeps v = has_later_parts v ≡ true → has_later_parts (f v) ≡ true
 
-  gained : (k : ℕ) (vs : List EventVertex) → ((v : EventVertex) → slice_get vs k ≡ Some v → Gains v) → Some_late (with_place f k vs) ≡ true → (Some_late vs ≡ true) ⊎ (more ≡ true)
+  pub gained : (k : ℕ) (vs : List EventVertex) → ((v : EventVertex) → slice_get vs k ≡ Some v → Gains v) → Some_late (with_place f k vs) ≡ true → (Some_late vs ≡ true) ⊎ (more ≡ true)
   gained k [] gains e = inl e
   gained zero (v ∷ vs) gains e = elim (either_true (has_later_parts (f v)) (Some_late vs) e) [
     | inl h ↦ elim (gains v refl h) [ inl i ↦ inl (first_true (has_later_parts v) (Some_late vs) i) | inr i ↦ inr i ]
@@ -98,7 +98,7 @@ crossed false true true y = refl
 crossed false true false y = refl
 crossed false false x y = refl
 
-joined-late : (b a : EventVertex) (values : List Expression) (place : ℕ) → plain_urgent a ≡ Some place → has_later_parts (merged_vertex b values a place) ≡ (has_later_parts a || has_later_parts b)
+pub joined-late : (b a : EventVertex) (values : List Expression) (place : ℕ) → plain_urgent a ≡ Some place → has_later_parts (merged_vertex b values a place) ≡ (has_later_parts a || has_later_parts b)
 joined-late b a values place is =
     let many = λ (v : EventVertex). nat_lt PARAMETERS_MAX_VERSION_1 (length v.parameters) || list_any has_many_targets v.changes in
     ap₂ (λ m d. m || d)
@@ -122,7 +122,7 @@ merge-keeps b a e = by_edge (plain_urgent a) refl where
   by_edge None is = e
   by_edge (Some place) is = joined-late b a (values_at_once a) place is ∙ first_true (has_later_parts a) (has_later_parts b) e
 
-at_place : (vs : List EventVertex) (k : ℕ) → has_later_parts (slice_index_or vs k no_vertex) ≡ true → list_any has_later_parts vs ≡ true
+pub at_place : (vs : List EventVertex) (k : ℕ) → has_later_parts (slice_index_or vs k no_vertex) ≡ true → list_any has_later_parts vs ≡ true
 at_place [] k e = e
 at_place (v ∷ vs) zero e = first_true (has_later_parts v) (list_any has_later_parts vs) e
 at_place (v ∷ vs) (suc k) e = second_true (has_later_parts v) (list_any has_later_parts vs) (at_place vs k e)

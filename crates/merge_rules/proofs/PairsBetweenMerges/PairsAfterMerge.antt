@@ -3,7 +3,6 @@ use Rattle.std.proofs.Common.{◌≡◌, ℕ, ◌+◌, ◌-◌, ◌<◌, ◌==�
 use Rattle.std.specs.List.{AllByRecursion, remove}
 use Rattle.std.specs.Option.{option_map, option_map_or, option_and_then}
 use Rattle.std.proofs.lemmas.List.{length-map}
-use Rattle.std.proofs.lemmas.Bool.Decides.{nat_tests}
 use Rattle.model_core.specs.EventGraph.{EventGraph, EventVertex, EventEdge, Watched, WatchedVariable, WatchedVertex}
 use Rattle.model_core.specs.Run.Step.{no_vertex, vertex_at}
 use Rattle.model_core.specs.Rules.Conditions.{first_failed}
@@ -97,7 +96,7 @@ module _ (g : EventGraph) (first second : ℕ) (none : first_failed (merge_condi
   names-stay : (k : ℕ) → Unit {0} → vertex_name h k ≡ vertex_name g k
   names-stay k live = sym (shown_placed (λ (v : EventVertex). v.name) (merged_with b) [] (name_stays b) first g.vertices k)
 
-  body-elsewhere : (k : ℕ) → (k == first) ≡ false → body_lines h (vertex_at h k) ≡ body_lines g (vertex_at g k)
+  pub body-elsewhere : (k : ℕ) → (k == first) ≡ false → body_lines h (vertex_at h k) ≡ body_lines g (vertex_at g k)
   body-elsewhere k apart =
       ap (body_lines h) (elsewhere k apart ∙ sym (vertex-same (vertex_at g k)))
       ∙ body-alike g (λ k. k) h.vertices (λ k. Unit {0}) names-stay (vertex_at g k) (all-live (vertex_at g k).edges)

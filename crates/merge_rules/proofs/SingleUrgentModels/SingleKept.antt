@@ -22,7 +22,7 @@ conditions es = map (λ (e : EventEdge). e.condition) es
 
 module _ (g : EventGraph) where
   -- the urgent edges of the vertex exclude each other
-  abbrev apart : EventVertex → Bool
+  abbrev pub apart : EventVertex → Bool
   apart v = each_pair (exclusive g) (urgent_conditions v.edges)
 
   both_hold : (a b : Bool) → a ≡ true → b ≡ true → (a && b) ≡ true
@@ -35,7 +35,7 @@ module _ (g : EventGraph) where
 
   -- ---- a merge
 
-  apart_placed : (f : EventVertex → EventVertex) (k : ℕ) (vs : List EventVertex) → apart (f (slice_index_or vs k no_vertex)) ≡ true → list_all apart vs ≡ true → list_all apart (with_place f k vs) ≡ true
+  pub apart_placed : (f : EventVertex → EventVertex) (k : ℕ) (vs : List EventVertex) → apart (f (slice_index_or vs k no_vertex)) ≡ true → list_all apart vs ≡ true → list_all apart (with_place f k vs) ≡ true
   apart_placed f k [] here all = refl
   apart_placed f zero (v ∷ vs) here all = both_hold (apart (f v)) (list_all apart vs) here (and_second (apart v) (list_all apart vs) all)
   apart_placed f (suc k) (v ∷ vs) here all =

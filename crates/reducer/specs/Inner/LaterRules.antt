@@ -4,7 +4,8 @@ use Rattle.model_core.specs.EventGraph.{EventGraph}
 use Rattle.model_core.specs.Text.Canonical.{variable_name, vertex_name}
 use Rattle.model_core.specs.Rules.Prune.{first_prune}
 use Rattle.model_core.specs.Rules.Settle.{first_settle}
-use Rattle.model_core.specs.Rules.Reduction.{RuleApplication, applied, Strategy}
+use Rattle.model_core.specs.Rules.Reached.{unreached}
+use Rattle.model_core.specs.Rules.Reduction.{RuleApplication, applied, drop_of, Strategy}
 use Rattle.reducer.specs.declared.naming.Declared.{Declared}
 use Rattle.reducer.specs.declared.naming.Declared.TheVariants as declarations
 
@@ -23,6 +24,16 @@ pub record NoEdgeRule (g : EventGraph) : Type 0 where
 abbrev pub Made : Option RuleApplication → Bool → EventGraph → EventGraph → List RuleApplication → List RuleApplication → Type 0
 Made one true g h before after = (a : RuleApplication) × (one ≡ Some a) × (applied g a ≡ Some h) × (after ≡ before ++ a ∷ [])
 Made one false g h before after = (one ≡ None) × (h ≡ g) × (after ≡ before)
+
+-- the drop of the vertices that can't be reached is made and noted as well, or nothing more is
+pub data MaybeDropped (g h : EventGraph) (before after : List RuleApplication) : Type 0 where
+  nothing_more : h ≡ g → after ≡ before → MaybeDropped g h before after
+  dropped_too : Made (drop_of g (unreached g)) true g h before after → MaybeDropped g h before after
+
+-- The application that the rule gives is made and noted, if there is one, and maybe the drop behind it.
+abbrev pub MadeOn : (EventGraph → Option RuleApplication) → Bool → EventGraph → EventGraph → List RuleApplication → List RuleApplication → Type 0
+MadeOn rule true g h before after = (next : EventGraph) × (between : List RuleApplication) × Made (rule g) true g next before between × MaybeDropped next h between after
+MadeOn rule false g h before after = Made (rule g) false g h before after
 
 -- the strategy's applications are made and noted
 abbrev pub Finished : EventGraph → EventGraph → List RuleApplication → List RuleApplication → Type 0

@@ -1,14 +1,14 @@
 -- A model under way: what is right of it, and what one rule makes of it.
-use Rattle.std.specs.Prelude.{Bool, Option, map}
+use Rattle.std.specs.Prelude.{ℕ, Bool, Option, map}
 use Rattle.model_core.specs.EventGraph.{EventGraph}
 use Rattle.model_core.specs.Static.Reading.{IsValid}
 use Rattle.model_core.specs.Code.Views.{graph_of, application_of}
 use Rattle.model_core.specs.Rules.Reached.{unreached}
-use Rattle.model_core.specs.Rules.Merge.{first_merge}
+use Rattle.model_core.specs.Rules.Merge.{merged, first_merge}
 use Rattle.model_core.specs.Rules.Needed.{unneeded}
 use Rattle.model_core.specs.Rules.Reduction.{RuleApplication, drop_of, merge_of, slice_of}
 use Rattle.reducer.specs.declared.later_rules.Underway.{Underway}
-use Rattle.reducer.specs.Inner.LaterRules.{Made}
+use Rattle.reducer.specs.Inner.LaterRules.{Made, MaybeDropped, MadeOn}
 use Rattle.reducer.specs.Inner.Progress.{IsProgress}
 
 -- the model is valid, and what is known of it is right
@@ -34,4 +34,14 @@ MadeUnderway rule made old new = Made (rule (graph_of old.model)) made (graph_of
 -- and what is known then is right
 pub record ByRule (rule : EventGraph → Option RuleApplication) (some : Bool) (old new : Underway) : Type 0 where
   pub made : MadeUnderway rule some old new
+  pub known : IsProgress (graph_of new.model) new.progress
+
+-- the same, and maybe the drop behind it
+pub record ByRuleOn (rule : EventGraph → Option RuleApplication) (some : Bool) (old new : Underway) : Type 0 where
+  pub made : MadeOn rule some (graph_of old.model) (graph_of new.model) (map application_of old.applications.items) (map application_of new.applications.items)
+  pub known : IsProgress (graph_of new.model) new.progress
+
+-- two vertices are merged, and the second one is dropped and that noted where it can't be reached then
+pub record IsMerged (first second : ℕ) (old new : Underway) : Type 0 where
+  pub left : MaybeDropped (merged (graph_of old.model) first second) (graph_of new.model) (map application_of old.applications.items) (map application_of new.applications.items)
   pub known : IsProgress (graph_of new.model) new.progress

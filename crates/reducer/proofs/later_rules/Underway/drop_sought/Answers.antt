@@ -4,7 +4,6 @@ use Rattle.model_core.specs.EventGraph.{EventGraph}
 use Rattle.model_core.specs.Code.Views.{graph_of}
 use Rattle.merge_rules.specs.Known.{IsKnown}
 use Rattle.merge_rules.specs.NothingCounted.{NothingCounted}
-use Rattle.reducer.specs.Inner.Progress.{TellsUnreached}
 use Rattle.reducer.specs.declared.progress.Progress.{Progress}
 use Rattle.reducer.proofs.later_rules.Underway.drop_sought.Goals as goal
 
@@ -19,7 +18,7 @@ returns-clause-by_rule c =
         known = subst (λ (h : EventGraph). IsKnown h c.behind_drop-self.result) (sym left) (c.behind_drop-self.ensures g _ (subst (λ (p : Progress). IsKnown g p.known) (sym same) c.requires.known.known));
         counts = subst (λ (h : EventGraph). NothingCounted (length h.variables) c.drop_these.new.self.progress.counts) (sym left)
             (subst (λ (p : Progress). NothingCounted (length g.variables) p.counts) (sym same) c.requires.known.counts);
-        unreached = subst (λ (p : Progress). TellsUnreached h p.unreached) (sym same) c.in_ok-drop_these.ensures.all;
+        reached = λ told. c.in_ok-drop_these.ensures.all;
         pairs = c.in_ok-self.ensures;
       };
     }

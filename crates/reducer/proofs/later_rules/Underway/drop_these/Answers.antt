@@ -1,21 +1,17 @@
 -- Dropped and noted are the vertices that can't be reached.
-use Rattle.std.proofs.Common.{◌≡◌, map, ap, ◌∙◌, ◌++◌, [], ◌∷◌, List, ℕ, subst, sym}
+use Rattle.std.proofs.Common.{◌≡◌, [], subst, sym}
 use Rattle.std.proofs.lemmas.Result.{on_ok_weaker}
-use Rattle.model_core.specs.Code.Views.{graph_of, application_of}
+use Rattle.model_core.specs.Code.Views.{graph_of}
 use Rattle.model_core.specs.EventGraph.{EventGraph}
 use Rattle.model_core.specs.Rules.Reached.{unreached}
-use Rattle.model_core.specs.Rules.Reduction.{Drop}
-use Rattle.model_core.specs.Text.Canonical.{vertex_name}
 use Rattle.reducer.proofs.FirstLaterRule.{drop_holds, drop_made}
-use Rattle.reducer.proofs.RuleByRule.{noted_more}
 use Rattle.reducer.proofs.later_rules.Underway.drop_these.Goals as goal
 
 pub returns-clause-made : goal.returns-clause-made
 returns-clause-made c =
     let g = graph_of c.args.self.now.model in
     on_ok_weaker c.drop_unreached.result
-    (λ done. drop_made g _ _ _ _ c.requires.valid c.requires.some c.requires.unreached done
-    (noted_more _ _ _ c.in_ok-push.ensures.items ∙ ap (λ (names : List (List ℕ)). map application_of c.args.self.now.applications.items ++ Drop names ∷ []) (c.from_vec.ensures ∙ c.in_ok-names.ensures ∙ ap (map (vertex_name g)) c.as_slice.ensures)))
+    (λ done. drop_made g _ _ _ _ c.requires.valid c.requires.some c.requires.unreached done c.in_ok-note_drop.ensures)
     c.drop_unreached.ensures.done
 
 pub returns-clause-all : goal.returns-clause-all

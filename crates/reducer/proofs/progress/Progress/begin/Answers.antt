@@ -6,6 +6,6 @@ pub returns : goal.returns
 returns c = record {
   known = c.nothing.ensures (graph_of c.args.model.now);
   counts = begun_counts c.args.model.now _ c.in_ok-begin.ensures;
-  unreached = tt;
+  reached = λ known. cc;
   pairs = c.in_ok-begin-2.ensures;
 }

@@ -1,0 +1,33 @@
+-- The lines that the code measures are those that the `set` adds and that go.
+use Rattle.std.proofs.Common.{◌≡◌, ◌∙◌, List, ℕ, map, length, sym, ap, ap₂}
+use Rattle.std.specs.List.{flat_map}
+use Rattle.model_core.specs.declared.expr.Expr.{Expr}
+use Rattle.model_core.specs.declared.vertex.Vertex.{Vertex}
+use Rattle.model_core.specs.Text.Canonical.{change_line}
+use Rattle.model_core.specs.Rules.Merge.{set_parameters}
+use Rattle.model_core.specs.Code.Views.{graph_of, expression_of}
+use Rattle.merge_rules.specs.Growth.{bytes_set, capped}
+use Rattle.merge_rules.proofs.MergedText.LimitsTold.{gone_here, set_here}
+use Rattle.merge_rules.proofs.growth.moved_growth.Goals as goal
+
+pub returns : goal.returns
+returns c =
+    let m = c.args.model.now in
+    let g = graph_of m in
+    let a = c.index-vertices-first.result in
+    let b = c.index-vertices-second.result in
+    let e = c.index-as_slice-urgent_place.result in
+    let place = c.urgent_place.result in
+    let seen = c.as_slice-vertices.result.now in
+    let set : List ℕ → List Expr → ℕ = λ params values. length (flat_map (change_line g) (set_parameters params (map expression_of values))) in
+    let added : c.set_length.result ≡ capped (bytes_set g c.args.first) =
+    c.set_length.ensures
+    ∙ ap₂ (λ params values. capped (set params values)) (c.as_slice-params.ensures ∙ ap (λ (v : Vertex). v.params) (sym c.index-vertices-second.is)) c.as_slice-2.ensures
+    ∙ ap capped
+    (sym (set_here m c.args.first c.args.second c.requires.holds seen c.as_slice-vertices.ensures a c.index-vertices-first.is place c.urgent_place.ensures.at c.urgent_place.ensures.within
+    c.as_slice.result.now c.as_slice.ensures e c.index-as_slice-urgent_place.is b c.index-vertices-second.is)) in
+    let gone =
+    c.edge_length.ensures
+    ∙ ap capped (sym (gone_here m c.args.first c.args.second c.requires.holds seen c.as_slice-vertices.ensures a c.index-vertices-first.is place c.urgent_place.ensures.at c.urgent_place.ensures.within
+    c.as_slice.result.now c.as_slice.ensures e c.index-as_slice-urgent_place.is)) in
+    λ i. record { added = added i; gone = gone i }
