@@ -31,6 +31,9 @@ few_left g (Slice names) = few_or g (variables_named g names) (λ vars. sliced g
 pub fewer_variables : (g h : EventGraph) (a : RuleApplication) → applied g a ≡ Some h → length h.variables ≤ length g.variables
 fewer_variables g h a made = let few = few_left g a in let same = ap (λ (k : EventGraph). length k.variables) ((applied-is g h a).0 made).1 in omega (arith, few, same)
 
+pub fewer : {a b c : ℕ} → a ≡ b → a ≤ c → b ≤ c
+fewer same few = omega (arith, same, few)
+
 pub counts_serve : (m n : Model) (before now : UseNumbers) → length (graph_of n).variables ≤ length (graph_of m).variables → now ≡ before → NothingCounted (length m.vars) before → NothingCounted (length n.vars) now
 counts_serve m n before now few same nothing =
     let old = length-map m.vars variable_of in

@@ -7,3 +7,4 @@ mod OneMore
 pub mod FewerVariables
 pub mod ToldByRules
 pub mod LengthLeft
+pub mod MovedMerges

@@ -24,10 +24,10 @@ kept_or : {P : Type 0} (g : EventGraph) (o : Option P) (result : P → EventGrap
 kept_or g None result kept = refl
 kept_or g (Some p) result kept = kept p
 
-placed_kept : (f : EventVertex → EventVertex) → ((v : EventVertex) → (f v).name ≡ v.name) → (k : ℕ) (vs : List EventVertex) → names_of_vertices (with_place f k vs) ≡ names_of_vertices vs
+pub placed_kept : (f : EventVertex → EventVertex) → ((v : EventVertex) → (f v).name ≡ v.name) → (k : ℕ) (vs : List EventVertex) → names_of_vertices (with_place f k vs) ≡ names_of_vertices vs
 placed_kept f same k vs = map_placed (λ (v : EventVertex). v.name) f same k vs
 
-merged_name : (b a : EventVertex) (o : Option ℕ) → (option_map_or (merged_vertex b (values_at_once a) a) o a).name ≡ a.name
+pub merged_name : (b a : EventVertex) (o : Option ℕ) → (option_map_or (merged_vertex b (values_at_once a) a) o a).name ≡ a.name
 merged_name b a None = refl
 merged_name b a (Some edge) = refl
 

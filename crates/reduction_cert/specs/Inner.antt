@@ -1,2 +1,3 @@
 -- What restates the code of this crate for its proofs.
 pub mod DroppingOnes
+pub mod MovedMerges

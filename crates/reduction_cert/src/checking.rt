@@ -1,6 +1,6 @@
 //! The checker: whether a list of applications leads from one model to another.
 
-ghost use Rattle.std.specs.Prelude.{◌≡◌, map, length, cond, Ok, Some, None, OnOk, IfOk};
+ghost use Rattle.std.specs.Prelude.{◌≡◌, true, map, drop, length, cond, Ok, Some, None, OnOk, IfOk};
 ghost use Rattle.model_core.specs.EventGraph.{EventGraph};
 ghost use Rattle.model_core.specs.Code.Views.{graph_of, application_of};
 ghost use Rattle.model_core.specs.Rules.Reduction.{Prune, Settle, Drop, Merge, Slice, applied, first_bad};
@@ -10,12 +10,14 @@ ghost use Rattle.merge_rules.specs.NothingCounted.{NothingCounted};
 ghost use Rattle.reduction_cert.specs.VerdictView.{verdict_of};
 ghost use Rattle.model_read.specs.NamesPlaced.{HasPlaces, names_of_vertices};
 ghost use Rattle.reduction_cert.specs.Inner.DroppingOnes.{is_drop};
+ghost use Rattle.reduction_cert.specs.Inner.MovedMerges.{MadeFor, GivenAway};
 
 use crate::by_name::{all_named, edge_named, two_vertices_named};
 use crate::chain_law::applications_add_no_variables;
+use crate::looking_ahead::drops_alone;
 use crate::without_vertices::known_without;
-use edge_pruning::{drop_vertices, prune, settle};
-use merge_rules::{Known, merge_measured};
+use edge_pruning::{drop_vertices, dropping_takes_no_notice_of_the_vertex, prune, settle};
+use merge_rules::{Known, merge_measured, merge_measured_moving};
 use model_core::{Application, Model, copy_model, same_model, was_made};
 use model_read::Places;
 use sig_base::{List, Name, NoMemory};
@@ -82,13 +84,15 @@ fn apply_all(
     let mut counts = UseCounts::begin(alloc, model)?;
     let mut known = Known::nothing();
     for (place, application) in applications.iter().enumerate() {
-        if !apply(
+        if !apply_before(
             alloc,
             model,
             &mut known,
             &mut counts,
             &vertices,
             application,
+            applications,
+            place + 1,
         )? {
             return Ok(Some(place + 1));
         }
@@ -113,14 +117,15 @@ fn is_drop(application: &Application) -> bool
     }
 }
 
-/// Finds the places of the vertices anew, where an application took vertices away.
+/// Finds the places of the vertices anew, where an application took vertices away: those of its result have the model's names.
 fn list_anew(
     alloc: Global,
     application: &Application,
     model: &Model,
     vertices: &mut Places,
 ) -> Result<(), NoMemory>
-    ensures { OnOk result ((g : EventGraph) → applied g (application_of application.now) ≡ Some (graph_of model.now)
+    ensures { OnOk result ((g h : EventGraph) → applied g (application_of application.now) ≡ Some h
+        → names_of_vertices h.vertices ≡ names_of_vertices (graph_of model.now).vertices
         → HasPlaces (names_of_vertices g.vertices) vertices.old
         → HasPlaces (names_of_vertices (graph_of model.now).vertices) vertices.new) }
 {
@@ -128,6 +133,34 @@ fn list_anew(
         *vertices = Places::of_vertices(alloc, model.vertices.as_slice())?;
     }
     Ok(())
+}
+
+/// Makes one application, behind which others stand from a place on, and says whether it names what the model has and meets the
+/// conditions of its rule. Where the next one drops the target of a merge, that gives away what it does, so that it isn't copied.
+fn apply_before(
+    alloc: Global,
+    model: &mut Model,
+    known: &mut Known,
+    counts: &mut UseCounts,
+    vertices: &Places,
+    application: &Application,
+    applications: &[Application],
+    next: usize,
+) -> Result<bool, NoMemory>
+    requires listed { HasPlaces (names_of_vertices (graph_of model.old).vertices) vertices.now }
+    requires known { IsKnown (graph_of model.old) known.old }
+    requires counts { NothingCounted (length model.old.vars) counts.old }
+    ensures made { IfOk result (λ made. MadeFor (map application_of (drop next applications.now)) (graph_of model.old) (application_of application.now) made (graph_of model.new)) }
+    ensures known { IfOk result (λ made. made ≡ true → IsKnown (graph_of model.new) known.new) }
+    ensures counts { OnOk result (counts.new ≡ counts.old) }
+{
+    dropping_takes_no_notice_of_the_vertex();
+    if let Application::Merge { vertex, target } = application {
+        if drops_alone(applications, next, target) {
+            return apply_merge_moving(alloc, model, known, counts, vertices, vertex, target);
+        }
+    }
+    apply(alloc, model, known, counts, vertices, application)
 }
 
 /// Makes one application, and says whether it names what the model has and meets the conditions of its rule. Beside the
@@ -236,6 +269,29 @@ fn apply_merge(
         return Ok(false);
     };
     was_made(merge_measured(alloc, model, known, counts, vertex, target))
+}
+
+/// The same, but the second vertex gives away what it does.
+fn apply_merge_moving(
+    alloc: Global,
+    model: &mut Model,
+    known: &mut Known,
+    counts: &mut UseCounts,
+    vertices: &Places,
+    vertex: &Name,
+    target: &Name,
+) -> Result<bool, NoMemory>
+    requires listed { HasPlaces (names_of_vertices (graph_of model.old).vertices) vertices.now }
+    requires known { IsKnown (graph_of model.old) known.old }
+    requires counts { NothingCounted (length model.old.vars) counts.old }
+    ensures made { IfOk result (λ made. GivenAway (graph_of model.old) vertex.now target.now made (graph_of model.new)) }
+    ensures known { IfOk result (λ made. made ≡ true → IsKnown (graph_of model.new) known.new) }
+    ensures counts { OnOk result (counts.new ≡ counts.old) }
+{
+    let Some((vertex, target)) = two_vertices_named(vertices, vertex, target) else {
+        return Ok(false);
+    };
+    was_made(merge_measured_moving(alloc, model, known, counts, vertex, target))
 }
 
 /// Slices variables away, and says whether they could be.

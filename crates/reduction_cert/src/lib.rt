@@ -6,6 +6,7 @@ mod by_name;
 mod certificate;
 mod chain_law;
 mod checking;
+mod looking_ahead;
 mod reading;
 mod token_calls;
 mod without_vertices;

@@ -1,41 +1,39 @@
 -- One application more is made, or is the first bad one.
-use Rattle.std.proofs.Common.{◌≡◌, ◌∙◌, ℕ, ◌+◌, cond, Option, Some, None, Result, Ok, map, drop, ap}
+use Rattle.std.proofs.Common.{◌≡◌, ◌∙◌, ℕ, ◌+◌, Option, Some, None, option_map, Result, Ok, map, drop, ap}
 use Rattle.std.proofs.Common.{rules, arith}
 use Rattle.std.proofs.lemmas.Grind.{common_steps}
 use Rattle.sig_base.specs.declared.no_memory.NoMemory.{NoMemory}
 use Rattle.sig_base.proofs.Lists.{remaining_more}
 use Rattle.model_core.specs.Code.Views.{graph_of, application_of}
 use Rattle.reduction_cert.proofs.OneMore.{left_none, bad_later, reached_later, bad_here, none_bad, all_reached}
-use Rattle.reduction_cert.proofs.FewerVariables.{counts_begin, counts_serve}
+use Rattle.reduction_cert.proofs.FewerVariables.{counts_begin, counts_serve, fewer}
+use Rattle.reduction_cert.proofs.MovedMerges.{was_made, was_refused}
 use Rattle.reduction_cert.proofs.checking.apply_all.Goals as goal
 
 pub loop-place-preserved : goal.loop-place-preserved
 loop-place-preserved c =
     let g = graph_of c.loop-place.model in
-    let next = graph_of c.apply.new.model in
     let a = application_of c.index-applications-place.result in
     let left = map application_of (drop c.loop-place.place c.args.applications.now) in
     let later = map application_of (drop (c.loop-place.place + 1) c.args.applications.now) in
     let is = remaining_more application_of c.args.applications.now c.loop-place.place c.index-applications-place.result c.loop-place-test.true c.index-applications-place.is in
-    let made = c.in_ok-apply.ensures.made ∙ ap (λ b. cond b (Some next) None) c.if-not-branch.false in
+    let (next, made, serves) = was_made later g a _ (graph_of c.apply_before.new.model) c.if-not-branch.false c.in_ok-apply_before.ensures.made in
     record {
-      listed = c.in_ok-list_anew.ensures g made c.loop-place.invariant.listed;
-      known = c.in_ok-apply.ensures.known;
-      counts = counts_serve c.loop-place.model c.apply.new.model _ _ (c.applications_add_no_variables.ensures g next a made) c.in_ok-apply.ensures.counts c.loop-place.invariant.counts;
-      bad = bad_later g a left later is next made _ c.loop-place.place c.loop-place.invariant.bad;
-      reached = reached_later g a left later is next made _ c.loop-place.invariant.reached;
+      listed = c.in_ok-list_anew.ensures g next made serves.names c.loop-place.invariant.listed;
+      known = c.in_ok-apply_before.ensures.known c.if-not-branch.false;
+      counts = counts_serve c.loop-place.model c.apply_before.new.model _ _ (fewer serves.variables (c.applications_add_no_variables.ensures g next a made)) c.in_ok-apply_before.ensures.counts c.loop-place.invariant.counts;
+      bad = bad_later g a left later is next made _ c.loop-place.place c.loop-place.invariant.bad ∙ ap (option_map (λ k. k + (c.loop-place.place + 1))) serves.bad;
+      reached = reached_later g a left later is next made _ c.loop-place.invariant.reached ∙ serves.reached;
     }
 
 pub returns-then-not-branch-clause-bad : goal.returns-then-not-branch-clause-bad
 returns-then-not-branch-clause-bad c =
     let g = graph_of c.loop-place.model in
-    let next = graph_of c.apply.new.model in
     let a = application_of c.index-applications-place.result in
     let left = map application_of (drop c.loop-place.place c.args.applications.now) in
     let later = map application_of (drop (c.loop-place.place + 1) c.args.applications.now) in
     let is = remaining_more application_of c.args.applications.now c.loop-place.place c.index-applications-place.result c.loop-place-test.true c.index-applications-place.is in
-    let refused = c.in_ok-apply.ensures.made ∙ ap (λ b. cond b (Some next) None) c.if-not-branch.true in
-    bad_here g a left later is refused _ c.loop-place.place c.loop-place.invariant.bad
+    bad_here g a left later is (was_refused later g a _ (graph_of c.apply_before.new.model) c.if-not-branch.true c.in_ok-apply_before.ensures.made) _ c.loop-place.place c.loop-place.invariant.bad
 
 never_none : (n : ℕ) → ◌≡◌ {A = Result (Option ℕ) NoMemory} (Ok (Some n)) (Ok None) → ⊥
 never_none n e = cc

@@ -1,0 +1,19 @@
+-- Merged are the vertices of these names, or none.
+use Rattle.std.proofs.Common.{◌≡◌, Some, rules}
+use Rattle.model_core.specs.Code.Views.{graph_of}
+use Rattle.model_core.specs.Rules.Reduction.{two_vertices_named}
+use Rattle.reduction_cert.proofs.MovedMerges.{given_told, told_if_made}
+use Rattle.reduction_cert.proofs.checking.apply_merge_moving.Goals as goal
+
+pub returns-in_default-clause-made : goal.returns-in_default-clause-made
+returns-in_default-clause-made c = let none = c.in_default.ensures (graph_of c.args.model.now) c.requires.listed in search rules
+
+pub returns-clause-made : goal.returns-clause-made
+returns-clause-made c =
+    let g = graph_of c.args.model.now in
+    let named : two_vertices_named g c.args.vertex.now c.args.target.now ≡ Some (c.in-Some.vertex, c.in-Some.target) = (let is = c.in-Some.ensures g c.requires.listed in search rules) in
+    given_told g c.args.vertex.now c.args.target.now c.in-Some.vertex c.in-Some.target (graph_of c.merge_measured_moving.new.model) named
+    c.merge_measured_moving.result c.merge_measured_moving.ensures.done c.merge_measured_moving.ensures.refused c.was_made.result c.was_made.ensures.made c.was_made.ensures.refused
+
+pub returns-clause-known : goal.returns-clause-known
+returns-clause-known c = told_if_made _ c.was_made.result c.merge_measured_moving.result c.was_made.ensures.made c.merge_measured_moving.ensures.known

@@ -1,0 +1,30 @@
+-- A merge whose second vertex gives away what it does, where the next application drops that vertex.
+use Rattle.std.specs.Prelude.{◌≡◌, ℕ, Bool, true, false, List, [], ◌∷◌, length, Some, None}
+use Rattle.model_core.specs.EventGraph.{EventGraph}
+use Rattle.model_core.specs.Rules.Conditions.{first_failed}
+use Rattle.model_core.specs.Rules.Merge.{merge_conditions, merged}
+use Rattle.model_core.specs.Rules.Reduction.{RuleApplication, Drop, Merge, two_vertices_named, applied, first_bad}
+use Rattle.model_core.specs.Rules.Verdict.{graph_reached}
+use Rattle.merge_rules.specs.Hollowed.{hollowed}
+use Rattle.model_read.specs.NamesPlaced.{names_of_vertices}
+
+-- the first of these drops the vertex of this name alone
+abbrev pub BeginsWithDrop : List ℕ → List RuleApplication → Type 0
+BeginsWithDrop name later = (rest : List RuleApplication) × (later ≡ Drop (name ∷ []) ∷ rest)
+
+-- these applications make of the second graph what they make of the first, and the two have the same names and as many variables
+pub record Serves (later : List RuleApplication) (g h : EventGraph) : Type 0 where
+  pub bad : first_bad g later ≡ first_bad h later
+  pub reached : graph_reached g later ≡ graph_reached h later
+  pub names : names_of_vertices g.vertices ≡ names_of_vertices h.vertices
+  pub variables : length g.variables ≡ length h.variables
+
+-- an application can be made, and the graph h serves for its result, or it can't
+abbrev pub MadeFor : List RuleApplication → EventGraph → RuleApplication → Bool → EventGraph → Type 0
+MadeFor later g a true h = (next : EventGraph) × (applied g a ≡ Some next) × Serves later next h
+MadeFor later g a false h = applied g a ≡ None
+
+-- a merge can be made, and h is its result but that the second vertex has given away what it does, or it can't
+abbrev pub GivenAway : EventGraph → List ℕ → List ℕ → Bool → EventGraph → Type 0
+GivenAway g name target true h = (first second : ℕ) × (two_vertices_named g name target ≡ Some (first, second)) × (first_failed (merge_conditions g first second) ≡ None) × (h ≡ hollowed (merged g first second) second)
+GivenAway g name target false h = applied g (Merge name target) ≡ None
