@@ -353,18 +353,6 @@ impl KeptPairs {
         move_up(&mut self.pairs, gone);
     }
 
-    /// Tells that a vertex of the model is to be dropped to which no edge leads and which isn't watched.
-    pub fn tell_drop(&mut self, model: &Model, gone: usize)
-        requires kept { ArePairs (graph_of model.now) self.old }
-        requires valid { IsValid (graph_of model.now) }
-        requires there { gone < length model.now.vertices }
-        requires unled { has_incoming (graph_of model.now) gone ≡ false }
-        requires unwatched { is_watched_vertex (graph_of model.now) gone ≡ false }
-        ensures { ArePairs (dropped (graph_of model.now) (gone ∷ [])) self.new }
-    {
-        self.take_away(edges_at(model.vertices.as_slice(), gone), gone);
-    }
-
     /// Tells that the second of two vertices of the model is to be dropped behind their merge, which was told, where no edge
     /// leads to it then.
     pub fn tell_drop_behind(&mut self, model: &Model, first: usize, second: usize)
