@@ -165,7 +165,7 @@ fn leave_all_edges(alloc: Global, staying: &Staying, vertices: &mut Vec<Vertex>)
     }
 }
 
-/// Takes the parameters out of vertices that go, and out of their changes what is stored in variables that go.
+/// Takes out of vertices the parameters that go, and out of their changes what is stored in variables that go.
 fn leave_all_stores(staying: &Staying, vertices: &mut Vec<Vertex>)
     ensures { map vertex_of vertices.new.items ≡ map (own_parts_left staying.now) (map vertex_of vertices.old.items) }
 {
