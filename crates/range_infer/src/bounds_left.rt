@@ -79,8 +79,7 @@ fn operand_left(left: &mut RangesLeft, expr: &Expr) -> Result<Bounds, NoMemory>
     match expr {
         Expr::Scalar(var) => Ok(variable_bounds(left, *var, true)),
         Expr::Int(n) => Ok(number_bounds(*n, *n, true)),
-        Expr::Binary(..) => bounds_left(left, expr),
-        _ => any_bounds_left(left, expr),
+        _ => bounds_left(left, expr),
     }
 }
 
@@ -102,7 +101,8 @@ fn bounds_beside(left: &mut RangesLeft, op: Op, first: &Expr) -> Result<Bounds, 
 }
 
 /// The bounds of an expression under the ranges that are left. What is replaced on the way is put back.
-// Most expressions are operators that replace nothing. They go first, in a function with few locals.
+// Most expressions are operators that replace nothing. They go first, in a function with few locals. By `?` at the end no bounds
+// go through memory but those of operands.
 #[cycle(bounds_left)]
 pub(crate) fn bounds_left(left: &mut RangesLeft, expr: &Expr) -> Result<Bounds, NoMemory>
     ensures bounds { IfOk result (λ b. b ≡ bounds_under refined (variables_left left.old) (expression_of expr.now)) }
@@ -115,7 +115,8 @@ pub(crate) fn bounds_left(left: &mut RangesLeft, expr: &Expr) -> Result<Bounds, 
             return Ok(operator_bounds(*op, &a, &b));
         }
     }
-    any_bounds_left(left, expr)
+    let bounds = any_bounds_left(left, expr)?;
+    Ok(bounds)
 }
 
 /// The same, of an expression of any form.
