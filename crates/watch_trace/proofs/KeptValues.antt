@@ -1,5 +1,5 @@
 -- The values of what is watched, in one list.
-use Rattle.std.proofs.Common.{◌≡◌, ℕ, zero, suc, ◌+◌, ℤ, List, [], ◌∷◌, ◌++◌, map, length, slice_index_or, refl, sym, ap, ap₂, ◌∙◌, arith, IsTrue, true}
+use Rattle.std.proofs.Common.{◌≡◌, ℕ, zero, suc, ◌+◌, ℤ, Bool, not, ◌||◌, cond, Some, None, List, [], ◌∷◌, ◌++◌, map, length, slice_index_or, refl, sym, ap, ap₂, ◌∙◌, arith, IsTrue, true, false}
 use Rattle.std.specs.Prelude.{slice_get, replicate}
 use Rattle.std.specs.List.{flat_map, sum_by}
 use Rattle.std.specs.Prelude.{sum}
@@ -13,6 +13,7 @@ use Rattle.model_core.specs.Run.Pending.{same_values}
 use Rattle.model_core.specs.Run.History.{watched_values}
 use Rattle.model_core.proofs.BothTrue.{and_first, and_second}
 use Rattle.model_core.specs.Saved.Cells.{cells_declared, watched_sizes, cut_up, in_one_list}
+use Rattle.watch_trace.specs.Tracing.{is_new}
 use Rattle.watch_trace.specs.Inner.KeptNotes.{watched_size, values_watched}
 use Rattle.run_laws.proofs.CutUp.{cut_up-in_one_list, in_one_list-cut_up, lengths-cut_up, length-in_one_list, same-in_one_list}
 
@@ -59,3 +60,8 @@ values_same g s watch values inside long =
     let all : sum (watched_sizes g watch) ≡ length values = sizes-together g watch ∙ sym long in
     ap₂ same_values (sym (in_one_list-cut_up (watched_sizes g watch) values all)) (items-in_one_list s watch)
     ∙ sym (same-in_one_list (cut_up (watched_sizes g watch) values) (watched_values watch s) (lengths-cut_up (watched_sizes g watch) values all ∙ sym (lengths-watched g s watch inside)))
+
+-- values are new where none are noted, or where those noted last aren't the same
+pub new_if_kept : (noted : Bool) (last values : List (List ℤ)) (other : Bool) → other ≡ not (pointwise same_values last values) → (not noted || other) ≡ is_new values (cond noted (Some last) None)
+new_if_kept true last values other e = e
+new_if_kept false last values other e = refl

@@ -1,6 +1,7 @@
 pub mod AddedTexts
 pub mod ShownLines
 pub mod ValuesAlong
+pub mod ValuesTaken
 pub mod KeptValues
 pub mod Due
 pub mod MoveLaw

@@ -3,8 +3,11 @@
 ghost use Rattle.std.specs.Prelude.{◌≡◌, map, position, None, IfOk, IsTrue, length};
 ghost use Rattle.std.specs.List.{sum_by};
 ghost use Rattle.model_core.specs.Run.State.{in_range};
+ghost use Rattle.model_core.specs.Run.Pending.{next_entry};
 ghost use Rattle.model_core.specs.Run.History.{watched_values, watches};
 ghost use Rattle.model_core.specs.Code.Views.{graph_of, watched_of};
+ghost use Rattle.run_control.specs.Running.{told_next};
+ghost use Rattle.watch_trace.specs.Tracing.{leaves_time};
 
 use crate::watched_cells::{are_same, put_values, take_values, zeros};
 use event_list::{First, Pending};
@@ -57,13 +60,22 @@ fn place_of(watch: &[Watch], vertex: usize) -> Option<usize>
     None
 }
 
+/// Whether the clock leaves its time before a run's next turn, of whose event this is told.
+pub fn leaves_time<'m, P: Pending>(run: &Run<'m, P>, next: Option<First>, until: u64) -> bool
+    requires { next ≡ told_next run.now None }
+    ensures { result ≡ leaves_time run.now.now.clock until (next_entry run.now.now.pending) }
+{
+    match next {
+        Some(first) => until < first.time || run.clock() < first.time,
+        None => true,
+    }
+}
+
 impl<'m> LastNotes<'m> {
     ghost use Rattle.std.specs.Prelude.{◌&&◌, Some, sum};
     ghost use Rattle.std.specs.Option.{option_map};
     ghost use Rattle.model_core.specs.Saved.Cells.{watched_sizes, cut_up, in_one_list};
-    ghost use Rattle.model_core.specs.Run.Pending.{next_entry};
-    ghost use Rattle.run_control.specs.Running.{told_next};
-    ghost use Rattle.watch_trace.specs.Tracing.{leaves_time, is_new, place_of_turn};
+    ghost use Rattle.watch_trace.specs.Tracing.{is_new, place_of_turn};
 
     /// Nothing is noted yet. All memory is taken here.
     pub fn begin(alloc: Global, model: &'m Graph) -> Result<LastNotes<'m>, NoMemory>
@@ -83,23 +95,28 @@ impl<'m> LastNotes<'m> {
         self.model
     }
 
-    /// Whether the watched values of a state aren't those noted last. Not inlined, so that a step at which the clock doesn't
-    /// move has no part in it.
-    #[inline(never)]
-    pub fn is_new(&self, state: &State) -> bool
+    /// Whether the watched values of a state aren't those noted last.
+    fn is_new(&self, state: &State) -> bool
         requires { IsTrue (in_range (graph_of self.now.model) state.now) }
         ensures { result ≡ is_new (watched_values (map watched_of self.now.model.watch) state.now) self.now.noted }
     {
         !self.noted || !are_same(self.model.watch.as_slice(), self.values.as_slice(), state)
     }
 
-    /// Notes the watched values of a state.
-    pub fn note(&mut self, state: &State)
+    /// Notes the watched values of a state, and gives whether they aren't those noted last.
+    pub fn note(&mut self, state: &State) -> bool
         requires { IsTrue (in_range (graph_of self.old.model) state.now) }
-        ensures { self.new ≡ record self.old { noted = Some (watched_values (map watched_of self.old.model.watch) state.now) } }
+        ensures noted { self.new ≡ record self.old { noted = Some (watched_values (map watched_of self.old.model.watch) state.now) } }
+        ensures new { result ≡ is_new (watched_values (map watched_of self.old.model.watch) state.now) self.old.noted }
     {
-        take_values(&mut self.values, self.model.watch.as_slice(), state);
+        let first = !self.noted;
+        let new = take_values(
+            self.values.as_mut_slice(),
+            self.model.watch.as_slice(),
+            state,
+        );
         self.noted = true;
+        first | new
     }
 
     /// The values of the last `at` note: `None` where nothing is noted.
@@ -128,19 +145,16 @@ impl<'m> LastNotes<'m> {
         ensures { result ≡ (leaves_time run.now.now.clock until (next_entry run.now.now.pending)
             && is_new (watched_values (map watched_of self.now.model.watch) run.now.now.state) self.now.noted) }
     {
-        let left = match next {
-            Some(first) => until < first.time || run.clock() < first.time,
-            None => true,
-        };
-        left && self.is_new(run.state())
+        leaves_time(run, next, until) && self.is_new(run.state())
     }
 
-    /// Takes the run's watched values as those of the last `at` note.
-    pub fn remember<P: Pending>(&mut self, run: &Run<'m, P>)
+    /// Takes the run's watched values as those of the last `at` note, and gives whether they aren't those noted last.
+    pub fn remember<P: Pending>(&mut self, run: &Run<'m, P>) -> bool
         requires one_model { self.old.model ≡ run.now.model }
-        ensures { self.new ≡ record self.old { noted = Some (watched_values (map watched_of self.old.model.watch) run.now.now.state) } }
+        ensures noted { self.new ≡ record self.old { noted = Some (watched_values (map watched_of self.old.model.watch) run.now.now.state) } }
+        ensures new { result ≡ is_new (watched_values (map watched_of self.old.model.watch) run.now.now.state) self.old.noted }
     {
-        self.note(run.state());
+        self.note(run.state())
     }
 
     /// The place in the watch list of the vertex that ran: `None` where the turn isn't `Ran`, or its vertex isn't

@@ -64,7 +64,7 @@ impl<'m> Tracer<'m> {
         requires one_model { self.old.model ≡ run.now.model }
         ensures { self.new ≡ record self.old { noted = Some (watched_values (map watched_of self.old.model.watch) run.now.now.state) } }
     {
-        self.last_notes.remember(run);
+        let _new = self.last_notes.remember(run);
     }
 
     /// The values of the last `at` note, of all watched cells in order: `None` where nothing is noted.

@@ -1,6 +1,6 @@
 //! The values of all watched cells, in one list that takes no memory once it is made.
 
-ghost use Rattle.std.specs.Prelude.{◌≡◌, ◌+◌, ◌≤◌, ◌++◌, map, length, vec_len, vec_capacity, IfOk, OnOk};
+ghost use Rattle.std.specs.Prelude.{◌≡◌, ◌+◌, ◌≤◌, not, map, length, vec_capacity, IfOk, OnOk};
 ghost use Rattle.std.specs.List.{flat_map, sum_by};
 ghost use Rattle.model_core.specs.Run.Pending.{same_values};
 ghost use Rattle.model_core.specs.Code.Views.{graph_of, watched_of};
@@ -55,19 +55,6 @@ pub fn zeros(alloc: Global, model: &Model) -> Result<Vec<i64>, NoMemory>
     Ok(values)
 }
 
-/// Whether two lists of values are the same. Most are of one value, and compared at once.
-#[inline(always)]
-fn same(a: &[i64], b: &[i64]) -> bool
-    ensures { result ≡ same_values a.now b.now }
-{
-    if let [x] = a {
-        if let [y] = b {
-            return x == y;
-        }
-    }
-    a == b
-}
-
 /// Whether these are the watched values of a state.
 pub fn are_same(watch: &[Watch], values: &[i64], state: &State) -> bool
     requires { length (flat_map (values_watched state.now) (map watched_of watch.now)) ≡ length values.now }
@@ -77,7 +64,7 @@ pub fn are_same(watch: &[Watch], values: &[i64], state: &State) -> bool
     for watched in watch {
         let cells = values_watched(state, *watched);
         let upto = from + cells.len();
-        if !same(&values[from..upto], cells) {
+        if &values[from..upto] != cells {
             return false;
         }
         from = upto;
@@ -94,24 +81,51 @@ pub fn put_values(values: &mut Vec<i64>, others: &[i64])
     values.extend_from_slice(others).unwrap();
 }
 
-/// Adds values for which there is room, one by one: most things that are watched have one.
-fn add_values(values: &mut Vec<i64>, others: &[i64])
-    requires { vec_len values.old + length others.now ≤ vec_capacity values.old }
-    ensures items { values.new.items ≡ values.old.items ++ others.now }
-    ensures capacity { vec_capacity values.old ≤ vec_capacity values.new }
+/// Puts values in place of as many others, and gives whether they aren't the same. Not inlined: most things that are
+/// watched have one value, or none.
+#[inline(never)]
+fn replace_all(place: &mut [i64], cells: &[i64]) -> bool
+    requires { length place.old ≡ length cells.now }
+    ensures put { place.new ≡ cells.now }
+    ensures new { result ≡ not (same_values place.old cells.now) }
 {
-    for value in others {
-        values.push_reserved(*value);
+    let new = *place != *cells;
+    place.copy_from_slice(cells);
+    new
+}
+
+/// Puts values in place of as many others, and gives whether they aren't the same: at once, unless there are several.
+#[inline(always)]
+fn replace(place: &mut [i64], cells: &[i64]) -> bool
+    requires { length place.old ≡ length cells.now }
+    ensures put { place.new ≡ cells.now }
+    ensures new { result ≡ not (same_values place.old cells.now) }
+{
+    match cells {
+        [] => false,
+        [value] => {
+            let new = place[0] != *value;
+            place[0] = *value;
+            new
+        }
+        [_, _, ..] => replace_all(place, cells),
     }
 }
 
-/// Takes the watched values of a state in place of those before.
-pub fn take_values(values: &mut Vec<i64>, watch: &[Watch], state: &State)
-    requires { length (flat_map (values_watched state.now) (map watched_of watch.now)) ≤ vec_capacity values.old }
-    ensures { values.new.items ≡ flat_map (values_watched state.now) (map watched_of watch.now) }
+/// Takes the watched values of a state in place of those before, and gives whether they aren't the same.
+pub fn take_values(values: &mut [i64], watch: &[Watch], state: &State) -> bool
+    requires { length (flat_map (values_watched state.now) (map watched_of watch.now)) ≡ length values.old }
+    ensures taken { values.new ≡ flat_map (values_watched state.now) (map watched_of watch.now) }
+    ensures new { result ≡ not (same_values values.old (flat_map (values_watched state.now) (map watched_of watch.now))) }
 {
-    values.clear();
+    let mut new = false;
+    let mut from = 0;
     for watched in watch {
-        add_values(values, values_watched(state, *watched));
+        let cells = values_watched(state, *watched);
+        let upto = from + cells.len();
+        let replaced = replace(&mut values[from..upto], cells);
+        new = replaced | new;
+        from = upto;
     }
+    new
 }
