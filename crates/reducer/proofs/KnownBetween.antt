@@ -1,16 +1,12 @@
 -- What is known of a model behind a merge, and behind the drop that follows it.
-use Rattle.std.proofs.Common.{◌≡◌, ℕ, Bool, true, false, not, List, [], ◌∷◌, length, None, refl, sym, subst}
+use Rattle.std.proofs.Common.{◌≡◌, ℕ, Bool, true, false, not, List, [], ◌∷◌, length, refl, sym, subst}
 use Rattle.model_core.specs.EventGraph.{EventGraph, EventVertex}
-use Rattle.model_core.specs.Run.Step.{vertex_at}
 use Rattle.model_core.specs.Text.Canonical.{vertex_name}
 use Rattle.model_core.specs.Rules.Reached.{unreached}
-use Rattle.model_core.specs.Rules.UrgentEdges.{plain_urgent}
-use Rattle.std.specs.Prelude.{Option, Some}
-use Rattle.std.specs.Option.{option_map_or}
-use Rattle.model_core.specs.Rules.Merge.{values_at_once, merged_vertex, merged_with, merged}
 use Rattle.model_core.proofs.PlacesChanged.{shown_placed}
 use Rattle.use_analysis.specs.UseNumbers.{UseNumbers}
 use Rattle.merge_rules.specs.Known.{IsKnown}
+use Rattle.merge_rules.specs.Hollowed.{hollow, hollowed}
 use Rattle.merge_rules.specs.NothingCounted.{NothingCounted}
 use Rattle.merge_rules.specs.declared.known.Known.{Known}
 use Rattle.merge_rules.specs.KeptPairs.{has_incoming, ArePairs}
@@ -23,14 +19,9 @@ pub told_alone : (g : EventGraph) (k : ℕ) (led : Bool) → led ≡ has_incomin
 told_alone g k true is if_led if_unled = if_led refl
 told_alone g k false is if_led if_unled = record { alone = if_unled refl; unled = sym is }
 
--- a merge leaves the names
-merged_name : (b a : EventVertex) (o : Option ℕ) → (option_map_or (merged_vertex b (values_at_once a) a) o a).name ≡ a.name
-merged_name b a None = refl
-merged_name b a (Some edge) = refl
-
-pub names_stay : (g : EventGraph) (first second k : ℕ) → vertex_name (merged g first second) k ≡ vertex_name g k
-names_stay g first second k =
-    sym (shown_placed (λ (v : EventVertex). v.name) (merged_with (vertex_at g second)) [] (λ v. merged_name (vertex_at g second) v (plain_urgent v)) first g.vertices k)
+-- a vertex that has given away what it does has its name
+pub hollow_named : (g : EventGraph) (place k : ℕ) → vertex_name (hollowed g place) k ≡ vertex_name g k
+hollow_named g place k = sym (shown_placed (λ (v : EventVertex). v.name) hollow [] (λ v. refl) place g.vertices k)
 
 -- what is known of a graph, all of whose vertices can be reached
 pub all_known : (g h : EventGraph) (known : Known) (counts : UseNumbers) (pairs : List KeptPair)

@@ -210,10 +210,10 @@ impl Underway {
         dropping_keeps_the_meaning();
         dropping_takes_no_notice_of_the_vertex();
         let gone = List::from_vec(Vec::from_elem(alloc, second, 1)?);
-        note_drop(alloc, &self.model, &mut self.applications, &gone)?;
         let progress = &mut self.progress;
         progress.pairs.tell_drop_behind(&self.model, first, second);
         merge_moving(alloc, &mut self.model, &mut progress.known, first, second)?;
+        note_drop(alloc, &self.model, &mut self.applications, &gone)?;
         progress.known = known_without(&self.model, progress.known, gone.as_slice());
         progress.all_reached = true;
         drop_unreached(alloc, &mut self.model, &gone)

@@ -14,7 +14,7 @@ use Rattle.merge_rules.specs.Known.{IsKnown}
 use Rattle.merge_rules.specs.Hollowed.{hollow, hollowed}
 use Rattle.reducer.specs.Inner.LaterRules.{dropped_too}
 use Rattle.reducer.proofs.FirstLaterRule.{drop_holds, drop_made}
-use Rattle.reducer.proofs.KnownBetween.{names_stay, all_known}
+use Rattle.reducer.proofs.KnownBetween.{hollow_named, all_known}
 use Rattle.reducer.proofs.later_rules.Underway.merge_away.Goals as goal
 
 pub drop_unreached-requires : goal.drop_unreached-requires
@@ -41,7 +41,9 @@ returns c =
     let told : IsKnown (dropped m ks) c.known_without-progress.result =
     subst (λ (h : EventGraph). IsKnown h c.known_without-progress.result) left
     (subst (λ (ks : List ℕ). first_failed (drop_conditions (graph_of c.merge_moving.new.model) ks) ≡ None → IsKnown (dropped (graph_of c.merge_moving.new.model) ks) c.known_without-progress.result) c.as_slice.ensures c.known_without-progress.ensures holds_there) in
-    let noted = c.in_ok-note_drop.ensures ∙ ap (λ (names : List (List ℕ)). map application_of c.args.self.now.applications.items ++ Drop names ∷ []) (ap (map (vertex_name g)) one ∙ ap (λ (name : List ℕ). name ∷ []) (sym (names_stay g c.args.first second second))) in
+    let names : map (vertex_name (graph_of c.merge_moving.new.model)) vs ≡ vertex_name m second ∷ [] =
+    ap (λ (h : EventGraph). map (vertex_name h) vs) empty ∙ ap (map (vertex_name (hollowed m second))) one ∙ ap (λ (name : List ℕ). name ∷ []) (hollow_named m second second) in
+    let noted = c.in_ok-note_drop.ensures ∙ ap (λ (names : List (List ℕ)). map application_of c.args.self.now.applications.items ++ Drop names ∷ []) names in
     on_ok_weaker c.drop_unreached.result
     (λ done. record {
       left = dropped_too (drop_made m _ ks _ _ valid (λ e. cc) (sym c.requires.alone.alone) (done ∙ left) noted);
