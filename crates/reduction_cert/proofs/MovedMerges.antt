@@ -1,5 +1,5 @@
 -- A drop of the second vertex of a merge makes the same of the result, whether that vertex has given away what it does or not.
-use Rattle.std.proofs.Common.{◌≡◌, ℕ, suc, Bool, true, false, cond, List, [], ◌∷◌, Option, Some, None, Result, Ok, Err, OnOk, IfOk, IfErr, length, get_or, refl, sym, ap, ap₂, arith, ◌∙◌, subst}
+use Rattle.std.proofs.Common.{◌≡◌, ℕ, suc, Bool, true, false, List, [], ◌∷◌, Option, Some, None, Result, Ok, Err, OnOk, IfOk, IfErr, length, get_or, refl, sym, ap, ap₂, arith, ◌∙◌, subst}
 use Rattle.std.specs.Option.{option_map, option_map_or, option_and_then}
 use Rattle.sig_base.specs.declared.no_memory.NoMemory.{NoMemory}
 use Rattle.model_core.specs.declared.rule_error.RuleError.{RuleError}
@@ -86,23 +86,10 @@ only_one (y ∷ z ∷ xs) x one at = absurd (omega (arith, one))
 
 -- ---- answers
 
--- what holds of each answer, or of one that says that the application was made
-pub of_each : {P Q : Bool → Type 0} (answer : Result Bool NoMemory) → ((made : Bool) → P made → Q made) → IfOk answer P → IfOk answer Q
-of_each (Ok made) to holds = to made holds
-of_each (Err e) to holds = tt
-
-pub if_made : (P : Type 0) (answer : Result Bool NoMemory) → OnOk answer P → IfOk answer (λ made. made ≡ true → P)
-if_made P (Ok made) p = λ e. p
-if_made P (Err e) p = tt
-
+-- what holds of the rule's answer holds where it says that the application was made
 pub told_if_made : (P : Type 0) (answer : Result Bool NoMemory) (given : Result (Unit {0}) RuleError) → (answer ≡ Ok true → given ≡ Ok tt) → OnOk given P → IfOk answer (λ made. made ≡ true → P)
 told_if_made P (Ok made) given was holds = λ e. subst (λ (r : Result (Unit {0}) RuleError). OnOk r P) (was (ap Ok e)) holds
 told_if_made P (Err e) given was holds = tt
-
--- one application that was made on the graph itself
-pub made_itself : (later : List RuleApplication) (g : EventGraph) (a : RuleApplication) (made : Bool) (h : EventGraph) → applied g a ≡ cond made (Some h) None → MadeFor later g a made h
-made_itself later g a true h is = (h, is, record { bad = refl; reached = refl; names = refl; variables = refl })
-made_itself later g a false h is = is
 
 -- ---- whether an application was made
 
