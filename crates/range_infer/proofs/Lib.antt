@@ -26,6 +26,9 @@ mod AssignedBeside
 mod FittingTests
 mod FirstOutside
 mod Numbered
+mod ReadersFound
+mod PartsSeen
+mod OneReadAgain
 mod GrownRanges
 mod OneTurn
 mod Declared

@@ -94,6 +94,14 @@ module _ (g : EventGraph) (v : ℕ) (ordered : (variable_at g v).lo ≤ℤ (vari
     all-taken (grown_range g v r i) out is h,
   )
 
+  -- and it holds the grown one if it holds this and what was before
+  pub all-least : (r out : VarRange) (is : List Incoming) → Encloses out r → AllByRecursion (λ (i : Incoming). i.variable ≡ v → IfSome (kept_range (variable_at g v) i.bounds) (Encloses out)) is → Encloses out (fold (grown_range g v) r is)
+  all-least r out [] h held = h
+  all-least r out (i ∷ is) h held = all-least (grown_range g v r i) out is (by (i.variable == v) refl) held.1 where
+    by : (b : Bool) → (i.variable == v) ≡ b → Encloses out (cond b (hull r (kept_range (variable_at g v) i.bounds)) r)
+    by true e = hull-inside out r (kept_range (variable_at g v) i.bounds) h (held.0 (grind (arith, nat_tests)))
+    by false e = h
+
 -- ---- an end moves
 
 ends_moved-holds : (late : Bool) (d r n : VarRange) → Encloses d r → Encloses d n → Encloses n r → Encloses (ends_moved late d r n) r × Encloses d (ends_moved late d r n)

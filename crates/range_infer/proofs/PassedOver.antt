@@ -1,5 +1,5 @@
 -- Where ranges hold what was taken, parts that give the same again may be passed over.
-use Rattle.std.proofs.Common.{◌≡◌, ℕ, ◌<◌, ◌==◌, ℤ, nat_le, Bool, true, false, ◌&&◌, cond, ◌≤ℤ◌, List, [], ◌∷◌, ◌++◌, map, length, Option, Some, None, refl, sym, ◌∙◌, ap, ap₂, subst, arith}
+use Rattle.std.proofs.Common.{◌≡◌, ◌⊎◌, inl, inr, ℕ, ◌<◌, ◌==◌, ℤ, nat_le, Bool, true, false, ◌&&◌, cond, ◌≤ℤ◌, List, [], ◌∷◌, ◌++◌, map, length, Option, Some, None, refl, sym, ◌∙◌, ap, ap₂, subst, arith}
 use Rattle.std.specs.Prelude.{IfSome}
 use Rattle.std.specs.List.{AllByRecursion, fold, flat_map, list_any}
 use Rattle.std.proofs.lemmas.Int.{ints, clamps}
@@ -22,11 +22,12 @@ use Rattle.model_core.specs.Ranges.Inference.{hull, grown_range, ends_moved, eac
 use Rattle.model_core.proofs.EachOne.{every-front, every-behind, every-flat_map, every-map, every-fails}
 use Rattle.range_infer.specs.Inner.Moved.{is_moved, MarksMoved}
 use Rattle.range_infer.specs.Inner.PartReads.{each_reads}
-use Rattle.range_infer.specs.Inner.LookedAt.{looks_at, assigned_seen, change_seen, values_seen, edge_seen, vertex_seen, incoming_seen, TakesAgain}
+use Rattle.range_infer.specs.Inner.LookedAt.{looks_at, assigned_seen, change_seen, values_seen, edge_seen, vertex_seen, incoming_seen, part_seen, TakenByReaders, TakesAgain}
+use Rattle.range_infer.proofs.PartsSeen.{of_all, all_seen_too}
 use Rattle.range_infer.proofs.AllSeen.{all_values}
 use Rattle.range_infer.proofs.AssignedBeside.{nothing_seen}
 use Rattle.range_infer.proofs.ModelWithRanges.{range_given, as_many_variables}
-use Rattle.range_infer.proofs.OneRound.{holds-itself, holds-trans, wider, Growing, all-holds, all-inside, all-taken, ends_moved-takes, ordered, round-growing, variable_given, variables_given}
+use Rattle.range_infer.proofs.OneRound.{holds-itself, holds-trans, wider, Growing, all-holds, all-inside, all-taken, all-least, ends_moved-takes, ordered, round-growing, variable_given, variables_given}
 use Rattle.range_infer.proofs.NarrowModels.{fits_everywhere}
 use Rattle.range_infer.proofs.UnmovedParts.{StayElsewhere, Unmoved, known, bounds_stay}
 
@@ -139,6 +140,23 @@ module _ (g : EventGraph) (v : ℕ) (in_order : (variable_at g v).lo ≤ℤ (var
     vertices_alike us held =
         each_alike (vertex_seen g false moved new) (into_vertex g new) us (every-map (λ (u : EventVertex). AllByRecursion IsHeld (into_vertex g old u)) (λ (u : EventVertex). GrowAlike (vertex_seen g false moved new u) (into_vertex g new u)) vertex_alike us (every-flat_map IsHeld (into_vertex g old) us held))
 
+-- ---- the same is held of both
+
+same_ends : (a b : VarRange) → Encloses a b → Encloses b a → a ≡ b
+same_ends a b i j = ap₂ (λ (x y : ℤ). record { lo = x; hi = y }) (omega (arith, ints, i.low, j.low)) (omega (arith, ints, i.high, j.high))
+
+-- a range grows to the same by lists of which the same ranges hold what is kept
+grown_same : (g : EventGraph) (v : ℕ) (in_order : (variable_at g v).lo ≤ℤ (variable_at g v).hi) (r : VarRange) (some all : List Incoming)
+    → ((out : VarRange) → AllByRecursion (IsHeld g v in_order out) some → AllByRecursion (IsHeld g v in_order out) all)
+    → ((out : VarRange) → AllByRecursion (IsHeld g v in_order out) all → AllByRecursion (IsHeld g v in_order out) some)
+    → fold (grown_range g v) r some ≡ fold (grown_range g v) r all
+grown_same g v in_order r some all into from =
+    let a = fold (grown_range g v) r some in
+    let b = fold (grown_range g v) r all in
+    same_ends a b
+    (all-least g v in_order r a all (all-holds g v in_order r some) (into a (all-taken g v in_order r a some (holds-itself a))))
+    (all-least g v in_order r b some (all-holds g v in_order r all) (from b (all-taken g v in_order r b all (holds-itself b))))
+
 -- ---- all variables, after a round
 
 -- what is taken so leads to the same next ranges as all that is taken
@@ -169,23 +187,38 @@ module _ (g : EventGraph) (before ranges : List VarRange) (growing : Growing g b
           (ap (with_range (variable_at g v)) ((marks v).0 still) ∙ sym (range_given g.variables ranges now_growing.fitting.as_many v));
     }
 
-    next_alike : (late : Bool) (v : ℕ) → v < length g.variables → next_range g late (incoming_seen g false moved ranges) ranges v ≡ next_range g late (incoming g ranges) ranges v
-    next_alike late v small = by (is_fixed g v) refl where
-      r : VarRange
-      r = range_at ranges v
+    module _ (takes : List Incoming) (alike : (v : ℕ) → fold (grown_range g v) (range_at ranges v) takes ≡ fold (grown_range g v) (range_at ranges v) (incoming_seen g false moved ranges)) where
+      next_alike : (late : Bool) (v : ℕ) → v < length g.variables → next_range g late takes ranges v ≡ next_range g late (incoming g ranges) ranges v
+      next_alike late v small = by (is_fixed g v) refl where
+        r : VarRange
+        r = range_at ranges v
 
-      by : (b : Bool) → is_fixed g v ≡ b → cond b r (ends_moved late (declared_range (variable_at g v)) r (fold (grown_range g v) r (incoming_seen g false moved ranges))) ≡ cond b r (ends_moved late (declared_range (variable_at g v)) r (fold (grown_range g v) r (incoming g ranges)))
-      by true is = refl
-      by false free =
-          ap (ends_moved late (declared_range (variable_at g v)) r) (vertices_alike g v (ordered g before growing v) r moved (with_ranges g.variables before) (with_ranges g.variables ranges) stay g.vertices (held v small free) r (holds-itself r))
+        by : (b : Bool) → is_fixed g v ≡ b → cond b r (ends_moved late (declared_range (variable_at g v)) r (fold (grown_range g v) r takes)) ≡ cond b r (ends_moved late (declared_range (variable_at g v)) r (fold (grown_range g v) r (incoming g ranges)))
+        by true is = refl
+        by false free =
+            ap (ends_moved late (declared_range (variable_at g v)) r)
+            (alike v ∙ vertices_alike g v (ordered g before growing v) r moved (with_ranges g.variables before) (with_ranges g.variables ranges) stay g.vertices (held v small free) r (holds-itself r))
 
-    stands : StandsFor g ranges (incoming_seen g false moved ranges)
-    stands late =
-        let some : ℕ → VarRange = next_range g late (incoming_seen g false moved ranges) ranges in
-        let all : ℕ → VarRange = next_range g late (incoming g ranges) ranges in
-        ext_get_or no_range (each_variable g some) (each_variable g all) (variables_given g some ∙ sym (variables_given g all)) (λ v small.
-        let there : v < length g.variables = omega (arith, small, variables_given g some) in
-        variable_given g some v there ∙ (next_alike late v there ∙ sym (variable_given g all v there)))
+      stands : StandsFor g ranges takes
+      stands late =
+          let some : ℕ → VarRange = next_range g late takes ranges in
+          let all : ℕ → VarRange = next_range g late (incoming g ranges) ranges in
+          ext_get_or no_range (each_variable g some) (each_variable g all) (variables_given g some ∙ sym (variables_given g all)) (λ v small.
+          let there : v < length g.variables = omega (arith, small, variables_given g some) in
+          variable_given g some v there ∙ (next_alike late v there ∙ sym (variable_given g all v there)))
+
+    -- the parts that read one that moved give all
+    by_readers : (takes : List Incoming) → TakenByReaders g moved ranges takes → (v : ℕ) → fold (grown_range g v) (range_at ranges v) takes ≡ fold (grown_range g v) (range_at ranges v) (incoming_seen g false moved ranges)
+    by_readers takes readers v =
+        let rs = with_ranges g.variables ranges in
+        let order = ordered g before growing v in
+        ap (fold (grown_range g v) (range_at ranges v)) readers.are
+        ∙ grown_same g v order (range_at ranges v) (flat_map (part_seen g false moved rs g.vertices) readers.parts) (incoming_seen g false moved ranges)
+        (λ out has. all_seen_too (IsHeld g v order out) g moved rs g.vertices readers.parts readers.are_all has)
+        (λ out has. of_all (IsHeld g v order out) g moved rs g.vertices readers.parts has)
 
   pub stands_again : (takes : List Incoming) → TakesAgain g before ranges takes → StandsFor g ranges takes
-  stands_again takes again = subst (StandsFor g ranges) (sym again.are) (stands again.moved again.marks)
+  stands_again takes again = by again.are where
+    by : (takes ≡ incoming_seen g false again.moved ranges) ⊎ TakenByReaders g again.moved ranges takes → StandsFor g ranges takes
+    by (inl same) = stands again.moved again.marks takes (λ v. ap (fold (grown_range g v) (range_at ranges v)) same)
+    by (inr readers) = stands again.moved again.marks takes (by_readers again.moved again.marks takes readers)

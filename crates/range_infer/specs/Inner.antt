@@ -3,5 +3,6 @@ pub mod RangesLeft
 pub mod RangeTests
 pub mod GrownBy
 pub mod PartReads
+pub mod Readers
 pub mod Moved
 pub mod LookedAt

@@ -7,17 +7,20 @@ ghost use Rattle.model_core.specs.EventGraph.{Location, is_scheduling};
 ghost use Rattle.model_core.specs.Run.Step.{vertex_at};
 ghost use Rattle.model_core.specs.Rules.BoundsOf.{bounds_under};
 ghost use Rattle.model_core.specs.Code.Views.{graph_of, expression_of, location_of, change_of, edge_kind_of, edge_of, vertex_of};
+ghost use Rattle.model_core.specs.Ranges.OtherRanges.{with_ranges};
 ghost use Rattle.model_core.specs.Ranges.Refined.{refined};
 ghost use Rattle.model_core.specs.Ranges.Incoming.{assigned, incoming};
 ghost use Rattle.range_infer.specs.Inner.RangesLeft.{variables_left, StaysLeft};
 ghost use Rattle.range_infer.specs.Inner.PartReads.{each_reads, set_reads, carried_reads, parts_read};
-ghost use Rattle.range_infer.specs.Inner.LookedAt.{assigned_seen, change_seen, values_seen, edge_seen, vertex_seen, incoming_seen, TakesAgain};
+ghost use Rattle.range_infer.specs.Inner.Readers.{one_at, readers_in};
+ghost use Rattle.range_infer.specs.Inner.LookedAt.{assigned_seen, change_seen, values_seen, edge_seen, vertex_seen, incoming_seen, vertex_part_seen, part_seen, TakesAgain};
 
 use crate::bounds_left::{bounds_left, bounds_where};
 use crate::looking::{Look, looks_at, looks_at_one, looks_at_place};
-use crate::moves::moved_ranges;
+use crate::moves::{moved_ranges, only_moved};
 use crate::part_reads::{EdgeReads, VertexReads};
 use crate::ranges_left::RangesLeft;
+use crate::readers::{PartPlace, readers_of};
 use crate::refinement::forget;
 use crate::rounds::copied;
 use model_core::{Change, Edge, EdgeForm, Expr, Incoming, Model, Target, VarRange, Vertex};
@@ -294,6 +297,120 @@ fn add_vertices(
     Ok(())
 }
 
+/// Adds what the change at this place sets or draws, if there is one.
+fn add_change_at(
+    out: &mut Vec<Incoming>,
+    left: &mut RangesLeft,
+    look: &Look,
+    changes: &[Change],
+    reads: &[List<List<usize>>],
+    place: usize,
+) -> Result<(), NoMemory>
+    requires reads { reads.now ≡ map set_reads (map change_of changes.now) }
+    ensures out { OnOk result (out.new.items ≡ out.old.items ++ flat_map (change_seen (graph_of left.old.model.now) look.now.all look.now.moved.now (variables_left left.old)) (one_at place (map change_of changes.now))) }
+    ensures left { OnOk result (StaysLeft left.old left.new) }
+{
+    if place < changes.len() {
+        add_change(out, left, look, &changes[place], reads[place].as_slice())?;
+    }
+    Ok(())
+}
+
+/// Adds what the edge at this place carries, if there is one.
+fn add_edge_at(
+    out: &mut Vec<Incoming>,
+    left: &mut RangesLeft,
+    look: &Look,
+    edges: &[Edge],
+    reads: &[EdgeReads],
+    place: usize,
+) -> Result<(), NoMemory>
+    requires reads { reads.now ≡ map carried_reads (map edge_of edges.now) }
+    ensures out { OnOk result (out.new.items ≡ out.old.items ++ flat_map (edge_seen (graph_of left.old.model.now) look.now.all look.now.moved.now (variables_left left.old)) (one_at place (map edge_of edges.now))) }
+    ensures left { OnOk result (StaysLeft left.old left.new) }
+{
+    if place < edges.len() {
+        add_edge(out, left, look, &edges[place], &reads[place])?;
+    }
+    Ok(())
+}
+
+fn add_vertex_part(
+    out: &mut Vec<Incoming>,
+    left: &mut RangesLeft,
+    look: &Look,
+    vertex: &Vertex,
+    reads: &VertexReads,
+    part: PartPlace,
+) -> Result<(), NoMemory>
+    requires reads { reads.now ≡ parts_read (vertex_of vertex.now) }
+    ensures out { OnOk result (out.new.items ≡ out.old.items ++ vertex_part_seen (graph_of left.old.model.now) look.now.all look.now.moved.now (variables_left left.old) part (vertex_of vertex.now)) }
+    ensures left { OnOk result (StaysLeft left.old left.new) }
+{
+    if part.is_edge {
+        let edges = vertex.edges.as_slice();
+        add_edge_at(out, left, look, edges, reads.carried.as_slice(), part.place)
+    } else {
+        let changes = vertex.changes.as_slice();
+        add_change_at(out, left, look, changes, reads.sets.as_slice(), part.place)
+    }
+}
+
+/// Adds what is taken by the part at this place, if there is one.
+fn add_part(
+    out: &mut Vec<Incoming>,
+    left: &mut RangesLeft,
+    look: &Look,
+    vertices: &[Vertex],
+    reads: &[VertexReads],
+    part: PartPlace,
+) -> Result<(), NoMemory>
+    requires reads { reads.now ≡ map parts_read (map vertex_of vertices.now) }
+    ensures out { OnOk result (out.new.items ≡ out.old.items ++ part_seen (graph_of left.old.model.now) look.now.all look.now.moved.now (variables_left left.old) (map vertex_of vertices.now) part) }
+    ensures left { OnOk result (StaysLeft left.old left.new) }
+{
+    let place = part.vertex;
+    if place < vertices.len() {
+        add_vertex_part(out, left, look, &vertices[place], &reads[place], part)?;
+    }
+    Ok(())
+}
+
+fn add_parts(
+    out: &mut Vec<Incoming>,
+    left: &mut RangesLeft,
+    look: &Look,
+    vertices: &[Vertex],
+    reads: &[VertexReads],
+    parts: &[PartPlace],
+) -> Result<(), NoMemory>
+    requires reads { reads.now ≡ map parts_read (map vertex_of vertices.now) }
+    ensures out { OnOk result (out.new.items ≡ out.old.items ++ flat_map (part_seen (graph_of left.old.model.now) look.now.all look.now.moved.now (variables_left left.old) (map vertex_of vertices.now)) parts.now) }
+    ensures left { OnOk result (StaysLeft left.old left.new) }
+{
+    for part in parts {
+        add_part(out, left, look, vertices, reads, *part)?;
+    }
+    Ok(())
+}
+
+/// All of these ranges are left, and none is replaced.
+fn all_left<'m>(
+    alloc: Global,
+    model: &'m Model,
+    ranges: &[VarRange],
+) -> Result<RangesLeft<'m>, NoMemory>
+    requires many { length ranges.now ≡ length model.now.vars }
+    ensures model { IfOk result (λ left. left.model.now ≡ model.now) }
+    ensures variables { IfOk result (λ left. variables_left left ≡ with_ranges (graph_of model.now).variables ranges.now) }
+{
+    Ok(RangesLeft {
+        model,
+        ranges: copied(alloc, ranges)?,
+        replaced: Vec::new(alloc),
+    })
+}
+
 /// What a model's variables take under these ranges, one for each variable, by the parts that are looked at.
 fn incoming_seen(
     alloc: Global,
@@ -306,14 +423,30 @@ fn incoming_seen(
     requires reads { reads.now ≡ map parts_read (map vertex_of model.now.vertices) }
     ensures { IfOk result (λ takes. takes.items ≡ incoming_seen (graph_of model.now) look.now.all look.now.moved.now ranges.now) }
 {
-    let mut left = RangesLeft {
-        model,
-        ranges: copied(alloc, ranges)?,
-        replaced: Vec::new(alloc),
-    };
+    let mut left = all_left(alloc, model, ranges)?;
     let mut out = Vec::new(alloc);
     let vertices = model.vertices.as_slice();
     add_vertices(&mut out, &mut left, look, vertices, reads)?;
+    Ok(out)
+}
+
+/// What a model's variables take under these ranges, one for each variable, by those of these parts that are looked at.
+fn taken_by(
+    alloc: Global,
+    model: &Model,
+    reads: &[VertexReads],
+    ranges: &[VarRange],
+    look: &Look,
+    parts: &[PartPlace],
+) -> Result<Vec<Incoming>, NoMemory>
+    requires many { length ranges.now ≡ length model.now.vars }
+    requires reads { reads.now ≡ map parts_read (map vertex_of model.now.vertices) }
+    ensures { IfOk result (λ takes. takes.items ≡ flat_map (part_seen (graph_of model.now) look.now.all look.now.moved.now (with_ranges (graph_of model.now).variables ranges.now) (graph_of model.now).vertices) parts.now) }
+{
+    let mut left = all_left(alloc, model, ranges)?;
+    let mut out = Vec::new(alloc);
+    let vertices = model.vertices.as_slice();
+    add_parts(&mut out, &mut left, look, vertices, reads, parts)?;
     Ok(out)
 }
 
@@ -336,16 +469,19 @@ pub(crate) fn incoming(
 }
 
 /// What a model's variables take, where their ranges were these and are those now, by the parts that read one that moved.
+// Where one alone moved, these are few, and stand in its list.
 pub(crate) fn taken_again(
     alloc: Global,
     model: &Model,
     reads: &[VertexReads],
+    readers: &[List<PartPlace>],
     old: &[VarRange],
     new: &[VarRange],
 ) -> Result<Vec<Incoming>, NoMemory>
     requires many_old { length old.now ≡ length model.now.vars }
     requires many { length new.now ≡ length model.now.vars }
     requires reads { reads.now ≡ map parts_read (map vertex_of model.now.vertices) }
+    requires readers { readers.now ≡ readers_in (length model.now.vars) reads.now }
     ensures { IfOk result (λ takes. TakesAgain (graph_of model.now) old.now new.now takes.items) }
 {
     let moved = moved_ranges(alloc, old, new)?;
@@ -353,5 +489,8 @@ pub(crate) fn taken_again(
         all: false,
         moved: moved.as_slice(),
     };
-    incoming_seen(alloc, model, reads, new, &look)
+    match only_moved(look.moved) {
+        Some(var) => taken_by(alloc, model, reads, new, &look, readers_of(readers, var)),
+        None => incoming_seen(alloc, model, reads, new, &look),
+    }
 }

@@ -1,16 +1,18 @@
 //! Ranges that a model needs, found in rounds.
 
-ghost use Rattle.std.specs.Prelude.{◌≡◌, map, IfOk};
+ghost use Rattle.std.specs.Prelude.{◌≡◌, length, map, IfOk};
 ghost use Rattle.model_core.specs.Static.Reading.{IsValid};
 ghost use Rattle.model_core.specs.Code.Views.{graph_of, vertex_of};
 ghost use Rattle.model_core.specs.Ranges.Inductive.{Fitting, Inductive};
 ghost use Rattle.model_core.specs.Ranges.Inference.{IsInferred};
 ghost use Rattle.range_infer.specs.Inner.PartReads.{parts_read};
+ghost use Rattle.range_infer.specs.Inner.Readers.{readers_in};
 
 use crate::collecting::{incoming, taken_again};
 use crate::law::rounds_end_with_inductive_ranges;
 use crate::moves::same_ranges;
 use crate::part_reads::{VertexReads, all_parts_read};
+use crate::readers::{PartPlace, all_readers};
 use crate::rounds::{first_ranges, next_round};
 use model_core::{Model, VarRange};
 use round_trip::validity_is_by_parts;
@@ -26,9 +28,11 @@ fn make_rounds(
     alloc: Global,
     model: &Model,
     reads: &[VertexReads],
+    readers: &[List<PartPlace>],
 ) -> Result<List<VarRange>, NoMemory>
     requires valid { IsValid (graph_of model.now) }
     requires reads { reads.now ≡ map parts_read (map vertex_of model.now.vertices) }
+    requires readers { readers.now ≡ readers_in (length model.now.vars) reads.now }
     ensures { IfOk result (IsInferred (graph_of model.now)) }
 {
     validity_is_by_parts();
@@ -41,7 +45,14 @@ fn make_rounds(
         if same_ranges(next.as_slice(), ranges.as_slice()) {
             return Ok(List::from_vec(ranges));
         }
-        takes = taken_again(alloc, model, reads, ranges.as_slice(), next.as_slice())?;
+        takes = taken_again(
+            alloc,
+            model,
+            reads,
+            readers,
+            ranges.as_slice(),
+            next.as_slice(),
+        )?;
         ranges = next;
         rounds += 1;
     }
@@ -56,5 +67,6 @@ pub fn infer(alloc: Global, model: &Model) -> Result<List<VarRange>, NoMemory>
 {
     rounds_end_with_inductive_ranges();
     let reads = all_parts_read(alloc, model)?;
-    make_rounds(alloc, model, reads.as_slice())
+    let readers = all_readers(alloc, model.vars.len(), reads.as_slice())?;
+    make_rounds(alloc, model, reads.as_slice(), readers.as_slice())
 }

@@ -15,6 +15,7 @@ mod numbers_left;
 mod part_reads;
 mod range_verdict;
 mod ranges_left;
+mod readers;
 mod refinement;
 mod replaced_range;
 mod rounds;

@@ -1,6 +1,6 @@
 //! Which ranges a round moved.
 
-ghost use Rattle.std.specs.Prelude.{◌≡◌, ◌≢◌, ◌↔◌, length, IsTrue, IfOk};
+ghost use Rattle.std.specs.Prelude.{◌≡◌, ◌≢◌, ◌↔◌, ℕ, true, length, IsTrue, IfOk, IfSome};
 ghost use Rattle.range_infer.specs.Inner.Moved.{is_moved, MarksMoved};
 
 use model_core::VarRange;
@@ -33,7 +33,8 @@ pub(crate) fn moved_ranges(
     new: &[VarRange],
 ) -> Result<Vec<bool>, NoMemory>
     requires { length new.now ≡ length old.now }
-    ensures { IfOk result (λ moved. MarksMoved old.now new.now moved.items) }
+    ensures many { IfOk result (λ moved. length moved.items ≡ length new.now) }
+    ensures marks { IfOk result (λ moved. MarksMoved old.now new.now moved.items) }
 {
     let mut moved = Vec::new(alloc);
     for place in 0..old.len() {
@@ -50,4 +51,20 @@ pub(crate) fn is_moved(moved: &[bool], var: usize) -> bool
         Some(moved) => *moved,
         None => false,
     }
+}
+
+/// The variable whose range moved, if one alone did.
+pub(crate) fn only_moved(moved: &[bool]) -> Option<usize>
+    ensures { IfSome result (λ var. (v : ℕ) → is_moved moved.now v ≡ true → v ≡ var) }
+{
+    let mut only = None;
+    for var in 0..moved.len() {
+        if moved[var] {
+            if only.is_some() {
+                return None;
+            }
+            only = Some(var);
+        }
+    }
+    only
 }
