@@ -7,7 +7,7 @@ use Rattle.std.proofs.lemmas.Bool.{cases_Bool}
 use Rattle.model_core.specs.EventGraph.{EventGraph, EventVertex, Watched, WatchedVertex}
 use Rattle.model_core.specs.Run.Step.{no_vertex, vertex_at}
 use Rattle.model_core.specs.Rules.MarkedPlaces.{rank, marked_of, is_marked, unmarked_places}
-use Rattle.model_core.specs.Rules.PlacedEdges.{with_place}
+use Rattle.model_core.specs.Rules.PlacedEdges.{with_place, with_vertex}
 use Rattle.model_core.specs.Rules.Reached.{reached_marks, unreached}
 use Rattle.model_core.specs.Rules.LeastRelations.{Reachable, reach_first, reach_watched, reach_over}
 use Rattle.model_core.specs.Rules.Drop.{lists_exactly, drop_conditions, staying_marks, vertex_renumbered, watched_renumbered, only_marked, dropped}
@@ -17,7 +17,6 @@ use Rattle.mark_laws.proofs.MarksBelow.{same_mark, tested-marked, marked-tested}
 use Rattle.mark_laws.proofs.ReachedLong.{reached_marks-long}
 use Rattle.mark_laws.proofs.StayingMarks.{staying-unmarked, exactly-equal}
 use Rattle.mark_laws.proofs.UnmarkedPlaces.{apart-or-same, none_unmarked}
-use Rattle.edge_pruning.specs.VertexChanged.{with_vertex}
 use Rattle.edge_pruning.proofs.PlacesLeftOut.{one-more-left-out}
 use Rattle.edge_pruning.proofs.ReachedAfterMerge.{one_unmarked}
 use Rattle.edge_pruning.proofs.ReachedMarks.{reachable-marked, reached_marks-hold, reached_marks-reachable}

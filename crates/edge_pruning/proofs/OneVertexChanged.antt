@@ -9,7 +9,7 @@ use Rattle.model_core.specs.Text.Lexing.{same_bytes}
 use Rattle.model_core.specs.Text.Canonical.{variable_name, vertex_lines, change_line, edge_line, in_parentheses, variable_line, table_line, watched_name, watch_names_line, watch_line, canonical}
 use Rattle.model_core.specs.Text.Spellable.{Extent, extent, SpellableEdge, SpellableVertex, SpellableWatched, IsSpellable}
 use Rattle.model_core.specs.Static.OwnRules.{KeepsEdge, KeepsVertex, IsWatchable, parameters_of, KeepsParts, KeepsStaticRules}
-use Rattle.model_core.specs.Rules.PlacedEdges.{with_place}
+use Rattle.model_core.specs.Rules.PlacedEdges.{with_vertex}
 use Rattle.model_core.specs.Rules.Uses.{has_drawn_delay}
 use Rattle.model_core.proofs.SameNames.{SameNames, map_alike, watched_alike, vertex_alike}
 use Rattle.model_core.proofs.PlacesChanged.{shown_placed, map_placed, length_placed, has_one_placed}
@@ -24,7 +24,7 @@ edges_changed change v = record v { edges = change v.edges }
 
 -- the graph in which the vertex at this place has its edges changed
 abbrev pub changed_at : EventGraph → ℕ → (List EventEdge → List EventEdge) → EventGraph
-changed_at g vertex change = record g { vertices = with_place (edges_changed change) vertex g.vertices }
+changed_at g vertex change = with_vertex (edges_changed change) vertex g
 
 -- a change of edges that leaves no more of them, rules and writing as they were, no longer lines, and a delay drawn only where
 -- one was

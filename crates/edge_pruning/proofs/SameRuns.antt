@@ -7,7 +7,7 @@ use Rattle.model_core.specs.Run.Value.{OrFault, ◌>>=◌, value_of, is_one}
 use Rattle.model_core.specs.Run.Edges.{Planned, act, treat}
 use Rattle.model_core.specs.Run.Step.{no_vertex}
 use Rattle.model_core.specs.Run.Same.{Same}
-use Rattle.model_core.specs.Rules.PlacedEdges.{edge_at, with_place}
+use Rattle.model_core.specs.Rules.PlacedEdges.{edge_at, with_place, with_vertex}
 use Rattle.model_core.specs.Rules.Prune.{without_edge, pruned}
 use Rattle.model_core.specs.Rules.Settle.{unconditional, with_settled, settled}
 use Rattle.model_core.proofs.Results.{in_turn-remove}
@@ -61,7 +61,7 @@ with_settled-alike g v edge always = record {
 -- ---- the model
 
 module _ (g : EventGraph) (vertex edge : ℕ) (starts : IsTrue (in_range g (initial_state g))) where
-  changed-Same : (f : EventVertex → EventVertex) (x : ℤ) → ((v : EventVertex) → ((e : EventEdge) → slice_get v.edges edge ≡ Some e → HasValue g x e) → Alike g (InRange g) v (f v)) → ((e : EventEdge) → edge_at g vertex edge ≡ Some e → HasValue g x e) → Same g (record g { vertices = with_place f vertex g.vertices })
+  changed-Same : (f : EventVertex → EventVertex) (x : ℤ) → ((v : EventVertex) → ((e : EventEdge) → slice_get v.edges edge ≡ Some e → HasValue g x e) → Alike g (InRange g) v (f v)) → ((e : EventEdge) → edge_at g vertex edge ≡ Some e → HasValue g x e) → Same g (with_vertex f vertex g)
   changed-Same f x alike has =
       alike-Same g (with_place f vertex g.vertices) (InRange g) (in_range-kept g)
       (λ k. with_place-beside (Alike g (InRange g)) f vertex k no_vertex (itself-alike g (InRange g)) g.vertices

@@ -1,3 +1,2 @@
 pub mod EdgeRules
-pub mod VertexChanged
 pub mod Inner

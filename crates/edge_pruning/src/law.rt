@@ -16,7 +16,7 @@ ghost use Rattle.model_core.specs.Rules.Reached.{reached_marks, unreached};
 ghost use Rattle.model_core.specs.Rules.LeastRelations.{Reachable};
 ghost use Rattle.model_core.specs.Rules.Drop.{drop_conditions, dropped};
 ghost use Rattle.model_core.specs.Rules.Merge.{leads_to, merged, merge_conditions};
-ghost use Rattle.edge_pruning.specs.VertexChanged.{with_vertex};
+ghost use Rattle.model_core.specs.Rules.PlacedEdges.{with_vertex};
 
 use range_bounds::values_lie_in_bounds;
 use round_trip::validity_is_by_parts;

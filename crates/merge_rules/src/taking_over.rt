@@ -7,7 +7,7 @@ ghost use Rattle.std.specs.List.{remove};
 ghost use Rattle.std.specs.Option.{option_map_or};
 ghost use Rattle.model_core.specs.EventGraph.{EventEdge, scalar_location};
 ghost use Rattle.model_core.specs.Rules.UrgentEdges.{plain_urgent};
-ghost use Rattle.model_core.specs.Rules.PlacedEdges.{with_place};
+ghost use Rattle.model_core.specs.Rules.PlacedEdges.{with_vertex};
 ghost use Rattle.model_core.specs.Rules.Merge.{set_parameters, merged_with, merged};
 ghost use Rattle.model_core.specs.Run.Step.{vertex_at};
 ghost use Rattle.model_core.specs.Code.Views.{graph_of, expression_of, location_of, change_of, edge_of, vertex_of};
@@ -126,7 +126,7 @@ fn take_over_at(
     requires first { first < length model.old.vertices }
     requires at { plain_urgent (vertex_at (graph_of model.old) first) ≡ Some place }
     requires targets { map location_of targets ≡ map scalar_location other.params }
-    ensures done { OnOk result (graph_of model.new ≡ record (graph_of model.old) { vertices = with_place (merged_with (vertex_of other)) first (map vertex_of model.old.vertices) }) }
+    ensures done { OnOk result (graph_of model.new ≡ with_vertex (merged_with (vertex_of other)) first (graph_of model.old)) }
     ensures unchanged { OnErr result (graph_of model.new ≡ graph_of model.old) }
 {
     take_over(

@@ -260,12 +260,10 @@ fn enclosed(alloc: Global, cursor: &mut Cursor<'_>) -> Result<RawExpr, Stop>
     ensures shorter { IfOk result (λ e. length cursor.new + 1 ≤ length cursor.old) }
 {
     let at = cursor.symbol(Symbol::OpenParenthesis)?;
-    let inner = Held::of(expression(alloc, cursor)?);
+    let mut inner = expression(alloc, cursor)?;
     cursor.symbol(Symbol::CloseParenthesis)?;
-    Ok(RawExpr {
-        at,
-        form: inner.free().form,
-    })
+    inner.at = at;
+    Ok(inner)
 }
 
 /// Reads what no operator divides.

@@ -14,7 +14,7 @@ use Rattle.model_core.specs.Rules.Drop.{drop_conditions, dropped}
 use Rattle.model_core.specs.Rules.Merge.{merge_conditions, merged_with, merged}
 use Rattle.model_core.specs.Rules.Reduction.{RuleApplication, Drop, Merge, place_of_vertex, vertices_named, two_vertices_named, unless_failed, applied, first_bad}
 use Rattle.model_core.specs.Rules.Verdict.{graph_reached}
-use Rattle.edge_pruning.specs.VertexChanged.{with_vertex}
+use Rattle.model_core.specs.Rules.PlacedEdges.{with_vertex}
 use Rattle.merge_rules.specs.Hollowed.{hollow, hollowed}
 use Rattle.reduction_cert.specs.Inner.MovedMerges.{Serves, MadeFor, GivenAway}
 use Rattle.reduction_cert.proofs.NamesKept.{placed_kept, merged_name}

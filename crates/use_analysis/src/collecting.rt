@@ -154,7 +154,7 @@ pub fn add_vertex_reads(out: &mut Vec<usize>, vertex: &Vertex) -> Result<(), NoM
 }
 
 /// Adds the variables that targets name.
-pub fn add_target_vars(out: &mut Vec<usize>, targets: &[Target]) -> Result<(), NoMemory>
+pub(crate) fn add_target_vars(out: &mut Vec<usize>, targets: &[Target]) -> Result<(), NoMemory>
     ensures { OnOk result (out.new.items ≡ out.old.items ++ map (λ (l : Location). l.variable) (map location_of targets.now)) }
 {
     for target in targets {

@@ -13,8 +13,8 @@ mod use_lines;
 mod writing;
 
 pub use collecting::{
-    add_all_variables, add_deciding_reads, add_index_reads, add_places, add_target_vars,
-    add_variables, add_vertex_reads, add_vertex_writes,
+    add_all_variables, add_deciding_reads, add_index_reads, add_places, add_variables,
+    add_vertex_reads, add_vertex_writes,
 };
 pub use counts::UseCounts;
 pub use drawing::{draws_of_change, draws_of_edge, one_stream_passes};

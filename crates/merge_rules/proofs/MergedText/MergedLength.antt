@@ -9,7 +9,7 @@ use Rattle.model_core.specs.Text.Canonical.{variable_name, in_parentheses, chang
 use Rattle.model_core.specs.Text.VersionNeeded.{needs_version_two}
 use Rattle.model_core.specs.Rules.Merge.{set_parameters, merged_with, merged}
 use Rattle.model_core.specs.Rules.UrgentEdges.{plain_urgent}
-use Rattle.model_core.specs.Rules.PlacedEdges.{with_place}
+use Rattle.model_core.specs.Rules.PlacedEdges.{with_vertex}
 use Rattle.model_core.specs.Rules.Prune.{without_edge, pruned}
 use Rattle.model_core.proofs.PlacesChanged.{shown_placed}
 use Rattle.model_core.proofs.SameNames.{SameNames, map_alike, flat_map_alike, vertex_alike, watched_alike}
@@ -49,7 +49,7 @@ lines_length g v =
 
 module _ (g : EventGraph) (f : EventVertex → EventVertex) (name_kept : (x : EventVertex) → (f x).name ≡ x.name) (first : ℕ) where
   abbrev pub changed : EventGraph
-  changed = record g { vertices = with_place f first g.vertices }
+  changed = with_vertex f first g
 
   same_names : SameNames g changed
   same_names = record { variable = λ v. refl; table = λ t. refl; vertex = shown_placed (λ (x : EventVertex). x.name) f [] name_kept first g.vertices }

@@ -10,7 +10,7 @@ use Rattle.model_core.specs.Run.Step.{vertex_at, no_vertex}
 use Rattle.model_core.specs.Text.VersionNeeded.{is_large_array, has_many_targets, has_later_parts, needs_version_two}
 use Rattle.model_core.specs.Rules.Uses.{has_drawn_delay}
 use Rattle.model_core.specs.Rules.Merge.{set_parameters, merged_vertex, merged_with, values_at_once, merged}
-use Rattle.model_core.specs.Rules.PlacedEdges.{with_place}
+use Rattle.model_core.specs.Rules.PlacedEdges.{with_place, with_vertex}
 use Rattle.model_core.specs.Rules.Prune.{without_edge, pruned}
 use Rattle.model_core.specs.Rules.UrgentEdges.{plain_urgent}
 use Rattle.model_core.proofs.Among.{either_true, first_true, second_true}
@@ -58,7 +58,7 @@ module _ (f : EventVertex → EventVertex) (more : Bool) where
   ]
 
   needed-same : (g : EventGraph) (k : ℕ) → ((v : EventVertex) → slice_get g.vertices k ≡ Some v → Gains v) → ((v : EventVertex) → slice_get g.vertices k ≡ Some v → Keeps v) → (more ≡ true → Some_late g.vertices ≡ true)
-      → needs_version_two (record g { vertices = with_place f k g.vertices }) ≡ needs_version_two g
+      → needs_version_two (with_vertex f k g) ≡ needs_version_two g
   needed-same g k gains keeps had =
       ap (λ b. list_any is_large_array g.variables || b)
       (same_truth (Some_late (with_place f k g.vertices)) (Some_late g.vertices) (λ e. elim (gained k g.vertices gains e) [ inl h ↦ h | inr h ↦ had h ]) (kept k g.vertices keeps))
