@@ -19,7 +19,7 @@ ghost use Rattle.job_answers.specs.RunAnswer.{RunFitsRoom};
 ghost use Rattle.job_answers.specs.SavedReading.{ReadsSaved};
 ghost use Rattle.sigma_top.specs.Promises.{IsOfAnswer, KeepsPromises};
 ghost use Rattle.sigma_top.specs.StatusTable.{Told, Ends};
-ghost use Rattle.sigma_top.specs.Inner.Frame.{Performs, Serves};
+ghost use Rattle.sigma_top.specs.Inner.Frame.{Performs, PerformsJobOf};
 
 use crate::text_taking::{Taken, take_text};
 use answer_delivery::{Failure, Said, Status, complaint_answer, deliver, too_long_answer};
@@ -97,7 +97,7 @@ fn serve<S: Source, K: Sink>(
     input: &mut S,
     output: &mut K,
 ) -> Result<Said, Failure>
-    ensures { Serves S.seen K.seen (map string_bytes words.now) result
+    ensures { PerformsJobOf S.seen K.seen (map string_bytes words.now) result
         input.old input.new output.old output.new }
 {
     match command_words::words(alloc, words) {

@@ -6,4 +6,3 @@ pub mod OperandLevels
 pub mod DelayForms
 mod LevelOperators
 pub mod OperatorsInTurn
-pub mod TokensFrom

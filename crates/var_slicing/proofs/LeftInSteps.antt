@@ -8,7 +8,7 @@ use Rattle.model_core.specs.Static.OwnRules.{parameters_of}
 use Rattle.model_core.specs.Rules.Slice.{values_left, edge_left, vertex_left}
 use Rattle.model_core.specs.Code.Views.{vertex_of, edge_of}
 use Rattle.sig_base.proofs.Lists.{ChangedTo, ChangedTo-step}
-use Rattle.var_slicing.specs.Inner.Leaving.{edge_left_in, edges_left_in, own_parts_left}
+use Rattle.var_slicing.specs.Inner.StepsOfLeaving.{edge_left_in, edges_left_in, own_parts_left}
 
 -- ---- the parameters of vertices
 

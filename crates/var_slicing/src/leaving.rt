@@ -6,7 +6,7 @@ ghost use Rattle.std.specs.List.{flat_map};
 ghost use Rattle.model_core.specs.Rules.MarkedPlaces.{rank, is_marked, marked_of};
 ghost use Rattle.model_core.specs.Rules.Slice.{location_renumbered, values_left, parameters_left, targets_left, change_left, of_marked_variables};
 ghost use Rattle.model_core.specs.Code.Views.{graph_of, vertex_of, edge_of, expression_of, location_of, change_of, variable_of};
-ghost use Rattle.var_slicing.specs.Inner.Leaving.{edge_left_in, edges_left_in, own_parts_left};
+ghost use Rattle.var_slicing.specs.Inner.StepsOfLeaving.{edge_left_in, edges_left_in, own_parts_left};
 
 use crate::beside::{HasVars, stays_beside};
 use crate::moving_up::keep;

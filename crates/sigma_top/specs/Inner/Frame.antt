@@ -34,7 +34,7 @@ module _ {S K : Type 0} (source : S → Inlet) (sink : K → Outlet) where
   Performs reading (Err failures.Usage) i j o p = ⊥
 
   -- what doing the job of the words did
-  abbrev pub Serves : List (List ℕ) → Result Said Failure → S → S → K → K → Type 0
-  Serves words (Err failures.Usage) i j o p = (job_of words ≡ None) × (j ≡ i) × (p ≡ o)
-  Serves words (Err failures.NoMemory) i j o p = ((j ≡ i) × (p ≡ o)) ⊎ ForJob words (λ reading. Performs reading (Err failures.NoMemory) i j o p)
-  Serves words result i j o p = ForJob words (λ reading. Performs reading result i j o p)
+  abbrev pub PerformsJobOf : List (List ℕ) → Result Said Failure → S → S → K → K → Type 0
+  PerformsJobOf words (Err failures.Usage) i j o p = (job_of words ≡ None) × (j ≡ i) × (p ≡ o)
+  PerformsJobOf words (Err failures.NoMemory) i j o p = ((j ≡ i) × (p ≡ o)) ⊎ ForJob words (λ reading. Performs reading (Err failures.NoMemory) i j o p)
+  PerformsJobOf words result i j o p = ForJob words (λ reading. Performs reading result i j o p)

@@ -5,7 +5,7 @@ use Rattle.model_core.specs.declared.vertex.Edge.{Edge}
 use Rattle.model_core.specs.EventGraph.{EventEdge}
 use Rattle.model_core.specs.Code.Views.{vertex_of, edge_of}
 use Rattle.sig_base.proofs.Lists.{ChangedTo-all, ChangedTo-length}
-use Rattle.var_slicing.specs.Inner.Leaving.{edge_left_in, edges_left_in}
+use Rattle.var_slicing.specs.Inner.StepsOfLeaving.{edge_left_in, edges_left_in}
 use Rattle.var_slicing.proofs.LeftInSteps.{one_vertex_more}
 use Rattle.var_slicing.proofs.leaving.leave_all_edges.Goals as goal
 

@@ -2,7 +2,7 @@ use Rattle.std.proofs.Common.{map}
 use Rattle.model_core.specs.declared.vertex.Vertex.{Vertex}
 use Rattle.model_core.specs.Code.Views.{vertex_of}
 use Rattle.sig_base.proofs.Lists.{ChangedTo}
-use Rattle.var_slicing.specs.Inner.Leaving.{edges_left_in}
+use Rattle.var_slicing.specs.Inner.StepsOfLeaving.{edges_left_in}
 use Rattle.var_slicing.proofs.leaving.leave_all_edges.Given as goal
 
 abbrev pub invariant-loop-place : goal.invariant-loop-place

@@ -8,7 +8,7 @@ use Rattle.model_core.specs.EventGraph.{StateChange}
 use Rattle.model_core.specs.Rules.Slice.{parameters_left, change_left}
 use Rattle.model_core.specs.Code.Views.{vertex_of, change_of}
 use Rattle.sig_base.proofs.Lists.{ChangedTo-step, ChangedTo-all, ChangedTo-length}
-use Rattle.var_slicing.specs.Inner.Leaving.{own_parts_left}
+use Rattle.var_slicing.specs.Inner.StepsOfLeaving.{own_parts_left}
 use Rattle.var_slicing.proofs.leaving.leave_all_stores.Goals as goal
 
 pub loop-vertex-preserved : goal.loop-vertex-preserved

@@ -1,6 +1,6 @@
 use Rattle.model_core.specs.Code.Views.{vertex_of}
 use Rattle.sig_base.proofs.Lists.{ChangedTo}
-use Rattle.var_slicing.specs.Inner.Leaving.{own_parts_left}
+use Rattle.var_slicing.specs.Inner.StepsOfLeaving.{own_parts_left}
 use Rattle.var_slicing.proofs.leaving.leave_all_stores.Given as goal
 
 abbrev pub invariant-loop-vertex : goal.invariant-loop-vertex

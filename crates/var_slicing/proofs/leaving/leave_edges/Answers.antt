@@ -5,7 +5,7 @@ use Rattle.model_core.specs.declared.vertex.Vertex.{Vertex}
 use Rattle.model_core.specs.declared.vertex.Edge.{Edge}
 use Rattle.model_core.specs.Code.Views.{edge_of}
 use Rattle.sig_base.proofs.Lists.{ChangedTo-step, ChangedTo-all, ChangedTo-length}
-use Rattle.var_slicing.specs.Inner.Leaving.{edge_left_in}
+use Rattle.var_slicing.specs.Inner.StepsOfLeaving.{edge_left_in}
 use Rattle.var_slicing.proofs.leaving.leave_edges.Goals as goal
 
 pub loop-edge-preserved : goal.loop-edge-preserved

@@ -2,7 +2,7 @@ use Rattle.std.proofs.Common.{map}
 use Rattle.model_core.specs.declared.vertex.Vertex.{Vertex}
 use Rattle.model_core.specs.Code.Views.{edge_of}
 use Rattle.sig_base.proofs.Lists.{ChangedTo}
-use Rattle.var_slicing.specs.Inner.Leaving.{edge_left_in}
+use Rattle.var_slicing.specs.Inner.StepsOfLeaving.{edge_left_in}
 use Rattle.var_slicing.proofs.leaving.leave_edges.Given as goal
 
 abbrev pub invariant-loop-edge : goal.invariant-loop-edge
