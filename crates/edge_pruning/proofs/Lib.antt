@@ -5,7 +5,6 @@ pub mod SameRuns
 pub mod OneVertexChanged
 pub mod FewerOrFreer
 pub mod ReachedMarks
-pub mod DropMarks
 pub mod DropResult
 pub mod Renumbered
 pub mod DropSame

@@ -1,21 +1,18 @@
 //! Drop: the vertices that can't be reached, and the model without them.
 
-ghost use Rattle.std.specs.Prelude.{◌≡◌, ◌≤◌, ◌<◌, ◌+◌, ◌++◌, map, length, cond, true, false, None, OnOk, OnErr, IfOk, IfErr, [], ◌∷◌};
-ghost use Rattle.std.specs.Vec.{vec_len, vec_capacity};
+ghost use Rattle.std.specs.Prelude.{◌≡◌, ◌<◌, true, false, None, OnOk, OnErr, IfOk, IfErr};
 ghost use Rattle.model_core.specs.Rules.Conditions.{first_failed};
 ghost use Rattle.model_core.specs.Rules.ConditionTold.{TellsCondition};
-ghost use Rattle.model_core.specs.Rules.MarkedPlaces.{rank, marked_of};
 ghost use Rattle.model_core.specs.Rules.Reached.{unreached};
 ghost use Rattle.model_core.specs.Rules.PlacedEdges.{with_place};
 ghost use Rattle.model_core.specs.Rules.Drop.{drop_conditions, staying_marks, only_marked, dropped};
-ghost use Rattle.model_core.specs.Code.Views.{graph_of, vertex_of};
+ghost use Rattle.model_core.specs.Code.Views.{graph_of};
 
 use crate::walk::reached;
-use marked_walks::{Staying, renumber_vertices, renumber_watch, unmarked};
-use model_core::{Model, RuleError, Vertex};
+use marked_walks::{Staying, keep_staying, renumber_vertices, renumber_watch, unmarked};
+use model_core::{Model, RuleError};
 use sig_base::{List, NoMemory};
 use std::alloc::Global;
-use std::mem;
 
 /// The vertices that can't be reached over edges of any kind from the first vertex or a watched one: their places from
 /// 0, in the order of the text.
@@ -24,30 +21,6 @@ pub fn unreached(alloc: Global, model: &Model) -> Result<List<usize>, NoMemory>
 {
     let marks = reached(alloc, model)?;
     unmarked(alloc, marks.as_slice())
-}
-
-/// Adds a vertex that stays to a list that has room for it.
-fn keep_if(kept: &mut Vec<Vertex>, stays: bool, vertex: Vertex)
-    requires room { stays ≡ true → vec_len kept.old < vec_capacity kept.old }
-    ensures items { map vertex_of kept.new.items ≡ map vertex_of kept.old.items ++ cond stays (vertex_of vertex ∷ []) [] }
-    ensures len { vec_len kept.new ≡ vec_len kept.old + cond stays 1 0 }
-    ensures capacity { vec_capacity kept.old ≤ vec_capacity kept.new }
-{
-    if stays {
-        let _ = kept.push(vertex);
-    }
-}
-
-/// The vertices that stay, put into a list that has room for them.
-fn staying_vertices(staying: &Staying, vertices: Vec<Vertex>, mut kept: Vec<Vertex>) -> Vec<Vertex>
-    requires empty { kept.items ≡ [] }
-    requires room { rank staying.now (length staying.now) ≤ vec_capacity kept }
-    ensures { map vertex_of result.items ≡ marked_of staying.now (map vertex_of vertices.items) }
-{
-    for (place, vertex) in vertices.into_iter().enumerate() {
-        keep_if(&mut kept, staying.keeps(place), vertex);
-    }
-    kept
 }
 
 /// Takes vertices away: exactly those that can't be reached, and one at least, by their places in the order of the text.
@@ -114,19 +87,15 @@ fn leave_marked(alloc: Global, model: &mut Model, marks: Vec<bool>) -> Result<()
     ensures unchanged { OnErr result (graph_of model.new ≡ graph_of model.old) }
 {
     let staying = Staying::of(alloc, marks)?;
-    let kept = Vec::with_capacity(alloc, staying.count())?;
-    leave_staying(alloc, model, &staying, kept);
+    leave_staying(model, &staying);
     Ok(())
 }
 
-/// Leaves the vertices that stay alone, each at its new place, put into a list that has room for them.
-fn leave_staying(alloc: Global, model: &mut Model, staying: &Staying, kept: Vec<Vertex>)
-    requires empty { kept.items ≡ [] }
-    requires room { rank staying.now (length staying.now) ≤ vec_capacity kept }
+/// Leaves the vertices that stay alone, each at its new place.
+fn leave_staying(model: &mut Model, staying: &Staying)
     ensures { graph_of model.new ≡ only_marked (graph_of model.old) staying.now }
 {
     renumber_watch(staying, model.watch.as_mut_vec());
     renumber_vertices(staying, model.vertices.as_mut_vec());
-    let vertices = mem::replace(&mut model.vertices, List::new(alloc)).into_vec();
-    model.vertices = List::from_vec(staying_vertices(staying, vertices, kept));
+    keep_staying(staying, model.vertices.as_mut_vec());
 }

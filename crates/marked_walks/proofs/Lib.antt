@@ -1,1 +1,3 @@
 pub mod FindingLaws
+pub mod LeftInPlace
+pub mod MarkedItems

@@ -1,10 +1,11 @@
 //! Places with marks: those that follow from some by a walk, those that aren't marked, and the new numbers of those that
-//! stay; and vertices that take new places.
+//! stay; items that move up where others go; and vertices that take new places.
 #![tactic(auto)]
 
 mod entailing;
 mod law;
 mod marks;
+mod moving_up;
 mod places_behind;
 mod renumbering;
 mod staying;
@@ -12,6 +13,7 @@ mod staying;
 pub use entailing::entailed;
 pub use law::marks_are_of_entailed_places;
 pub use marks::{is_marked, unmarked};
+pub use moving_up::{keep, keep_staying};
 pub use places_behind::PlacesBehind;
 pub use renumbering::{NewPlaces, renumber_vertices, renumber_watch};
 pub use staying::Staying;

@@ -1,6 +1,6 @@
 //! Which places stay where others go, and the number that each then has.
 
-ghost use Rattle.std.specs.Prelude.{◌≡◌, IfOk, length, slice_index_or};
+ghost use Rattle.std.specs.Prelude.{◌≡◌, IfOk, slice_index_or};
 ghost use Rattle.model_core.specs.Rules.MarkedPlaces.{rank, is_marked};
 
 use crate::marks::is_marked;
@@ -69,12 +69,5 @@ impl Staying {
         ensures { result ≡ rank self.now place }
     {
         number_in(self.numbers.as_slice(), self.count, place)
-    }
-
-    /// How many stay.
-    pub fn count(&self) -> usize
-        ensures { result ≡ rank self.now (length self.now) }
-    {
-        self.count
     }
 }

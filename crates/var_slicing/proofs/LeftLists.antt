@@ -2,10 +2,9 @@
 use Rattle.std.proofs.Common.{◌≡◌, ℕ, zero, suc, ◌<◌, Bool, true, false, cond, List, [], ◌∷◌, ◌++◌, map, drop, length, get_or, slice_get, Some, refl, sym, ap, ap₂, ◌∙◌, arith}
 use Rattle.model_core.specs.declared.vertex.Target.{Target}
 use Rattle.model_core.specs.EventGraph.{Expression, Location}
-use Rattle.model_core.specs.Rules.MarkedPlaces.{rank, is_marked, marked_of}
+use Rattle.model_core.specs.Rules.MarkedPlaces.{rank, is_marked}
 use Rattle.model_core.specs.Rules.Slice.{expression_renumbered, location_renumbered, kept_beside, values_left, parameters_left, targets_left}
 use Rattle.model_core.specs.Code.Views.{location_of}
-use Rattle.mark_laws.proofs.Marks.{marked_of-drop}
 use Rattle.var_slicing.specs.Inner.Beside.{keeps_beside}
 
 -- ---- an element that stays or goes
@@ -41,17 +40,10 @@ variable_there [] k t there is = absurd (omega arith)
 variable_there (u ∷ ts) zero t there is = ap (λ (x : Target). Some x.var) (sym is)
 variable_there (u ∷ ts) (suc k) t there is = variable_there ts k t (omega arith) is
 
--- ---- parameters, targets and marked elements
+-- ---- parameters and targets
 
 pub parameters-at : (marks : List Bool) (v r : ℕ) (b : Bool) → b ≡ is_marked marks v → r ≡ rank marks v → (rest : List ℕ) → parameters_left marks (v ∷ rest) ≡ cond b (r ∷ []) [] ++ parameters_left marks rest
 parameters-at marks v r b stays is rest = first_or_none (is_marked marks v) (rank marks v) (parameters_left marks rest) ∙ told _ (sym stays) (sym is)
 
 pub targets-at : (marks : List Bool) (l m : Location) (b : Bool) → b ≡ is_marked marks l.variable → m ≡ location_renumbered (rank marks) l → (rest : List Location) → targets_left marks (l ∷ rest) ≡ cond b (m ∷ []) [] ++ targets_left marks rest
 targets-at marks l m b stays is rest = first_or_none (is_marked marks l.variable) (location_renumbered (rank marks) l) (targets_left marks rest) ∙ told _ (sym stays) (sym is)
-
-pub marked-at : {A : Type 0} (marks : List Bool) (i : ℕ) (b : Bool) → b ≡ is_marked marks i → (x : A) (rest : List A) → marked_of (drop i marks) (x ∷ rest) ≡ cond b (x ∷ []) [] ++ marked_of (drop (suc i) marks) rest
-marked-at marks i b stays x rest = marked_of-drop marks i x rest ∙ told _ (sym stays) refl
-
-pub marked-none : {A : Type 0} (marks : List Bool) → marked_of {A = A} marks [] ≡ []
-marked-none [] = refl
-marked-none (b ∷ bs) = refl

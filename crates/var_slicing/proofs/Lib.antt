@@ -5,7 +5,6 @@ pub mod DelayStreams
 pub mod NeedsCollected
 pub mod AllWatched
 pub mod LeftLists
-pub mod LeftInPlace
 pub mod LeftInSteps
 pub mod HeldByAll
 pub mod RenumberedValues

@@ -3,30 +3,18 @@
 
 ghost use Rattle.std.specs.Prelude.{◌≡◌, map, cond, slice_index_or, [], ◌∷◌};
 ghost use Rattle.std.specs.List.{flat_map};
-ghost use Rattle.model_core.specs.Rules.MarkedPlaces.{rank, is_marked, marked_of};
+ghost use Rattle.model_core.specs.Rules.MarkedPlaces.{rank, is_marked};
 ghost use Rattle.model_core.specs.Rules.Slice.{location_renumbered, values_left, parameters_left, targets_left, change_left, of_marked_variables};
-ghost use Rattle.model_core.specs.Code.Views.{graph_of, vertex_of, edge_of, expression_of, location_of, change_of, variable_of};
+ghost use Rattle.model_core.specs.Code.Views.{graph_of, vertex_of, edge_of, expression_of, location_of, change_of};
 ghost use Rattle.var_slicing.specs.Inner.StepsOfLeaving.{edge_left_in, edges_left_in, own_parts_left};
 
 use crate::beside::{HasVars, stays_beside};
-use crate::moving_up::keep;
 use crate::new_numbers::{renumber_expr, renumber_form, renumber_target, renumber_watched_vars};
-use marked_walks::Staying;
-use model_core::{Change, Edge, Expr, Model, Target, Var, Vertex};
+use marked_walks::{Staying, keep, keep_staying};
+use model_core::{Change, Edge, Expr, Model, Target, Vertex};
 use sig_base::List;
 use std::alloc::Global;
 use std::mem;
-
-/// Takes the declarations out whose variables go.
-fn leave_vars(staying: &Staying, vars: &mut Vec<Var>)
-    ensures { map variable_of vars.new.items ≡ marked_of staying.now (map variable_of vars.old.items) }
-{
-    let mut kept = 0;
-    for place in 0..vars.len() {
-        kept = keep(vars, staying.keeps(place), kept, place);
-    }
-    vars.truncate(kept);
-}
 
 /// Gives a parameter its new number, and says whether it stays.
 fn leave_param(staying: &Staying, param: &mut usize) -> bool
@@ -180,7 +168,7 @@ fn leave_all_stores(staying: &Staying, vertices: &mut Vec<Vertex>)
 pub(crate) fn leave(alloc: Global, model: &mut Model, staying: &Staying)
     ensures { graph_of model.new ≡ of_marked_variables (graph_of model.old) staying.now }
 {
-    leave_vars(staying, model.vars.as_mut_vec());
+    keep_staying(staying, model.vars.as_mut_vec());
     renumber_watched_vars(staying, model.watch.as_mut_vec());
     leave_all_edges(alloc, staying, model.vertices.as_mut_vec());
     leave_all_stores(staying, model.vertices.as_mut_vec());

@@ -7,7 +7,6 @@ mod law;
 mod leaving;
 mod linking;
 mod marking;
-mod moving_up;
 mod needs;
 mod new_numbers;
 mod slicing;

@@ -1,12 +1,12 @@
 -- Each list of the model is what is to be left of it.
 use Rattle.std.proofs.Common.{◌≡◌, ◌∙◌, ℕ, List, ap, sym, map}
-use Rattle.model_core.specs.declared.model.Var.{Var}
 use Rattle.model_core.specs.declared.model.Watch.{Watch}
 use Rattle.model_core.specs.declared.vertex.Vertex.{Vertex}
 use Rattle.model_core.specs.EventGraph.{EventVertex}
 use Rattle.model_core.specs.Rules.MarkedPlaces.{marked_of}
 use Rattle.model_core.specs.Rules.Slice.{watched_left, vertex_left}
 use Rattle.model_core.specs.Code.Views.{graph_of, variable_of, watched_of, vertex_of}
+use Rattle.marked_walks.proofs.MarkedItems.{marked_of-map}
 use Rattle.var_slicing.specs.Inner.StepsOfLeaving.{edges_left_in, own_parts_left}
 use Rattle.var_slicing.proofs.LeftInSteps.{seen_parameters, in_two_steps}
 use Rattle.var_slicing.proofs.leaving.leave.Goals as goal
@@ -16,8 +16,8 @@ returns c =
     let m = c.args.model.now in
     let g = graph_of m in
     let marks = c.args.staying.now in
-    let vars : map variable_of c.leave_vars.new.vars.items ≡ marked_of marks g.variables =
-    c.leave_vars.ensures ∙ ap (λ (vs : List Var). marked_of marks (map variable_of vs)) c.as_mut_vec.ensures.shows in
+    let vars : map variable_of c.keep_staying.new.items.items ≡ marked_of marks g.variables =
+    ap (map variable_of) (c.keep_staying.ensures ∙ ap (marked_of marks) c.as_mut_vec.ensures.shows) ∙ sym (marked_of-map variable_of marks m.vars) in
     let watch : map watched_of c.renumber_watched_vars.new.watch.items ≡ map (watched_left marks) g.watch =
     c.renumber_watched_vars.ensures ∙ ap (λ (ws : List Watch). map (watched_left marks) (map watched_of ws)) c.as_mut_vec-2.ensures.shows in
     let edges : map vertex_of c.leave_all_edges.new.vertices.items ≡ map (edges_left_in (map (λ (v : EventVertex). v.parameters) g.vertices) marks) g.vertices =

@@ -1,9 +1,12 @@
-//! One step of a walk that takes items out of a list in place: those that stay move up.
+//! Items taken out of a list in place: those that stay move up.
 
 ghost use Rattle.std.specs.Prelude.{◌≡◌, ◌++◌, ◌+◌, ◌<◌, ◌≤◌, [], length, cond, take, drop};
+ghost use Rattle.model_core.specs.Rules.MarkedPlaces.{marked_of};
+
+use crate::staying::Staying;
 
 /// Moves the item at a place up behind those that were kept, if it stays, and says how many are kept then.
-pub(crate) fn keep<T>(items: &mut Vec<T>, stays: bool, kept: usize, place: usize) -> usize
+pub fn keep<T>(items: &mut Vec<T>, stays: bool, kept: usize, place: usize) -> usize
     requires before { kept ≤ place }
     requires there { place < length items.old.items }
     ensures count { result ≡ kept + cond stays 1 0 }
@@ -16,4 +19,15 @@ pub(crate) fn keep<T>(items: &mut Vec<T>, stays: bool, kept: usize, place: usize
     }
     items.swap(kept, place);
     kept + 1
+}
+
+/// Leaves the items alone whose places stay, in their order.
+pub fn keep_staying<T: Drop>(staying: &Staying, items: &mut Vec<T>)
+    ensures { items.new.items ≡ marked_of staying.now items.old.items }
+{
+    let mut kept = 0;
+    for place in 0..items.len() {
+        kept = keep(items, staying.keeps(place), kept, place);
+    }
+    items.truncate(kept);
 }
