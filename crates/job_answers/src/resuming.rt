@@ -1,10 +1,9 @@
 //! `resume`: the history of a saved run from where it was saved, written as it happens, or why it can't go on.
 
 ghost use Rattle.std.specs.Prelude.{◌≡◌, ◌+◌, ◌<◌, ◌≤◌, ◌^◌, [], length, IfOk, None};
-ghost use Rattle.model_core.specs.Saved.SavedRun.{IsGood, history_from};
+ghost use Rattle.model_core.specs.Saved.SavedRun.{IsGood};
 ghost use Rattle.model_core.specs.Static.Reading.{IsValid};
 ghost use Rattle.model_core.specs.Code.Views.{graph_of};
-ghost use Rattle.job_answers.specs.RunAnswer.{told_of};
 ghost use Rattle.job_answers.specs.ResumeAnswer.{below_clock_line, too_many_events, resume_refusal, resume_answer, ResumedExceedsRoom};
 ghost use Rattle.answer_delivery.specs.Delivery.{DeliversSome};
 

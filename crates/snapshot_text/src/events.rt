@@ -1,6 +1,6 @@
 //! The pending events of a snapshot, where all that it says of them is good.
 
-ghost use Rattle.std.specs.Prelude.{◌≡◌, ◌++◌, ◌+◌, ◌≤◌, ◌^◌, true, [], length, map, unwrap_or, IfOk};
+ghost use Rattle.std.specs.Prelude.{◌≡◌, ◌++◌, ◌+◌, ◌≤◌, ◌^◌, true, [], length, map, unwrap_or};
 ghost use Rattle.std.specs.List.{AllByRecursion, list_all};
 ghost use Rattle.std.specs.Option.{option_map};
 ghost use Rattle.sig_base.specs.declared.limits.TheConstants.{PARAMETERS_MAX};

@@ -1,9 +1,8 @@
 //! Prints a snapshot.
 
-ghost use Rattle.std.specs.Prelude.{◌≡◌, ◌++◌, ◌≤◌, ◌==◌, ℤ, if◌then◌else◌, List, [], take, drop, option_map, codes, decimal, IfOk, OnOk};
+ghost use Rattle.std.specs.Prelude.{◌≡◌, ◌++◌, ◌≤◌, ◌==◌, ℤ, List, codes, IfOk, OnOk};
 ghost use Rattle.std.specs.Fmt.{signed_decimal};
 ghost use Rattle.std.specs.List.{AllByRecursion, flat_map};
-ghost use Rattle.model_core.specs.Run.State.{cell_count};
 ghost use Rattle.model_core.specs.Run.Pending.{Entry as Scheduled};
 ghost use Rattle.model_core.specs.Code.Views.{graph_of, variable_of};
 ghost use Rattle.model_core.specs.Saved.SavedRun.{IsGood};

@@ -1,6 +1,6 @@
 //! Reads the parts of a snapshot from its tokens.
 
-ghost use Rattle.std.specs.Prelude.{◌≡◌, drop, map, IfOk};
+ghost use Rattle.std.specs.Prelude.{drop, map, IfOk};
 ghost use Rattle.std.specs.Option.{option_map};
 ghost use Rattle.model_core.specs.declared.token.Symbol.TheVariants.{Comma};
 ghost use Rattle.model_core.specs.Code.WrittenViews.{written_signed};

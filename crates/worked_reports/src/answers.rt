@@ -1,6 +1,6 @@
 //! What is answered of models, job by job, and the forms of answers: the job's own bytes, and no other status.
 
-ghost use Rattle.std.specs.Prelude.{◌≡◌, ◌++◌, [], ◌∷◌, Some, None, codes};
+ghost use Rattle.std.specs.Prelude.{◌≡◌, ◌++◌, [], Some, None, codes};
 ghost use Rattle.command_words.specs.declared.reading.Reading.TheVariants as readings;
 ghost use Rattle.command_words.specs.declared.reading.ModelJob.TheVariants as models;
 ghost use Rattle.answer_delivery.specs.declared.answer.Answer.TheVariants.{Given, Refused};

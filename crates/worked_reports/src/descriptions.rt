@@ -1,6 +1,6 @@
 //! The English sentences of a model.
 
-ghost use Rattle.std.specs.Prelude.{◌≡◌, ◌++◌, [], codes};
+ghost use Rattle.std.specs.Prelude.{◌≡◌, ◌++◌, codes};
 ghost use Rattle.describe.specs.Description.{description};
 ghost use Rattle.worked_runs.specs.Models.{loop};
 ghost use Rattle.worked_reports.specs.DescribedModels.{office, declared_sentences, enter_sentences, leave_sentences};
