@@ -23,10 +23,10 @@ use Rattle.merge_rules.proofs.OneStepForTwo.MergeHolds.{Mergeable, conditions_ho
 use Rattle.merge_rules.proofs.SingleUrgentModels.SingleKept.{apart_placed, merged_single}
 use Rattle.merge_rules.proofs.ConditionsAsked.PairsFound.{front_holds}
 use Rattle.merge_rules.proofs.MergedText.VersionMerged.{same_truth, gained, joined-late, at_place}
-use Rattle.merge_rules.proofs.MergedText.MergedLength.{lines_length, changed_length}
+use Rattle.merge_rules.proofs.MergedText.MergedLength.{lines_length, changed_length, body_elsewhere}
 use Rattle.merge_rules.proofs.MergedText.GrownTexts.{there-is}
 use Rattle.merge_rules.proofs.MergedText.LimitsTold.{with_merged, text_grown, text_added}
-use Rattle.merge_rules.proofs.PairsBetweenMerges.PairsAfterMerge.{body-elsewhere}
+use Rattle.merge_rules.proofs.MergedText.ValidMerged.{name_stays}
 
 -- the two are two
 pub two_apart : (g : EventGraph) (first second : ℕ) → first_failed (merge_conditions g first second) ≡ None → (first == second) ≡ false
@@ -124,7 +124,7 @@ module _ (g : EventGraph) (first second : ℕ) (none : first_failed (merge_condi
       let front = front_holds 7 (merge_conditions g first second) none in
       let grown = text_grown g first second front in
       let added = text_added g first second front in
-      let same = ap length (body-elsewhere g first second none second (apart-turned first second apart)) in
+      let same = ap length (body_elsewhere g (merged_with b) (name_stays b) first second (apart-turned first second apart)) in
       omega (arith, body-gone, grown, added, same)
 
   pub moved_within : length (canonical (hollowed h second)) ≤ TEXT_MAX

@@ -5,3 +5,4 @@ pub mod RulesOfMergedEdges
 pub mod ConditionsAsked
 pub mod PairsBetweenMerges
 pub mod HollowedText
+pub mod BodiesKept

@@ -5,7 +5,7 @@ use Rattle.model_core.specs.EventGraph.{EventGraph, EventVertex, EventEdge}
 use Rattle.model_core.specs.Run.Step.{vertex_at}
 use Rattle.model_core.specs.Rules.Merge.{leads_to}
 use Rattle.merge_rules.specs.PairStanding.{target_at_once, acts_unseen}
-use Rattle.merge_rules.specs.Growth.{body_lines, capped, pair_growth}
+use Rattle.merge_rules.specs.Growth.{pair_growth}
 use Rattle.merge_rules.specs.declared.growth.Growth.{Growth}
 use Rattle.merge_rules.specs.declared.kept_pairs.KeptPair.{KeptPair}
 use Rattle.merge_rules.specs.declared.kept_pairs.Standing.{Standing}
@@ -35,11 +35,6 @@ TellsFit standings.Unknown growth = Unit {0}
 TellsFit standings.Refused growth = growth ≡ None
 TellsFit (standings.Fits kept) growth = growth ≡ Some kept
 
--- the number of bytes, where there is one, is that of these lines
-abbrev pub TellsLength : Option ℕ → List ℕ → Type 0
-TellsLength (Some bytes) lines = bytes ≡ capped (length lines)
-TellsLength None lines = Unit {0}
-
 -- the answer, where there is one, tells whether this vertex acts unseen
 abbrev pub TellsUnseen : Option Bool → EventGraph → EventVertex → Type 0
 TellsUnseen (Some unseen) g v = unseen ≡ acts_unseen g v
@@ -49,13 +44,12 @@ TellsUnseen None g v = Unit {0}
 pub record IsPair (g : EventGraph) (k : ℕ) (p : KeptPair) : Type 0 where
   pub target : p.target ≡ target_at_once (vertex_at g k)
   pub standing : TellsFit p.standing (pair_growth g k)
-  pub body : TellsLength p.body (body_lines g (vertex_at g k))
   pub unseen : TellsUnseen p.unseen g (vertex_at g k)
   pub incoming : p.incoming ≡ edges_to g.vertices k
 
 -- what a place that isn't there has
 abbrev pub no_pair : KeptPair
-no_pair = record { target = None; standing = standings.Unknown; body = None; unseen = None; incoming = 0 }
+no_pair = record { target = None; standing = standings.Unknown; unseen = None; incoming = 0 }
 
 -- what is kept of each vertex is right
 pub record ArePairs (g : EventGraph) (pairs : List KeptPair) : Type 0 where

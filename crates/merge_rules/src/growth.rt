@@ -55,11 +55,3 @@ pub(crate) fn grows_by(model: &Model, first: usize, second: usize, body: u64) ->
         gone: moved.gone,
     }
 }
-
-/// The same, where nothing is known of the second one.
-pub(crate) fn growth_of(model: &Model, first: usize, second: usize) -> Growth
-    requires { first_failed (take 7 (merge_conditions (graph_of model.now) first second)) ≡ None }
-    ensures { result ≡ growth (graph_of model.now) first }
-{
-    grows_by(model, first, second, body_at(model, second))
-}

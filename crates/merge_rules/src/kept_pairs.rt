@@ -1,6 +1,5 @@
 //! What is known of each vertex, as the first of two that may be merged: where its plain urgent edge leads, whether the two
-//! fit and by how much their merge makes the text longer; as the second, how long the lines of what it does are, and whether it
-//! acts unseen; and how many edges lead to it.
+//! fit and by how much their merge makes the text longer; as the second, whether it acts unseen; and how many edges lead to it.
 
 ghost use Rattle.std.specs.Prelude.{◌≡◌, map, OnOk, IfOk};
 ghost use Rattle.model_core.specs.Rules.PlacedEdges.{with_place};
@@ -30,8 +29,6 @@ pub(crate) struct KeptPair {
     /// Where its plain urgent edge leads, if it has one.
     pub(crate) target: Option<usize>,
     pub(crate) standing: Standing,
-    /// How many bytes the lines of its changes and edges have, if they were counted: 2^64 - 1 where they have more.
-    pub(crate) body: Option<u64>,
     /// Whether it acts unseen once it has its values, if that was asked.
     pub(crate) unseen: Option<bool>,
     /// How many edges lead to the vertex.
@@ -45,7 +42,6 @@ fn unasked(vertex: &Vertex) -> KeptPair
     KeptPair {
         target: target_at_once(vertex),
         standing: Standing::Unknown,
-        body: None,
         unseen: None,
         incoming: 0,
     }
@@ -148,7 +144,6 @@ fn lead_nowhere(pairs: &mut Vec<KeptPair>, first: usize)
         pairs[first] = KeptPair {
             target: None,
             standing: Standing::Refused,
-            body: None,
             unseen: None,
             incoming: pairs[first].incoming,
         };

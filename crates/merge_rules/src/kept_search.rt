@@ -13,11 +13,11 @@ ghost use Rattle.model_core.specs.Code.Views.{graph_of, edge_of, vertex_of};
 ghost use Rattle.merge_rules.specs.Known.{IsKnown};
 ghost use Rattle.merge_rules.specs.NothingCounted.{NothingCounted};
 ghost use Rattle.merge_rules.specs.PairStanding.{target_at_once, acts_unseen, pair_fits};
-ghost use Rattle.merge_rules.specs.Growth.{body_lines, capped, pair_growth};
+ghost use Rattle.merge_rules.specs.Growth.{pair_growth};
 ghost use Rattle.merge_rules.specs.KeptPairs.{has_incoming, TellsFit, TellsUnseen, ArePairs};
 
 use crate::conditions::{acts_unseen_at, failed_before_limits};
-use crate::growth::{Growth, body_at, grows_by};
+use crate::growth::{Growth, grows_by};
 use crate::kept_pairs::{
     KeptPair, Standing, add_all_edges, all_unasked, move_up, take_edges, take_over_pairs,
 };
@@ -136,26 +136,6 @@ impl KeptPairs {
         self.pairs[vertex].incoming > 0
     }
 
-    /// How many bytes the lines of the changes and edges of the vertex at this place have, which is then known, or 2^64 - 1
-    /// where they have more.
-    fn find_body(&mut self, model: &Model, vertex: usize) -> u64
-        requires kept { ArePairs (graph_of model.now) self.old }
-        requires there { vertex < length model.now.vertices }
-        ensures is { result ≡ capped (length (body_lines (graph_of model.now) (vertex_at (graph_of model.now) vertex))) }
-        ensures kept { ArePairs (graph_of model.now) self.new }
-    {
-        let pair = self.pairs[vertex];
-        if let Some(bytes) = pair.body {
-            return bytes;
-        }
-        let bytes = body_at(model, vertex);
-        self.pairs[vertex] = KeptPair {
-            body: Some(bytes),
-            ..pair
-        };
-        bytes
-    }
-
     /// Whether the vertex at this place acts unseen once it has its values, which is then known.
     fn find_unseen(&mut self, model: &Model, vertex: usize) -> bool
         requires kept { ArePairs (graph_of model.now) self.old }
@@ -192,24 +172,27 @@ impl KeptPairs {
     fn ask(
         &mut self,
         model: &Model,
+        known: &mut Known,
         counts: &mut UseCounts,
         first: usize,
         second: usize,
     ) -> Option<Growth>
         requires kept { ArePairs (graph_of model.now) self.old }
+        requires known { IsKnown (graph_of model.now) known.old }
         requires counts { NothingCounted (length model.now.vars) counts.old }
         requires single { single_urgent (graph_of model.now) ≡ true }
         requires target { target_at_once (vertex_at (graph_of model.now) first) ≡ Some second }
         requires there { first < length model.now.vertices }
         ensures growth { result ≡ pair_growth (graph_of model.now) first }
         ensures kept { ArePairs (graph_of model.now) self.new }
+        ensures known { IsKnown (graph_of model.now) known.new }
         ensures counts { counts.new ≡ counts.old }
     {
         let unseen = self.unseen_behind(model, first, second);
         if !pair_fits(model, unseen, counts, first, second) {
             return None;
         }
-        let body = self.find_body(model, second);
+        let body = known.find_body(model, second);
         Some(grows_by(model, first, second, body))
     }
 
@@ -217,12 +200,14 @@ impl KeptPairs {
     fn pair_growth(
         &mut self,
         model: &Model,
+        known: &mut Known,
         counts: &mut UseCounts,
         standing: Standing,
         first: usize,
         second: usize,
     ) -> Option<Growth>
         requires kept { ArePairs (graph_of model.now) self.old }
+        requires known { IsKnown (graph_of model.now) known.old }
         requires counts { NothingCounted (length model.now.vars) counts.old }
         requires single { single_urgent (graph_of model.now) ≡ true }
         requires target { target_at_once (vertex_at (graph_of model.now) first) ≡ Some second }
@@ -230,10 +215,11 @@ impl KeptPairs {
         requires standing { TellsFit standing (pair_growth (graph_of model.now) first) }
         ensures growth { result ≡ pair_growth (graph_of model.now) first }
         ensures kept { ArePairs (graph_of model.now) self.new }
+        ensures known { IsKnown (graph_of model.now) known.new }
         ensures counts { counts.new ≡ counts.old }
     {
         match standing {
-            Standing::Unknown => self.ask(model, counts, first, second),
+            Standing::Unknown => self.ask(model, known, counts, first, second),
             Standing::Refused => None,
             Standing::Fits(growth) => Some(growth),
         }
@@ -276,7 +262,7 @@ impl KeptPairs {
         match pair.target {
             None => None,
             Some(second) => {
-                let growth = self.pair_growth(model, counts, pair.standing, first, second);
+                let growth = self.pair_growth(model, known, counts, pair.standing, first, second);
                 self.tell_standing(model, first, growth);
                 short_merge(model, known, growth, first, second)
             }

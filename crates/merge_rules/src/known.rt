@@ -1,47 +1,74 @@
 //! What is known of a model while merges and other rules are applied to it, so that it isn't found again each time.
 
-ghost use Rattle.std.specs.Prelude.{◌≡◌, ℕ, List};
+ghost use Rattle.std.specs.Prelude.{◌≡◌, ℕ, List, ◌<◌, None, length};
 ghost use Rattle.model_core.specs.EventGraph.{EventGraph};
+ghost use Rattle.model_core.specs.Run.Step.{vertex_at};
+ghost use Rattle.model_core.specs.Rules.Conditions.{first_failed};
 ghost use Rattle.model_core.specs.Rules.Drop.{dropped};
+ghost use Rattle.model_core.specs.Rules.Merge.{merge_conditions, merged};
 ghost use Rattle.model_core.specs.Rules.UrgentEdges.{single_urgent};
 ghost use Rattle.model_core.specs.Code.Views.{graph_of};
-ghost use Rattle.merge_rules.specs.Known.{IsMeasured, IsKnown};
+ghost use Rattle.merge_rules.specs.Growth.{body_lines, capped, growth};
+ghost use Rattle.merge_rules.specs.Known.{IsMeasured, TellsSingle, TellsLength, IsKnown};
 
+use crate::bodies::Bodies;
+use crate::growth::{Growth, body_at};
 use model_core::Model;
 use model_print::printed_length;
 use range_bounds::single_urgent;
+use std::alloc::Global;
 
 /// What is known of a model beside itself. Nothing is known of where there is None.
-#[derive(Clone, Copy)]
+#[derive(Drop)]
 pub struct Known {
     /// How many bytes its canonical text has.
     pub bytes: Option<u64>,
     /// Whether it is single urgent.
     pub single: Option<bool>,
+    /// How many bytes the lines of the changes and edges of each vertex have.
+    pub bodies: Bodies,
 }
 
 impl Known {
-    /// Nothing is known, which is so of each model.
+    /// Nothing is known, which is so of each model, and of single vertices nothing will be kept.
     pub fn nothing() -> Known
         ensures { (g : EventGraph) → IsKnown g result }
     {
         Known {
             bytes: None,
             single: None,
+            bodies: Bodies::nothing(),
+        }
+    }
+
+    /// Nothing is known yet. What is found of single vertices will be kept, for as many of them as there is memory.
+    pub fn begin(alloc: Global) -> Known
+        ensures { (g : EventGraph) → IsKnown g result }
+    {
+        Known {
+            bytes: None,
+            single: None,
+            bodies: Bodies::begin(alloc),
+        }
+    }
+
+    /// Whether it is known that the model is single urgent behind a drop, which is so where it was before.
+    pub fn single_behind_drop(&self) -> Option<bool>
+        ensures { (g : EventGraph) (vertices : List ℕ) → IsKnown g self.now → TellsSingle (dropped g vertices) result }
+    {
+        match self.single {
+            Some(single) if single => Some(single),
+            _ => None,
         }
     }
 
     /// What is known behind a drop: that the model is single urgent, where it was.
-    pub fn behind_drop(self) -> Known
-        ensures { (g : EventGraph) (vertices : List ℕ) → IsKnown g self → IsKnown (dropped g vertices) result }
+    pub fn behind_drop(&mut self)
+        ensures { (g : EventGraph) (vertices : List ℕ) → IsKnown g self.old → IsKnown (dropped g vertices) self.new }
     {
-        match self.single {
-            Some(single) if single => Known {
-                bytes: None,
-                single: Some(single),
-            },
-            _ => Known::nothing(),
-        }
+        self.single = self.single_behind_drop();
+        self.bytes = None;
+        self.bodies.forget();
     }
 
     /// Whether the model is single urgent, which is then known.
@@ -71,5 +98,43 @@ impl Known {
             }
         }
         self.bytes
+    }
+
+    /// How many bytes the lines of the changes and edges of the vertex at this place have, or 2^64 - 1 where they have more.
+    /// That is then known, unless there is no memory to keep it.
+    pub(crate) fn find_body(&mut self, model: &Model, vertex: usize) -> u64
+        requires known { IsKnown (graph_of model.now) self.old }
+        requires there { vertex < length model.now.vertices }
+        ensures is { result ≡ capped (length (body_lines (graph_of model.now) (vertex_at (graph_of model.now) vertex))) }
+        ensures known { IsKnown (graph_of model.now) self.new }
+    {
+        if let Some(bytes) = self.bodies.get(vertex) {
+            return bytes;
+        }
+        let bytes = body_at(model, vertex);
+        self.bodies.make_room(model.vertices.len());
+        self.bodies.put(vertex, Some(bytes));
+        bytes
+    }
+
+    /// The same of the first vertex behind a merge of the two, told before it, or None where they are too many to count.
+    pub(crate) fn find_merged_body(
+        &mut self,
+        model: &Model,
+        first: usize,
+        second: usize,
+        grows: Growth,
+    ) -> Option<u64>
+        requires known { IsKnown (graph_of model.now) self.old }
+        requires holds { first_failed (merge_conditions (graph_of model.now) first second) ≡ None }
+        requires grows { grows ≡ growth (graph_of model.now) first }
+        ensures is { TellsLength result (body_lines (merged (graph_of model.now) first second) (vertex_at (merged (graph_of model.now) first second) first)) }
+        ensures known { IsKnown (graph_of model.now) self.new }
+    {
+        let body = self.find_body(model, first);
+        if body == u64::MAX {
+            return None;
+        }
+        Some((body - grows.gone).saturating_add(grows.added))
     }
 }

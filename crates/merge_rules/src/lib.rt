@@ -2,6 +2,7 @@
 #![tactic(auto)]
 
 mod at_once;
+mod bodies;
 mod conditions;
 mod first_pair;
 mod growth;
@@ -16,6 +17,7 @@ mod reads_written;
 mod taking_over;
 mod within_limits;
 
+pub use bodies::Bodies;
 pub use first_pair::first_merge;
 pub use kept_search::KeptPairs;
 pub use known::Known;

@@ -10,7 +10,7 @@ ghost use Rattle.merge_rules.specs.Known.{IsKnown};
 ghost use Rattle.merge_rules.specs.NothingCounted.{NothingCounted};
 
 use crate::conditions::failed_before_limits;
-use crate::growth::growth_of;
+use crate::growth::grows_by;
 use crate::known::Known;
 use crate::reads_written::ReadsWritten;
 use crate::taking_over::put_together;
@@ -38,7 +38,7 @@ pub(crate) fn failed_merge<R: ReadsWritten>(
     if let Some(condition) = failed_before_limits(model, single, None, readers, first, second) {
         return Some(condition);
     }
-    if is_within_limits(model, known.find_bytes(model), first, second) {
+    if is_within_limits(model, known, first, second) {
         None
     } else {
         Some(8)
@@ -58,16 +58,17 @@ pub fn merge_holding(
     ensures done { OnOk result (graph_of model.new ≡ merged (graph_of model.old) vertex target) }
     ensures unchanged { OnErr result (graph_of model.new ≡ graph_of model.old) }
     ensures known { IsKnown (graph_of model.new) known.new }
-    ensures told { OnOk result (known.new ≡ record { bytes = Some (length (canonical (graph_of model.new))); single = Some true }) }
+    ensures told { OnOk result ((known.new.bytes ≡ Some (length (canonical (graph_of model.new)))) × (known.new.single ≡ Some true)) }
 {
-    let growth = growth_of(model, vertex, target);
-    let bytes = merged_length(model, known.bytes, vertex, target, growth);
+    let body = known.find_body(model, target);
+    let grows = grows_by(model, vertex, target, body);
+    let bytes = merged_length(model, known.bytes, vertex, target, grows);
+    let merged_body = known.find_merged_body(model, vertex, target, grows);
     let place = urgent_place(&model.vertices.as_slice()[vertex]);
     put_together(alloc, model, vertex, place, target)?;
-    *known = Known {
-        bytes: Some(bytes),
-        single: Some(true),
-    };
+    known.bytes = Some(bytes);
+    known.single = Some(true);
+    known.bodies.put(vertex, merged_body);
     Ok(())
 }
 
@@ -89,7 +90,7 @@ pub fn merge_measured(
     ensures refused { IfErr result (λ e. TellsCondition e (first_failed (merge_conditions (graph_of model.old) vertex target))) }
     ensures unchanged { OnErr result (graph_of model.new ≡ graph_of model.old) }
     ensures known { IsKnown (graph_of model.new) known.new }
-    ensures told { OnOk result (known.new ≡ record { bytes = Some (length (canonical (graph_of model.new))); single = Some true }) }
+    ensures told { OnOk result ((known.new.bytes ≡ Some (length (canonical (graph_of model.new)))) × (known.new.single ≡ Some true)) }
     ensures counts { counts.new ≡ counts.old }
 {
     if let Some(condition) = failed_merge(model, known, counts, vertex, target) {

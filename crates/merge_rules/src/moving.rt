@@ -8,10 +8,10 @@ ghost use Rattle.model_core.specs.Rules.ConditionTold.{TellsCondition};
 ghost use Rattle.model_core.specs.Rules.Merge.{merge_conditions, merged};
 ghost use Rattle.model_core.specs.Code.Views.{graph_of};
 ghost use Rattle.merge_rules.specs.Hollowed.{hollowed};
-ghost use Rattle.merge_rules.specs.Known.{IsKnown};
+ghost use Rattle.merge_rules.specs.Known.{IsMeasured, IsKnown};
 ghost use Rattle.merge_rules.specs.NothingCounted.{NothingCounted};
 
-use crate::growth::moved_growth;
+use crate::growth::{grows_by, moved_growth};
 use crate::known::Known;
 use crate::merging::failed_merge;
 use crate::taking_over::put_together_moving;
@@ -31,20 +31,31 @@ fn moved_length(model: &Model, bytes: u64, first: usize, second: usize) -> u64
     bytes - grows.gone + grows.added
 }
 
-/// What is known of the result, told before the merge.
-fn known_behind(model: &Model, known: Known, first: usize, second: usize) -> Known
-    requires known { IsKnown (graph_of model.now) known }
+/// The same, where it may be that of the model it isn't known.
+fn moved_bytes(model: &Model, bytes: Option<u64>, first: usize, second: usize) -> Option<u64>
+    requires measured { IsMeasured (graph_of model.now) bytes }
     requires holds { first_failed (merge_conditions (graph_of model.now) first second) ≡ None }
-    ensures { IsKnown (hollowed (merged (graph_of model.now) first second) second) result }
+    ensures { IsMeasured (hollowed (merged (graph_of model.now) first second) second) result }
 {
-    let bytes = match known.bytes {
+    match bytes {
         Some(bytes) => Some(moved_length(model, bytes, first, second)),
         None => None,
-    };
-    Known {
-        bytes,
-        single: Some(true),
     }
+}
+
+/// Makes what is known of the model what is known of the result, told before the merge.
+fn know_behind(model: &Model, known: &mut Known, first: usize, second: usize)
+    requires known { IsKnown (graph_of model.now) known.old }
+    requires holds { first_failed (merge_conditions (graph_of model.now) first second) ≡ None }
+    ensures { IsKnown (hollowed (merged (graph_of model.now) first second) second) known.new }
+{
+    let body = known.find_body(model, second);
+    let grows = grows_by(model, first, second, body);
+    let merged_body = known.find_merged_body(model, first, second, grows);
+    known.bytes = moved_bytes(model, known.bytes, first, second);
+    known.single = Some(true);
+    known.bodies.put(first, merged_body);
+    known.bodies.put(second, None);
 }
 
 /// Does what `merge_measured` does where no condition of merge fails, but the second vertex gives its changes and edges away.
@@ -61,7 +72,7 @@ pub fn merge_moving(
     ensures done { OnOk result (graph_of model.new ≡ hollowed (merged (graph_of model.old) vertex target) target) }
     ensures known { OnOk result (IsKnown (graph_of model.new) known.new) }
 {
-    *known = known_behind(model, *known, vertex, target);
+    know_behind(model, known, vertex, target);
     let place = urgent_place(&model.vertices.as_slice()[vertex]);
     put_together_moving(alloc, model, vertex, place, target)
 }

@@ -10,10 +10,11 @@ ghost use Rattle.model_core.specs.Rules.Conditions.{first_failed};
 ghost use Rattle.model_core.specs.Rules.UrgentEdges.{plain_urgent};
 ghost use Rattle.model_core.specs.Rules.Merge.{set_parameters, merged_with, merged, has_few_parts, is_within_limits, merge_conditions};
 ghost use Rattle.model_core.specs.Code.Views.{graph_of, vertex_of};
-ghost use Rattle.merge_rules.specs.Known.{IsMeasured};
+ghost use Rattle.merge_rules.specs.Known.{IsMeasured, IsKnown};
 ghost use Rattle.merge_rules.specs.Growth.{bytes_gone, capped, growth};
 
-use crate::growth::{Growth, growth_of};
+use crate::growth::{Growth, grows_by};
+use crate::known::Known;
 use model_core::{Model, Vertex};
 use model_print::length_without_edge;
 use range_bounds::plain_urgent;
@@ -125,17 +126,23 @@ pub(crate) fn has_short_text(
     merged_length(model, bytes, first, second, grows) <= TEXT_MAX as u64
 }
 
-/// Whether the result is within the limits.
+/// Whether the result is within the limits. What is found of the model on the way is known then.
 pub(crate) fn is_within_limits(
     model: &Model,
-    bytes: Option<u64>,
+    known: &mut Known,
     first: usize,
     second: usize,
 ) -> bool
-    requires measured { IsMeasured (graph_of model.now) bytes }
+    requires known { IsKnown (graph_of model.now) known.old }
     requires holds { first_failed (take 7 (merge_conditions (graph_of model.now) first second)) ≡ None }
-    ensures { result ≡ is_within_limits (merged (graph_of model.now) first second) first }
+    ensures is { result ≡ is_within_limits (merged (graph_of model.now) first second) first }
+    ensures known { IsKnown (graph_of model.now) known.new }
 {
-    keeps_few_parts(model, first, second)
-        && has_short_text(model, bytes, first, second, growth_of(model, first, second))
+    if !keeps_few_parts(model, first, second) {
+        return false;
+    }
+    let bytes = known.find_bytes(model);
+    let body = known.find_body(model, second);
+    let grows = grows_by(model, first, second, body);
+    has_short_text(model, bytes, first, second, grows)
 }

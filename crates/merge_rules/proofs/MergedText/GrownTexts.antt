@@ -1,5 +1,6 @@
--- The text of the result of a merge is longer by the lines that the merge adds, and shorter by that of the plain urgent edge.
-use Rattle.std.proofs.Common.{◌≡◌, ℕ, zero, suc, ◌+◌, ◌<◌, List, [], ◌∷◌, length, slice_get, slice_index_or, Option, Some, refl, sym, ◌∙◌, ap, arith, length-append}
+-- The text of the result of a merge is longer by the lines that the merge adds, and shorter by that of the plain urgent edge;
+-- so are the lines of what the first vertex does.
+use Rattle.std.proofs.Common.{◌≡◌, ℕ, zero, suc, ◌+◌, ◌<◌, ◌≤◌, List, [], ◌∷◌, length, slice_get, slice_index_or, Option, Some, refl, sym, ◌∙◌, ap, arith, length-append}
 use Rattle.std.specs.List.{flat_map}
 use Rattle.std.specs.Option.{option_map_or, option_and_then}
 use Rattle.model_core.specs.EventGraph.{EventGraph, EventVertex, EventEdge}
@@ -11,7 +12,7 @@ use Rattle.model_core.specs.Rules.Merge.{set_parameters, merged}
 use Rattle.merge_rules.specs.Growth.{body_lines, lines_set, lines_taken_over, bytes_added, bytes_set, bytes_gone}
 use Rattle.merge_rules.proofs.OneStepForTwo.EdgesAside.{urgent_edge}
 use Rattle.merge_rules.proofs.SingleUrgentModels.PlainEdges.{PlainEdge}
-use Rattle.merge_rules.proofs.MergedText.MergedLength.{added, rest_length, merged_length}
+use Rattle.merge_rules.proofs.MergedText.MergedLength.{added, rest_length, merged_length, merged_body, edge_within}
 
 pub there-is : {A : Type 0} (xs : List A) (k : ℕ) (d : A) → k < length xs → slice_get xs k ≡ Some (slice_index_or xs k d)
 there-is [] k d below = absurd (omega (arith, below))
@@ -43,6 +44,9 @@ module _ (g : EventGraph) (first second : ℕ) (p : PlainEdge (vertex_at g first
   all-added : added g first second p ≡ bytes_added g first
   all-added = let whole = added-is in let body = body-is in omega (arith, whole, body)
 
+  pub gone-within-body : bytes_gone g first ≤ length (body_lines g (vertex_at g first))
+  gone-within-body = let gone = gone-is in let within = edge_within g first second p in omega (arith, gone, within)
+
   module _ (below : first < length g.vertices) where
     there : slice_get g.vertices first ≡ Some (vertex_at g first)
     there = there-is g.vertices first no_vertex below
@@ -55,3 +59,9 @@ module _ (g : EventGraph) (first second : ℕ) (p : PlainEdge (vertex_at g first
         ap (λ n. length (canonical (merged g first second)) + n) gone-is
         ∙ merged_length g first second p (vertex_at g first) there
         ∙ ap (λ n. length (canonical g) + n) all-added
+
+    pub body-grown : length (body_lines (merged g first second) (vertex_at (merged g first second) first)) + bytes_gone g first ≡ length (body_lines g (vertex_at g first)) + bytes_added g first
+    body-grown =
+        ap (λ n. length (body_lines (merged g first second) (vertex_at (merged g first second) first)) + n) gone-is
+        ∙ merged_body g first second p below
+        ∙ ap (λ n. length (body_lines g (vertex_at g first)) + n) all-added

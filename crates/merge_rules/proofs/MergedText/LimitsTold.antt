@@ -23,7 +23,7 @@ use Rattle.merge_rules.proofs.OneStepForTwo.MergeHolds.{read_at, is_below}
 use Rattle.merge_rules.proofs.SingleUrgentModels.PlainEdges.{PlainEdge, plain_edge_of, plain_within}
 use Rattle.merge_rules.proofs.OneStepForTwo.EdgesAside.{urgent_edge}
 use Rattle.merge_rules.specs.Growth.{body_lines, bytes_added, bytes_set, bytes_gone}
-use Rattle.merge_rules.proofs.MergedText.GrownTexts.{gone-is, set-is, added-parts, shorter, grown}
+use Rattle.merge_rules.proofs.MergedText.GrownTexts.{gone-is, set-is, added-parts, gone-within-body, shorter, grown, body-grown}
 
 -- ---- the first condition
 
@@ -70,6 +70,13 @@ module _ (g : EventGraph) (first second : ℕ) (none : first_failed (take 7 (mer
   -- of what is added the lines of the target's changes and edges are a part
   pub text_added : bytes_added g first ≡ bytes_set g first + length (body_lines g (vertex_at g second))
   text_added = added-parts g first second leads.edge
+
+  -- so it is with the lines of what the first vertex does
+  pub body_grown : length (body_lines (merged g first second) (vertex_at (merged g first second) first)) + bytes_gone g first ≡ length (body_lines g (vertex_at g first)) + bytes_added g first
+  body_grown = body-grown g first second leads.edge (is_below first (length g.vertices) leads.exists)
+
+  pub gone_within_body : bytes_gone g first ≤ length (body_lines g (vertex_at g first))
+  gone_within_body = gone-within-body g first second leads.edge
 
   pub gone_within : bytes_gone g first ≤ length (canonical g)
   gone_within = let whole = shorter g first second leads.edge (is_below first (length g.vertices) leads.exists) in omega (arith, whole)

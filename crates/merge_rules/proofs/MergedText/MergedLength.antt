@@ -1,5 +1,5 @@
--- How long the canonical text of the result of a merge is.
-use Rattle.std.proofs.Common.{◌≡◌, ℕ, ◌+◌, Bool, List, [], ◌∷◌, ◌++◌, map, length, slice_get, Some, refl, ◌∙◌, ap, subst, arith, length-append}
+-- How long the canonical text of the result of a merge is, and the lines of what its first vertex does.
+use Rattle.std.proofs.Common.{◌≡◌, ℕ, ◌+◌, ◌<◌, ◌≤◌, ◌==◌, Bool, false, List, [], ◌∷◌, ◌++◌, map, length, slice_get, Some, refl, sym, ◌∙◌, ap, subst, arith, length-append}
 use Rattle.std.specs.Prelude.{codes}
 use Rattle.std.specs.List.{flat_map}
 use Rattle.std.proofs.lemmas.Grind.{flat_map-append}
@@ -11,8 +11,9 @@ use Rattle.model_core.specs.Rules.Merge.{set_parameters, merged_with, merged}
 use Rattle.model_core.specs.Rules.UrgentEdges.{plain_urgent}
 use Rattle.model_core.specs.Rules.PlacedEdges.{with_vertex}
 use Rattle.model_core.specs.Rules.Prune.{without_edge, pruned}
-use Rattle.model_core.proofs.PlacesChanged.{shown_placed}
-use Rattle.model_core.proofs.SameNames.{SameNames, map_alike, flat_map_alike, vertex_alike, watched_alike}
+use Rattle.model_core.proofs.PlacesChanged.{shown_placed, placed-there, placed-elsewhere}
+use Rattle.model_core.proofs.SameNames.{SameNames, map_alike, flat_map_alike, change_alike, edge_alike, vertex_alike, watched_alike}
+use Rattle.merge_rules.specs.Growth.{body_lines}
 use Rattle.merge_rules.proofs.OneStepForTwo.EdgesAside.{urgent_edge}
 use Rattle.merge_rules.proofs.OneStepForTwo.TwoInOne.{joined_vertex}
 use Rattle.merge_rules.proofs.OneStepForTwo.PlacedElement.{lengths_placed}
@@ -45,6 +46,10 @@ lines_length g v =
     ap (λ n. n + length closing) (length-append (heading g v.name v.parameters ++ flat_map (change_line g) v.changes) (flat_map (edge_line g) v.edges) ∙
     ap (λ n. n + total (edge_line g) v.edges) (length-append (heading g v.name v.parameters) (flat_map (change_line g) v.changes)))
 
+-- the lines of its changes and edges
+body_length : (g : EventGraph) (v : EventVertex) → length (body_lines g v) ≡ total (change_line g) v.changes + total (edge_line g) v.edges
+body_length g v = length-append (flat_map (change_line g) v.changes) (flat_map (edge_line g) v.edges)
+
 -- ---- a text in which one vertex is changed
 
 module _ (g : EventGraph) (f : EventVertex → EventVertex) (name_kept : (x : EventVertex) → (f x).name ≡ x.name) (first : ℕ) where
@@ -53,6 +58,16 @@ module _ (g : EventGraph) (f : EventVertex → EventVertex) (name_kept : (x : Ev
 
   same_names : SameNames g changed
   same_names = record { variable = λ v. refl; table = λ t. refl; vertex = shown_placed (λ (x : EventVertex). x.name) f [] name_kept first g.vertices }
+
+  -- what vertices do has the lines that it had, but for that vertex
+  body_alike : (v : EventVertex) → body_lines g v ≡ body_lines changed v
+  body_alike v = λ i. flat_map_alike (change_line g) (change_line changed) (change_alike g changed same_names) v.changes i ++ flat_map_alike (edge_line g) (edge_line changed) (edge_alike g changed same_names) v.edges i
+
+  pub body_elsewhere : (k : ℕ) → (k == first) ≡ false → body_lines changed (vertex_at changed k) ≡ body_lines g (vertex_at g k)
+  body_elsewhere k apart = ap (body_lines changed) (placed-elsewhere f first k g.vertices no_vertex apart) ∙ sym (body_alike (vertex_at g k))
+
+  pub body_there : first < length g.vertices → body_lines changed (vertex_at changed first) ≡ body_lines g (f (vertex_at g first))
+  body_there below = ap (body_lines changed) (placed-there f first g.vertices no_vertex below) ∙ sym (body_alike (f (vertex_at g first)))
 
   all_lines : flat_map (vertex_lines g) changed.vertices ≡ flat_map (vertex_lines changed) changed.vertices
   all_lines = flat_map_alike (vertex_lines g) (vertex_lines changed) (vertex_alike g changed same_names) changed.vertices
@@ -102,15 +117,33 @@ module _ (g : EventGraph) (first second : ℕ) (p : PlainEdge (vertex_at g first
   edges_length : total (edge_line g) a.edges ≡ total (edge_line g) p.before + (length (edge_line g at_once) + total (edge_line g) p.after)
   edges_length = ap (total (edge_line g)) p.whole ∙ (total_joined (edge_line g) p.before (at_once ∷ p.after) ∙ ap (λ n. total (edge_line g) p.before + n) (total_more (edge_line g) at_once p.after))
 
-  joined_length : length (vertex_lines g joined) + length (edge_line g at_once) ≡ length (vertex_lines g a) + added
-  joined_length =
-      let whole = lines_length g joined in
-      let old = lines_length g a in
+  joined_body : length (body_lines g joined) + length (edge_line g at_once) ≡ length (body_lines g a) + added
+  joined_body =
+      let whole = body_length g joined in
+      let old = body_length g a in
       let changes = total_joined (change_line g) a.changes (set_parameters b.parameters p.values ++ b.changes) in
       let more = total_joined (change_line g) (set_parameters b.parameters p.values) b.changes in
       let edges = total_joined (edge_line g) (p.before ++ p.after) b.edges in
       let rest = total_joined (edge_line g) p.before p.after in
       omega (arith, whole, old, changes, more, edges, rest, edges_length)
+
+  joined_length : length (vertex_lines g joined) + length (edge_line g at_once) ≡ length (vertex_lines g a) + added
+  joined_length =
+      let whole = lines_length g joined in
+      let old = lines_length g a in
+      let body = body_length g joined in
+      let old_body = body_length g a in
+      omega (arith, whole, old, body, old_body, joined_body)
+
+  -- the lines of what the first vertex does are longer by what is added, and shorter by the plain urgent edge, which was one
+  pub merged_body : first < length g.vertices → length (body_lines result (vertex_at result first)) + length (edge_line g at_once) ≡ length (body_lines g a) + added
+  merged_body below =
+      let there = ap length (body_there g (merged_with b) (name_stays b) first below) in
+      let here = ap (λ v. length (body_lines g v)) (joined_is a b second p) in
+      omega (arith, there, here, joined_body)
+
+  pub edge_within : length (edge_line g at_once) ≤ length (body_lines g a)
+  edge_within = let whole = body_length g a in omega (arith, whole, edges_length)
 
   without_length : length (vertex_lines g (without_edge p.place a)) + length (edge_line g at_once) ≡ length (vertex_lines g a)
   without_length =

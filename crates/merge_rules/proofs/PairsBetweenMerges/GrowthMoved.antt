@@ -28,7 +28,7 @@ module _ (g : EventGraph) (f : ℕ → ℕ) (vertices : List EventVertex) (Live 
   lines-alike [] live = refl
   lines-alike (e ∷ es) live = ap₂ (λ a b. a ++ b) (line-alike e live.0) (lines-alike es live.1)
 
-  pub body-alike : (v : EventVertex) → Leads v → body_lines h (vertex_renumbered f v) ≡ body_lines g v
+  body-alike : (v : EventVertex) → Leads v → body_lines h (vertex_renumbered f v) ≡ body_lines g v
   body-alike v live = ap (λ lines. flat_map (change_line g) v.changes ++ lines) (lines-alike v.edges live)
 
   taken-alike : (e : EventEdge) → vertex_at h (f e.target) ≡ vertex_renumbered f (vertex_at g e.target) → Leads (vertex_at g e.target) → lines_taken_over h (edge_renumbered f e) ≡ lines_taken_over g e

@@ -19,15 +19,15 @@ use Rattle.static_laws.proofs.StaticTwins.DeclaredNames.{every_item}
 use Rattle.run_laws.proofs.MappedVertices.{WatchedTold}
 use Rattle.model_core.specs.Text.Canonical.{vertex_name}
 use Rattle.merge_rules.specs.PairStanding.{target_at_once, acts_unseen, pair_fits}
-use Rattle.merge_rules.specs.Growth.{body_lines, growth, pair_growth}
+use Rattle.merge_rules.specs.Growth.{growth, pair_growth}
 use Rattle.merge_rules.specs.declared.growth.Growth.{Growth}
-use Rattle.merge_rules.specs.KeptPairs.{edges_leading, edges_to, has_incoming, TellsFit, TellsLength, IsPair, ArePairs, no_pair}
+use Rattle.merge_rules.specs.KeptPairs.{edges_leading, edges_to, has_incoming, TellsFit, IsPair, ArePairs, no_pair}
 use Rattle.merge_rules.specs.Inner.PairMoves.{with_fewer, edges_taken, moved_up}
 use Rattle.merge_rules.specs.declared.kept_pairs.KeptPair.{KeptPair}
 use Rattle.merge_rules.proofs.SingleUrgentModels.SingleUrgent.{edges_keep}
 use Rattle.merge_rules.proofs.SingleUrgentModels.PlainEdges.{is_there}
 use Rattle.merge_rules.proofs.PairsBetweenMerges.PairsMoved.{acts-alike, target-alike, fits-moved, still_told}
-use Rattle.merge_rules.proofs.PairsBetweenMerges.GrowthMoved.{body-alike, growth-moved}
+use Rattle.merge_rules.proofs.PairsBetweenMerges.GrowthMoved.{growth-moved}
 use Rattle.merge_rules.proofs.PairsBetweenMerges.LedPlaces.{leads_there, mapped-there, taken-long, taken-at, to-without}
 use Rattle.merge_rules.proofs.PairsBetweenMerges.OneGone.{all_but, staying-but, marked-but, rank-but, old_place, left-but, left-long}
 
@@ -124,9 +124,6 @@ module _ (g : EventGraph) (keeps : KeepsParts g) (gone : ℕ) (there : gone < le
   names-after : (k : ℕ) → Live k → vertex_name h (f k) ≡ vertex_name g k
   names-after k live = name-at h.vertices (f k) ∙ ap (λ (v : EventVertex). v.name) (placed k live) ∙ sym (name-at g.vertices k)
 
-  body-after : (k : ℕ) → Live k → body_lines h (vertex_at h (f k)) ≡ body_lines g (vertex_at g k)
-  body-after k live = ap (body_lines h) (placed k live) ∙ body-alike g f h.vertices Live names-after (vertex_at g k) (targets-live k)
-
   acts-after : (k : ℕ) → Live k → acts_unseen h (vertex_at h (f k)) ≡ acts_unseen g (vertex_at g k)
   acts-after k live = ap (acts_unseen h) (placed k live) ∙ acts-alike g f h.vertices (vertex_at g k)
 
@@ -198,7 +195,6 @@ module _ (g : EventGraph) (keeps : KeepsParts g) (gone : ℕ) (there : gone < le
               ∙ new_target (target_at_once (vertex_at g k)) (λ t is. at-once (λ t. t < n) (vertex_at g k) t (targets-there k) is)
               ∙ sym (target-alike f (vertex_at g k)) ∙ sym (ap target_at_once (placed k live));
           standing = subst (TellsFit p.standing) (sym (pair-growth-after k live below)) was.standing;
-          body = subst (TellsLength p.body) (sym (body-after k live)) was.body;
           unseen = still_told p.unseen g h _ _ (acts-after k live) was.unseen;
           incoming = ap (λ m. m - edges_leading (vertex_at g gone).edges k) was.incoming ∙ sym (edges-counted k live);
         })

@@ -14,9 +14,9 @@ use Rattle.model_core.proofs.PlacesChanged.{length_placed, shown_placed}
 use Rattle.run_laws.proofs.MappedVertices.{WatchedTold}
 use Rattle.model_core.specs.Text.Canonical.{vertex_name}
 use Rattle.merge_rules.specs.PairStanding.{target_at_once, acts_unseen, pair_conditions, pair_fits}
-use Rattle.merge_rules.specs.Growth.{body_lines, growth, pair_growth}
+use Rattle.merge_rules.specs.Growth.{growth, pair_growth}
 use Rattle.merge_rules.specs.declared.growth.Growth.{Growth}
-use Rattle.merge_rules.specs.KeptPairs.{edges_leading, edges_to, TellsFit, TellsLength, IsPair, ArePairs, no_pair}
+use Rattle.merge_rules.specs.KeptPairs.{edges_leading, edges_to, TellsFit, IsPair, ArePairs, no_pair}
 use Rattle.merge_rules.specs.Inner.PairMoves.{with_more, with_fewer, edges_added, asked_again, led_nowhere, pairs_merged}
 use Rattle.merge_rules.specs.declared.kept_pairs.KeptPair.{KeptPair}
 use Rattle.merge_rules.specs.declared.kept_pairs.Standing.TheVariants as standings
@@ -26,7 +26,7 @@ use Rattle.merge_rules.proofs.OneStepForTwo.MergeResult.{joined_is}
 use Rattle.merge_rules.proofs.OneStepForTwo.EdgesAside.{urgent_edge}
 use Rattle.merge_rules.proofs.SingleUrgentModels.OneUrgentLess.{plain_gone}
 use Rattle.merge_rules.proofs.PairsBetweenMerges.PairsMoved.{acts-alike, fits-moved, still_told}
-use Rattle.merge_rules.proofs.PairsBetweenMerges.GrowthMoved.{body-alike, growth-moved}
+use Rattle.merge_rules.proofs.PairsBetweenMerges.GrowthMoved.{growth-moved}
 use Rattle.merge_rules.proofs.MergedText.ValidMerged.{name_stays}
 use Rattle.merge_rules.proofs.PairsBetweenMerges.LedPlaces.{same-numbers, placed-elsewhere, placed-there, mapped-there, added-long, added-at, one_fewer-at, leading-joined, leading-without, to-placed}
 
@@ -92,14 +92,9 @@ module _ (g : EventGraph) (first second : ℕ) (none : first_failed (merge_condi
       (ap (nat_lt k) long) (elsewhere k apart ∙ sym (vertex-same (vertex_at g k)))
       (λ t is. (tt, ap (nat_lt t) long, elsewhere t (target_apart t is) ∙ sym (vertex-same (vertex_at g t))))
 
-  -- what they do has the lines that it had, and the text becomes as much longer
+  -- the text becomes as much longer
   names-stay : (k : ℕ) → Unit {0} → vertex_name h k ≡ vertex_name g k
   names-stay k live = sym (shown_placed (λ (v : EventVertex). v.name) (merged_with b) [] (name_stays b) first g.vertices k)
-
-  pub body-elsewhere : (k : ℕ) → (k == first) ≡ false → body_lines h (vertex_at h k) ≡ body_lines g (vertex_at g k)
-  body-elsewhere k apart =
-      ap (body_lines h) (elsewhere k apart ∙ sym (vertex-same (vertex_at g k)))
-      ∙ body-alike g (λ k. k) h.vertices (λ k. Unit {0}) names-stay (vertex_at g k) (all-live (vertex_at g k).edges)
 
   acts-elsewhere : (k : ℕ) → (k == first) ≡ false → acts_unseen h (vertex_at h k) ≡ acts_unseen g (vertex_at g k)
   acts-elsewhere k apart =
@@ -169,7 +164,6 @@ module _ (g : EventGraph) (first second : ℕ) (none : first_failed (merge_condi
         subst (IsPair h k) (sym (placed-elsewhere led_nowhere first k (map (asked_again first) counted) no_pair apart ∙ asked-at k within)) (record {
           target = was.target ∙ sym (ap target_at_once (elsewhere k apart));
           standing = still-tells k apart (with_fewer (cond (second == k) 1 0) (with_more (edges_leading b.edges k) p)) was.target was.standing;
-          body = subst (TellsLength p.body) (sym (body-elsewhere k apart)) was.body;
           unseen = still_told p.unseen g h _ _ (acts-elsewhere k apart) was.unseen;
           incoming = ap (λ n. n + edges_leading b.edges k - cond (second == k) 1 0) was.incoming ∙ sym (edges-counted k);
         })
@@ -184,7 +178,6 @@ module _ (g : EventGraph) (first second : ℕ) (none : first_failed (merge_condi
         (record {
           target = sym leads;
           standing = ap (λ (o : Option ℕ). cond (option_map_or (λ second. is_none (first_failed (pair_conditions h first second))) o false) (Some (growth h first)) None) leads;
-          body = tt;
           unseen = tt;
           incoming = ap (λ n. n + edges_leading b.edges first - cond (second == first) 1 0) was.incoming ∙ sym (edges-counted first);
         })

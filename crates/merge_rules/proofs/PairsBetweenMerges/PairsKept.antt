@@ -10,7 +10,7 @@ use Rattle.model_core.specs.Rules.PlacedEdges.{with_place}
 use Rattle.model_core.proofs.Images.{at-map}
 use Rattle.model_core.proofs.PlacesChanged.{set-with_place, length_placed}
 use Rattle.merge_rules.specs.PairStanding.{acts_unseen}
-use Rattle.merge_rules.specs.Growth.{body_lines, capped, pair_growth}
+use Rattle.merge_rules.specs.Growth.{pair_growth}
 use Rattle.merge_rules.specs.KeptPairs.{edges_to, has_incoming, TellsFit, IsPair, ArePairs, no_pair}
 use Rattle.merge_rules.specs.Inner.PairMoves.{unasked, with_more, all_edges_added}
 use Rattle.merge_rules.specs.declared.kept_pairs.KeptPair.{KeptPair}
@@ -25,7 +25,7 @@ are-unasked g = record {
   each = λ k below.
       subst (IsPair g k)
       (sym (all_added-at g.vertices (map unasked g.vertices) k (omega (arith, below, length-map g.vertices unasked)) ∙ ap (with_more (edges_to g.vertices k)) (at-map unasked g.vertices k no_vertex)))
-      (let p : IsPair g k (with_more (edges_to g.vertices k) (unasked (vertex_at g k))) = record { target = refl; standing = tt; body = tt; unseen = tt; incoming = omega arith } in p);
+      (let p : IsPair g k (with_more (edges_to g.vertices k) (unasked (vertex_at g k))) = record { target = refl; standing = tt; unseen = tt; incoming = omega arith } in p);
 }
 
 -- ---- one of them
@@ -55,15 +55,12 @@ module _ (g : EventGraph) (pairs : List KeptPair) (are : ArePairs g pairs) (k : 
     still-are : ArePairs g (slice_set pairs k y)
     still-are = subst (ArePairs g) (sym (set-with_place (λ p. y) pairs k x y within at refl)) (record { long = length_placed (λ p. y) k pairs ∙ are.long; each = each })
 
-  -- its standing is known now, or the length of what the vertex does, or whether it acts unseen
+  -- its standing is known now, or whether it acts unseen
   pub are-asked : (s : Standing) → TellsFit s (pair_growth g k) → ArePairs g (slice_set pairs k (let y : KeptPair = record x { standing = s } in y))
-  are-asked s tells = let was = pair-at in still-are (record x { standing = s }) (record { target = was.target; standing = tells; body = was.body; unseen = was.unseen; incoming = was.incoming })
-
-  pub are-measured : (bytes : ℕ) → bytes ≡ capped (length (body_lines g (vertex_at g k))) → ArePairs g (slice_set pairs k (let y : KeptPair = record x { body = Some bytes } in y))
-  are-measured bytes is = let was = pair-at in still-are (record x { body = Some bytes }) (record { target = was.target; standing = was.standing; body = is; unseen = was.unseen; incoming = was.incoming })
+  are-asked s tells = let was = pair-at in still-are (record x { standing = s }) (record { target = was.target; standing = tells; unseen = was.unseen; incoming = was.incoming })
 
   pub are-seen : (unseen : Bool) → unseen ≡ acts_unseen g (vertex_at g k) → ArePairs g (slice_set pairs k (let y : KeptPair = record x { unseen = Some unseen } in y))
-  are-seen unseen is = let was = pair-at in still-are (record x { unseen = Some unseen }) (record { target = was.target; standing = was.standing; body = was.body; unseen = is; incoming = was.incoming })
+  are-seen unseen is = let was = pair-at in still-are (record x { unseen = Some unseen }) (record { target = was.target; standing = was.standing; unseen = is; incoming = was.incoming })
 
   -- whether an edge leads there
   pub led-told : nat_lt 0 x.incoming ≡ has_incoming g k

@@ -10,7 +10,7 @@ use Rattle.merge_rules.specs.declared.kept_pairs.Standing.TheVariants as standin
 
 -- of a vertex nothing is known but where its plain urgent edge leads
 abbrev pub unasked : EventVertex → KeptPair
-unasked v = record { target = target_at_once v; standing = standings.Unknown; body = None; unseen = None; incoming = 0 }
+unasked v = record { target = target_at_once v; standing = standings.Unknown; unseen = None; incoming = 0 }
 
 -- so many more edges lead to it
 abbrev pub with_more : ℕ → KeptPair → KeptPair
@@ -45,7 +45,7 @@ asked_again first p = record p { standing = cond (leads_at_once first p) standin
 
 -- the plain urgent edge is gone, and the vertex does something else
 abbrev pub led_nowhere : KeptPair → KeptPair
-led_nowhere p = record { target = None; standing = standings.Refused; body = None; unseen = None; incoming = p.incoming }
+led_nowhere p = record { target = None; standing = standings.Refused; unseen = None; incoming = p.incoming }
 
 -- the vertex at one place takes over what that at another, which has these edges, does
 abbrev pub pairs_merged : ℕ → ℕ → List EventEdge → List KeptPair → List KeptPair

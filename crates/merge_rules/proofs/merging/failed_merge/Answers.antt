@@ -10,4 +10,4 @@ returns-else-is_within_limits-clause-failed t c =
     let g = graph_of c.args.model.now in
     last_fails (take 7 (merge_conditions g c.args.first c.args.second)) (is_within_limits (merged g c.args.first c.args.second) c.args.first)
     (sym c.failed_before_limits.ensures.failed ∙ c.in_default.is)
-    (sym c.is_within_limits.ensures ∙ c.if-is_within_limits.false)
+    (sym c.is_within_limits.ensures.is ∙ c.if-is_within_limits.false)

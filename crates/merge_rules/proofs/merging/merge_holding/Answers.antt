@@ -1,13 +1,15 @@
 -- The result's text is within its limit, so its length was counted to the end.
-use Rattle.std.proofs.Common.{◌∙◌, ◌-◌, ◌^◌, ℕ, true, Some, refl, sym, ap, length, arith}
+use Rattle.std.proofs.Common.{◌∙◌, ◌-◌, ◌^◌, Some, refl, sym, ap, subst, length, arith}
 use Rattle.model_core.specs.EventGraph.{EventGraph}
 use Rattle.model_core.specs.Text.Canonical.{canonical}
 use Rattle.model_core.specs.Code.Views.{graph_of}
-use Rattle.model_core.specs.Rules.Merge.{merge_conditions}
+use Rattle.model_core.specs.Rules.Merge.{merge_conditions, merged}
 use Rattle.merge_rules.proofs.MergedText.LimitsTold.{first_among, second_among, urgent_there, urgent_at}
 use Rattle.model_core.specs.Rules.UrgentEdges.{single_urgent}
 use Rattle.merge_rules.proofs.SingleUrgentModels.SingleKept.{merged_single}
 use Rattle.merge_rules.proofs.ConditionsAsked.PairsFound.{front_holds, counted_whole}
+use Rattle.merge_rules.specs.Known.{AreBodies}
+use Rattle.merge_rules.proofs.BodiesKept.{are-joined}
 use Rattle.merge_rules.proofs.merging.merge_holding.Goals as goal
 
 -- ---- the places and the edge, as the code reads them
@@ -50,11 +52,17 @@ returns-clause-known c =
           counted_whole (graph_of c.args.model.now) c.args.vertex c.args.target (2 ^ 64 - 1) c.merged_length-bytes.result holds (omega arith) c.merged_length-bytes.ensures
           ∙ ap (λ (g : EventGraph). length (canonical g)) (sym c.in_ok-put_together.ensures.done);
       single = sym (ap single_urgent c.in_ok-put_together.ensures.done ∙ merged_single (graph_of c.args.model.now) c.args.vertex c.args.target holds);
+      bodies =
+          subst (λ (g : EventGraph). AreBodies g c.put.new.self) (sym c.in_ok-put_together.ensures.done)
+          (subst (AreBodies (merged (graph_of c.args.model.now) c.args.vertex c.args.target)) (sym c.put.ensures)
+          (are-joined (graph_of c.args.model.now) c.args.vertex c.args.target c.find_merged_body-merged_body.result c.find_merged_body-merged_body.new.self.bodies
+          c.find_merged_body-merged_body.ensures.is c.find_merged_body-merged_body.ensures.known.bodies));
     }
 
 pub returns-clause-told : goal.returns-clause-told
-returns-clause-told c =
-    let holds = c.requires.holds in
-    ap (λ (n : ℕ). record { bytes = Some n; single = Some true })
-    (counted_whole (graph_of c.args.model.now) c.args.vertex c.args.target (2 ^ 64 - 1) c.merged_length-bytes.result holds (omega arith) c.merged_length-bytes.ensures
-    ∙ ap (λ (g : EventGraph). length (canonical g)) (sym c.in_ok-put_together.ensures.done))
+returns-clause-told c = (
+  ap Some
+      (counted_whole (graph_of c.args.model.now) c.args.vertex c.args.target (2 ^ 64 - 1) c.merged_length-bytes.result c.requires.holds (omega arith) c.merged_length-bytes.ensures
+      ∙ ap (λ (g : EventGraph). length (canonical g)) (sym c.in_ok-put_together.ensures.done)),
+  refl,
+)

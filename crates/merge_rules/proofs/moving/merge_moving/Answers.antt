@@ -41,5 +41,5 @@ put_together_moving-requires-clause-at c =
 pub returns-clause-known : goal.returns-clause-known
 returns-clause-known c =
     on_ok_weaker c.put_together_moving.result
-    (λ done. subst (λ (h : EventGraph). IsKnown h c.known_behind.result) (sym done) c.known_behind.ensures)
+    (λ done. subst (λ (h : EventGraph). IsKnown h c.know_behind.new.known) (sym done) c.know_behind.ensures)
     c.put_together_moving.ensures

@@ -1,13 +1,12 @@
--- A model that is known to be single urgent stays so.
-use Rattle.std.proofs.Common.{◌∙◌, Some, sym, subst}
-use Rattle.merge_rules.specs.Known.{TellsSingle}
-use Rattle.merge_rules.proofs.SingleUrgentModels.SingleKept.{dropped_single}
+-- Of single vertices nothing is known.
+use Rattle.std.proofs.Common.{sym, subst}
+use Rattle.model_core.specs.Rules.Drop.{dropped}
+use Rattle.merge_rules.specs.Known.{AreBodies}
 use Rattle.merge_rules.proofs.known.Known.behind_drop.Goals as goal
 
-pub returns-in-Some : goal.returns-in-Some
-returns-in-Some c = λ g vertices is.
-    let told : TellsSingle g (Some c.in-Some.single) = subst (TellsSingle g) c.in-Some.is is.single in
-    record { measured = tt; single = c.if-single.true ∙ sym (dropped_single g vertices (sym told ∙ c.if-single.true)) }
-
-pub returns-in_default : goal.returns-in_default
-returns-in_default c = λ g vertices is. c.nothing.ensures _
+pub returns : goal.returns
+returns c = λ g vertices is. record {
+  measured = tt;
+  single = c.single_behind_drop-self.ensures g vertices is;
+  bodies = subst (AreBodies (dropped g vertices)) (sym c.forget.ensures) (λ k. tt);
+}

@@ -1,0 +1,63 @@
+-- How many bytes the lines of what each vertex does have stays right where one number is counted, and through a merge.
+use Rattle.std.proofs.Common.{◌≡◌, ℕ, zero, suc, ◌+◌, ◌-◌, ◌≤◌, ◌==◌, Bool, true, false, List, [], ◌∷◌, min, slice_index_or, Option, None, refl, sym, subst, arith}
+use Rattle.model_core.specs.EventGraph.{EventGraph}
+use Rattle.model_core.specs.Run.Step.{vertex_at}
+use Rattle.model_core.specs.Rules.PlacedEdges.{with_place}
+use Rattle.model_core.specs.Rules.Merge.{merged_with, merged}
+use Rattle.model_core.proofs.PlacesChanged.{placed-elsewhere}
+use Rattle.merge_rules.specs.Growth.{body_lines}
+use Rattle.merge_rules.specs.Hollowed.{hollow, hollowed}
+use Rattle.merge_rules.specs.Known.{TellsLength, AreBodies}
+use Rattle.merge_rules.proofs.PairsBetweenMerges.LedPlaces.{same-numbers}
+use Rattle.merge_rules.proofs.MergedText.ValidMerged.{name_stays}
+use Rattle.merge_rules.proofs.MergedText.MergedLength.{body_elsewhere}
+
+-- the numbers of more places are none
+pub are-alike : (g : EventGraph) (old new : List (Option ℕ)) → ((k : ℕ) → slice_index_or new k None ≡ slice_index_or old k None) → AreBodies g old → AreBodies g new
+are-alike g old new same are k = subst (λ (n : Option ℕ). TellsLength n (body_lines g (vertex_at g k))) (sym (same k)) (are k)
+
+-- ---- one number changes
+
+put-there : (n : Option ℕ) (k : ℕ) (bodies : List (Option ℕ)) (lines : List ℕ) → TellsLength n lines → TellsLength (slice_index_or (with_place (λ m. n) k bodies) k None) lines
+put-there n k [] lines tells = tt
+put-there n zero (b ∷ bodies) lines tells = tells
+put-there n (suc k) (b ∷ bodies) lines tells = put-there n k bodies lines tells
+
+-- it is right of another graph, in which the other vertices have the lines that they had
+pub are-put : (g h : EventGraph) (place : ℕ) (n : Option ℕ) (bodies : List (Option ℕ)) → ((k : ℕ) → (k == place) ≡ false → body_lines h (vertex_at h k) ≡ body_lines g (vertex_at g k))
+    → TellsLength n (body_lines h (vertex_at h place)) → AreBodies g bodies → AreBodies h (with_place (λ m. n) place bodies)
+are-put g h place n bodies same tells are k = by (k == place) refl where
+  by : (c : Bool) → (k == place) ≡ c → TellsLength (slice_index_or (with_place (λ m. n) place bodies) k None) (body_lines h (vertex_at h k))
+  by true is =
+      subst (λ j. TellsLength (slice_index_or (with_place (λ m. n) place bodies) j None) (body_lines h (vertex_at h j))) (sym (same-numbers k place is))
+      (put-there n place bodies (body_lines h (vertex_at h place)) tells)
+  by false apart =
+      subst (λ (m : Option ℕ). TellsLength m (body_lines h (vertex_at h k))) (sym (placed-elsewhere (λ m. n) place k bodies None apart))
+      (subst (TellsLength (slice_index_or bodies k None)) (sym (same k apart)) (are k))
+
+pub are-counted : (g : EventGraph) (place : ℕ) (n : Option ℕ) (bodies : List (Option ℕ)) → TellsLength n (body_lines g (vertex_at g place)) → AreBodies g bodies → AreBodies g (with_place (λ m. n) place bodies)
+are-counted g place n bodies = are-put g g place n bodies (λ k apart. refl)
+
+-- ---- a merge
+
+pub are-joined : (g : EventGraph) (first second : ℕ) (n : Option ℕ) (bodies : List (Option ℕ)) → TellsLength n (body_lines (merged g first second) (vertex_at (merged g first second) first))
+    → AreBodies g bodies → AreBodies (merged g first second) (with_place (λ m. n) first bodies)
+are-joined g first second n bodies =
+    let b = vertex_at g second in
+    are-put g (merged g first second) first n bodies (body_elsewhere g (merged_with b) (name_stays b) first)
+
+pub are-hollowed : (g : EventGraph) (second : ℕ) (bodies : List (Option ℕ)) → AreBodies g bodies → AreBodies (hollowed g second) (with_place (λ m. None) second bodies)
+are-hollowed g second bodies = are-put g (hollowed g second) second None bodies (body_elsewhere g hollow (λ v. refl) second) tt
+
+-- ---- numbers that stop at the greatest one
+
+-- a part is taken off
+pub taken_from : (top body gone seen gone_seen : ℕ) → gone ≤ body → seen ≡ min body top → gone_seen ≡ min gone top → gone_seen ≤ seen
+taken_from top body gone seen gone_seen within seen_is gone_is = omega (arith, within, seen_is, gone_is)
+
+-- and something is added, where the whole didn't stop there
+pub body_sum : (top body gone added whole seen gone_seen added_seen : ℕ) → whole + gone ≡ body + added → gone ≤ body → seen ≡ min body top → (seen ≡ top → ⊥) → gone_seen ≡ min gone top → added_seen ≡ min added top
+    → min (seen - gone_seen + added_seen) top ≡ min whole top
+body_sum top body gone added whole seen gone_seen added_seen is within seen_is short gone_is added_is =
+    let exact : seen ≡ body = omega (arith, seen_is, short) in
+    omega (arith, is, within, exact, seen_is, gone_is, added_is)
