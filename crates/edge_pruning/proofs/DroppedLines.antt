@@ -56,7 +56,7 @@ filter-next p (k ∷ ks) = kept-next (p (suc k)) (suc k) (map suc ks) (filter p 
     kept-next false n all later before k e = e
 
 -- the places of those that aren't marked behind the first one
-unmarked-next : (b : Bool) (bs : List Bool) → unmarked_places (b ∷ bs) ≡ cond (not b) (0 ∷ map suc (unmarked_places bs)) (map suc (unmarked_places bs))
+pub unmarked-next : (b : Bool) (bs : List Bool) → unmarked_places (b ∷ bs) ≡ cond (not b) (0 ∷ map suc (unmarked_places bs)) (map suc (unmarked_places bs))
 unmarked-next b bs = ap (λ ks. cond (not b) (0 ∷ ks) ks) (ap (filter (λ k. not (is_marked (b ∷ bs) k))) (next_ones 0 (length bs)) ∙ filter-next (λ k. not (is_marked (b ∷ bs) k)) (range_with_len 0 (length bs)))
 
 -- the texts of the elements at these places are those of the elements that aren't marked
@@ -122,10 +122,13 @@ module _ (g : EventGraph) (marks : List Bool) (hold : HoldReached g marks) (long
       let among_there : Among e (vertex_at g k).edges = subst (λ (v : EventVertex). Among e v.edges) (sym same) among in
       ap (λ (name : List ℕ). edge_word e.kind ++ name ++ in_parentheses (expression_texts g e.values) ++ timing_text g e.kind ++ condition_text g e.condition ++ codes ";\n") (name_same e.target (hold.leads k marked e among_there))
 
+  pub edges_same : (v : EventVertex) → Among v kept → flat_map (edge_line h) (map (edge_renumbered f) v.edges) ≡ flat_map (edge_line g) v.edges
+  edges_same v there = flat_map-map (edge_renumbered f) (edge_line h) v.edges ∙ flat_map-alike (λ e. edge_line h (edge_renumbered f e)) (edge_line g) v.edges (edge_same v there)
+
   lines_same : (v : EventVertex) → Among v kept → vertex_lines h (vertex_renumbered f v) ≡ vertex_lines g v
   lines_same v there =
       ap (λ (lines : List ℕ). codes "vertex " ++ v.name ++ in_parentheses (map (variable_name g) v.parameters) ++ codes " {\n" ++ flat_map (change_line g) v.changes ++ lines ++ codes "}\n")
-      (flat_map-map (edge_renumbered f) (edge_line h) v.edges ∙ flat_map-alike (λ e. edge_line h (edge_renumbered f e)) (edge_line g) v.edges (edge_same v there))
+      (edges_same v there)
 
   watched_same : (w : Watched) → Among w g.watch → watched_name h (watched_renumbered f w) ≡ watched_name g w
   watched_same (WatchedVariable v) there = refl

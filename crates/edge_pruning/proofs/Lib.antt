@@ -1,4 +1,5 @@
 pub mod DroppedLines
+pub mod LinesLeft
 pub mod ListsChanged
 pub mod Shorter
 pub mod SameRuns

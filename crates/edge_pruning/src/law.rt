@@ -1,12 +1,12 @@
 //! The laws of prune, settle and drop. The functions do nothing: what they ensure holds of all models.
 
-ghost use Rattle.std.specs.Prelude.{◌≡◌, ◌↔◌, ℕ, ◌+◌, ◌<◌, true, false, None, List, [], ◌∷◌, length};
-ghost use Rattle.std.specs.List.{flat_map, list_any};
+ghost use Rattle.std.specs.Prelude.{◌≡◌, ◌↔◌, ℕ, ◌+◌, ◌<◌, true, false, None, List, [], ◌∷◌, ◌++◌, length, slice_index_or};
+ghost use Rattle.std.specs.List.{flat_map, list_any, remove};
 ghost use Rattle.model_core.specs.EventGraph.{EventGraph, EventVertex};
-ghost use Rattle.model_core.specs.Run.Step.{vertex_at};
+ghost use Rattle.model_core.specs.Run.Step.{no_vertex, vertex_at};
 ghost use Rattle.model_core.specs.Run.Same.{Same};
 ghost use Rattle.model_core.specs.Static.Reading.{IsValid};
-ghost use Rattle.model_core.specs.Text.Canonical.{canonical, vertex_lines};
+ghost use Rattle.model_core.specs.Text.Canonical.{canonical, change_line, edge_line, vertex_lines};
 ghost use Rattle.model_core.specs.Text.VersionNeeded.{needs_version_two};
 ghost use Rattle.model_core.specs.Rules.Conditions.{first_failed};
 ghost use Rattle.model_core.specs.Rules.Prune.{prune_conditions, pruned, first_prune};
@@ -68,6 +68,15 @@ pub fn dropping_takes_lines()
     ensures { (g : EventGraph) (vertices : List ℕ) → first_failed (drop_conditions g vertices) ≡ None
         → needs_version_two g ≡ false
         → length (canonical (dropped g vertices)) + length (flat_map (λ k. vertex_lines g (vertex_at g k)) vertices) ≡ length (canonical g) }
+{}
+
+/// A drop of one vertex alone leaves the others the lines of their changes and edges. Those behind it move up.
+pub fn dropping_one_leaves_lines()
+    ensures { (g : EventGraph) (gone k : ℕ) → first_failed (drop_conditions g (gone ∷ [])) ≡ None
+        → let h = dropped g (gone ∷ []) in
+        let was = slice_index_or (remove g.vertices gone) k no_vertex in
+        flat_map (change_line h) (vertex_at h k).changes ++ flat_map (edge_line h) (vertex_at h k).edges
+        ≡ flat_map (change_line g) was.changes ++ flat_map (edge_line g) was.edges }
 {}
 
 /// A drop of one vertex alone takes no notice of what stands in that vertex: whatever is put in its place, the conditions and

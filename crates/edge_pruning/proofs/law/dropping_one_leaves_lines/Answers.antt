@@ -1,0 +1,5 @@
+use Rattle.edge_pruning.proofs.LinesLeft.{lines-left}
+use Rattle.edge_pruning.proofs.law.dropping_one_leaves_lines.Goals as goal
+
+pub returns : goal.returns
+returns c = lines-left
