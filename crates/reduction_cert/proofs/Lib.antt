@@ -7,4 +7,5 @@ mod OneMore
 pub mod FewerVariables
 pub mod ToldByRules
 pub mod LengthLeft
+pub mod BodiesLeft
 pub mod MovedMerges

@@ -15,7 +15,7 @@ ghost use Rattle.reduction_cert.specs.Inner.MovedMerges.{MadeFor, GivenAway};
 use crate::by_name::{all_named, edge_named, two_vertices_named};
 use crate::chain_law::applications_add_no_variables;
 use crate::looking_ahead::drops_alone;
-use crate::without_vertices::known_without;
+use crate::without_vertices::know_without;
 use edge_pruning::{drop_vertices, dropping_takes_no_notice_of_the_vertex, prune, settle};
 use merge_rules::{Known, merge_measured, merge_measured_moving};
 use model_core::{Application, Model, copy_model, same_model, was_made};
@@ -82,7 +82,7 @@ fn apply_all(
     applications_add_no_variables();
     let mut vertices = Places::of_vertices(alloc, model.vertices.as_slice())?;
     let mut counts = UseCounts::begin(alloc, model)?;
-    let mut known = Known::nothing();
+    let mut known = Known::begin(alloc);
     for (place, application) in applications.iter().enumerate() {
         if !apply_before(
             alloc,
@@ -182,11 +182,11 @@ fn apply(
 {
     match application {
         Application::Prune { vertex, edge } => {
-            *known = Known::nothing();
+            *known = Known::begin(alloc);
             Ok(apply_prune(model, vertices, vertex, *edge))
         }
         Application::Settle { vertex, edge } => {
-            *known = Known::nothing();
+            *known = Known::begin(alloc);
             Ok(apply_settle(model, vertices, vertex, *edge))
         }
         Application::Drop { vertices: names } => {
@@ -196,7 +196,7 @@ fn apply(
             apply_merge(alloc, model, known, counts, vertices, vertex, target)
         }
         Application::Slice { vars } => {
-            *known = Known::nothing();
+            *known = Known::begin(alloc);
             apply_slice(alloc, model, vars.as_slice())
         }
     }
@@ -240,11 +240,11 @@ fn apply_drop(
     let Some(dropped) = all_named(alloc, vertices, names)? else {
         return Ok(false);
     };
-    let behind = known_without(model, *known, dropped.as_slice());
+    know_without(model, known, dropped.as_slice());
     if !was_made(drop_vertices(alloc, model, &dropped))? {
+        *known = Known::nothing();
         return Ok(false);
     }
-    *known = behind;
     Ok(true)
 }
 

@@ -1,18 +1,19 @@
 //! What is known of a model without vertices that are dropped: that it is single urgent, and how long its text is, where both were
-//! known of it with them.
+//! known of it with them; and, where one vertex alone is dropped, how long the lines of what the others do are.
 
 ghost use Rattle.std.specs.Prelude.{◌≡◌, None, length, map};
 ghost use Rattle.std.specs.List.{flat_map};
 ghost use Rattle.std.specs.Option.{IfSome};
+ghost use Rattle.model_core.specs.EventGraph.{EventGraph};
 ghost use Rattle.model_core.specs.Run.Step.{vertex_at};
 ghost use Rattle.model_core.specs.Text.Canonical.{vertex_lines};
 ghost use Rattle.model_core.specs.Rules.Conditions.{first_failed};
 ghost use Rattle.model_core.specs.Rules.Drop.{drop_conditions, dropped};
 ghost use Rattle.model_core.specs.Code.Views.{graph_of};
-ghost use Rattle.merge_rules.specs.Known.{IsMeasured, IsKnown};
+ghost use Rattle.merge_rules.specs.Known.{IsMeasured, AreBodies, IsKnown};
 
-use edge_pruning::dropping_takes_lines;
-use merge_rules::Known;
+use edge_pruning::{dropping_one_leaves_lines, dropping_takes_lines};
+use merge_rules::{Bodies, Known};
 use model_core::{Model, needs_version_two};
 use model_print::vertex_length;
 
@@ -46,13 +47,24 @@ fn bytes_without(model: &Model, bytes: Option<u64>, vertices: &[usize]) -> Optio
     bytes.checked_sub(lines_length(model, vertices)?)
 }
 
-/// What is known of a model behind a drop of these vertices, told before it.
-pub fn known_without(model: &Model, known: Known, vertices: &[usize]) -> Known
-    requires known { IsKnown (graph_of model.now) known }
-    ensures { first_failed (drop_conditions (graph_of model.now) vertices.now) ≡ None → IsKnown (dropped (graph_of model.now) vertices.now) result }
+/// Makes what is known of the lines of what vertices do what is known of them behind a drop of these.
+fn keep_bodies_without(bodies: &mut Bodies, vertices: &[usize])
+    ensures { (g : EventGraph) → AreBodies g bodies.old → first_failed (drop_conditions g vertices.now) ≡ None → AreBodies (dropped g vertices.now) bodies.new }
 {
-    Known {
-        bytes: bytes_without(model, known.bytes, vertices),
-        single: known.behind_drop().single,
+    dropping_one_leaves_lines();
+    if vertices.len() == 1 {
+        bodies.take_away(vertices[0]);
+    } else {
+        bodies.forget();
     }
+}
+
+/// Makes what is known of a model what is known of it behind a drop of these vertices, told before it.
+pub fn know_without(model: &Model, known: &mut Known, vertices: &[usize])
+    requires known { IsKnown (graph_of model.now) known.old }
+    ensures { first_failed (drop_conditions (graph_of model.now) vertices.now) ≡ None → IsKnown (dropped (graph_of model.now) vertices.now) known.new }
+{
+    known.single = known.single_behind_drop();
+    known.bytes = bytes_without(model, known.bytes, vertices);
+    keep_bodies_without(&mut known.bodies, vertices);
 }

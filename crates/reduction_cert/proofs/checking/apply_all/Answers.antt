@@ -54,7 +54,7 @@ returns-clause-reached c = λ _.
 pub loop-place-init : goal.loop-place-init
 loop-place-init c = record {
   listed = search rules;
-  known = c.nothing-known.ensures (graph_of c.args.model.now);
+  known = c.begin-known.ensures (graph_of c.args.model.now);
   counts = counts_begin _ _ c.in_ok-counts.ensures;
   bad = first_of (search rules, grind (arith, common_steps));
   reached = search rules;

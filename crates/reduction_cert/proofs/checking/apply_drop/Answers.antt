@@ -26,5 +26,9 @@ returns-clause-known c =
     let made = c.was_made.ensures.made (c.in_ok-was_made.was ∙ ap Ok c.if-not-branch.false) in
     let holds = told_holds (dropped g vs) (graph_of c.drop_vertices.new.model) (first_failed (drop_conditions g vs)) c.drop_vertices.result c.drop_vertices.ensures.done c.drop_vertices.ensures.refused made in
     let is = told_result (dropped g vs) (graph_of c.drop_vertices.new.model) (first_failed (drop_conditions g vs)) c.drop_vertices.result c.drop_vertices.ensures.done c.drop_vertices.ensures.refused made in
-    let known : IsKnown (dropped g vs) c.known_without-behind.result = subst (λ (vs : List ℕ). first_failed (drop_conditions g vs) ≡ None → IsKnown (dropped g vs) c.known_without-behind.result) c.as_slice.ensures c.known_without-behind.ensures holds in
-    subst (λ (h : EventGraph). IsKnown h c.known_without-behind.result) (sym is) known
+    let known : IsKnown (dropped g vs) c.know_without.new.known = subst (λ (vs : List ℕ). first_failed (drop_conditions g vs) ≡ None → IsKnown (dropped g vs) c.know_without.new.known) c.as_slice.ensures c.know_without.ensures holds in
+    subst (λ (h : EventGraph). IsKnown h c.know_without.new.known) (sym is) known
+
+-- nothing is known of a model that wasn't to be dropped from
+pub returns-then-not-branch-clause-known : goal.returns-then-not-branch-clause-known
+returns-then-not-branch-clause-known c = c.nothing.ensures _

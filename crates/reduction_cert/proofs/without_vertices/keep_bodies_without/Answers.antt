@@ -1,0 +1,24 @@
+-- One vertex alone is gone, or nothing is known of the others.
+use Rattle.std.proofs.Common.{◌≡◌, ℕ, [], ◌∷◌, List, get_or, slice_index_or, None, sym, subst}
+use Rattle.std.specs.List.{remove}
+use Rattle.model_core.specs.Run.Step.{no_vertex, vertex_at}
+use Rattle.model_core.specs.Rules.Conditions.{first_failed}
+use Rattle.model_core.specs.Rules.Drop.{drop_conditions, dropped}
+use Rattle.merge_rules.specs.Growth.{body_lines}
+use Rattle.merge_rules.specs.Known.{AreBodies}
+use Rattle.reduction_cert.proofs.BodiesLeft.{only, bodies-left}
+use Rattle.reduction_cert.proofs.without_vertices.keep_bodies_without.Goals as goal
+
+pub returns-then-vertices-eq1 : goal.returns-then-vertices-eq1
+returns-then-vertices-eq1 c = λ g are holds.
+    let vs = c.args.vertices.now in
+    let gone = get_or vs 0 0 in
+    let one : vs ≡ gone ∷ [] = only vs c.if-vertices-eq1.true in
+    subst (AreBodies (dropped g vs)) (sym c.take_away.ensures)
+    (bodies-left g (dropped g vs) gone c.args.bodies.now
+    (λ k. subst (λ (ks : List ℕ). body_lines (dropped g ks) (vertex_at (dropped g ks) k) ≡ body_lines g (slice_index_or (remove g.vertices gone) k no_vertex)) (sym one)
+    (c.dropping_one_leaves_lines.ensures g gone k (subst (λ (ks : List ℕ). first_failed (drop_conditions g ks) ≡ None) one holds)))
+    are)
+
+pub returns-else-vertices-eq1 : goal.returns-else-vertices-eq1
+returns-else-vertices-eq1 c = λ g are holds. subst (AreBodies (dropped g c.args.vertices.now)) (sym c.forget.ensures) (λ k. tt)

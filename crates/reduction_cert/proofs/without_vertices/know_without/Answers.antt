@@ -1,0 +1,9 @@
+use Rattle.model_core.specs.Code.Views.{graph_of}
+use Rattle.reduction_cert.proofs.without_vertices.know_without.Goals as goal
+
+pub returns : goal.returns
+returns c = λ holds. record {
+  measured = c.bytes_without-known.ensures holds;
+  single = c.single_behind_drop-known.ensures (graph_of c.args.model.now) c.args.vertices.now c.requires.known;
+  bodies = c.keep_bodies_without.ensures (graph_of c.args.model.now) c.requires.known.bodies holds;
+}
