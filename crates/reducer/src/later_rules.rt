@@ -26,7 +26,7 @@ use merge_rules::{
     merging_keeps_the_meaning, merging_takes_an_urgent_edge,
 };
 use model_core::{Application, Model, was_made};
-use reduction_cert::{chains_keep_the_meaning, known_without};
+use reduction_cert::{chains_keep_the_meaning, know_without};
 use sig_base::{List, NoMemory};
 use std::alloc::Global;
 use var_slicing::{slice, slicing_leaves_the_rules_of_edges, unneeded};
@@ -131,7 +131,7 @@ impl Underway {
             return Ok(false);
         }
         self.drop_these(alloc, &vertices)?;
-        self.progress.known = self.progress.known.behind_drop();
+        self.progress.known.behind_drop();
         self.progress.pairs = KeptPairs::begin(alloc, &self.model)?;
         Ok(true)
     }
@@ -214,7 +214,7 @@ impl Underway {
         progress.pairs.tell_drop_behind(&self.model, first, second);
         merge_moving(alloc, &mut self.model, &mut progress.known, first, second)?;
         note_drop(alloc, &self.model, &mut self.applications, &gone)?;
-        progress.known = known_without(&self.model, progress.known, gone.as_slice());
+        know_without(&self.model, &mut progress.known, gone.as_slice());
         progress.all_reached = true;
         drop_unreached(alloc, &mut self.model, &gone)
     }

@@ -33,7 +33,7 @@ impl Progress {
         ensures { IfOk result (λ progress. IsProgress (graph_of model.now) progress) }
     {
         Ok(Progress {
-            known: Known::nothing(),
+            known: Known::begin(alloc),
             counts: UseCounts::begin(alloc, model)?,
             all_reached: false,
             pairs: KeptPairs::begin(alloc, model)?,

@@ -15,7 +15,7 @@ returns-clause-by_rule c =
     let same = c.drop_these.ensures.known in record {
       made = c.in_ok-drop_these.ensures.made;
       known = record {
-        known = subst (λ (h : EventGraph). IsKnown h c.behind_drop-self.result) (sym left) (c.behind_drop-self.ensures g _ (subst (λ (p : Progress). IsKnown g p.known) (sym same) c.requires.known.known));
+        known = subst (λ (h : EventGraph). IsKnown h c.behind_drop.new.self) (sym left) (c.behind_drop.ensures g _ (subst (λ (p : Progress). IsKnown g p.known) (sym same) c.requires.known.known));
         counts = subst (λ (h : EventGraph). NothingCounted (length h.variables) c.drop_these.new.self.progress.counts) (sym left)
             (subst (λ (p : Progress). NothingCounted (length g.variables) p.counts) (sym same) c.requires.known.counts);
         reached = λ told. c.in_ok-drop_these.ensures.all;
