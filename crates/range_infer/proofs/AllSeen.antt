@@ -10,7 +10,7 @@ use Rattle.model_core.specs.Ranges.OtherRanges.{with_ranges}
 use Rattle.model_core.specs.Ranges.Refined.{refined}
 use Rattle.model_core.specs.Ranges.Incoming.{assigned, into_change, into_edge, into_vertex, incoming}
 use Rattle.range_infer.specs.Inner.PartReads.{each_reads}
-use Rattle.range_infer.specs.Inner.LookedAt.{looks_at, assigned_seen, change_seen, values_seen, edge_seen, vertex_seen, incoming_seen}
+use Rattle.range_infer.specs.Inner.LookedAt.{looks_at_value, assigned_seen, change_seen, values_seen, edge_seen, vertex_seen, incoming_seen}
 
 pub nothing : (b : Bool) → let none : List Incoming = [] in cond b none none ≡ none
 nothing true = refl
@@ -32,9 +32,9 @@ module _ (g : EventGraph) (moved : List Bool) where
 
   pub all_values : (rs : List Variable) (e : EventEdge) → values_seen g true moved rs e ≡ into_edge g rs e
   all_values rs e = by (is_scheduling e.kind) (bounds_under refined rs e.condition).can_true (refined e.condition true rs) (vertex_at g e.target).parameters e.values where
-    by : (k t : Bool) (left : List Variable) (vs : List ℕ) (es : List Expression) → cond (k && list_any (looks_at true moved) (each_reads es)) (cond t (assigned_seen true moved left vs es) []) [] ≡ cond (k && t) (assigned left vs es) []
+    by : (k t : Bool) (left : List Variable) (vs : List ℕ) (es : List Expression) → cond (k && list_any (looks_at_value true moved) (each_reads es)) (cond t (assigned_seen true moved left vs es) []) [] ≡ cond (k && t) (assigned left vs es) []
     by false t left vs es = refl
-    by true false left vs es = nothing (list_any (looks_at true moved) (each_reads es))
+    by true false left vs es = nothing (list_any (looks_at_value true moved) (each_reads es))
     by true true left vs [] = sym (none_assigned left vs)
     by true true left vs (e ∷ es) = all_assigned left vs (e ∷ es)
 

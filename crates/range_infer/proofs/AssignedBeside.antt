@@ -13,8 +13,8 @@ use Rattle.model_core.specs.Rules.Uses.{variables_in}
 use Rattle.model_core.specs.Ranges.Refined.{refined}
 use Rattle.model_core.specs.Ranges.Incoming.{assigned}
 use Rattle.model_core.proofs.EachOne.{either_false}
-use Rattle.range_infer.specs.Inner.PartReads.{each_reads}
-use Rattle.range_infer.specs.Inner.LookedAt.{looks_at, assigned_seen}
+use Rattle.range_infer.specs.Inner.PartReads.{no_value, each_reads}
+use Rattle.range_infer.specs.Inner.LookedAt.{looks_at, looks_at_value, assigned_seen}
 use Rattle.range_infer.proofs.AllSeen.{nothing}
 
 -- what a value that is looked up gives
@@ -35,11 +35,11 @@ module _ (all : Bool) (moved : List Bool) (rs : List Variable) where
   none_seen (v ∷ vs) = refl
 
   -- where no value is looked at nothing is seen
-  pub nothing_seen : (vs : List ℕ) (es : List Expression) → list_any (looks_at all moved) (each_reads es) ≡ false → seen vs es ≡ []
+  pub nothing_seen : (vs : List ℕ) (es : List Expression) → list_any (looks_at_value all moved) (each_reads es) ≡ false → seen vs es ≡ []
   nothing_seen [] es none = refl
   nothing_seen (v ∷ vs) [] none = refl
   nothing_seen (v ∷ vs) (e ∷ es) none =
-      let (here, later) = either_false (looks_at all moved (variables_in e)) (list_any (looks_at all moved) (each_reads es)) none in
+      let (here, later) = either_false (looks_at all moved (variables_in e)) (list_any (looks_at_value all moved) (each_reads es)) none in
       ap₂ (λ (b : Bool) (is : List Incoming). cond b (record { variable = v; bounds = bounds_under refined rs e } ∷ []) [] ++ is) here (nothing_seen vs es later)
 
   -- the first variable, and then the others
@@ -59,7 +59,7 @@ module _ (all : Bool) (moved : List Bool) (rs : List Variable) where
       (ap (λ (xs : List Incoming). before ++ xs) (sym (split v (drop (suc p) ns) es p) ∙ ap (λ (vs : List ℕ). seen vs (drop p es)) (sym first)) ∙ so)))
 
   -- the value at a place, as it is looked at or passed over
-  pub value_seen : (v : ℕ) (es : List Expression) (p : ℕ) → seen (v ∷ []) (drop p es) ≡ cond (looks_at all moved (slice_index_or (each_reads es) p [])) (assigned rs (v ∷ []) (drop p es)) []
+  pub value_seen : (v : ℕ) (es : List Expression) (p : ℕ) → seen (v ∷ []) (drop p es) ≡ cond (looks_at_value all moved (slice_index_or (each_reads es) p no_value)) (assigned rs (v ∷ []) (drop p es)) []
   value_seen v [] zero = sym (nothing (looks_at all moved []))
   value_seen v [] (suc p) = sym (nothing (looks_at all moved []))
   value_seen v (e ∷ es) zero = append-nil (one v e)

@@ -11,6 +11,7 @@ mod SameChanges
 mod SameEdges
 mod NarrowedRuns
 mod ValidNarrowed
+mod PostfixBounds
 mod OneRound
 mod OpenEnds
 mod RoundsEnd

@@ -10,11 +10,12 @@ use Rattle.model_core.specs.Ranges.Refined.{refined}
 use Rattle.model_core.specs.declared.incoming.Incoming.{Incoming}
 use Rattle.model_core.proofs.Among.{Among, among-contained, contained-among, among-flat_map, of-among, each-among, any-among, among-any}
 use Rattle.model_core.proofs.EachOne.{every-joined, every-front, every-behind, every-flat_map, either_false}
+use Rattle.range_infer.specs.declared.part_reads.ValueReads.{ValueReads}
 use Rattle.range_infer.specs.declared.readers.PartPlace.{PartPlace}
 use Rattle.range_infer.specs.Inner.Moved.{is_moved}
 use Rattle.range_infer.specs.Inner.PartReads.{each_reads, set_reads, carried_reads, parts_read}
 use Rattle.range_infer.specs.Inner.Readers.{one_at, value_vars, edge_vars, vertex_part_vars, part_vars}
-use Rattle.range_infer.specs.Inner.LookedAt.{looks_at, assigned_seen, change_seen, values_seen, edge_seen, vertex_seen, vertex_part_seen, part_seen}
+use Rattle.range_infer.specs.Inner.LookedAt.{looks_at_value, assigned_seen, change_seen, values_seen, edge_seen, vertex_seen, vertex_part_seen, part_seen}
 use Rattle.range_infer.proofs.AssignedBeside.{nothing_seen}
 
 -- ---- elements by their places
@@ -75,14 +76,14 @@ module _ (P : Incoming → Type 0) where
 
     -- ---- a part that reads none gives none
 
-    no_value : (values : List (List ℕ)) → list_any (is_moved moved) (value_vars values) ≡ false → list_any (looks_at false moved) values ≡ false
-    no_value [] none = refl
-    no_value (vs ∷ values) none =
-        let (here, later) = either_false (list_any (is_moved moved) vs) (list_any (is_moved moved) (value_vars values)) (sym (list_any-append (is_moved moved) vs (value_vars values)) ∙ none) in
-        ap (λ (b : Bool). b || list_any (looks_at false moved) values) here ∙ no_value values later
+    no_value_seen : (values : List ValueReads) → list_any (is_moved moved) (value_vars values) ≡ false → list_any (looks_at_value false moved) values ≡ false
+    no_value_seen [] none = refl
+    no_value_seen (value ∷ values) none =
+        let (here, later) = either_false (list_any (is_moved moved) value.vars) (list_any (is_moved moved) (value_vars values)) (sym (list_any-append (is_moved moved) value.vars (value_vars values)) ∙ none) in
+        ap (λ (b : Bool). b || list_any (looks_at_value false moved) values) here ∙ no_value_seen values later
 
     quiet_change : (c : StateChange) → list_any (is_moved moved) (value_vars (set_reads c)) ≡ false → change c ≡ []
-    quiet_change (Set targets values) none = nothing_seen false moved rs (map (λ (l : Location). l.variable) targets) values (no_value (each_reads values) none)
+    quiet_change (Set targets values) none = nothing_seen false moved rs (map (λ (l : Location). l.variable) targets) values (no_value_seen (each_reads values) none)
     quiet_change (Draw target stream choice) none = refl
 
     quiet_values : (k some : Bool) (left : List Incoming) → some ≡ false → cond (k && some) left [] ≡ []
@@ -94,7 +95,7 @@ module _ (P : Incoming → Type 0) where
     quiet_edge e none =
         let left : List Incoming = cond (bounds_under refined rs e.condition).can_true (assigned_seen false moved (refined e.condition true rs) (vertex_at g e.target).parameters e.values) [] in
         let (condition, values) = either_false (list_any (is_moved moved) (variables_in e.condition)) (list_any (is_moved moved) (value_vars (each_reads e.values))) (sym (list_any-append (is_moved moved) (variables_in e.condition) (value_vars (each_reads e.values))) ∙ none) in
-        ap (λ (b : Bool). values_seen g b moved rs e) condition ∙ quiet_values (is_scheduling e.kind) (list_any (looks_at false moved) (each_reads e.values)) left (no_value (each_reads e.values) values)
+        ap (λ (b : Bool). values_seen g b moved rs e) condition ∙ quiet_values (is_scheduling e.kind) (list_any (looks_at_value false moved) (each_reads e.values)) left (no_value_seen (each_reads e.values) values)
 
     -- ---- where all that read one are there
 

@@ -22,7 +22,7 @@ use Rattle.model_core.specs.Ranges.Inference.{hull, grown_range, ends_moved, eac
 use Rattle.model_core.proofs.EachOne.{every-front, every-behind, every-flat_map, every-map, every-fails}
 use Rattle.range_infer.specs.Inner.Moved.{is_moved, MarksMoved}
 use Rattle.range_infer.specs.Inner.PartReads.{each_reads}
-use Rattle.range_infer.specs.Inner.LookedAt.{looks_at, assigned_seen, change_seen, values_seen, edge_seen, vertex_seen, incoming_seen, part_seen, TakenByReaders, TakesAgain}
+use Rattle.range_infer.specs.Inner.LookedAt.{looks_at, looks_at_value, assigned_seen, change_seen, values_seen, edge_seen, vertex_seen, incoming_seen, part_seen, TakenByReaders, TakesAgain}
 use Rattle.range_infer.proofs.PartsSeen.{of_all, all_seen_too}
 use Rattle.range_infer.proofs.AllSeen.{all_values}
 use Rattle.range_infer.proofs.AssignedBeside.{nothing_seen}
@@ -119,7 +119,7 @@ module _ (g : EventGraph) (v : ℕ) (in_order : (variable_at g v).lo ≤ℤ (var
       unread none held =
           let still : Unmoved moved (variables_in e.condition) = every-fails (is_moved moved) (variables_in e.condition) none in
           let same : gives old ≡ gives new = ap (λ (b : Bounds). b.can_true) (bounds_stay moved e.condition old new stay still) in
-          by_values (known moved e.condition true old new stay still) (is_scheduling e.kind) (gives new) (list_any (looks_at false moved) (each_reads e.values)) (nothing_seen false moved known_new params e.values)
+          by_values (known moved e.condition true old new stay still) (is_scheduling e.kind) (gives new) (list_any (looks_at_value false moved) (each_reads e.values)) (nothing_seen false moved known_new params e.values)
           (subst (λ (t : Bool). AllByRecursion IsHeld (cond (is_scheduling e.kind && t) (assigned known_old params e.values) [])) same held)
 
       edge_alike : AllByRecursion IsHeld (into_edge g old e) → GrowAlike (edge_seen g false moved new e) (into_edge g new e)

@@ -9,6 +9,7 @@ use Rattle.model_core.specs.Rules.PlacedEdges.{with_place}
 use Rattle.model_core.proofs.Among.{Among, among-front, among-back, among-either}
 use Rattle.model_core.proofs.BothTrue.{and_first, and_second}
 use Rattle.model_core.proofs.PlacesChanged.{length_placed, placed-there}
+use Rattle.range_infer.specs.declared.part_reads.ValueReads.{ValueReads}
 use Rattle.range_infer.specs.declared.part_reads.EdgeReads.{EdgeReads}
 use Rattle.range_infer.specs.declared.part_reads.VertexReads.{VertexReads}
 use Rattle.range_infer.specs.declared.readers.PartPlace.{PartPlace}
@@ -125,14 +126,14 @@ module _ (n v : ℕ) (small : v < n) where
       each-among (λ k lists v. with_place (with_part p) v lists) (variable-keeps p) n v p v
       (λ k lists long. variable-there p v lists (omega (arith, long, small))) 0 lists long vs among
 
-  values-keep : (p : PartPlace) (lists : Lists) (values : List (List ℕ)) → Keeps lists (put_values p lists values)
-  values-keep p lists values = each-keeps (λ k lists vs. put_variables p lists vs) (variables-keep p) 0 lists values
+  values-keep : (p : PartPlace) (lists : Lists) (values : List ValueReads) → Keeps lists (put_values p lists values)
+  values-keep p lists values = each-keeps (λ k lists value. put_variables p lists value.vars) (λ k lists value. variables-keep p k lists value.vars) 0 lists values
 
-  values-there : (p : PartPlace) (lists : Lists) → length lists ≡ n → (values : List (List ℕ)) → Among v (value_vars values) → IsReader (put_values p lists values) v p
+  values-there : (p : PartPlace) (lists : Lists) → length lists ≡ n → (values : List ValueReads) → Among v (value_vars values) → IsReader (put_values p lists values) v p
   values-there p lists long values among =
-      let (vs, there, reads) = among-of_flat_map (λ (vs : List ℕ). vs) values v among in
-      each-among (λ k lists vs. put_variables p lists vs) (variables-keep p) n v p vs
-      (λ k lists long. variables-there p lists long vs reads) 0 lists long values there
+      let (value, there, reads) = among-of_flat_map (λ (value : ValueReads). value.vars) values v among in
+      each-among (λ k lists value. put_variables p lists value.vars) (λ k lists value. variables-keep p k lists value.vars) n v p value
+      (λ k lists long. variables-there p lists long value.vars reads) 0 lists long values there
 
   edge-keeps : (p : PartPlace) (lists : Lists) (e : EdgeReads) → Keeps lists (put_edge p lists e)
   edge-keeps p lists e =
@@ -156,7 +157,7 @@ module _ (n v : ℕ) (small : v < n) where
   abbrev edge_at : ℕ → ℕ → PartPlace
   edge_at i j = record { vertex = i; is_edge = true; place = j }
 
-  changes-keep : (i : ℕ) (lists : Lists) (sets : List (List (List ℕ))) → Keeps lists (put_changes i lists sets)
+  changes-keep : (i : ℕ) (lists : Lists) (sets : List (List ValueReads)) → Keeps lists (put_changes i lists sets)
   changes-keep i lists sets = each-keeps (λ k. put_values (change_at i k)) (λ k. values-keep (change_at i k)) 0 lists sets
 
   edges-keep : (i : ℕ) (lists : Lists) (carried : List EdgeReads) → Keeps lists (put_edges i lists carried)

@@ -2,6 +2,7 @@
 pub mod RangesLeft
 pub mod RangeTests
 pub mod GrownBy
+pub mod Postfix
 pub mod PartReads
 pub mod Readers
 pub mod Moved

@@ -30,7 +30,7 @@ fn kind_bounds(kind: Kind, range: VarRange, quiet: bool) -> Bounds
 
 /// The bounds of what the variable at this place holds.
 #[inline(always)]
-fn variable_bounds(left: &RangesLeft, var: usize, quiet: bool) -> Bounds
+pub(crate) fn variable_bounds(left: &RangesLeft, var: usize, quiet: bool) -> Bounds
     ensures { result ≡ variable_bounds (ranged_at (variables_left left.now) var) quiet }
 {
     match left.model.vars.as_slice().get(var) {
@@ -56,7 +56,7 @@ fn lies_inside(index: &Bounds, size: usize) -> bool
 }
 
 /// Whether an index of these bounds into the array at this place never faults, under any ranges.
-fn quiet_index(model: &Model, var: usize, index: &Bounds) -> bool
+pub(crate) fn quiet_index(model: &Model, var: usize, index: &Bounds) -> bool
     ensures { (ranges : List VarRange) → result ≡ quiet_index (ranged_at (with_ranges (graph_of model.now).variables ranges) var) index.now }
 {
     lies_inside(index, size_at(model, var))

@@ -15,10 +15,11 @@ ghost use Rattle.range_infer.specs.Inner.PartReads.{each_reads, set_reads, carri
 ghost use Rattle.range_infer.specs.Inner.Readers.{one_at, readers_in};
 ghost use Rattle.range_infer.specs.Inner.LookedAt.{assigned_seen, change_seen, values_seen, edge_seen, vertex_seen, incoming_seen, vertex_part_seen, part_seen, TakesAgain};
 
-use crate::bounds_left::{bounds_left, bounds_where};
+use crate::bounds_left::bounds_where;
 use crate::looking::{Look, looks_at, looks_at_one, looks_at_place};
 use crate::moves::{moved_ranges, only_moved};
-use crate::part_reads::{EdgeReads, VertexReads};
+use crate::part_reads::{EdgeReads, ValueReads, VertexReads};
+use crate::postfix_bounds::value_bounds;
 use crate::ranges_left::RangesLeft;
 use crate::readers::{PartPlace, readers_of};
 use crate::refinement::forget;
@@ -34,13 +35,15 @@ fn add_value_at(
     left: &mut RangesLeft,
     variable: usize,
     values: &[Expr],
+    reads: &[ValueReads],
     place: usize,
 ) -> Result<(), NoMemory>
+    requires reads { reads.now ≡ each_reads (map expression_of values.now) }
     ensures out { OnOk result (out.new.items ≡ out.old.items ++ assigned (variables_left left.old) (variable ∷ []) (drop place (map expression_of values.now))) }
     ensures left { OnOk result (StaysLeft left.old left.new) }
 {
-    if let Some(value) = values.get(place) {
-        let bounds = bounds_left(left, value)?;
+    if place < values.len() {
+        let bounds = value_bounds(left, &values[place], reads[place].postfix.as_slice())?;
         out.push(Incoming { variable, bounds })?;
     }
     Ok(())
@@ -53,7 +56,7 @@ fn add_value(
     look: &Look,
     variable: usize,
     values: &[Expr],
-    reads: &[List<usize>],
+    reads: &[ValueReads],
     place: usize,
 ) -> Result<(), NoMemory>
     requires reads { reads.now ≡ each_reads (map expression_of values.now) }
@@ -61,7 +64,7 @@ fn add_value(
     ensures left { OnOk result (StaysLeft left.old left.new) }
 {
     if looks_at_place(look, reads, place) {
-        add_value_at(out, left, variable, values, place)?;
+        add_value_at(out, left, variable, values, reads, place)?;
     }
     Ok(())
 }
@@ -73,7 +76,7 @@ fn add_targets(
     look: &Look,
     targets: &[Target],
     values: &[Expr],
-    reads: &[List<usize>],
+    reads: &[ValueReads],
 ) -> Result<(), NoMemory>
     requires reads { reads.now ≡ each_reads (map expression_of values.now) }
     ensures out { OnOk result (out.new.items ≡ out.old.items ++ assigned_seen look.now.all look.now.moved.now (variables_left left.old) (map (λ (l : Location). l.variable) (map location_of targets.now)) (map expression_of values.now)) }
@@ -93,7 +96,7 @@ fn add_set(
     look: &Look,
     targets: &[Target],
     values: &[Expr],
-    reads: &[List<usize>],
+    reads: &[ValueReads],
 ) -> Result<(), NoMemory>
     requires reads { reads.now ≡ each_reads (map expression_of values.now) }
     ensures out { OnOk result (out.new.items ≡ out.old.items ++ assigned_seen look.now.all look.now.moved.now (variables_left left.old) (map (λ (l : Location). l.variable) (map location_of targets.now)) (map expression_of values.now)) }
@@ -112,7 +115,7 @@ fn add_parameters(
     look: &Look,
     params: &[usize],
     values: &[Expr],
-    reads: &[List<usize>],
+    reads: &[ValueReads],
 ) -> Result<(), NoMemory>
     requires reads { reads.now ≡ each_reads (map expression_of values.now) }
     ensures out { OnOk result (out.new.items ≡ out.old.items ++ assigned_seen look.now.all look.now.moved.now (variables_left left.old) params.now (map expression_of values.now)) }
@@ -130,7 +133,7 @@ fn add_change(
     left: &mut RangesLeft,
     look: &Look,
     change: &Change,
-    reads: &[List<usize>],
+    reads: &[ValueReads],
 ) -> Result<(), NoMemory>
     requires reads { reads.now ≡ set_reads (change_of change.now) }
     ensures out { OnOk result (out.new.items ≡ out.old.items ++ change_seen (graph_of left.old.model.now) look.now.all look.now.moved.now (variables_left left.old) (change_of change.now)) }
@@ -175,7 +178,7 @@ fn add_carried(
     left: &mut RangesLeft,
     look: &Look,
     edge: &Edge,
-    reads: &[List<usize>],
+    reads: &[ValueReads],
 ) -> Result<(), NoMemory>
     requires reads { reads.now ≡ each_reads (map expression_of edge.now.values) }
     ensures out { OnOk result (out.new.items ≡ out.old.items ++ cond (bounds_under refined (variables_left left.old) (expression_of edge.now.condition)).can_true
@@ -198,7 +201,7 @@ fn add_values(
     left: &mut RangesLeft,
     look: &Look,
     edge: &Edge,
-    reads: &[List<usize>],
+    reads: &[ValueReads],
 ) -> Result<(), NoMemory>
     requires reads { reads.now ≡ each_reads (map expression_of edge.now.values) }
     ensures out { OnOk result (out.new.items ≡ out.old.items ++ values_seen (graph_of left.old.model.now) look.now.all look.now.moved.now (variables_left left.old) (edge_of edge.now)) }
@@ -234,7 +237,7 @@ fn add_changes(
     left: &mut RangesLeft,
     look: &Look,
     changes: &[Change],
-    reads: &[List<List<usize>>],
+    reads: &[List<ValueReads>],
 ) -> Result<(), NoMemory>
     requires reads { reads.now ≡ map set_reads (map change_of changes.now) }
     ensures out { OnOk result (out.new.items ≡ out.old.items ++ flat_map (change_seen (graph_of left.old.model.now) look.now.all look.now.moved.now (variables_left left.old)) (map change_of changes.now)) }
@@ -303,7 +306,7 @@ fn add_change_at(
     left: &mut RangesLeft,
     look: &Look,
     changes: &[Change],
-    reads: &[List<List<usize>>],
+    reads: &[List<ValueReads>],
     place: usize,
 ) -> Result<(), NoMemory>
     requires reads { reads.now ≡ map set_reads (map change_of changes.now) }

@@ -13,6 +13,8 @@ mod moves;
 mod narrowing;
 mod numbers_left;
 mod part_reads;
+mod postfix;
+mod postfix_bounds;
 mod range_verdict;
 mod ranges_left;
 mod readers;

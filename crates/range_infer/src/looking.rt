@@ -1,12 +1,13 @@
 //! Which parts of a model are looked at: all of them, or those that read a variable whose range moved.
 
-ghost use Rattle.std.specs.Prelude.{◌≡◌, [], slice_index_or};
+ghost use Rattle.std.specs.Prelude.{◌≡◌, slice_index_or};
 ghost use Rattle.std.specs.List.{list_any};
 ghost use Rattle.range_infer.specs.Inner.Moved.{is_moved};
-ghost use Rattle.range_infer.specs.Inner.LookedAt.{looks_at};
+ghost use Rattle.range_infer.specs.Inner.PartReads.{no_value};
+ghost use Rattle.range_infer.specs.Inner.LookedAt.{looks_at, looks_at_value};
 
 use crate::moves::is_moved;
-use sig_base::List;
+use crate::part_reads::ValueReads;
 
 /// All parts are looked at, or those that read one of the variables that are marked as moved.
 #[derive(Clone, Copy)]
@@ -34,22 +35,22 @@ pub(crate) fn looks_at(look: &Look, vars: &[usize]) -> bool
     look.all || one_moved(look.moved, vars)
 }
 
-/// Whether the part at this place is looked at, which reads the variables in the list at the same place.
-pub(crate) fn looks_at_place(look: &Look, reads: &[List<usize>], place: usize) -> bool
-    ensures { result ≡ looks_at look.now.all look.now.moved.now (slice_index_or reads.now place []) }
+/// Whether the value at this place is looked at, of which this is read.
+pub(crate) fn looks_at_place(look: &Look, reads: &[ValueReads], place: usize) -> bool
+    ensures { result ≡ looks_at_value look.now.all look.now.moved.now (slice_index_or reads.now place no_value) }
 {
     match reads.get(place) {
-        Some(vars) => looks_at(look, vars.as_slice()),
+        Some(value) => looks_at(look, value.vars.as_slice()),
         None => look.all,
     }
 }
 
-/// Whether one of the parts is looked at that read the variables in these lists.
-pub(crate) fn looks_at_one(look: &Look, reads: &[List<usize>]) -> bool
-    ensures { result ≡ list_any (looks_at look.now.all look.now.moved.now) reads.now }
+/// Whether one of the values is looked at of which this is read.
+pub(crate) fn looks_at_one(look: &Look, reads: &[ValueReads]) -> bool
+    ensures { result ≡ list_any (looks_at_value look.now.all look.now.moved.now) reads.now }
 {
-    for vars in reads {
-        if looks_at(look, vars.as_slice()) {
+    for value in reads {
+        if looks_at(look, value.vars.as_slice()) {
             return true;
         }
     }

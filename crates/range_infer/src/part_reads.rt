@@ -1,27 +1,34 @@
-//! The variables that each value of a model reads that a change sets or an edge carries, and each condition of an edge.
+//! What is read of each value of a model that a change sets or an edge carries, and of each condition of an edge.
 
 ghost use Rattle.std.specs.Prelude.{◌≡◌, map, IfOk};
 ghost use Rattle.model_core.specs.Code.Views.{expression_of, change_of, edge_of, vertex_of};
 ghost use Rattle.model_core.specs.Rules.Uses.{variables_in};
-ghost use Rattle.range_infer.specs.Inner.PartReads.{each_reads, set_reads, carried_reads, parts_read};
+ghost use Rattle.range_infer.specs.Inner.PartReads.{value_reads, each_reads, set_reads, carried_reads, parts_read};
 
+use crate::postfix::{PostfixItem, value_postfix};
 use model_core::{Change, Edge, Expr, Model, Vertex};
 use sig_base::{List, NoMemory};
 use std::alloc::Global;
 use use_analysis::add_variables;
 
-/// The variables that the condition of an edge reads, and those that each value reads which it carries.
+/// The variables that a value reads, and its postfix form, if it has one.
+#[derive(Drop)]
+pub(crate) struct ValueReads {
+    pub(crate) vars: List<usize>,
+    pub(crate) postfix: List<PostfixItem>,
+}
+
+/// The variables that the condition of an edge reads, and what is read of each value which it carries.
 #[derive(Drop)]
 pub(crate) struct EdgeReads {
     pub(crate) condition: List<usize>,
-    pub(crate) values: List<List<usize>>,
+    pub(crate) values: List<ValueReads>,
 }
 
-/// The variables that each value reads which a change of a vertex sets, a list of lists for each change, and those that its
-/// edges read.
+/// What is read of each value which a change of a vertex sets, a list for each change, and of its edges.
 #[derive(Drop)]
 pub(crate) struct VertexReads {
-    pub(crate) sets: List<List<List<usize>>>,
+    pub(crate) sets: List<List<ValueReads>>,
     pub(crate) carried: List<EdgeReads>,
 }
 
@@ -34,18 +41,27 @@ fn reads(alloc: Global, expr: &Expr) -> Result<List<usize>, NoMemory>
     Ok(List::from_vec(reads))
 }
 
-fn each_reads(alloc: Global, values: &[Expr]) -> Result<List<List<usize>>, NoMemory>
+/// What is read of a value.
+fn value_reads(alloc: Global, value: &Expr) -> Result<ValueReads, NoMemory>
+    ensures { IfOk result (λ of_value. of_value ≡ value_reads (expression_of value.now)) }
+{
+    let vars = reads(alloc, value)?;
+    let postfix = value_postfix(alloc, value)?;
+    Ok(ValueReads { vars, postfix })
+}
+
+fn each_reads(alloc: Global, values: &[Expr]) -> Result<List<ValueReads>, NoMemory>
     ensures { IfOk result (λ all. all ≡ each_reads (map expression_of values.now)) }
 {
     let mut all = Vec::new(alloc);
     for value in values {
-        all.push(reads(alloc, value)?)?;
+        all.push(value_reads(alloc, value)?)?;
     }
     Ok(List::from_vec(all))
 }
 
-/// The variables in each value that a change sets.
-fn set_reads(alloc: Global, change: &Change) -> Result<List<List<usize>>, NoMemory>
+/// What is read of each value that a change sets.
+fn set_reads(alloc: Global, change: &Change) -> Result<List<ValueReads>, NoMemory>
     ensures { IfOk result (λ reads. reads ≡ set_reads (change_of change.now)) }
 {
     match change {
@@ -58,7 +74,7 @@ fn set_reads(alloc: Global, change: &Change) -> Result<List<List<usize>>, NoMemo
     }
 }
 
-/// The variables in the condition of an edge and in each value that it carries.
+/// What is read of the condition of an edge and of each value that it carries.
 fn carried_reads(alloc: Global, edge: &Edge) -> Result<EdgeReads, NoMemory>
     ensures { IfOk result (λ reads. reads ≡ carried_reads (edge_of edge.now)) }
 {
@@ -67,7 +83,7 @@ fn carried_reads(alloc: Global, edge: &Edge) -> Result<EdgeReads, NoMemory>
     Ok(EdgeReads { condition, values })
 }
 
-fn all_set_reads(alloc: Global, changes: &[Change]) -> Result<List<List<List<usize>>>, NoMemory>
+fn all_set_reads(alloc: Global, changes: &[Change]) -> Result<List<List<ValueReads>>, NoMemory>
     ensures { IfOk result (λ all. all ≡ map set_reads (map change_of changes.now)) }
 {
     let mut all = Vec::new(alloc);
@@ -95,7 +111,7 @@ fn parts_read(alloc: Global, vertex: &Vertex) -> Result<VertexReads, NoMemory>
     Ok(VertexReads { sets, carried })
 }
 
-/// The variables that the changes and the edges of each vertex read.
+/// What is read of the changes and the edges of each vertex.
 pub(crate) fn all_parts_read(alloc: Global, model: &Model) -> Result<List<VertexReads>, NoMemory>
     ensures { IfOk result (λ all. all ≡ map parts_read (map vertex_of model.now.vertices)) }
 {

@@ -4,7 +4,7 @@ ghost use Rattle.std.specs.Prelude.{◌≡◌, OnOk, IfOk, [], slice_index_or};
 ghost use Rattle.model_core.specs.Rules.PlacedEdges.{with_place};
 ghost use Rattle.range_infer.specs.Inner.Readers.{is_same_part, ends_with_part, with_part, put_variables, put_values, put_changes, put_edge, put_edges, put_vertex, put_each, no_readers, readers_in};
 
-use crate::part_reads::{EdgeReads, VertexReads};
+use crate::part_reads::{EdgeReads, ValueReads, VertexReads};
 use sig_base::{List, NoMemory};
 use std::alloc::Global;
 
@@ -85,13 +85,13 @@ fn put_variables(
 
 fn put_values(
     readers: &mut Vec<List<PartPlace>>,
-    values: &[List<usize>],
+    values: &[ValueReads],
     part: PartPlace,
 ) -> Result<(), NoMemory>
     ensures { OnOk result (readers.new.items ≡ put_values part readers.old.items values.now) }
 {
-    for vars in values {
-        put_variables(readers, vars.as_slice(), part)?;
+    for value in values {
+        put_variables(readers, value.vars.as_slice(), part)?;
     }
     Ok(())
 }
@@ -111,7 +111,7 @@ fn put_edge(
 fn put_changes(
     readers: &mut Vec<List<PartPlace>>,
     vertex: usize,
-    sets: &[List<List<usize>>],
+    sets: &[List<ValueReads>],
 ) -> Result<(), NoMemory>
     ensures { OnOk result (readers.new.items ≡ put_changes vertex readers.old.items sets.now) }
 {

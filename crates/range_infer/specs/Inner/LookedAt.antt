@@ -12,12 +12,16 @@ use Rattle.model_core.specs.Ranges.Refined.{refined}
 use Rattle.model_core.specs.Ranges.Incoming.{into_change}
 use Rattle.range_infer.specs.Inner.Moved.{is_moved, MarksMoved}
 use Rattle.range_infer.specs.Inner.PartReads.{each_reads, parts_read}
+use Rattle.range_infer.specs.declared.part_reads.ValueReads.{ValueReads}
 use Rattle.range_infer.specs.declared.readers.PartPlace.{PartPlace}
 use Rattle.range_infer.specs.Inner.Readers.{one_at, part_vars}
 
 -- a part is looked at that reads these variables
 abbrev pub looks_at : Bool → List Bool → List ℕ → Bool
 looks_at all moved reads = all || list_any (is_moved moved) reads
+
+abbrev pub looks_at_value : Bool → List Bool → ValueReads → Bool
+looks_at_value all moved value = looks_at all moved value.vars
 
 -- each variable takes the value at the same place, if the value is looked at
 abbrev pub assigned_seen : Bool → List Bool → List Variable → List ℕ → List Expression → List Incoming
@@ -33,7 +37,7 @@ change_seen g all moved ranges (Draw target stream choice) = cond all (into_chan
 -- what an edge carries by those of its values that are looked at, if there are such
 abbrev pub values_seen : EventGraph → Bool → List Bool → List Variable → EventEdge → List Incoming
 values_seen g all moved ranges e =
-    cond (is_scheduling e.kind && list_any (looks_at all moved) (each_reads e.values))
+    cond (is_scheduling e.kind && list_any (looks_at_value all moved) (each_reads e.values))
     (cond (bounds_under refined ranges e.condition).can_true (assigned_seen all moved (refined e.condition true ranges) (vertex_at g e.target).parameters e.values) []) []
 
 -- all its values are looked at where its condition is

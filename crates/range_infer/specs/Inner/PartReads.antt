@@ -1,23 +1,31 @@
--- The variables that the parts of a model read by which variables take something.
-use Rattle.std.specs.Prelude.{ℕ, List, [], map}
+-- What is read of the parts of a model by which variables take something: the variables in them, and the postfix form of values.
+use Rattle.std.specs.Prelude.{List, [], map}
 use Rattle.model_core.specs.EventGraph.{Expression, StateChange, Set, Draw, EventEdge, EventVertex}
 use Rattle.model_core.specs.Rules.Uses.{variables_in}
+use Rattle.range_infer.specs.declared.part_reads.ValueReads.{ValueReads}
 use Rattle.range_infer.specs.declared.part_reads.EdgeReads.{EdgeReads}
 use Rattle.range_infer.specs.declared.part_reads.VertexReads.{VertexReads}
+use Rattle.range_infer.specs.Inner.Postfix.{value_postfix}
 
--- the variables in each of these values
-abbrev pub each_reads : List Expression → List (List ℕ)
-each_reads values = map variables_in values
+abbrev pub value_reads : Expression → ValueReads
+value_reads e = record { vars = variables_in e; postfix = value_postfix e }
 
--- those in each value that a change sets. What is drawn reads none
-abbrev pub set_reads : StateChange → List (List ℕ)
+-- what is read where no value stands
+abbrev pub no_value : ValueReads
+no_value = record { vars = []; postfix = [] }
+
+abbrev pub each_reads : List Expression → List ValueReads
+each_reads values = map value_reads values
+
+-- of each value that a change sets. What is drawn reads none
+abbrev pub set_reads : StateChange → List ValueReads
 set_reads (Set targets values) = each_reads values
 set_reads (Draw target stream choice) = []
 
--- those in the condition of an edge, and in each value that it carries
+-- of the condition of an edge, and of each value that it carries
 abbrev pub carried_reads : EventEdge → EdgeReads
 carried_reads e = record { condition = variables_in e.condition; values = each_reads e.values }
 
--- those of each change and of each edge of a vertex
+-- of each change and of each edge of a vertex
 abbrev pub parts_read : EventVertex → VertexReads
 parts_read v = record { sets = map set_reads v.changes; carried = map carried_reads v.edges }

@@ -3,6 +3,7 @@ use Rattle.std.specs.Prelude.{ℕ, ◌+◌, ◌-◌, ◌==◌, Bool, true, false
 use Rattle.std.specs.List.{range_with_len, flat_map}
 use Rattle.std.specs.Option.{option_map_or}
 use Rattle.model_core.specs.Rules.PlacedEdges.{with_place}
+use Rattle.range_infer.specs.declared.part_reads.ValueReads.{ValueReads}
 use Rattle.range_infer.specs.declared.part_reads.EdgeReads.{EdgeReads}
 use Rattle.range_infer.specs.declared.part_reads.VertexReads.{VertexReads}
 use Rattle.range_infer.specs.declared.readers.PartPlace.{PartPlace}
@@ -13,8 +14,8 @@ one_at k xs = take 1 (drop k xs)
 
 -- ---- the variables that a part reads
 
-abbrev pub value_vars : List (List ℕ) → List ℕ
-value_vars values = flat_map (λ (vs : List ℕ). vs) values
+abbrev pub value_vars : List ValueReads → List ℕ
+value_vars values = flat_map (λ (value : ValueReads). value.vars) values
 
 abbrev pub edge_vars : EdgeReads → List ℕ
 edge_vars e = e.condition ++ value_vars e.values
@@ -48,14 +49,14 @@ put_each put k lists (x ∷ xs) = put_each put (k + 1) (put k lists x) xs
 abbrev pub put_variables : PartPlace → List (List PartPlace) → List ℕ → List (List PartPlace)
 put_variables p = put_each (λ k lists v. with_place (with_part p) v lists) 0
 
-abbrev pub put_values : PartPlace → List (List PartPlace) → List (List ℕ) → List (List PartPlace)
-put_values p = put_each (λ k lists vs. put_variables p lists vs) 0
+abbrev pub put_values : PartPlace → List (List PartPlace) → List ValueReads → List (List PartPlace)
+put_values p = put_each (λ k lists value. put_variables p lists value.vars) 0
 
 abbrev pub put_edge : PartPlace → List (List PartPlace) → EdgeReads → List (List PartPlace)
 put_edge p lists e = put_values p (put_variables p lists e.condition) e.values
 
 -- the changes and the edges of the vertex at a place
-abbrev pub put_changes : ℕ → List (List PartPlace) → List (List (List ℕ)) → List (List PartPlace)
+abbrev pub put_changes : ℕ → List (List PartPlace) → List (List ValueReads) → List (List PartPlace)
 put_changes i = put_each (λ k. put_values (record { vertex = i; is_edge = false; place = k })) 0
 
 abbrev pub put_edges : ℕ → List (List PartPlace) → List EdgeReads → List (List PartPlace)
