@@ -29,7 +29,7 @@ mod FirstOutside
 mod Numbered
 mod ReadersFound
 mod PartsSeen
-mod OneReadAgain
+mod ListsReadAgain
 mod GrownRanges
 mod OneTurn
 mod Declared

@@ -17,11 +17,11 @@ ghost use Rattle.range_infer.specs.Inner.LookedAt.{assigned_seen, change_seen, v
 
 use crate::bounds_left::bounds_where;
 use crate::looking::{Look, looks_at, looks_at_one, looks_at_place};
-use crate::moves::{moved_ranges, only_moved};
-use crate::part_reads::{EdgeReads, ValueReads, VertexReads};
+use crate::moves::moved_ranges;
+use crate::part_reads::{EdgeReads, ValueReads, VertexReads, part_count};
 use crate::postfix_bounds::value_bounds;
 use crate::ranges_left::RangesLeft;
-use crate::readers::{PartPlace, readers_of};
+use crate::readers::{PartPlace, are_few, readers_of_moved};
 use crate::refinement::forget;
 use crate::rounds::copied;
 use model_core::{Change, Edge, EdgeForm, Expr, Incoming, Model, Target, VarRange, Vertex};
@@ -472,7 +472,8 @@ pub(crate) fn incoming(
 }
 
 /// What a model's variables take, where their ranges were these and are those now, by the parts that read one that moved.
-// Where one alone moved, these are few, and stand in its list.
+// Mostly these are few, and stand in the lists of the variables that moved. Where these lists have more than there are parts, all
+// parts are gone through.
 pub(crate) fn taken_again(
     alloc: Global,
     model: &Model,
@@ -492,8 +493,10 @@ pub(crate) fn taken_again(
         all: false,
         moved: moved.as_slice(),
     };
-    match only_moved(look.moved) {
-        Some(var) => taken_by(alloc, model, reads, new, &look, readers_of(readers, var)),
-        None => incoming_seen(alloc, model, reads, new, &look),
+    if are_few(look.moved, readers, part_count(reads)) {
+        let parts = readers_of_moved(alloc, look.moved, readers)?;
+        taken_by(alloc, model, reads, new, &look, parts.as_slice())
+    } else {
+        incoming_seen(alloc, model, reads, new, &look)
     }
 }

@@ -1,6 +1,6 @@
 //! Which ranges a round moved.
 
-ghost use Rattle.std.specs.Prelude.{◌≡◌, ◌≢◌, ◌↔◌, ℕ, true, length, IsTrue, IfOk, IfSome};
+ghost use Rattle.std.specs.Prelude.{◌≡◌, ◌≢◌, ◌↔◌, length, IsTrue, IfOk};
 ghost use Rattle.range_infer.specs.Inner.Moved.{is_moved, MarksMoved};
 
 use model_core::VarRange;
@@ -51,20 +51,4 @@ pub(crate) fn is_moved(moved: &[bool], var: usize) -> bool
         Some(moved) => *moved,
         None => false,
     }
-}
-
-/// The variable whose range moved, if one alone did.
-pub(crate) fn only_moved(moved: &[bool]) -> Option<usize>
-    ensures { IfSome result (λ var. (v : ℕ) → is_moved moved.now v ≡ true → v ≡ var) }
-{
-    let mut only = None;
-    for var in 0..moved.len() {
-        if moved[var] {
-            if only.is_some() {
-                return None;
-            }
-            only = Some(var);
-        }
-    }
-    only
 }

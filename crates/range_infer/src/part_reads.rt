@@ -121,3 +121,12 @@ pub(crate) fn all_parts_read(alloc: Global, model: &Model) -> Result<List<Vertex
     }
     Ok(List::from_vec(all))
 }
+
+/// How many changes and edges these vertices have.
+pub(crate) fn part_count(reads: &[VertexReads]) -> usize {
+    let mut count: usize = 0;
+    for parts in reads {
+        count = count.saturating_add(parts.sets.len().saturating_add(parts.carried.len()));
+    }
+    count
+}

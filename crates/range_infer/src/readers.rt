@@ -1,8 +1,8 @@
 //! For each variable the parts of a model that read it, by which variables take something.
 
-ghost use Rattle.std.specs.Prelude.{◌≡◌, OnOk, IfOk, [], slice_index_or};
+ghost use Rattle.std.specs.Prelude.{◌≡◌, OnOk, IfOk, [], length, slice_index_or};
 ghost use Rattle.model_core.specs.Rules.PlacedEdges.{with_place};
-ghost use Rattle.range_infer.specs.Inner.Readers.{is_same_part, ends_with_part, with_part, put_variables, put_values, put_changes, put_edge, put_edges, put_vertex, put_each, no_readers, readers_in};
+ghost use Rattle.range_infer.specs.Inner.Readers.{HasReaders, is_same_part, ends_with_part, with_part, put_variables, put_values, put_changes, put_edge, put_edges, put_vertex, put_each, no_readers, readers_in};
 
 use crate::part_reads::{EdgeReads, ValueReads, VertexReads};
 use sig_base::{List, NoMemory};
@@ -179,11 +179,39 @@ pub(crate) fn all_readers(
 }
 
 /// The parts that read this variable.
-pub(crate) fn readers_of(readers: &[List<PartPlace>], var: usize) -> &[PartPlace]
+fn readers_of(readers: &[List<PartPlace>], var: usize) -> &[PartPlace]
     ensures { result.now ≡ slice_index_or readers.now var [] }
 {
     match readers.get(var) {
         Some(parts) => parts.as_slice(),
         None => &[],
     }
+}
+
+/// Whether the lists of the variables that moved have no more parts together than this.
+pub(crate) fn are_few(moved: &[bool], readers: &[List<PartPlace>], most: usize) -> bool {
+    let mut count: usize = 0;
+    for var in 0..moved.len() {
+        if moved[var] {
+            count = count.saturating_add(readers_of(readers, var).len());
+        }
+    }
+    count <= most
+}
+
+/// The parts that read a variable that moved. One that reads two of them stands there twice.
+pub(crate) fn readers_of_moved(
+    alloc: Global,
+    moved: &[bool],
+    readers: &[List<PartPlace>],
+) -> Result<Vec<PartPlace>, NoMemory>
+    ensures { IfOk result (λ parts. HasReaders moved.now readers.now (length moved.now) parts.items) }
+{
+    let mut parts = Vec::new(alloc);
+    for var in 0..moved.len() {
+        if moved[var] {
+            parts.extend_from_slice(readers_of(readers, var))?;
+        }
+    }
+    Ok(parts)
 }

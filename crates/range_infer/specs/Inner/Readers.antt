@@ -1,5 +1,5 @@
 -- For each variable the parts of a model that read it.
-use Rattle.std.specs.Prelude.{ℕ, ◌+◌, ◌-◌, ◌==◌, Bool, true, false, not, ◌&&◌, cond, List, [], ◌∷◌, ◌++◌, length, map, take, drop, slice_get}
+use Rattle.std.specs.Prelude.{◌≡◌, ℕ, ◌+◌, ◌-◌, ◌<◌, ◌==◌, Bool, true, false, not, ◌&&◌, cond, List, [], ◌∷◌, ◌++◌, length, map, take, drop, slice_get, slice_index_or, Contains}
 use Rattle.std.specs.List.{range_with_len, flat_map}
 use Rattle.std.specs.Option.{option_map_or}
 use Rattle.model_core.specs.Rules.PlacedEdges.{with_place}
@@ -7,6 +7,7 @@ use Rattle.range_infer.specs.declared.part_reads.ValueReads.{ValueReads}
 use Rattle.range_infer.specs.declared.part_reads.EdgeReads.{EdgeReads}
 use Rattle.range_infer.specs.declared.part_reads.VertexReads.{VertexReads}
 use Rattle.range_infer.specs.declared.readers.PartPlace.{PartPlace}
+use Rattle.range_infer.specs.Inner.Moved.{is_moved}
 
 -- the element at a place, if there is one
 abbrev pub one_at : {A : Type 0} → ℕ → List A → List A
@@ -72,3 +73,7 @@ no_readers count = map (λ k. []) (range_with_len 0 count)
 -- the lists for so many variables, where parts read this
 abbrev pub readers_in : ℕ → List VertexReads → List (List PartPlace)
 readers_in count = put_each put_vertex 0 (no_readers count)
+
+-- among these parts are those of the lists of variables that moved, of so many variables
+abbrev pub HasReaders : List Bool → List (List PartPlace) → ℕ → List PartPlace → Type 0
+HasReaders moved readers n parts = (v : ℕ) → v < n → is_moved moved v ≡ true → (p : PartPlace) → Contains (slice_index_or readers v []) p → Contains parts p
