@@ -3,3 +3,4 @@ pub mod LineFormats
 pub mod Cancels
 pub mod Versions
 pub mod CountedTokens
+pub mod PieceSorts

@@ -17,22 +17,7 @@ use crate::phrase::{Phrase, Repeated, separated};
 use crate::signed::signed;
 use crate::stop::Stop;
 use model_core::{RawChange, RawChoice, RawExpr, RawNumber, RawTarget, Symbol, Word};
-use sig_base::Held;
 use std::alloc::Global;
-
-/// Reads a variable or a cell that takes a value.
-#[tactic(auto, unfolding(model_core::specs::Text::Language::target_format))]
-fn target(alloc: Global, cursor: &mut Cursor<'_>) -> Result<RawTarget, Stop>
-    ensures { Returned written_target result cursor.new (language_reader target_format cursor.old) }
-{
-    let name = cursor.name(alloc)?;
-    let index = index(alloc, cursor)?;
-    Ok(RawTarget {
-        at: name.at,
-        name,
-        index,
-    })
-}
 
 /// Reads a change that computes values.
 #[tactic(auto, unfolding(crate::specs::Inner::LineFormats::set_format))]
@@ -56,8 +41,7 @@ fn set(alloc: Global, cursor: &mut Cursor<'_>) -> Result<RawChange, Stop>
 fn choice(alloc: Global, cursor: &mut Cursor<'_>) -> Result<RawChoice, Stop>
     ensures { Returned written_choice result cursor.new (language_reader choice_format cursor.old) }
 {
-    if cursor.begins_word(Word::In) {
-        cursor.word(Word::In)?;
+    if let Some(_) = cursor.word_if_next(Word::In) {
         let lo = signed(cursor)?;
         cursor.symbol(Symbol::To)?;
         let hi = signed(cursor)?;
@@ -92,28 +76,15 @@ fn draw(alloc: Global, cursor: &mut Cursor<'_>) -> Result<RawChange, Stop>
     ensures { Returned written_change result cursor.new (language_reader draw_format cursor.old) }
 {
     let at = cursor.word(Word::Draw)?;
-    let target = Held::of(target(alloc, cursor)?);
-    let source = Held::of(source(alloc, cursor)?);
+    let target = RawTarget::read(alloc, cursor)?;
+    let RawSource { stream, choice } = source(alloc, cursor)?;
     cursor.symbol(Symbol::Semicolon)?;
-    let RawSource { stream, choice } = source.free();
     Ok(RawChange::Draw {
         at,
-        target: target.free(),
+        target,
         stream,
         choice,
     })
-}
-
-/// Reads a change.
-#[tactic(auto, unfolding(model_core::specs::Text::Language::change_format, crate::specs::Inner::LineFormats::set_format, crate::specs::Inner::LineFormats::draw_format))]
-fn change(alloc: Global, cursor: &mut Cursor<'_>) -> Result<RawChange, Stop>
-    ensures { Returned written_change result cursor.new (language_reader change_format cursor.old) }
-{
-    if cursor.begins_word(Word::Set) {
-        set(alloc, cursor)
-    } else {
-        draw(alloc, cursor)
-    }
 }
 
 impl Phrase for RawExpr {
@@ -137,8 +108,15 @@ impl Phrase for RawTarget {
 
     ghost format = { target_format };
 
+    #[tactic(auto, unfolding(model_core::specs::Text::Language::target_format))]
     fn read(alloc: Global, cursor: &mut Cursor<'_>) -> Result<RawTarget, Stop> {
-        target(alloc, cursor)
+        let name = cursor.name(alloc)?;
+        let index = index(alloc, cursor)?;
+        Ok(RawTarget {
+            at: name.at,
+            name,
+            index,
+        })
     }
 
     ghost some_tokens = { target-some };
@@ -151,8 +129,13 @@ impl Phrase for RawChange {
 
     ghost format = { change_format };
 
+    #[tactic(auto, unfolding(model_core::specs::Text::Language::change_format, crate::specs::Inner::LineFormats::set_format, crate::specs::Inner::LineFormats::draw_format))]
     fn read(alloc: Global, cursor: &mut Cursor<'_>) -> Result<RawChange, Stop> {
-        change(alloc, cursor)
+        if cursor.begins_word(Word::Set) {
+            set(alloc, cursor)
+        } else {
+            draw(alloc, cursor)
+        }
     }
 
     ghost some_tokens = { change-some };

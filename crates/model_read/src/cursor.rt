@@ -1,18 +1,19 @@
 //! What is left to read of a text's tokens.
 
 ghost use Rattle.std.specs.Prelude.{◌≡◌, ◌≢◌, ℕ, ◌+◌, ◌≤◌, true, false, None, List, [], drop, length, map, slice_range, IfOk, IfErr};
-ghost use Rattle.std.specs.Option.{option_map, IfSome};
+ghost use Rattle.std.specs.Option.{option_map, is_some, IfSome};
 ghost use Rattle.model_core.specs.declared.token.Word.TheVariants.{Not};
 ghost use Rattle.model_core.specs.Code.WrittenViews.{written_name, written_number};
-ghost use Rattle.model_core.specs.Text.Format.{AName, ASpelled, ANumber, AWord, ASymbol, reserved, mark, this_name, any_name, any_number};
+ghost use Rattle.model_core.specs.Text.Format.{AName, ASpelled, ANumber, AWord, ASymbol, reserved, mark, this_name, any_name, any_number, maybe};
 ghost use Rattle.model_core.specs.Text.FirstWrong.{told_place};
 ghost use Rattle.model_core.specs.Text.SnapshotGrammar.{exact_format};
 ghost use Rattle.text_laws.specs.FirstTokens.{begins_as};
-ghost use Rattle.text_laws.specs.FormatReader.{whole_read};
+ghost use Rattle.text_laws.specs.FormatReader.{took, stuck, whole_read};
 ghost use Rattle.text_laws.specs.LanguageReader.{language_reader};
 ghost use Rattle.model_read.specs.ReadCalls.{Returned};
 ghost use Rattle.text_laws.specs.Ladder.{infix_at, at_levels, behind};
 ghost use Rattle.model_read.specs.Infixes.{infix_of};
+ghost use Rattle.model_read.specs.Inner.PieceSorts.{sort_of_kind, of_kind};
 ghost use Rattle.model_read.specs.Spelled.{spelled_name, digits_written};
 
 use crate::operators::{CONJUNCTIONS, Infix, infix_of};
@@ -154,19 +155,55 @@ impl<'t> Cursor<'t> {
         }
     }
 
+    /// Takes the next token, where it is of this kind, and gives its place.
+    #[inline(always)]
+    fn take_if(&mut self, kind: PieceKind) -> Option<usize>
+        ensures reads { language_reader (maybe (of_kind kind)) self.old ≡ took result self.new }
+        ensures taken { IfSome result (λ at. language_reader (of_kind kind) self.old ≡ took at self.new) }
+        ensures shorter { IfSome result (λ at. length self.new + 1 ≤ length self.old) }
+        ensures missing { result ≡ None → (language_reader (of_kind kind) self.old ≡ stuck self.new) × (self.new ≡ self.old) }
+        ensures comes { is_some result ≡ begins_as (sort_of_kind kind) self.old }
+    {
+        match self.tokens {
+            [first, rest @ ..] if first.kind == kind => {
+                self.tokens = rest;
+                Some(first.from as usize)
+            }
+            _ => None,
+        }
+    }
+
+    /// Takes the reserved word, where it comes next, and gives its place.
+    pub(crate) fn word_if_next(&mut self, word: Word) -> Option<usize>
+        ensures reads { language_reader (maybe (reserved word)) self.old ≡ took result self.new }
+        ensures taken { IfSome result (λ at. language_reader (reserved word) self.old ≡ took at self.new) }
+        ensures shorter { IfSome result (λ at. length self.new + 1 ≤ length self.old) }
+        ensures missing { result ≡ None → (language_reader (reserved word) self.old ≡ stuck self.new) × (self.new ≡ self.old) }
+        ensures comes { is_some result ≡ begins_as (AWord word) self.old }
+    {
+        self.take_if(PieceKind::Word(word))
+    }
+
     /// Takes the reserved word, and gives its place.
     pub fn word(&mut self, word: Word) -> Result<usize, Stop>
         ensures reads { Returned (λ at. at) result self.new (language_reader (reserved word) self.old) }
         ensures shorter { IfOk result (λ at. length self.new + 1 ≤ length self.old) }
         ensures unexpected { IfErr result (λ e. e ≡ Stop.Unexpected) }
     {
-        match self.tokens {
-            [first, rest @ ..] if first.kind == PieceKind::Word(word) => {
-                self.tokens = rest;
-                Ok(first.from as usize)
-            }
-            _ => Err(Stop::Unexpected),
+        match self.word_if_next(word) {
+            Some(at) => Ok(at),
+            None => Err(Stop::Unexpected),
         }
+    }
+
+    /// Takes the symbol, where it comes next, and gives its place.
+    pub(crate) fn symbol_if_next(&mut self, symbol: Symbol) -> Option<usize>
+        ensures taken { IfSome result (λ at. language_reader (mark symbol) self.old ≡ took at self.new) }
+        ensures shorter { IfSome result (λ at. length self.new + 1 ≤ length self.old) }
+        ensures missing { result ≡ None → (language_reader (mark symbol) self.old ≡ stuck self.new) × (self.new ≡ self.old) }
+        ensures comes { is_some result ≡ begins_as (ASymbol symbol) self.old }
+    {
+        self.take_if(PieceKind::Symbol(symbol))
     }
 
     /// Takes the symbol, and gives its place.
@@ -175,12 +212,9 @@ impl<'t> Cursor<'t> {
         ensures shorter { IfOk result (λ at. length self.new + 1 ≤ length self.old) }
         ensures unexpected { IfErr result (λ e. e ≡ Stop.Unexpected) }
     {
-        match self.tokens {
-            [first, rest @ ..] if first.kind == PieceKind::Symbol(symbol) => {
-                self.tokens = rest;
-                Ok(first.from as usize)
-            }
-            _ => Err(Stop::Unexpected),
+        match self.symbol_if_next(symbol) {
+            Some(at) => Ok(at),
+            None => Err(Stop::Unexpected),
         }
     }
 

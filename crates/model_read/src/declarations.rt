@@ -23,64 +23,12 @@ use std::alloc::Global;
 fn size(cursor: &mut Cursor<'_>) -> Result<Option<RawNumber>, Stop>
     ensures { Returned (option_map written_number) result cursor.new (language_reader (maybe (mark OpenBracket *> any_number <* mark CloseBracket)) cursor.old) }
 {
-    if !cursor.begins_symbol(Symbol::OpenBracket) {
+    let Some(_) = cursor.symbol_if_next(Symbol::OpenBracket) else {
         return Ok(None);
-    }
-    cursor.symbol(Symbol::OpenBracket)?;
+    };
     let size = cursor.number()?;
     cursor.symbol(Symbol::CloseBracket)?;
     Ok(Some(size))
-}
-
-/// Reads the declaration of a variable.
-#[tactic(auto, unfolding(model_core::specs::Text::Language::variable_format))]
-fn variable(alloc: Global, cursor: &mut Cursor<'_>) -> Result<RawVar, Stop>
-    ensures { Returned written_variable result cursor.new (language_reader variable_format cursor.old) }
-{
-    let at = cursor.word(Word::Var)?;
-    let name = cursor.name(alloc)?;
-    let size = size(cursor)?;
-    cursor.symbol(Symbol::Colon)?;
-    let kind = kind(cursor)?;
-    cursor.symbol(Symbol::Equal)?;
-    let initial = literal(cursor)?;
-    cursor.symbol(Symbol::Semicolon)?;
-    Ok(RawVar {
-        at,
-        name,
-        size,
-        kind,
-        initial,
-    })
-}
-
-/// Reads a row of a table.
-#[tactic(auto, unfolding(model_core::specs::Text::Language::row_format))]
-fn row(cursor: &mut Cursor<'_>) -> Result<RawRow, Stop>
-    ensures { Returned written_row result cursor.new (language_reader row_format cursor.old) }
-{
-    let value = signed(cursor)?;
-    cursor.symbol(Symbol::Colon)?;
-    let weight = cursor.number()?;
-    cursor.symbol(Symbol::Semicolon)?;
-    Ok(RawRow {
-        at: value.at,
-        value,
-        weight,
-    })
-}
-
-/// Reads the declaration of a table.
-#[tactic(auto, unfolding(model_core::specs::Text::Language::table_format))]
-fn table(alloc: Global, cursor: &mut Cursor<'_>) -> Result<RawTable, Stop>
-    ensures { Returned written_table result cursor.new (language_reader table_format cursor.old) }
-{
-    let at = cursor.word(Word::Table)?;
-    let name = cursor.name(alloc)?;
-    cursor.symbol(Symbol::OpenBrace)?;
-    let rows = at_least_one(alloc, cursor)?;
-    cursor.symbol(Symbol::CloseBrace)?;
-    Ok(RawTable { at, name, rows })
 }
 
 /// Reads the watch list, where one is written.
@@ -88,10 +36,9 @@ fn table(alloc: Global, cursor: &mut Cursor<'_>) -> Result<RawTable, Stop>
 pub(crate) fn watch(alloc: Global, cursor: &mut Cursor<'_>) -> Result<Option<List<RawName>>, Stop>
     ensures { Returned (option_map (map written_name)) result cursor.new (language_reader (maybe watch_format) cursor.old) }
 {
-    if !cursor.begins_word(Word::Watch) {
+    let Some(_) = cursor.word_if_next(Word::Watch) else {
         return Ok(None);
-    }
-    cursor.word(Word::Watch)?;
+    };
     let names = separated(alloc, cursor)?;
     cursor.symbol(Symbol::Semicolon)?;
     Ok(Some(names))
@@ -118,8 +65,23 @@ impl Phrase for RawVar {
 
     ghost format = { variable_format };
 
+    #[tactic(auto, unfolding(model_core::specs::Text::Language::variable_format))]
     fn read(alloc: Global, cursor: &mut Cursor<'_>) -> Result<RawVar, Stop> {
-        variable(alloc, cursor)
+        let at = cursor.word(Word::Var)?;
+        let name = cursor.name(alloc)?;
+        let size = size(cursor)?;
+        cursor.symbol(Symbol::Colon)?;
+        let kind = kind(cursor)?;
+        cursor.symbol(Symbol::Equal)?;
+        let initial = literal(cursor)?;
+        cursor.symbol(Symbol::Semicolon)?;
+        Ok(RawVar {
+            at,
+            name,
+            size,
+            kind,
+            initial,
+        })
     }
 
     ghost some_tokens = { variable-some };
@@ -139,8 +101,17 @@ impl Phrase for RawRow {
 
     ghost format = { row_format };
 
+    #[tactic(auto, unfolding(model_core::specs::Text::Language::row_format))]
     fn read(_alloc: Global, cursor: &mut Cursor<'_>) -> Result<RawRow, Stop> {
-        row(cursor)
+        let value = signed(cursor)?;
+        cursor.symbol(Symbol::Colon)?;
+        let weight = cursor.number()?;
+        cursor.symbol(Symbol::Semicolon)?;
+        Ok(RawRow {
+            at: value.at,
+            value,
+            weight,
+        })
     }
 
     ghost some_tokens = { row-some };
@@ -160,8 +131,14 @@ impl Phrase for RawTable {
 
     ghost format = { table_format };
 
+    #[tactic(auto, unfolding(model_core::specs::Text::Language::table_format))]
     fn read(alloc: Global, cursor: &mut Cursor<'_>) -> Result<RawTable, Stop> {
-        table(alloc, cursor)
+        let at = cursor.word(Word::Table)?;
+        let name = cursor.name(alloc)?;
+        cursor.symbol(Symbol::OpenBrace)?;
+        let rows = at_least_one(alloc, cursor)?;
+        cursor.symbol(Symbol::CloseBrace)?;
+        Ok(RawTable { at, name, rows })
     }
 
     ghost some_tokens = { table-some };

@@ -26,10 +26,9 @@ use std::alloc::Global;
 fn values(alloc: Global, cursor: &mut Cursor<'_>) -> Result<Option<List<RawExpr>>, Stop>
     ensures { Returned (option_map (map written_expression)) result cursor.new (language_reader (maybe values_format) cursor.old) }
 {
-    if !cursor.begins_symbol(Symbol::OpenParenthesis) {
+    let Some(_) = cursor.symbol_if_next(Symbol::OpenParenthesis) else {
         return Ok(None);
-    }
-    cursor.symbol(Symbol::OpenParenthesis)?;
+    };
     let values = separated(alloc, cursor)?;
     cursor.symbol(Symbol::CloseParenthesis)?;
     Ok(Some(values))
@@ -40,10 +39,9 @@ fn values(alloc: Global, cursor: &mut Cursor<'_>) -> Result<Option<List<RawExpr>
 fn condition(alloc: Global, cursor: &mut Cursor<'_>) -> Result<Option<RawExpr>, Stop>
     ensures { Returned (option_map written_expression) result cursor.new (language_reader (maybe when_format) cursor.old) }
 {
-    if !cursor.begins_word(Word::When) {
+    let Some(_) = cursor.word_if_next(Word::When) else {
         return Ok(None);
-    }
-    cursor.word(Word::When)?;
+    };
     Ok(Some(expression(alloc, cursor)?))
 }
 
@@ -52,8 +50,7 @@ fn condition(alloc: Global, cursor: &mut Cursor<'_>) -> Result<Option<RawExpr>, 
 fn delay(alloc: Global, cursor: &mut Cursor<'_>) -> Result<RawDelay, Stop>
     ensures { Returned written_delay result cursor.new (language_reader delay_format cursor.old) }
 {
-    if cursor.begins_word(Word::Draw) {
-        let at = cursor.word(Word::Draw)?;
+    if let Some(at) = cursor.word_if_next(Word::Draw) {
         let RawSource { stream, choice } = source(alloc, cursor)?;
         return Ok(RawDelay::Drawn { at, stream, choice });
     }
@@ -64,10 +61,9 @@ fn delay(alloc: Global, cursor: &mut Cursor<'_>) -> Result<RawDelay, Stop>
 fn after(alloc: Global, cursor: &mut Cursor<'_>) -> Result<Option<RawDelay>, Stop>
     ensures { Returned (option_map written_delay) result cursor.new (language_reader (maybe (reserved After *> delay_format)) cursor.old) }
 {
-    if !cursor.begins_word(Word::After) {
+    let Some(_) = cursor.word_if_next(Word::After) else {
         return Ok(None);
-    }
-    cursor.word(Word::After)?;
+    };
     Ok(Some(delay(alloc, cursor)?))
 }
 
@@ -75,10 +71,9 @@ fn after(alloc: Global, cursor: &mut Cursor<'_>) -> Result<Option<RawDelay>, Sto
 fn priority(cursor: &mut Cursor<'_>) -> Result<Option<RawNumber>, Stop>
     ensures { Returned (option_map written_number) result cursor.new (language_reader (maybe (reserved Priority *> any_number)) cursor.old) }
 {
-    if !cursor.begins_word(Word::Priority) {
+    let Some(_) = cursor.word_if_next(Word::Priority) else {
         return Ok(None);
-    }
-    cursor.word(Word::Priority)?;
+    };
     Ok(Some(cursor.number()?))
 }
 
@@ -103,7 +98,7 @@ fn schedule(alloc: Global, cursor: &mut Cursor<'_>) -> Result<RawEdge, Stop>
     let at = cursor.word(Word::Schedule)?;
     let target = cursor.name(alloc)?;
     let values = Held::of(values(alloc, cursor)?);
-    let form = Held::of(timing(alloc, cursor)?);
+    let form = timing(alloc, cursor)?;
     let condition = Held::of(condition(alloc, cursor)?);
     cursor.symbol(Symbol::Semicolon)?;
     Ok(RawEdge {
@@ -111,7 +106,7 @@ fn schedule(alloc: Global, cursor: &mut Cursor<'_>) -> Result<RawEdge, Stop>
         target,
         values: values.free(),
         condition: condition.free(),
-        form: form.free(),
+        form,
     })
 }
 
@@ -147,8 +142,7 @@ struct Cancellation {
 fn cancelled(alloc: Global, cursor: &mut Cursor<'_>) -> Result<Cancellation, Stop>
     ensures { Returned written_cancel result cursor.new (language_reader cancelled_format cursor.old) }
 {
-    if cursor.begins_word(Word::All) {
-        cursor.word(Word::All)?;
+    if let Some(_) = cursor.word_if_next(Word::All) {
         let target = cursor.name(alloc)?;
         return Ok(Cancellation {
             target,
@@ -194,20 +188,6 @@ fn cancel(alloc: Global, cursor: &mut Cursor<'_>) -> Result<RawEdge, Stop>
     })
 }
 
-/// Reads an edge.
-#[tactic(auto, unfolding(model_core::specs::Text::Language::edge_format, model_core::specs::Text::Language::schedule_format, model_core::specs::Text::Language::urgent_format))]
-fn edge(alloc: Global, cursor: &mut Cursor<'_>) -> Result<RawEdge, Stop>
-    ensures { Returned written_edge result cursor.new (language_reader edge_format cursor.old) }
-{
-    if cursor.begins_word(Word::Schedule) {
-        schedule(alloc, cursor)
-    } else if cursor.begins_word(Word::Urgent) {
-        urgent(alloc, cursor)
-    } else {
-        cancel(alloc, cursor)
-    }
-}
-
 impl Phrase for RawEdge {
     ghost Plain = { WrittenEdge };
 
@@ -215,8 +195,15 @@ impl Phrase for RawEdge {
 
     ghost format = { edge_format };
 
+    #[tactic(auto, unfolding(model_core::specs::Text::Language::edge_format, model_core::specs::Text::Language::schedule_format, model_core::specs::Text::Language::urgent_format))]
     fn read(alloc: Global, cursor: &mut Cursor<'_>) -> Result<RawEdge, Stop> {
-        edge(alloc, cursor)
+        if cursor.begins_word(Word::Schedule) {
+            schedule(alloc, cursor)
+        } else if cursor.begins_word(Word::Urgent) {
+            urgent(alloc, cursor)
+        } else {
+            cancel(alloc, cursor)
+        }
     }
 
     ghost some_tokens = { edge-some };

@@ -288,22 +288,19 @@ fn undivided(alloc: Global, cursor: &mut Cursor<'_>) -> Result<RawExpr, Stop>
             form: RawForm::Int(number),
         });
     }
-    if cursor.begins_word(Word::True) {
-        let at = cursor.word(Word::True)?;
+    if let Some(at) = cursor.word_if_next(Word::True) {
         return Ok(RawExpr {
             at,
             form: RawForm::Truth(true),
         });
     }
-    if cursor.begins_word(Word::False) {
-        let at = cursor.word(Word::False)?;
+    if let Some(at) = cursor.word_if_next(Word::False) {
         return Ok(RawExpr {
             at,
             form: RawForm::Truth(false),
         });
     }
-    if cursor.begins_word(Word::Clk) {
-        let at = cursor.word(Word::Clk)?;
+    if let Some(at) = cursor.word_if_next(Word::Clk) {
         return Ok(RawExpr {
             at,
             form: RawForm::Clk,

@@ -1,9 +1,7 @@
 //! Numbers with a sign, what a variable is declared to hold, and initial values.
 
-ghost use Rattle.model_core.specs.declared.token.Word.TheVariants.{Clip};
 ghost use Rattle.model_core.specs.Code.WrittenViews.{written_signed, written_kind, written_literal};
 ghost use Rattle.model_core.specs.Text.Written.{WrittenSigned};
-ghost use Rattle.model_core.specs.Text.Format.{reserved, maybe};
 ghost use Rattle.model_core.specs.Text.Language.{signed_format, kind_format, literal_format};
 ghost use Rattle.text_laws.specs.LanguageReader.{language_reader};
 ghost use Rattle.text_laws.specs.SomeTokens.{signed-some};
@@ -20,8 +18,7 @@ use std::alloc::Global;
 pub(crate) fn signed(cursor: &mut Cursor<'_>) -> Result<RawSigned, Stop>
     ensures { Returned written_signed result cursor.new (language_reader signed_format cursor.old) }
 {
-    if cursor.begins_symbol(Symbol::Minus) {
-        let at = cursor.symbol(Symbol::Minus)?;
+    if let Some(at) = cursor.symbol_if_next(Symbol::Minus) {
         let number = cursor.number()?;
         return Ok(RawSigned {
             at,
@@ -37,29 +34,18 @@ pub(crate) fn signed(cursor: &mut Cursor<'_>) -> Result<RawSigned, Stop>
     })
 }
 
-/// Reads the word `clip`, where it comes.
-fn clip(cursor: &mut Cursor<'_>) -> Result<Option<usize>, Stop>
-    ensures { Returned (λ at. at) result cursor.new (language_reader (maybe (reserved Clip)) cursor.old) }
-{
-    if !cursor.begins_word(Word::Clip) {
-        return Ok(None);
-    }
-    Ok(Some(cursor.word(Word::Clip)?))
-}
-
 /// Reads what a variable is declared to hold.
 #[tactic(auto, unfolding(model_core::specs::Text::Language::kind_format))]
 pub(crate) fn kind(cursor: &mut Cursor<'_>) -> Result<RawKind, Stop>
     ensures { Returned written_kind result cursor.new (language_reader kind_format cursor.old) }
 {
-    if cursor.begins_word(Word::Bool) {
-        cursor.word(Word::Bool)?;
+    if let Some(_) = cursor.word_if_next(Word::Bool) {
         return Ok(RawKind::Truth);
     }
     let lo = signed(cursor)?;
     cursor.symbol(Symbol::To)?;
     let hi = signed(cursor)?;
-    let clip = clip(cursor)?.is_some();
+    let clip = cursor.word_if_next(Word::Clip).is_some();
     Ok(RawKind::Range { lo, hi, clip })
 }
 
@@ -68,12 +54,10 @@ pub(crate) fn kind(cursor: &mut Cursor<'_>) -> Result<RawKind, Stop>
 pub(crate) fn literal(cursor: &mut Cursor<'_>) -> Result<RawLiteral, Stop>
     ensures { Returned written_literal result cursor.new (language_reader literal_format cursor.old) }
 {
-    if cursor.begins_word(Word::True) {
-        let at = cursor.word(Word::True)?;
+    if let Some(at) = cursor.word_if_next(Word::True) {
         return Ok(RawLiteral::Truth { at, value: true });
     }
-    if cursor.begins_word(Word::False) {
-        let at = cursor.word(Word::False)?;
+    if let Some(at) = cursor.word_if_next(Word::False) {
         return Ok(RawLiteral::Truth { at, value: false });
     }
     Ok(RawLiteral::Signed(signed(cursor)?))

@@ -36,10 +36,9 @@ struct RawVersion {
 fn version(cursor: &mut Cursor<'_>) -> Result<Option<RawVersion>, Stop>
     ensures { Returned (option_map written_version) result cursor.new (language_reader (maybe version_format) cursor.old) }
 {
-    if !cursor.begins_word(Word::Version) {
+    let Some(at) = cursor.word_if_next(Word::Version) else {
         return Ok(None);
-    }
-    let at = cursor.word(Word::Version)?;
+    };
     let number = cursor.number()?;
     cursor.symbol(Symbol::Semicolon)?;
     Ok(Some(RawVersion { at, number }))

@@ -23,10 +23,9 @@ use std::alloc::Global;
 fn parameters(alloc: Global, cursor: &mut Cursor<'_>) -> Result<Option<List<RawName>>, Stop>
     ensures { Returned (option_map (map written_name)) result cursor.new (language_reader (maybe (mark OpenParenthesis *> separated any_name <* mark CloseParenthesis)) cursor.old) }
 {
-    if !cursor.begins_symbol(Symbol::OpenParenthesis) {
+    let Some(_) = cursor.symbol_if_next(Symbol::OpenParenthesis) else {
         return Ok(None);
-    }
-    cursor.symbol(Symbol::OpenParenthesis)?;
+    };
     let names = separated(alloc, cursor)?;
     cursor.symbol(Symbol::CloseParenthesis)?;
     Ok(Some(names))
@@ -50,22 +49,6 @@ pub fn begun_vertex(alloc: Global, cursor: &mut Cursor<'_>) -> Result<RawVertex,
     })
 }
 
-/// Reads a vertex.
-#[tactic(auto, unfolding(model_core::specs::Text::Language::vertex_format, crate::specs::Beginnings::vertex_beginning))]
-fn vertex(alloc: Global, cursor: &mut Cursor<'_>) -> Result<RawVertex, Stop>
-    ensures { Returned written_vertex result cursor.new (language_reader vertex_format cursor.old) }
-{
-    let begun = Held::of(begun_vertex(alloc, cursor)?);
-    let changes = many(alloc, cursor)?;
-    let edges = many(alloc, cursor)?;
-    cursor.symbol(Symbol::CloseBrace)?;
-    Ok(RawVertex {
-        changes,
-        edges,
-        ..begun.free()
-    })
-}
-
 impl Phrase for RawVertex {
     ghost Plain = { WrittenVertex };
 
@@ -73,8 +56,17 @@ impl Phrase for RawVertex {
 
     ghost format = { vertex_format };
 
+    #[tactic(auto, unfolding(model_core::specs::Text::Language::vertex_format, crate::specs::Beginnings::vertex_beginning))]
     fn read(alloc: Global, cursor: &mut Cursor<'_>) -> Result<RawVertex, Stop> {
-        vertex(alloc, cursor)
+        let begun = Held::of(begun_vertex(alloc, cursor)?);
+        let changes = many(alloc, cursor)?;
+        let edges = many(alloc, cursor)?;
+        cursor.symbol(Symbol::CloseBrace)?;
+        Ok(RawVertex {
+            changes,
+            edges,
+            ..begun.free()
+        })
     }
 
     ghost some_tokens = { vertex-some };

@@ -4,4 +4,4 @@ use Rattle.model_read.proofs.changes.draw.Goals as goal
 
 pub returns : goal.returns
 unfolding draw_format
-returns c = rw (c.in_ok-at.ensures.reads, c.in_ok-target.ensures, c.in_ok-source.ensures, c.in_ok-symbol.ensures.reads, c.free-choice.ensures, c.of-source.ensures, c.free.ensures, c.of-target.ensures)
+returns c = rw (c.in_ok-at.ensures.reads, c.in_ok-target.ensures, c.in_ok-stream.ensures, c.in_ok-symbol.ensures.reads)

@@ -4,4 +4,4 @@ use Rattle.model_read.proofs.edges.schedule.Goals as goal
 
 pub returns : goal.returns
 unfolding schedule_format
-returns c = rw (c.in_ok-at.ensures.reads, c.in_ok-target.ensures.reads, c.in_ok-values.ensures, c.in_ok-timing.ensures, c.in_ok-condition.ensures, c.in_ok-symbol.ensures.reads, c.free.ensures, c.of-values.ensures, c.free-2.ensures, c.of-condition.ensures, c.free-3.ensures, c.of-form.ensures)
+returns c = rw (c.in_ok-at.ensures.reads, c.in_ok-target.ensures.reads, c.in_ok-values.ensures, c.in_ok-form.ensures, c.in_ok-condition.ensures, c.in_ok-symbol.ensures.reads, c.free.ensures, c.of-values.ensures, c.free-2.ensures, c.of-condition.ensures)
