@@ -61,7 +61,7 @@ impl Bodies {
     }
 
     /// The number of the vertex at this place, if it is known.
-    pub(crate) fn get(&self, place: usize) -> Option<u64>
+    pub fn get(&self, place: usize) -> Option<u64>
         ensures { result ≡ slice_index_or self.now place None }
     {
         let Some(bytes) = &self.bytes else {

@@ -31,7 +31,7 @@ fn moved_length(model: &Model, bytes: u64, first: usize, second: usize) -> u64
     bytes - grows.gone + grows.added
 }
 
-/// The same, where it may be that of the model it isn't known.
+/// The same, or None where it isn't known how many bytes that of the model has.
 fn moved_bytes(model: &Model, bytes: Option<u64>, first: usize, second: usize) -> Option<u64>
     requires measured { IsMeasured (graph_of model.now) bytes }
     requires holds { first_failed (merge_conditions (graph_of model.now) first second) ≡ None }

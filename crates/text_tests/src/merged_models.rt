@@ -130,7 +130,7 @@ end
 
 /// Merges the first two vertices of a model, and gives what is known of the result.
 fn merged_and_measured(alloc: Global, model: &mut Model) -> Result<Known, RuleError> {
-    let mut known = Known::nothing();
+    let mut known = Known::begin(alloc);
     let mut counts = UseCounts::begin(alloc, model)?;
     merge_measured(alloc, model, &mut known, &mut counts, 0, 1)?;
     Ok(known)
@@ -139,8 +139,15 @@ fn merged_and_measured(alloc: Global, model: &mut Model) -> Result<Known, RuleEr
 #[test]
 fn a_merged_model_is_written(rt: HostRuntime) -> Result<(), Fail> {
     let mut model = model_of_text(rt.alloc(), BEFORE)?;
-    let outcome = merged_and_measured(rt.alloc(), &mut model).map(|known| known.bytes);
-    assert_eq!(rt; outcome, Ok(Some(printed_length(&model))));
+    let outcome = merged_and_measured(rt.alloc(), &mut model).map(|known| (
+        known.bytes,
+        known.bodies.get(0),
+        known.bodies.get(1),
+    ));
+    assert_eq!(rt;
+        outcome,
+        Ok((Some(printed_length(&model)), Some(105), Some(39)))
+    );
     assert_eq!(rt; print(rt.alloc(), &model)?.as_slice(), AFTER);
     Ok(())
 }

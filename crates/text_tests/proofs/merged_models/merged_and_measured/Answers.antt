@@ -3,4 +3,4 @@ use Rattle.model_core.specs.Code.Views.{graph_of}
 use Rattle.text_tests.proofs.merged_models.merged_and_measured.Goals as goal
 
 pub merge_measured-requires-clause-known : goal.merge_measured-requires-clause-known
-merge_measured-requires-clause-known c = c.nothing-known.ensures (graph_of c.args.model.now)
+merge_measured-requires-clause-known c = c.begin-known.ensures (graph_of c.args.model.now)
