@@ -12,6 +12,8 @@ mod SameEdges
 mod NarrowedRuns
 mod ValidNarrowed
 mod PostfixBounds
+mod KeptBack
+mod OneItem
 mod OneRound
 mod OpenEnds
 mod RoundsEnd

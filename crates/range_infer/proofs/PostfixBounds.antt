@@ -1,19 +1,22 @@
--- A walk over the postfix form of an expression finds its bounds.
-use Rattle.std.proofs.Common.{◌≡◌, Bool, true, false, ◌&&◌, ◌==◌, cond, List, [], ◌∷◌, ◌++◌, length, refl, sym, ◌∙◌, ap}
+-- A walk over the postfix form of an expression finds its bounds, and leaves the ranges that are left where it has a value.
+use Rattle.std.proofs.Common.{◌≡◌, ℕ, ℤ, Bool, true, false, not, cond, List, [], ◌∷◌, ◌++◌, slice_set, Option, Some, None, refl, sym, ◌∙◌, ap, ap₂}
 use Rattle.std.specs.List.{fold}
+use Rattle.std.specs.Option.{option_map}
+use Rattle.std.proofs.lemmas.List.{set-get_or}
 use Rattle.std.proofs.lemmas.List.Sums.{fold-append}
+use Rattle.model_core.specs.declared.op.Op.{Op}
+use Rattle.model_core.specs.declared.op.Op.TheVariants as ops
 use Rattle.model_core.specs.declared.bounds.Bounds.{Bounds}
 use Rattle.model_core.specs.EventGraph.{Variable, Operator, Add, Subtract, Multiply, Divide, Remainder, Least, Greatest, Equal, NotEqual, Below, AtMost, Above, AtLeast, And, Or, Expression, Number, Truth, Clock, Scalar, Cell, Negative, Not, Binary, If}
+use Rattle.model_core.specs.Run.State.{no_variable}
 use Rattle.model_core.specs.Code.Views.{operator_of}
 use Rattle.model_core.specs.Rules.BoundsTable.{operator_bounds}
-use Rattle.model_core.specs.Rules.BoundsOf.{beside, bounds_under}
-use Rattle.model_core.specs.Ranges.Refined.{refined}
-use Rattle.model_core.proofs.BothTrue.{and_first, and_second}
+use Rattle.model_core.specs.Rules.BoundsOf.{ranged_at, beside, bounds_under}
+use Rattle.model_core.specs.Rules.Exclusive.{number_literal, literal_number}
+use Rattle.model_core.specs.Ranges.Refined.{opposite_comparison, where_holds, refined_by, tells_of_both, refined}
 use Rattle.range_infer.specs.declared.postfix.PostfixItem.{PostfixItem}
 use Rattle.range_infer.specs.declared.postfix.PostfixItem.TheVariants as items
-use Rattle.range_infer.specs.Inner.Postfix.{op_of, tells_nothing, has_postfix, with_right, postfix_of, value_postfix, after_item}
-
--- ---- operators of the code
+use Rattle.range_infer.specs.Inner.Postfix.{op_of, number_items, literal_items, compared_items, left_items, tells_both, left_by, with_right, guard_of, with_operands, postfix_of, Walk, signed, is_of_ranges, after_item, walked}
 
 same_operator : (op : Operator) → operator_of (op_of op) ≡ op
 same_operator Add = refl
@@ -32,78 +35,271 @@ same_operator AtLeast = refl
 same_operator And = refl
 same_operator Or = refl
 
--- what the left operand tells of the right one: nothing
-ranges_stay : (op : Operator) (a : Expression) (rs : List Variable) → tells_nothing op ≡ true → beside refined op a rs ≡ rs
-ranges_stay And a rs nothing = cc
-ranges_stay Or a rs nothing = cc
-ranges_stay Add a rs nothing = refl
-ranges_stay Subtract a rs nothing = refl
-ranges_stay Multiply a rs nothing = refl
-ranges_stay Divide a rs nothing = refl
-ranges_stay Remainder a rs nothing = refl
-ranges_stay Least a rs nothing = refl
-ranges_stay Greatest a rs nothing = refl
-ranges_stay Equal a rs nothing = refl
-ranges_stay NotEqual a rs nothing = refl
-ranges_stay Below a rs nothing = refl
-ranges_stay AtMost a rs nothing = refl
-ranges_stay Above a rs nothing = refl
-ranges_stay AtLeast a rs nothing = refl
+pub same_op : (op : Op) → op_of (operator_of op) ≡ op
+same_op ops.Add = refl
+same_op ops.Sub = refl
+same_op ops.Mul = refl
+same_op ops.Div = refl
+same_op ops.Rem = refl
+same_op ops.Min = refl
+same_op ops.Max = refl
+same_op ops.Eq = refl
+same_op ops.Ne = refl
+same_op ops.Lt = refl
+same_op ops.Le = refl
+same_op ops.Gt = refl
+same_op ops.Ge = refl
+same_op ops.And = refl
+same_op ops.Or = refl
 
--- ---- the walk
+-- ---- one walk behind another
 
-module _ (rs : List Variable) where
-  abbrev walk : List Bounds → List PostfixItem → List Bounds
-  walk = fold (after_item rs)
+abbrev pub walk : Walk → List PostfixItem → Walk
+walk = fold walked
 
-  abbrev bounds : Expression → Bounds
-  bounds = bounds_under refined rs
+abbrev bounds : List Variable → Expression → Bounds
+bounds = bounds_under refined
 
-  -- one more item behind
-  one_more : (found after : List Bounds) (xs : List PostfixItem) (x : PostfixItem) → walk found xs ≡ after → walk found (xs ++ x ∷ []) ≡ after_item rs after x
-  one_more found after xs x so = fold-append (after_item rs) found xs (x ∷ []) ∙ ap (λ (fs : List Bounds). after_item rs fs x) so
+abbrev pub standing : List Variable → List (List Variable) → List Bounds → Walk
+standing rs kept found = record { ranges = rs; kept = kept; found = found }
 
-  by_items : (op : Operator) (e : Expression) (a : Bounds) (found : List Bounds) → walk (a ∷ found) (postfix_of e) ≡ bounds e ∷ a ∷ found → walk (a ∷ found) (postfix_of e ++ items.Operator (op_of op) ∷ []) ≡ operator_bounds op a (bounds e) ∷ found
-  by_items op e a found so =
-      one_more (a ∷ found) (bounds e ∷ a ∷ found) (postfix_of e) (items.Operator (op_of op)) so ∙ ap (λ (o : Operator). operator_bounds o a (bounds e) ∷ found) (same_operator op)
+both : (w : Walk) (xs ys : List PostfixItem) (first second : Walk) → walk w xs ≡ first → walk first ys ≡ second → walk w (xs ++ ys) ≡ second
+both w xs ys first second one two = fold-append walked w xs ys ∙ (ap (λ (v : Walk). walk v ys) one ∙ two)
 
-  -- an operator and its right operand, behind the left one
-  right_found : (op : Operator) (e : Expression) (a : Bounds) (found : List Bounds) → ((fs : List Bounds) → walk fs (postfix_of e) ≡ bounds e ∷ fs) → walk (a ∷ found) (with_right op e (postfix_of e)) ≡ operator_bounds op a (bounds e) ∷ found
-  right_found op (Scalar v) a found right = ap (λ (o : Operator). operator_bounds o a (bounds (Scalar v)) ∷ found) (same_operator op)
-  right_found op (Number n) a found right = by_items op (Number n) a found (right (a ∷ found))
-  right_found op (Truth b) a found right = by_items op (Truth b) a found (right (a ∷ found))
-  right_found op Clock a found right = by_items op Clock a found (right (a ∷ found))
-  right_found op (Cell v e) a found right = by_items op (Cell v e) a found (right (a ∷ found))
-  right_found op (Negative e) a found right = by_items op (Negative e) a found (right (a ∷ found))
-  right_found op (Not e) a found right = by_items op (Not e) a found (right (a ∷ found))
-  right_found op (Binary o x y) a found right = by_items op (Binary o x y) a found (right (a ∷ found))
-  right_found op (If c x y) a found right = by_items op (If c x y) a found (right (a ∷ found))
+-- ---- what a comparison leaves
 
-  pub found_last : (e : Expression) → has_postfix e ≡ true → (found : List Bounds) → walk found (postfix_of e) ≡ bounds e ∷ found
-  found_last (Number n) has found = refl
-  found_last (Truth b) has found = refl
-  found_last Clock has found = refl
-  found_last (Scalar v) has found = refl
-  found_last (Cell v e) has found = one_more found (bounds e ∷ found) (postfix_of e) (items.CellOf v) (found_last e has found)
-  found_last (Negative a) has found = one_more found (bounds a ∷ found) (postfix_of a) items.Negated (found_last a has found)
-  found_last (Not a) has found = one_more found (bounds a ∷ found) (postfix_of a) items.Opposite (found_last a has found)
-  found_last (Binary op a b) has found =
-      let both = and_second (tells_nothing op) (has_postfix a && has_postfix b) has in
-      fold-append (after_item rs) found (postfix_of a) (with_right op b (postfix_of b)) ∙
-      (ap (λ (fs : List Bounds). walk fs (with_right op b (postfix_of b))) (found_last a (and_first (has_postfix a) (has_postfix b) both) found) ∙
-      (right_found op b (bounds a) found (found_last b (and_second (has_postfix a) (has_postfix b) both)) ∙
-      ap (λ (left : List Variable). operator_bounds op (bounds a) (bounds_under refined left b) ∷ found) (sym (ranges_stay op a rs (and_first (tells_nothing op) (has_postfix a && has_postfix b) has)))))
-  found_last (If c a b) has found = cc
+module _ (kept : List (List Variable)) (found : List Bounds) where
+  abbrev ranges_at : List Variable → Walk
+  ranges_at rs = standing rs kept found
 
-  -- what is found last is the bounds of the expression
-  pub last_is : (e : Expression) → has_postfix e ≡ true → (xs : List PostfixItem) → xs ≡ postfix_of e → (zero last : Bounds) (before : List Bounds) → last ∷ before ≡ walk (zero ∷ []) xs → last ≡ bounds e
-  last_is e has xs are zero last before walked =
-      let is : last ∷ before ≡ bounds e ∷ zero ∷ [] = walked ∙ (ap (walk (zero ∷ [])) are ∙ found_last e has (zero ∷ [])) in
-      cc
+  number_left : (op : Op) (v : ℕ) (negative : Bool) (n : Option ℤ) (rs : List Variable) → walk (ranges_at rs) (number_items op v negative n) ≡ ranges_at (slice_set rs v (where_holds (operator_of op) (option_map (signed negative) n) (ranged_at rs v)))
+  number_left op v negative None rs = ap ranges_at (sym (set-get_or rs v no_variable))
+  number_left op v negative (Some n) rs = refl
 
--- a value whose postfix form isn't empty has one
-pub value_has : (e : Expression) (xs : List PostfixItem) → xs ≡ value_postfix e → (length xs == 0) ≡ false → (has_postfix e ≡ true) × (xs ≡ postfix_of e)
-value_has e xs are some = by (has_postfix e) are where
-  by : (b : Bool) → xs ≡ cond b (postfix_of e) [] → (b ≡ true) × (xs ≡ postfix_of e)
-  by true is = (refl, is)
-  by false is = let no : true ≡ false = sym (ap (λ (ys : List PostfixItem). length ys == 0) is) ∙ some in let never : ⊥ = cc in absurd never
+  literal_left : (op : Op) (v : ℕ) (e : Expression) (rs : List Variable) → walk (ranges_at rs) (literal_items op v e) ≡ ranges_at (slice_set rs v (where_holds (operator_of op) (literal_number e) (ranged_at rs v)))
+  literal_left op v (Negative a) rs = number_left op v true (number_literal a) rs
+  literal_left op v (Number n) rs = number_left op v false (Some n) rs
+  literal_left op v (Truth t) rs = number_left op v false None rs
+  literal_left op v Clock rs = number_left op v false None rs
+  literal_left op v (Scalar w) rs = number_left op v false None rs
+  literal_left op v (Cell w e) rs = number_left op v false None rs
+  literal_left op v (Not a) rs = number_left op v false None rs
+  literal_left op v (Binary o a c) rs = number_left op v false None rs
+  literal_left op v (If c x y) rs = number_left op v false None rs
+
+  compared_left : (op : Operator) (a c : Expression) (b : Bool) (rs : List Variable) → walk (ranges_at rs) (compared_items op a c b) ≡ ranges_at (refined_by op a c b rs)
+  compared_left op (Scalar v) c b rs =
+      let o = cond b op (opposite_comparison op) in
+      literal_left (op_of o) v c rs ∙ ap (λ (o : Operator). ranges_at (slice_set rs v (where_holds o (literal_number c) (ranged_at rs v)))) (same_operator o)
+  compared_left op (Number n) c b rs = refl
+  compared_left op (Truth t) c b rs = refl
+  compared_left op Clock c b rs = refl
+  compared_left op (Cell v e) c b rs = refl
+  compared_left op (Negative a) c b rs = refl
+  compared_left op (Not a) c b rs = refl
+  compared_left op (Binary o x y) c b rs = refl
+  compared_left op (If t x y) c b rs = refl
+
+  either_left : (t : Bool) (w : Walk) (xs ys : List PostfixItem) (one other : List Variable) → walk w xs ≡ ranges_at one → walk w ys ≡ ranges_at other → walk w (cond t xs ys) ≡ ranges_at (cond t one other)
+  either_left true w xs ys one other first second = first
+  either_left false w xs ys one other first second = second
+
+  known_left : (e : Expression) (b : Bool) (rs : List Variable) → walk (ranges_at rs) (left_items e b) ≡ ranges_at (refined e b rs)
+  known_left (Not a) b rs = known_left a (not b) rs
+  known_left (Binary op a c) b rs =
+      either_left (tells_of_both op b) (ranges_at rs) (left_items a b ++ left_items c b) (compared_items op a c b) (refined c b (refined a b rs)) (refined_by op a c b rs)
+      (both (ranges_at rs) (left_items a b) (left_items c b) (ranges_at (refined a b rs)) (ranges_at (refined c b (refined a b rs))) (known_left a b rs) (known_left c b (refined a b rs)))
+      (compared_left op a c b rs)
+  known_left (Number n) b rs = refl
+  known_left (Truth t) b rs = refl
+  known_left Clock b rs = refl
+  known_left (Scalar v) b rs = refl
+  known_left (Cell v e) b rs = refl
+  known_left (Negative a) b rs = refl
+  known_left (If c x y) b rs = refl
+
+-- ---- what is left behind an expression
+
+abbrev left_behind : Expression → Option Bool → List Variable → List Variable
+left_behind e None rs = rs
+left_behind e (Some b) rs = refined e b rs
+
+-- nothing is told
+untold : (e : Expression) (m : Option Bool) (rs : List Variable) → ((b : Bool) → refined e b rs ≡ rs) → rs ≡ left_behind e m rs
+untold e None rs stays = refl
+untold e (Some b) rs stays = sym (stays b)
+
+negated_behind : (a : Expression) (m : Option Bool) (rs : List Variable) → left_behind a (option_map not m) rs ≡ left_behind (Not a) m rs
+negated_behind a None rs = refl
+negated_behind a (Some b) rs = refl
+
+-- where both operands are told of, the right one is evaluated where the left one has the value
+told_beside : (op : Operator) (a : Expression) (b : Bool) (rs : List Variable) → tells_of_both op b ≡ true → refined a b rs ≡ beside refined op a rs
+told_beside And a true rs told = refl
+told_beside And a false rs told = cc
+told_beside Or a true rs told = cc
+told_beside Or a false rs told = refl
+told_beside op a b rs told = cc
+
+told_left : (op : Operator) (a c : Expression) (b : Bool) (rs : List Variable) → tells_of_both op b ≡ true → refined c b (refined a b rs) ≡ refined (Binary op a c) b rs
+told_left op a c b rs told = sym (ap (λ (t : Bool). cond t (refined c b (refined a b rs)) (refined_by op a c b rs)) told)
+
+untold_left : (op : Operator) (a c : Expression) (b : Bool) (rs : List Variable) → tells_of_both op b ≡ false → refined_by op a c b rs ≡ refined (Binary op a c) b rs
+untold_left op a c b rs none = sym (ap (λ (t : Bool). cond t (refined c b (refined a b rs)) (refined_by op a c b rs)) none)
+
+-- ---- operands and their operator
+
+-- a walk over the items of the expression finds its bounds, under any ranges
+abbrev IsFound : Expression → Type 0
+IsFound e = (m : Option Bool) (rs : List Variable) (kept : List (List Variable)) (found : List Bounds) → walk (standing rs kept found) (postfix_of e m) ≡ standing (left_behind e m rs) kept (bounds rs e ∷ found)
+
+module _ (kept : List (List Variable)) (found : List Bounds) where
+  by_items : (op : Operator) (c : Expression) (a : Bounds) (rs : List Variable) → IsFound c → walk (standing rs kept (a ∷ found)) (postfix_of c None ++ items.Operator (op_of op) ∷ []) ≡ standing rs kept (operator_bounds op a (bounds rs c) ∷ found)
+  by_items op c a rs right =
+      both (standing rs kept (a ∷ found)) (postfix_of c None) (items.Operator (op_of op) ∷ []) (standing rs kept (bounds rs c ∷ a ∷ found)) (standing rs kept (operator_bounds op a (bounds rs c) ∷ found)) (right None rs kept (a ∷ found))
+      (ap (λ (o : Operator). standing rs kept (operator_bounds o a (bounds rs c) ∷ found)) (same_operator op))
+
+  right_found : (op : Operator) (c : Expression) (a : Bounds) (rs : List Variable) → IsFound c → walk (standing rs kept (a ∷ found)) (with_right op c (postfix_of c None)) ≡ standing rs kept (operator_bounds op a (bounds rs c) ∷ found)
+  right_found op (Scalar v) a rs right = ap (λ (o : Operator). standing rs kept (operator_bounds o a (bounds rs (Scalar v)) ∷ found)) (same_operator op)
+  right_found op (Number n) a rs right = by_items op (Number n) a rs right
+  right_found op (Truth t) a rs right = by_items op (Truth t) a rs right
+  right_found op Clock a rs right = by_items op Clock a rs right
+  right_found op (Cell v e) a rs right = by_items op (Cell v e) a rs right
+  right_found op (Negative e) a rs right = by_items op (Negative e) a rs right
+  right_found op (Not e) a rs right = by_items op (Not e) a rs right
+  right_found op (Binary o x y) a rs right = by_items op (Binary o x y) a rs right
+  right_found op (If t x y) a rs right = by_items op (If t x y) a rs right
+
+  module _ (a c : Expression) (left : IsFound a) (right : IsFound c) (rs : List Variable) where
+    abbrev operated_to : Operator → Walk
+    operated_to op = standing rs kept (operator_bounds op (bounds rs a) (bounds (beside refined op a rs) c) ∷ found)
+
+    plain_found : (op : Operator) → walk (standing rs kept found) (postfix_of a None ++ with_right op c (postfix_of c None)) ≡ standing rs kept (operator_bounds op (bounds rs a) (bounds rs c) ∷ found)
+    plain_found op =
+        both (standing rs kept found) (postfix_of a None) (with_right op c (postfix_of c None)) (standing rs kept (bounds rs a ∷ found)) (standing rs kept (operator_bounds op (bounds rs a) (bounds rs c) ∷ found)) (left None rs kept found)
+        (right_found op c (bounds rs a) rs right)
+
+    -- the right operand is evaluated where the left one has this value
+    guarded_found : (op : Op) (b : Bool) → walk (standing rs (rs ∷ kept) found) (postfix_of a (Some b) ++ (postfix_of c None ++ items.PutBack ∷ items.Operator op ∷ [])) ≡ standing rs kept (operator_bounds (operator_of op) (bounds rs a) (bounds (refined a b rs) c) ∷ found)
+    guarded_found op b =
+        let holds = refined a b rs in
+        let end : Walk = standing rs kept (operator_bounds (operator_of op) (bounds rs a) (bounds holds c) ∷ found) in
+        both (standing rs (rs ∷ kept) found) (postfix_of a (Some b)) (postfix_of c None ++ items.PutBack ∷ items.Operator op ∷ []) (standing holds (rs ∷ kept) (bounds rs a ∷ found)) end (left (Some b) rs (rs ∷ kept) found)
+        (both (standing holds (rs ∷ kept) (bounds rs a ∷ found)) (postfix_of c None) (items.PutBack ∷ items.Operator op ∷ []) (standing holds (rs ∷ kept) (bounds holds c ∷ bounds rs a ∷ found)) end (right None holds (rs ∷ kept) (bounds rs a ∷ found)) refl)
+
+    operands_found : (op : Operator) → walk (standing rs kept found) (with_operands (guard_of op) op c (postfix_of a) (postfix_of c)) ≡ operated_to op
+    operands_found And = guarded_found ops.And true
+    operands_found Or = guarded_found ops.Or false
+    operands_found Add = plain_found Add
+    operands_found Subtract = plain_found Subtract
+    operands_found Multiply = plain_found Multiply
+    operands_found Divide = plain_found Divide
+    operands_found Remainder = plain_found Remainder
+    operands_found Least = plain_found Least
+    operands_found Greatest = plain_found Greatest
+    operands_found Equal = plain_found Equal
+    operands_found NotEqual = plain_found NotEqual
+    operands_found Below = plain_found Below
+    operands_found AtMost = plain_found AtMost
+    operands_found Above = plain_found Above
+    operands_found AtLeast = plain_found AtLeast
+
+    -- both operands are told of
+    told_found : (op : Operator) (b : Bool) → tells_of_both op b ≡ true → walk (standing rs kept found) (postfix_of a (Some b) ++ (postfix_of c (Some b) ++ items.Operator (op_of op) ∷ [])) ≡ standing (refined (Binary op a c) b rs) kept (operator_bounds op (bounds rs a) (bounds (beside refined op a rs) c) ∷ found)
+    told_found op b told =
+        let holds = refined a b rs in
+        let end : Walk = standing (refined (Binary op a c) b rs) kept (operator_bounds op (bounds rs a) (bounds (beside refined op a rs) c) ∷ found) in
+        both (standing rs kept found) (postfix_of a (Some b)) (postfix_of c (Some b) ++ items.Operator (op_of op) ∷ []) (standing holds kept (bounds rs a ∷ found)) end (left (Some b) rs kept found)
+        (both (standing holds kept (bounds rs a ∷ found)) (postfix_of c (Some b)) (items.Operator (op_of op) ∷ []) (standing (refined c b holds) kept (bounds holds c ∷ bounds rs a ∷ found)) end (right (Some b) holds kept (bounds rs a ∷ found))
+        (ap (λ (o : Operator). standing (refined c b holds) kept (operator_bounds o (bounds rs a) (bounds holds c) ∷ found)) (same_operator op)
+        ∙ ap₂ (λ (vs ws : List Variable). standing vs kept (operator_bounds op (bounds rs a) (bounds ws c) ∷ found)) (told_left op a c b rs told) (told_beside op a b rs told)))
+
+    -- and where they aren't, the comparison itself tells
+    left_found : (op : Operator) (m : Option Bool) (fs : List Bounds) → tells_both op m ≡ false → walk (standing rs kept fs) (left_by op a c m) ≡ standing (left_behind (Binary op a c) m rs) kept fs
+    left_found op None fs none = refl
+    left_found op (Some b) fs none = compared_left kept fs op a c b rs ∙ ap (λ (vs : List Variable). standing vs kept fs) (untold_left op a c b rs none)
+
+    binary_found : (op : Operator) (m : Option Bool) → walk (standing rs kept found) (postfix_of (Binary op a c) m) ≡ standing (left_behind (Binary op a c) m rs) kept (operator_bounds op (bounds rs a) (bounds (beside refined op a rs) c) ∷ found)
+    binary_found op m = by m (tells_both op m) refl where
+      both_items : Option Bool → List PostfixItem
+      both_items m = postfix_of a m ++ (postfix_of c m ++ items.Operator (op_of op) ∷ [])
+
+      one_items : Option Bool → List PostfixItem
+      one_items m = with_operands (guard_of op) op c (postfix_of a) (postfix_of c) ++ left_by op a c m
+
+      end : Option Bool → Walk
+      end m = standing (left_behind (Binary op a c) m rs) kept (operator_bounds op (bounds rs a) (bounds (beside refined op a rs) c) ∷ found)
+
+      by : (m : Option Bool) (t : Bool) → tells_both op m ≡ t → walk (standing rs kept found) (cond t (both_items m) (one_items m)) ≡ end m
+      by None true is = cc
+      by (Some b) true is = told_found op b is
+      by m false is =
+          both (standing rs kept found) (with_operands (guard_of op) op c (postfix_of a) (postfix_of c)) (left_by op a c m) (operated_to op) (end m) (operands_found op)
+          (left_found op m (operator_bounds op (bounds rs a) (bounds (beside refined op a rs) c) ∷ found) is)
+
+-- ---- a test, and what counts where it holds and where it doesn't
+
+module _ (c a b : Expression) (test : IsFound c) (first : IsFound a) (second : IsFound b) (rs : List Variable) (kept : List (List Variable)) (found : List Bounds) where
+  if_found : walk (standing rs kept found) (postfix_of (If c a b) None) ≡ standing rs kept (bounds rs (If c a b) ∷ found)
+  if_found =
+      let holds = refined c true rs in
+      let fails = refined c false rs in
+      let one : List Bounds = bounds rs c ∷ found in
+      let two : List Bounds = bounds holds a ∷ bounds rs c ∷ found in
+      let end : Walk = standing rs kept (bounds rs (If c a b) ∷ found) in
+      let last : List PostfixItem = items.PutBack ∷ items.Chosen ∷ [] in
+      let middle : List PostfixItem = items.PutBack ∷ items.Kept ∷ [] in
+      both (standing rs (rs ∷ kept) found) (postfix_of c (Some true)) (postfix_of a None ++ middle ++ (left_items c false ++ (postfix_of b None ++ last))) (standing holds (rs ∷ kept) one) end (test (Some true) rs (rs ∷ kept) found)
+      (both (standing holds (rs ∷ kept) one) (postfix_of a None ++ middle) (left_items c false ++ (postfix_of b None ++ last)) (standing rs (rs ∷ kept) two) end
+      (both (standing holds (rs ∷ kept) one) (postfix_of a None) middle (standing holds (rs ∷ kept) two) (standing rs (rs ∷ kept) two) (first None holds (rs ∷ kept) one) refl)
+      (both (standing rs (rs ∷ kept) two) (left_items c false) (postfix_of b None ++ last) (standing fails (rs ∷ kept) two) end (known_left (rs ∷ kept) two c false rs)
+      (both (standing fails (rs ∷ kept) two) (postfix_of b None) last (standing fails (rs ∷ kept) (bounds fails b ∷ two)) end (second None fails (rs ∷ kept) two) refl)))
+
+-- ---- all forms
+
+-- an expression that tells nothing, and whose bounds were found under the same ranges
+nothing_told : (e : Expression) (m : Option Bool) (rs : List Variable) (kept : List (List Variable)) (found : List Bounds) → ((b : Bool) → refined e b rs ≡ rs) → standing rs kept found ≡ standing (left_behind e m rs) kept found
+nothing_told e m rs kept found stays = ap (λ (vs : List Variable). standing vs kept found) (untold e m rs stays)
+
+pub is_found : (e : Expression) → IsFound e
+is_found (Number n) m rs kept found = nothing_told (Number n) m rs kept (bounds rs (Number n) ∷ found) (λ b. refl)
+is_found (Truth t) m rs kept found = nothing_told (Truth t) m rs kept (bounds rs (Truth t) ∷ found) (λ b. refl)
+is_found Clock m rs kept found = nothing_told Clock m rs kept (bounds rs Clock ∷ found) (λ b. refl)
+is_found (Scalar v) m rs kept found = nothing_told (Scalar v) m rs kept (bounds rs (Scalar v) ∷ found) (λ b. refl)
+is_found (Cell v e) m rs kept found =
+    both (standing rs kept found) (postfix_of e None) (items.CellOf v ∷ []) (standing rs kept (bounds rs e ∷ found)) (standing (left_behind (Cell v e) m rs) kept (bounds rs (Cell v e) ∷ found)) (is_found e None rs kept found)
+    (nothing_told (Cell v e) m rs kept (bounds rs (Cell v e) ∷ found) (λ b. refl))
+is_found (Negative a) m rs kept found =
+    both (standing rs kept found) (postfix_of a None) (items.Negated ∷ []) (standing rs kept (bounds rs a ∷ found)) (standing (left_behind (Negative a) m rs) kept (bounds rs (Negative a) ∷ found)) (is_found a None rs kept found)
+    (nothing_told (Negative a) m rs kept (bounds rs (Negative a) ∷ found) (λ b. refl))
+is_found (Not a) m rs kept found =
+    let behind = left_behind a (option_map not m) rs in
+    both (standing rs kept found) (postfix_of a (option_map not m)) (items.Opposite ∷ []) (standing behind kept (bounds rs a ∷ found)) (standing (left_behind (Not a) m rs) kept (bounds rs (Not a) ∷ found)) (is_found a (option_map not m) rs kept found)
+    (ap (λ (vs : List Variable). standing vs kept (bounds rs (Not a) ∷ found)) (negated_behind a m rs))
+is_found (Binary op a c) m rs kept found = binary_found kept found a c (is_found a) (is_found c) rs op m
+is_found (If c a b) m rs kept found = if_found c a b (is_found c) (is_found a) (is_found b) rs kept found ∙ nothing_told (If c a b) m rs kept (bounds rs (If c a b) ∷ found) (λ t. refl)
+
+-- ---- one item
+
+-- an item either says under which ranges the next ones are evaluated, or is walked over under those that are there
+pub of_ranges : (w : Walk) (i : PostfixItem) → is_of_ranges i ≡ true → (walked w i).found ≡ w.found
+of_ranges w items.Kept is = refl
+of_ranges w items.PutBack is = by w.kept where
+  by : (kept : List (List Variable)) → (walked (standing w.ranges kept w.found) items.PutBack).found ≡ w.found
+  by [] = refl
+  by (r ∷ kept) = refl
+of_ranges w (items.Left op v negative n) is = refl
+of_ranges w i is = cc
+
+pub of_operands : (w : Walk) (i : PostfixItem) → is_of_ranges i ≡ false → walked w i ≡ standing w.ranges w.kept (after_item w.ranges w.found i)
+of_operands w items.Kept is = cc
+of_operands w items.PutBack is = cc
+of_operands w (items.Left op v negative n) is = cc
+of_operands w i is = refl
+
+-- what is found last is the bounds of the expression
+pub last_is : (e : Expression) (rs : List Variable) (xs : List PostfixItem) → xs ≡ postfix_of e None → (before : List Bounds) (last : Bounds) (behind : List Bounds) → last ∷ behind ≡ (walk (standing rs [] before) xs).found → last ≡ bounds rs e
+last_is e rs xs are before last behind found =
+    let all : Walk = standing rs [] (bounds rs e ∷ before) in
+    let is : last ∷ behind ≡ bounds rs e ∷ before = found ∙ ap (λ (w : Walk). w.found) (ap (walk (standing rs [] before)) are ∙ is_found e None rs [] before) in
+    cc

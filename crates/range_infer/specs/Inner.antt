@@ -3,6 +3,7 @@ pub mod RangesLeft
 pub mod RangeTests
 pub mod GrownBy
 pub mod Postfix
+pub mod KeptRanges
 pub mod PartReads
 pub mod Readers
 pub mod Moved

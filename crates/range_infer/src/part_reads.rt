@@ -11,7 +11,7 @@ use sig_base::{List, NoMemory};
 use std::alloc::Global;
 use use_analysis::add_variables;
 
-/// The variables that a value reads, and its postfix form, if it has one.
+/// The variables that a value reads, and its postfix form.
 #[derive(Drop)]
 pub(crate) struct ValueReads {
     pub(crate) vars: List<usize>,

@@ -1,14 +1,19 @@
-//! Values in postfix form: each operator stands behind its operands, so that one walk over a list finds the bounds.
+//! Values in postfix form: each operator stands behind its operands, so that one walk over a list finds the bounds. Where a part
+//! is evaluated under other ranges, items before it say which.
+#![tactic(auto, using(crate::proofs::PostfixBounds::same_op))]
 
-ghost use Rattle.std.specs.Prelude.{◌≡◌, ◌++◌, OnOk, IfOk};
+ghost use Rattle.std.specs.Prelude.{◌≡◌, [], ◌∷◌, ◌++◌, not, None, OnOk, IfOk};
+ghost use Rattle.std.specs.Option.{option_map};
 ghost use Rattle.model_core.specs.Code.Views.{expression_of, operator_of};
-ghost use Rattle.range_infer.specs.Inner.Postfix.{tells_nothing, has_postfix, with_right, postfix_of, value_postfix};
+ghost use Rattle.model_core.specs.Rules.Exclusive.{number_literal};
+ghost use Rattle.range_infer.specs.Inner.Postfix.{number_items, literal_items, compared_items, left_items, tells_both, left_by, with_right, guard_of, postfix_of, is_of_ranges};
 
+use crate::refinement::{comparison_where, tells_of_both};
 use model_core::{Expr, Op};
 use sig_base::{List, NoMemory};
 use std::alloc::Global;
 
-/// An operand, or what is made of the operands that were found before.
+/// An operand, what is made of the operands that were found before, or the ranges under which the next ones are evaluated.
 #[derive(Clone, Copy)]
 pub(crate) enum PostfixItem {
     /// A number.
@@ -29,51 +34,190 @@ pub(crate) enum PostfixItem {
     Beside(Op, usize),
     /// What an operator makes of the last two operands.
     Operator(Op),
+    /// What a test decides: it is the last operand but two.
+    Chosen,
+    /// The ranges that are left are kept.
+    Kept,
+    /// The last ranges that were kept are left again.
+    PutBack,
+    /// Of the variable at this place is left that for which the comparison with a number holds, which is below 0 where it has
+    /// a sign.
+    Left(Op, usize, bool, i64),
 }
 
-/// Whether what the left operand of this operator is tells nothing of the ranges under which the right one is evaluated.
-fn tells_nothing(op: Op) -> bool
-    ensures { result ≡ tells_nothing (operator_of op) }
+/// Whether an item says under which ranges the next ones are evaluated.
+pub(crate) fn is_of_ranges(item: &PostfixItem) -> bool
+    ensures { result ≡ is_of_ranges item.now }
 {
-    match op {
-        Op::And | Op::Or => false,
-        Op::Eq | Op::Ne | Op::Lt | Op::Le | Op::Gt | Op::Ge => true,
-        Op::Add | Op::Sub | Op::Mul | Op::Div | Op::Rem | Op::Min | Op::Max => true,
+    match item {
+        PostfixItem::Kept | PostfixItem::PutBack | PostfixItem::Left(..) => true,
+        PostfixItem::Number(_) | PostfixItem::Truth(_) | PostfixItem::Clock => false,
+        PostfixItem::Variable(_) | PostfixItem::CellOf(_) => false,
+        PostfixItem::Negated | PostfixItem::Opposite | PostfixItem::Chosen => false,
+        PostfixItem::Beside(_, _) | PostfixItem::Operator(_) => false,
     }
 }
 
-/// Whether all of an expression is evaluated under the same ranges.
-fn has_postfix(expr: &Expr) -> bool
-    ensures { result ≡ has_postfix (expression_of expr.now) }
+/// The number that an expression is.
+fn number_in(expr: &Expr) -> Option<i64>
+    ensures { result ≡ number_literal (expression_of expr.now) }
+{
+    if let Expr::Int(n) = expr {
+        Some(*n)
+    } else {
+        None
+    }
+}
+
+/// Adds what a comparison with a number, if there is one, leaves of a variable.
+fn add_number(
+    items: &mut Vec<PostfixItem>,
+    op: Op,
+    var: usize,
+    negative: bool,
+    number: Option<i64>,
+) -> Result<(), NoMemory>
+    ensures { OnOk result (items.new.items ≡ items.old.items ++ number_items op var negative number) }
+{
+    if let Some(n) = number {
+        items.push(PostfixItem::Left(op, var, negative, n))?;
+    }
+    Ok(())
+}
+
+/// Adds what a comparison with an expression leaves of a variable, if the expression is a literal.
+fn add_literal(
+    items: &mut Vec<PostfixItem>,
+    op: Op,
+    var: usize,
+    expr: &Expr,
+) -> Result<(), NoMemory>
+    ensures { OnOk result (items.new.items ≡ items.old.items ++ literal_items op var (expression_of expr.now)) }
+{
+    if let Expr::Neg(a) = expr {
+        add_number(items, op, var, true, number_in(a))
+    } else {
+        add_number(items, op, var, false, number_in(expr))
+    }
+}
+
+/// Adds what a comparison leaves of the variable on its left, if there is one, where it has this value.
+fn add_compared(
+    items: &mut Vec<PostfixItem>,
+    op: Op,
+    first: &Expr,
+    second: &Expr,
+    value: bool,
+) -> Result<(), NoMemory>
+    ensures { OnOk result (items.new.items ≡ items.old.items ++ compared_items (operator_of op) (expression_of first.now) (expression_of second.now) value) }
+{
+    if let Expr::Scalar(var) = first {
+        add_literal(items, comparison_where(op, value), *var, second)?;
+    }
+    Ok(())
+}
+
+/// Adds what is left where an expression has this value.
+fn add_left(items: &mut Vec<PostfixItem>, expr: &Expr, value: bool) -> Result<(), NoMemory>
+    ensures { OnOk result (items.new.items ≡ items.old.items ++ left_items (expression_of expr.now) value) }
 {
     match expr {
-        Expr::Int(_) | Expr::Truth(_) | Expr::Clk | Expr::Scalar(_) => true,
-        Expr::Cell(_, a) | Expr::Neg(a) | Expr::Not(a) => has_postfix(a),
+        Expr::Not(a) => add_left(items, a, !value),
         Expr::Binary(op, first, second) => {
-            tells_nothing(*op) && has_postfix(first) && has_postfix(second)
+            if tells_of_both(*op, value) {
+                add_left(items, first, value)?;
+                add_left(items, second, value)
+            } else {
+                add_compared(items, *op, first, second, value)
+            }
         }
-        Expr::If(..) => false,
+        Expr::Int(_) | Expr::Truth(_) | Expr::Clk | Expr::Scalar(_) => Ok(()),
+        Expr::Cell(_, _) | Expr::Neg(_) | Expr::If(..) => Ok(()),
     }
+}
+
+/// Adds what a comparison leaves where it has this value, if it is known to have one.
+fn add_left_by(
+    items: &mut Vec<PostfixItem>,
+    op: Op,
+    first: &Expr,
+    second: &Expr,
+    value: Option<bool>,
+) -> Result<(), NoMemory>
+    ensures { OnOk result (items.new.items ≡ items.old.items ++ left_by (operator_of op) (expression_of first.now) (expression_of second.now) value) }
+{
+    match value {
+        None => Ok(()),
+        Some(value) => add_compared(items, op, first, second, value),
+    }
+}
+
+/// Whether both operands are known by the value that an operator's result is known to have.
+fn tells_both(op: Op, value: Option<bool>) -> bool
+    ensures { result ≡ tells_both (operator_of op) value }
+{
+    match value {
+        None => false,
+        Some(value) => tells_of_both(op, value),
+    }
+}
+
+/// The value that the left operand has where the right one is evaluated, if that is known.
+fn guard_of(op: Op) -> Option<bool>
+    ensures { result ≡ guard_of (operator_of op) }
+{
+    match op {
+        Op::And => Some(true),
+        Op::Or => Some(false),
+        Op::Eq | Op::Ne | Op::Lt | Op::Le | Op::Gt | Op::Ge => None,
+        Op::Add | Op::Sub | Op::Mul | Op::Div | Op::Rem | Op::Min | Op::Max => None,
+    }
+}
+
+fn opposite_value(value: Option<bool>) -> Option<bool>
+    ensures { result ≡ option_map not value }
+{
+    match value {
+        None => None,
+        Some(value) => Some(!value),
+    }
+}
+
+fn add_two(
+    items: &mut Vec<PostfixItem>,
+    first: PostfixItem,
+    second: PostfixItem,
+) -> Result<(), NoMemory>
+    ensures { OnOk result (items.new.items ≡ items.old.items ++ first ∷ second ∷ []) }
+{
+    items.push(first)?;
+    items.push(second)?;
+    Ok(())
 }
 
 /// Adds the right operand of an operator, and the operator.
 #[cycle(add_postfix)]
 fn add_right(items: &mut Vec<PostfixItem>, op: Op, expr: &Expr) -> Result<(), NoMemory>
-    ensures { OnOk result (items.new.items ≡ items.old.items ++ with_right (operator_of op) (expression_of expr.now) (postfix_of (expression_of expr.now))) }
+    ensures { OnOk result (items.new.items ≡ items.old.items ++ with_right (operator_of op) (expression_of expr.now) (postfix_of (expression_of expr.now) None)) }
 {
     if let Expr::Scalar(var) = expr {
         items.push(PostfixItem::Beside(op, *var))?;
     } else {
-        add_postfix(items, expr)?;
+        add_postfix(items, expr, None)?;
         items.push(PostfixItem::Operator(op))?;
     }
     Ok(())
 }
 
-/// Adds the postfix form of an expression.
+/// Adds the postfix form of an expression. Behind it the ranges are those where the expression has this value, or those before
+/// it.
 #[cycle(add_postfix)]
-fn add_postfix(items: &mut Vec<PostfixItem>, expr: &Expr) -> Result<(), NoMemory>
-    ensures { OnOk result (items.new.items ≡ items.old.items ++ postfix_of (expression_of expr.now)) }
+fn add_postfix(
+    items: &mut Vec<PostfixItem>,
+    expr: &Expr,
+    value: Option<bool>,
+) -> Result<(), NoMemory>
+    ensures { OnOk result (items.new.items ≡ items.old.items ++ postfix_of (expression_of expr.now) value) }
 {
     match expr {
         Expr::Int(n) => items.push(PostfixItem::Number(*n))?,
@@ -81,33 +225,56 @@ fn add_postfix(items: &mut Vec<PostfixItem>, expr: &Expr) -> Result<(), NoMemory
         Expr::Clk => items.push(PostfixItem::Clock)?,
         Expr::Scalar(var) => items.push(PostfixItem::Variable(*var))?,
         Expr::Cell(var, index) => {
-            add_postfix(items, index)?;
+            add_postfix(items, index, None)?;
             items.push(PostfixItem::CellOf(*var))?;
         }
         Expr::Neg(a) => {
-            add_postfix(items, a)?;
+            add_postfix(items, a, None)?;
             items.push(PostfixItem::Negated)?;
         }
         Expr::Not(a) => {
-            add_postfix(items, a)?;
+            add_postfix(items, a, opposite_value(value))?;
             items.push(PostfixItem::Opposite)?;
         }
         Expr::Binary(op, first, second) => {
-            add_postfix(items, first)?;
-            add_right(items, *op, second)?;
+            if tells_both(*op, value) {
+                add_postfix(items, first, value)?;
+                add_postfix(items, second, value)?;
+                items.push(PostfixItem::Operator(*op))?;
+                return Ok(());
+            }
+            match guard_of(*op) {
+                None => {
+                    add_postfix(items, first, None)?;
+                    add_right(items, *op, second)?;
+                }
+                Some(guard) => {
+                    items.push(PostfixItem::Kept)?;
+                    add_postfix(items, first, Some(guard))?;
+                    add_postfix(items, second, None)?;
+                    add_two(items, PostfixItem::PutBack, PostfixItem::Operator(*op))?;
+                }
+            }
+            add_left_by(items, *op, first, second, value)?;
         }
-        Expr::If(..) => {}
+        Expr::If(test, yes, no) => {
+            items.push(PostfixItem::Kept)?;
+            add_postfix(items, test, Some(true))?;
+            add_postfix(items, yes, None)?;
+            add_two(items, PostfixItem::PutBack, PostfixItem::Kept)?;
+            add_left(items, test, false)?;
+            add_postfix(items, no, None)?;
+            add_two(items, PostfixItem::PutBack, PostfixItem::Chosen)?;
+        }
     }
     Ok(())
 }
 
-/// The postfix form of a value, and nothing where parts of it are evaluated under other ranges.
+/// The postfix form of a value.
 pub(crate) fn value_postfix(alloc: Global, expr: &Expr) -> Result<List<PostfixItem>, NoMemory>
-    ensures { IfOk result (λ items. items ≡ value_postfix (expression_of expr.now)) }
+    ensures { IfOk result (λ items. items ≡ postfix_of (expression_of expr.now) None) }
 {
     let mut items = Vec::new(alloc);
-    if has_postfix(expr) {
-        add_postfix(&mut items, expr)?;
-    }
+    add_postfix(&mut items, expr, None)?;
     Ok(List::from_vec(items))
 }

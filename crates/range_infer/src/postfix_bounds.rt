@@ -1,18 +1,26 @@
 //! The bounds of a value by a walk over its postfix form.
 
-ghost use Rattle.std.specs.Prelude.{◌≡◌, true, ◌∷◌, reverse, IfOk, OnOk};
+ghost use Rattle.std.specs.Prelude.{◌≡◌, true, [], ◌∷◌, cond, pos, neg_ℤ, reverse, List, None, IfOk, OnOk};
+ghost use Rattle.std.specs.List.{fold};
+ghost use Rattle.range_bounds.specs.Near.{IsNear};
 ghost use Rattle.model_core.specs.EventGraph.{Expression};
+ghost use Rattle.model_core.specs.declared.bounds.Bounds.{Bounds as Found};
 ghost use Rattle.model_core.specs.Rules.BoundsOf.{bounds_under};
 ghost use Rattle.model_core.specs.Ranges.Refined.{refined};
 ghost use Rattle.model_core.specs.Code.Views.{expression_of};
-ghost use Rattle.range_infer.specs.Inner.RangesLeft.{variables_left, StaysLeft};
-ghost use Rattle.range_infer.specs.Inner.Postfix.{value_postfix, has_postfix, postfix_of, operated, after_item};
+ghost use Rattle.range_infer.specs.declared.ranges_left.RangesLeft.{RangesLeft};
+ghost use Rattle.range_infer.specs.Inner.RangesLeft.{variables_left, StaysLeft, LeadsBack};
+ghost use Rattle.range_infer.specs.Inner.KeptRanges.{Stands};
+ghost use Rattle.range_infer.specs.Inner.Postfix.{Walk, signed, postfix_of, operated, chosen, is_of_ranges, after_item, walked};
 
-use crate::bounds_left::{bounds_left, quiet_index, variable_bounds};
-use crate::postfix::PostfixItem;
+use crate::bounds_left::{quiet_index, variable_bounds};
+use crate::postfix::{PostfixItem, is_of_ranges};
 use crate::ranges_left::RangesLeft;
-use model_core::{Bounds, Expr, Op};
-use range_bounds::{negative_bounds, number_bounds, operator_bounds, opposite, truth_bounds};
+use crate::refinement::{forget, refine_scalar};
+use model_core::{Bounds, Op};
+use range_bounds::{
+    chosen_bounds, negative_bounds, number_bounds, operator_bounds, opposite, truth_bounds,
+};
 use sig_base::NoMemory;
 
 /// Keeps the bounds of the operand before this one. Gives those of this one.
@@ -35,7 +43,21 @@ fn operated(before: &mut Vec<Bounds>, op: Op, last: Bounds) -> Bounds
     }
 }
 
-/// The bounds of the last operand after one more item. Those of the operands before it wait for what is made of them.
+/// The bounds of what a test decides, of the last three operands.
+fn chosen(before: &mut Vec<Bounds>, last: Bounds) -> Bounds
+    ensures { result ∷ reverse before.new.items ≡ chosen (last ∷ reverse before.old.items) }
+{
+    let Some(yes) = before.pop() else {
+        return last;
+    };
+    match before.pop() {
+        Some(test) => chosen_bounds(&test, &yes, &last),
+        None => last,
+    }
+}
+
+/// The bounds of the last operand after one more item that isn't of ranges. Those of the operands before it wait for what is made
+/// of them.
 #[inline(always)]
 fn after_item(
     left: &RangesLeft,
@@ -61,34 +83,84 @@ fn after_item(
         }
         PostfixItem::Negated => Ok(negative_bounds(&last)),
         PostfixItem::Opposite => Ok(opposite(&last)),
+        PostfixItem::Chosen => Ok(chosen(before, last)),
+        PostfixItem::Kept | PostfixItem::PutBack | PostfixItem::Left(..) => Ok(last),
     }
 }
 
-/// The bounds of the expression of which this is the postfix form.
-fn bounds_of_items(left: &RangesLeft, items: &[PostfixItem]) -> Result<Bounds, NoMemory>
-    ensures { IfOk result (λ b. (e : Expression) → has_postfix e ≡ true → items.now ≡ postfix_of e → b ≡ bounds_under refined (variables_left left.now) e) }
+/// A number with its sign.
+fn signed(negative: bool, n: i64) -> i128
+    ensures value { result ≡ signed negative n }
+    ensures near { IsNear result }
 {
-    let mut before = Vec::new(*left.ranges.allocator());
+    if negative { -(n as i128) } else { n as i128 }
+}
+
+/// Puts the ranges back that were kept last, if any were.
+fn put_back(left: &mut RangesLeft, kept: &mut Vec<usize>)
+    ensures { (first : RangesLeft) (w : Walk) → Stands first left.old (reverse kept.old.items) w → Stands first left.new (reverse kept.new.items) (walked w PostfixItem.PutBack) }
+{
+    if let Some(count) = kept.pop() {
+        forget(left, count);
+    }
+}
+
+/// The ranges that are left after one more item of ranges. Of ranges that are kept is told how many were replaced before.
+fn ranges_after(
+    left: &mut RangesLeft,
+    kept: &mut Vec<usize>,
+    item: PostfixItem,
+) -> Result<(), NoMemory>
+    ensures { OnOk result ((first : RangesLeft) (w : Walk) → is_of_ranges item ≡ true → Stands first left.old (reverse kept.old.items) w → Stands first left.new (reverse kept.new.items) (walked w item)) }
+{
+    match item {
+        PostfixItem::Kept => kept.push(left.replaced.len())?,
+        PostfixItem::PutBack => put_back(left, kept),
+        PostfixItem::Left(op, var, negative, n) => refine_scalar(
+            left,
+            op,
+            var,
+            signed(negative, n),
+        )?,
+        PostfixItem::Number(_) | PostfixItem::Truth(_) | PostfixItem::Clock => {}
+        PostfixItem::Variable(_) | PostfixItem::CellOf(_) => {}
+        PostfixItem::Negated | PostfixItem::Opposite | PostfixItem::Chosen => {}
+        PostfixItem::Beside(_, _) | PostfixItem::Operator(_) => {}
+    }
+    Ok(())
+}
+
+/// Walks over items, from the ranges that are left. Gives the bounds that are found last.
+fn walk_over(
+    left: &mut RangesLeft,
+    before: &mut Vec<Bounds>,
+    kept: &mut Vec<usize>,
+    items: &[PostfixItem],
+) -> Result<Bounds, NoMemory>
+    requires { kept.old.items ≡ [] }
+    ensures found { IfOk result (λ b. (e : Expression) → items.now ≡ postfix_of e None → b ≡ bounds_under refined (variables_left left.old) e) }
+    ensures back { OnOk result (LeadsBack left.old left.new) }
+{
     let mut last = number_bounds(0, 0, true);
     for item in items {
-        last = after_item(left, &mut before, last, *item)?;
+        if is_of_ranges(item) {
+            ranges_after(left, kept, *item)?;
+        } else {
+            last = after_item(left, before, last, *item)?;
+        }
     }
     Ok(last)
 }
 
-/// The bounds of a value under the ranges that are left: by its postfix form if it has one, and else part by part.
-pub(crate) fn value_bounds(
-    left: &mut RangesLeft,
-    value: &Expr,
-    items: &[PostfixItem],
-) -> Result<Bounds, NoMemory>
-    requires { items.now ≡ value_postfix (expression_of value.now) }
-    ensures bounds { IfOk result (λ b. b ≡ bounds_under refined (variables_left left.old) (expression_of value.now)) }
+/// The bounds of the value of which this is the postfix form, under the ranges that are left.
+pub(crate) fn value_bounds(left: &mut RangesLeft, items: &[PostfixItem]) -> Result<Bounds, NoMemory>
+    ensures bounds { IfOk result (λ b. (e : Expression) → items.now ≡ postfix_of e None → b ≡ bounds_under refined (variables_left left.old) e) }
     ensures left { OnOk result (StaysLeft left.old left.new) }
 {
-    if items.is_empty() {
-        bounds_left(left, value)
-    } else {
-        bounds_of_items(left, items)
-    }
+    let replaced = left.replaced.len();
+    let mut before = Vec::new(*left.ranges.allocator());
+    let mut kept = Vec::new(*left.ranges.allocator());
+    let last = walk_over(left, &mut before, &mut kept, items)?;
+    forget(left, replaced);
+    Ok(last)
 }

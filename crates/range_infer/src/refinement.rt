@@ -32,7 +32,7 @@ fn opposite_comparison(op: Op) -> Op
 }
 
 /// The comparison that holds where this one has this value.
-fn comparison_where(op: Op, value: bool) -> Op
+pub(crate) fn comparison_where(op: Op, value: bool) -> Op
     ensures { operator_of result ≡ cond value (operator_of op) (opposite_comparison (operator_of op)) }
 {
     if value { op } else { opposite_comparison(op) }
@@ -71,7 +71,12 @@ pub(crate) fn forget(left: &mut RangesLeft, replaced: usize)
 
 /// Replaces the range of the variable at this place, if there is one, by what is left of it where a comparison of it with
 /// `n` holds.
-fn refine_scalar(left: &mut RangesLeft, op: Op, var: usize, n: i128) -> Result<(), NoMemory>
+pub(crate) fn refine_scalar(
+    left: &mut RangesLeft,
+    op: Op,
+    var: usize,
+    n: i128,
+) -> Result<(), NoMemory>
     requires near { IsNear n }
     ensures left { OnOk result (variables_left left.new
         ≡ slice_set (variables_left left.old) var (where_holds (operator_of op) (Some n) (ranged_at (variables_left left.old) var))) }

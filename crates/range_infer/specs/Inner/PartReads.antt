@@ -1,14 +1,14 @@
 -- What is read of the parts of a model by which variables take something: the variables in them, and the postfix form of values.
-use Rattle.std.specs.Prelude.{List, [], map}
+use Rattle.std.specs.Prelude.{List, [], map, None}
 use Rattle.model_core.specs.EventGraph.{Expression, StateChange, Set, Draw, EventEdge, EventVertex}
 use Rattle.model_core.specs.Rules.Uses.{variables_in}
 use Rattle.range_infer.specs.declared.part_reads.ValueReads.{ValueReads}
 use Rattle.range_infer.specs.declared.part_reads.EdgeReads.{EdgeReads}
 use Rattle.range_infer.specs.declared.part_reads.VertexReads.{VertexReads}
-use Rattle.range_infer.specs.Inner.Postfix.{value_postfix}
+use Rattle.range_infer.specs.Inner.Postfix.{postfix_of}
 
 abbrev pub value_reads : Expression → ValueReads
-value_reads e = record { vars = variables_in e; postfix = value_postfix e }
+value_reads e = record { vars = variables_in e; postfix = postfix_of e None }
 
 -- what is read where no value stands
 abbrev pub no_value : ValueReads
