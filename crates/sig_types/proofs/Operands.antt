@@ -40,6 +40,12 @@ module _ (means : List ℕ → Option Meaning) (at : ℕ) where
       → Whole t0 t2 (written.Cell at n i) (graph.Cell k x)
   cell t0 t1 t2 n i k x p q = made (λ h. two_numbered means graph.Cell (λ d. declared_place n.name d.variables) (λ d. expression d i) h.0 h.1) (both p q)
 
+  pub negative : (t0 t1 : Option StaticFault) (a : WrittenExpression) (x : graph.Expression) → Operand t0 t1 (Some kinds.Range) a x → Whole t0 t1 (written.Negative at a) (graph.Negative x)
+  negative t0 t1 a x p = made (λ h d q. rw (h d q) refl) p
+
+  pub negated : (t0 t1 : Option StaticFault) (a : WrittenExpression) (x : graph.Expression) → Operand t0 t1 (Some kinds.Truth) a x → Whole t0 t1 (written.Not at a) (graph.Not x)
+  negated t0 t1 a x p = made (λ h d q. rw (h d q) refl) p
+
   pub binary : (t0 t1 t2 : Option StaticFault) (op : graph.Operator) (a b : WrittenExpression) (x y : graph.Expression) (w v k : Option Kind)
       → w ≡ operand_kind op → k ≡ expression_kind means a → v ≡ right_operand_kind op k → Operand t0 t1 w a x → Operand t1 t2 v b y
       → Whole t0 t2 (written.Binary at op a b) (graph.Binary op x y)

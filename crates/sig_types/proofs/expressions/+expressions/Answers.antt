@@ -6,7 +6,7 @@ use Rattle.model_core.specs.Static.FaultOrder.{fault_where}
 use Rattle.model_core.specs.Static.Meanings.{meaning_of}
 use Rattle.model_core.specs.Static.PartFaults.{kind_faults}
 use Rattle.static_laws.proofs.Checks.{before}
-use Rattle.sig_types.proofs.Operands.{place-written, cell, binary, choice}
+use Rattle.sig_types.proofs.Operands.{place-written, cell, negative, negated, binary, choice}
 use Rattle.sig_types.proofs.expressions.+expressions.Goals as goal
 
 pub operand-returns-clause-checked : goal.operand-returns-clause-checked
@@ -19,6 +19,14 @@ pub typed_expression-returns-in_ok-index-in-Cell-clause-checked : goal.typed_exp
 typed_expression-returns-in_ok-index-in-Cell-clause-checked t c =
     rw (c.in-Cell.is, ← c.deref.ensures)
     (cell (meaning_of c.args.names.now) c.args.raw.now.at _ _ _ (written_name c.in-Cell.name) (written_expression c.deref.result.now) _ _ c.variable-var-in-Cell.ensures.checked c.in_ok-index-in-Cell.ensures.checked)
+
+pub typed_expression-returns-in_ok-number-in-Neg-clause-checked : goal.typed_expression-returns-in_ok-number-in-Neg-clause-checked
+typed_expression-returns-in_ok-number-in-Neg-clause-checked t c =
+    rw (c.in-Neg.is, ← c.deref-in-Neg.ensures) (negative (meaning_of c.args.names.now) c.args.raw.now.at _ _ (written_expression c.deref-in-Neg.result.now) _ c.in_ok-number-in-Neg.ensures.checked)
+
+pub typed_expression-returns-in_ok-truth-in-Not-clause-checked : goal.typed_expression-returns-in_ok-truth-in-Not-clause-checked
+typed_expression-returns-in_ok-truth-in-Not-clause-checked t c =
+    rw (c.in-Not.is, ← c.deref-in-Not.ensures) (negated (meaning_of c.args.names.now) c.args.raw.now.at _ _ (written_expression c.deref-in-Not.result.now) _ c.in_ok-truth-in-Not.ensures.checked)
 
 pub typed_expression-returns-in_ok-right-in-Binary-clause-checked : goal.typed_expression-returns-in_ok-right-in-Binary-clause-checked
 typed_expression-returns-in_ok-right-in-Binary-clause-checked t c =
