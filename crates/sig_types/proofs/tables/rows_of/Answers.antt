@@ -1,0 +1,15 @@
+use Rattle.std.proofs.Common.{map, ◌++◌}
+use Rattle.sig_base.specs.declared.limits.TheConstants.{ROWS_MAX}
+use Rattle.model_core.specs.Code.WrittenViews.{written_table}
+use Rattle.model_core.specs.Text.Written.{WrittenRow}
+use Rattle.model_core.specs.Static.RuleTable.{name_too_long, too_many}
+use Rattle.static_laws.proofs.Checks.{behind, told_both}
+use Rattle.sig_types.proofs.tables.rows_of.Goals as goal
+
+pub returns : goal.returns
+returns c =
+    let t = written_table c.args.raw.now in
+    let long = name_too_long t.name in
+    let many = too_many ROWS_MAX (map (λ (r : WrittenRow). r.at) t.rows) in
+    behind c.args.told.now (long ++ many)
+    (told_both c.args.told.now c.note.new.self c.tell_too_many.new.told long many (rw c.as_slice.ensures at c.note.ensures) (rw c.as_slice-2.ensures at c.tell_too_many.ensures)) (rw c.as_slice-3.ensures at c.in_ok-rows.ensures)
