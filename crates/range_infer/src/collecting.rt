@@ -472,8 +472,7 @@ pub(crate) fn incoming(
 }
 
 /// What a model's variables take, where their ranges were these and are those now, by the parts that read one that moved.
-// Mostly these are few, and stand in the lists of the variables that moved. Where these lists have more than there are parts, all
-// parts are gone through.
+// Mostly these are few, and stand in the lists of the variables that moved. Else all parts are gone through.
 pub(crate) fn taken_again(
     alloc: Global,
     model: &Model,

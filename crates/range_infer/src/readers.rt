@@ -188,15 +188,18 @@ fn readers_of(readers: &[List<PartPlace>], var: usize) -> &[PartPlace]
     }
 }
 
-/// Whether the lists of the variables that moved have no more parts together than this.
-pub(crate) fn are_few(moved: &[bool], readers: &[List<PartPlace>], most: usize) -> bool {
+/// Whether the lists of the variables that moved are gone through sooner than so many parts, which are all. One list alone is.
+/// A part that stands in several lists is gone through as often, so they may have an eighth of all parts together.
+pub(crate) fn are_few(moved: &[bool], readers: &[List<PartPlace>], parts: usize) -> bool {
+    let mut lists: usize = 0;
     let mut count: usize = 0;
     for var in 0..moved.len() {
         if moved[var] {
+            lists = lists.saturating_add(1);
             count = count.saturating_add(readers_of(readers, var).len());
         }
     }
-    count <= most
+    lists <= 1 || count <= parts / 8
 }
 
 /// The parts that read a variable that moved. One that reads two of them stands there twice.
