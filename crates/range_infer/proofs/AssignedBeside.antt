@@ -1,28 +1,27 @@
 -- What variables take of the values beside them, one after the other.
-use Rattle.std.proofs.Common.{◌≡◌, ℕ, zero, suc, ◌+◌, ◌<◌, Bool, false, cond, List, [], ◌∷◌, ◌++◌, append_assoc, append-nil, length, map, drop, slice_index_or, None, refl, sym, ◌∙◌, ap, ap₂, arith}
+use Rattle.std.proofs.Common.{◌≡◌, ℕ, zero, suc, ◌+◌, ◌<◌, Bool, false, cond, List, [], ◌∷◌, ◌++◌, append_assoc, append-nil, length, map, drop, slice_index_or, refl, sym, ◌∙◌, ap, ap₂, arith}
 use Rattle.std.specs.List.{list_any}
 use Rattle.std.proofs.Math.Seq.{drop-cons}
 use Rattle.model_core.specs.declared.vertex.Target.{Target}
 use Rattle.model_core.specs.EventGraph.{Variable, Expression, Location}
 use Rattle.model_core.specs.declared.incoming.Incoming.{Incoming}
 use Rattle.model_core.specs.declared.bounds.Bounds.{Bounds}
-use Rattle.model_core.specs.Code.Views.{location_of}
+use Rattle.model_core.specs.declared.expr.Expr.{Expr}
+use Rattle.model_core.specs.Code.Views.{expression_of, location_of}
 use Rattle.model_core.specs.Rules.BoundsOf.{bounds_under}
 use Rattle.model_core.specs.Rules.Uses.{variables_in}
 use Rattle.model_core.specs.Ranges.Refined.{refined}
 use Rattle.model_core.specs.Ranges.Incoming.{assigned}
 use Rattle.model_core.proofs.EachOne.{either_false}
-use Rattle.range_infer.specs.declared.part_reads.ValueReads.{ValueReads}
-use Rattle.range_infer.specs.Inner.Postfix.{postfix_of}
 use Rattle.range_infer.specs.Inner.PartReads.{no_value, each_reads}
 use Rattle.range_infer.specs.Inner.LookedAt.{looks_at, looks_at_value, assigned_seen}
 use Rattle.range_infer.proofs.AllSeen.{nothing}
 
--- what a value gives of which is read what stands at its place
-pub value_found : (rs : List Variable) (v : ℕ) (es : List Expression) (p : ℕ) (reads : ValueReads) (b : Bounds) → p < length es → reads ≡ slice_index_or (each_reads es) p reads → ((e : Expression) → reads.postfix ≡ postfix_of e None → b ≡ bounds_under refined rs e) → record { variable = v; bounds = b } ∷ [] ≡ assigned rs (v ∷ []) (drop p es)
-value_found rs v [] p reads b small is found = absurd (omega arith)
-value_found rs v (e ∷ es) zero reads b small is found = ap (λ (b : Bounds). record { variable = v; bounds = b } ∷ []) (found e (ap (λ (r : ValueReads). r.postfix) is))
-value_found rs v (e ∷ es) (suc p) reads b small is found = value_found rs v es p reads b (omega arith) is found
+-- what a value that is looked up gives
+pub value_found : (rs : List Variable) (v : ℕ) (values : List Expr) (p : ℕ) (found : Expr) (b : Bounds) → p < length values → found ≡ slice_index_or values p found → b ≡ bounds_under refined rs (expression_of found) → record { variable = v; bounds = b } ∷ [] ≡ assigned rs (v ∷ []) (drop p (map expression_of values))
+value_found rs v [] p found b small is so = absurd (omega arith)
+value_found rs v (x ∷ values) zero found b small is so = ap (λ (b : Bounds). record { variable = v; bounds = b } ∷ []) (so ∙ ap (λ (e : Expr). bounds_under refined rs (expression_of e)) is)
+value_found rs v (x ∷ values) (suc p) found b small is so = value_found rs v values p found b (omega arith) is so
 
 module _ (all : Bool) (moved : List Bool) (rs : List Variable) where
   abbrev seen : List ℕ → List Expression → List Incoming

@@ -12,6 +12,7 @@ mod SameEdges
 mod NarrowedRuns
 mod ValidNarrowed
 mod PostfixBounds
+pub mod LongValues
 mod KeptBack
 mod OneItem
 mod OneRound

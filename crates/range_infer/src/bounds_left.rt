@@ -104,7 +104,7 @@ fn bounds_beside(left: &mut RangesLeft, op: Op, first: &Expr) -> Result<Bounds, 
 // Most expressions are operators that replace nothing. They go first, in a function with few locals. By `?` at the end no bounds
 // go through memory but those of operands.
 #[cycle(bounds_left)]
-fn bounds_left(left: &mut RangesLeft, expr: &Expr) -> Result<Bounds, NoMemory>
+pub(crate) fn bounds_left(left: &mut RangesLeft, expr: &Expr) -> Result<Bounds, NoMemory>
     ensures bounds { IfOk result (λ b. b ≡ bounds_under refined (variables_left left.old) (expression_of expr.now)) }
     ensures left { OnOk result (StaysLeft left.old left.new) }
 {

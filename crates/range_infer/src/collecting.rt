@@ -43,7 +43,7 @@ fn add_value_at(
     ensures left { OnOk result (StaysLeft left.old left.new) }
 {
     if place < values.len() {
-        let bounds = value_bounds(left, reads[place].postfix.as_slice())?;
+        let bounds = value_bounds(left, &values[place], reads[place].postfix.as_slice())?;
         out.push(Incoming { variable, bounds })?;
     }
     Ok(())

@@ -1,9 +1,9 @@
 //! What is read of each value of a model that a change sets or an edge carries, and of each condition of an edge.
 
-ghost use Rattle.std.specs.Prelude.{◌≡◌, map, IfOk};
+ghost use Rattle.std.specs.Prelude.{◌≡◌, nat_le, map, length, IfOk};
 ghost use Rattle.model_core.specs.Code.Views.{expression_of, change_of, edge_of, vertex_of};
 ghost use Rattle.model_core.specs.Rules.Uses.{variables_in};
-ghost use Rattle.range_infer.specs.Inner.PartReads.{value_reads, each_reads, set_reads, carried_reads, parts_read};
+ghost use Rattle.range_infer.specs.Inner.PartReads.{long_postfix, value_reads, each_reads, set_reads, carried_reads, parts_read};
 
 use crate::postfix::{PostfixItem, value_postfix};
 use model_core::{Change, Edge, Expr, Model, Vertex};
@@ -11,7 +11,10 @@ use sig_base::{List, NoMemory};
 use std::alloc::Global;
 use use_analysis::add_variables;
 
-/// The variables that a value reads, and its postfix form.
+/// A value that reads variables so many times is long. A shorter one is evaluated sooner as it stands.
+const LONG: usize = 16;
+
+/// The variables that a value reads, and its postfix form, where it is long.
 #[derive(Drop)]
 pub(crate) struct ValueReads {
     pub(crate) vars: List<usize>,
@@ -41,12 +44,31 @@ fn reads(alloc: Global, expr: &Expr) -> Result<List<usize>, NoMemory>
     Ok(List::from_vec(reads))
 }
 
+/// Whether a value is long that reads variables so many times.
+fn is_long(vars: usize) -> bool
+    ensures { result ≡ nat_le LONG vars }
+{
+    LONG <= vars
+}
+
+/// The postfix form of a value that reads variables so many times, where it is long.
+fn long_postfix(alloc: Global, value: &Expr, vars: usize) -> Result<List<PostfixItem>, NoMemory>
+    requires { vars ≡ length (variables_in (expression_of value.now)) }
+    ensures { IfOk result (λ items. items ≡ long_postfix (expression_of value.now)) }
+{
+    if is_long(vars) {
+        value_postfix(alloc, value)
+    } else {
+        Ok(List::new(alloc))
+    }
+}
+
 /// What is read of a value.
 fn value_reads(alloc: Global, value: &Expr) -> Result<ValueReads, NoMemory>
     ensures { IfOk result (λ of_value. of_value ≡ value_reads (expression_of value.now)) }
 {
     let vars = reads(alloc, value)?;
-    let postfix = value_postfix(alloc, value)?;
+    let postfix = long_postfix(alloc, value, vars.len())?;
     Ok(ValueReads { vars, postfix })
 }
 

@@ -1,23 +1,22 @@
 //! The bounds of a value by a walk over its postfix form.
 
-ghost use Rattle.std.specs.Prelude.{◌≡◌, true, [], ◌∷◌, cond, pos, neg_ℤ, reverse, List, None, IfOk, OnOk};
-ghost use Rattle.std.specs.List.{fold};
+ghost use Rattle.std.specs.Prelude.{◌≡◌, true, [], ◌∷◌, reverse, None, IfOk, OnOk};
 ghost use Rattle.range_bounds.specs.Near.{IsNear};
 ghost use Rattle.model_core.specs.EventGraph.{Expression};
-ghost use Rattle.model_core.specs.declared.bounds.Bounds.{Bounds as Found};
 ghost use Rattle.model_core.specs.Rules.BoundsOf.{bounds_under};
 ghost use Rattle.model_core.specs.Ranges.Refined.{refined};
 ghost use Rattle.model_core.specs.Code.Views.{expression_of};
 ghost use Rattle.range_infer.specs.declared.ranges_left.RangesLeft.{RangesLeft};
 ghost use Rattle.range_infer.specs.Inner.RangesLeft.{variables_left, StaysLeft, LeadsBack};
 ghost use Rattle.range_infer.specs.Inner.KeptRanges.{Stands};
+ghost use Rattle.range_infer.specs.Inner.PartReads.{long_postfix};
 ghost use Rattle.range_infer.specs.Inner.Postfix.{Walk, signed, postfix_of, operated, chosen, is_of_ranges, after_item, walked};
 
-use crate::bounds_left::{quiet_index, variable_bounds};
+use crate::bounds_left::{bounds_left, quiet_index, variable_bounds};
 use crate::postfix::{PostfixItem, is_of_ranges};
 use crate::ranges_left::RangesLeft;
 use crate::refinement::{forget, refine_scalar};
-use model_core::{Bounds, Op};
+use model_core::{Bounds, Expr, Op};
 use range_bounds::{
     chosen_bounds, negative_bounds, number_bounds, operator_bounds, opposite, truth_bounds,
 };
@@ -153,7 +152,7 @@ fn walk_over(
 }
 
 /// The bounds of the value of which this is the postfix form, under the ranges that are left.
-pub(crate) fn value_bounds(left: &mut RangesLeft, items: &[PostfixItem]) -> Result<Bounds, NoMemory>
+fn bounds_of_items(left: &mut RangesLeft, items: &[PostfixItem]) -> Result<Bounds, NoMemory>
     ensures bounds { IfOk result (λ b. (e : Expression) → items.now ≡ postfix_of e None → b ≡ bounds_under refined (variables_left left.old) e) }
     ensures left { OnOk result (StaysLeft left.old left.new) }
 {
@@ -163,4 +162,21 @@ pub(crate) fn value_bounds(left: &mut RangesLeft, items: &[PostfixItem]) -> Resu
     let last = walk_over(left, &mut before, &mut kept, items)?;
     forget(left, replaced);
     Ok(last)
+}
+
+/// The bounds of a value under the ranges that are left: of a long one by its postfix form, and of another as it stands.
+pub(crate) fn value_bounds(
+    left: &mut RangesLeft,
+    value: &Expr,
+    items: &[PostfixItem],
+) -> Result<Bounds, NoMemory>
+    requires { items.now ≡ long_postfix (expression_of value.now) }
+    ensures bounds { IfOk result (λ b. b ≡ bounds_under refined (variables_left left.old) (expression_of value.now)) }
+    ensures left { OnOk result (StaysLeft left.old left.new) }
+{
+    if items.is_empty() {
+        bounds_left(left, value)
+    } else {
+        bounds_of_items(left, items)
+    }
 }

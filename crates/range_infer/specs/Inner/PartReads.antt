@@ -1,14 +1,25 @@
--- What is read of the parts of a model by which variables take something: the variables in them, and the postfix form of values.
-use Rattle.std.specs.Prelude.{List, [], map, None}
+-- What is read of the parts of a model by which variables take something: the variables in them, and the postfix form of long
+-- values.
+use Rattle.std.specs.Prelude.{nat_le, Bool, cond, List, [], map, length, None}
 use Rattle.model_core.specs.EventGraph.{Expression, StateChange, Set, Draw, EventEdge, EventVertex}
 use Rattle.model_core.specs.Rules.Uses.{variables_in}
+use Rattle.range_infer.specs.declared.part_reads.TheConstants.{LONG}
 use Rattle.range_infer.specs.declared.part_reads.ValueReads.{ValueReads}
 use Rattle.range_infer.specs.declared.part_reads.EdgeReads.{EdgeReads}
 use Rattle.range_infer.specs.declared.part_reads.VertexReads.{VertexReads}
+use Rattle.range_infer.specs.declared.postfix.PostfixItem.{PostfixItem}
 use Rattle.range_infer.specs.Inner.Postfix.{postfix_of}
 
+-- a value is long that reads variables so many times
+abbrev pub is_long : Expression → Bool
+is_long e = nat_le LONG (length (variables_in e))
+
+-- the postfix form of a long value
+abbrev pub long_postfix : Expression → List PostfixItem
+long_postfix e = cond (is_long e) (postfix_of e None) []
+
 abbrev pub value_reads : Expression → ValueReads
-value_reads e = record { vars = variables_in e; postfix = postfix_of e None }
+value_reads e = record { vars = variables_in e; postfix = long_postfix e }
 
 -- what is read where no value stands
 abbrev pub no_value : ValueReads
