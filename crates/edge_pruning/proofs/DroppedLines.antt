@@ -21,7 +21,7 @@ use Rattle.model_core.proofs.Among.{Among}
 use Rattle.model_core.proofs.Images.{shown-map, flat_map-map}
 use Rattle.model_core.proofs.SomeOfAList.{some-marked_of}
 use Rattle.round_trip.proofs.VersionsKept.{needed-kept}
-use Rattle.marked_walks.proofs.MarkedItems.{marked_of-map}
+use Rattle.mark_laws.proofs.MarkedItems.{marked_of-map}
 use Rattle.edge_pruning.proofs.DropResult.{lists_unreached, without_unreached}
 use Rattle.edge_pruning.proofs.ReachedMarks.{watched-begins, HoldReached, reached_marks-hold}
 use Rattle.edge_pruning.proofs.ValidDropped.{map-alike, flat_map-alike}

@@ -1,5 +1,5 @@
 pub mod DroppedLines
-pub mod LinesLeft
+pub mod LinesOfOthers
 pub mod ListsChanged
 pub mod Shorter
 pub mod SameRuns

@@ -19,7 +19,7 @@ use Rattle.model_core.proofs.Among.{Among, of-among, each-among}
 use Rattle.model_core.proofs.Images.{shown-map, flat_map-map}
 use Rattle.mark_laws.proofs.MarksBelow.{marked-among}
 use Rattle.model_core.proofs.SomeOfAList.{some-marked_of}
-use Rattle.marked_walks.proofs.MarkedItems.{marked_of-map}
+use Rattle.mark_laws.proofs.MarkedItems.{marked_of-map}
 use Rattle.model_core.proofs.NoLongerTexts.{NoLonger, no_longer-before, no_longer-same, no_longer-both}
 use Rattle.model_core.proofs.NotEmpty.{has_one-length}
 use Rattle.edge_pruning.proofs.ReachedMarks.{watched-begins, HoldReached}

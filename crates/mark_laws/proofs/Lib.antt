@@ -7,3 +7,5 @@ pub mod Ranks
 pub mod StayingMarks
 pub mod PairsBehind
 pub mod ReachedLong
+pub mod LeftInPlace
+pub mod MarkedItems

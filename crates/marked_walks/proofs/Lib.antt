@@ -1,3 +1,1 @@
 pub mod FindingLaws
-pub mod LeftInPlace
-pub mod MarkedItems

@@ -13,7 +13,7 @@ use Rattle.model_core.specs.Rules.Uses.{variables_in}
 use Rattle.model_core.specs.Ranges.Refined.{refined}
 use Rattle.model_core.specs.Ranges.Incoming.{assigned}
 use Rattle.model_core.proofs.EachOne.{either_false}
-use Rattle.range_infer.specs.Inner.PartReads.{no_value, each_reads}
+use Rattle.range_infer.specs.Inner.PartReads.{nothing_read, each_reads}
 use Rattle.range_infer.specs.Inner.LookedAt.{looks_at, looks_at_value, assigned_seen}
 use Rattle.range_infer.proofs.AllSeen.{nothing}
 
@@ -59,7 +59,7 @@ module _ (all : Bool) (moved : List Bool) (rs : List Variable) where
       (ap (λ (xs : List Incoming). before ++ xs) (sym (split v (drop (suc p) ns) es p) ∙ ap (λ (vs : List ℕ). seen vs (drop p es)) (sym first)) ∙ so)))
 
   -- the value at a place, as it is looked at or passed over
-  pub value_seen : (v : ℕ) (es : List Expression) (p : ℕ) → seen (v ∷ []) (drop p es) ≡ cond (looks_at_value all moved (slice_index_or (each_reads es) p no_value)) (assigned rs (v ∷ []) (drop p es)) []
+  pub value_seen : (v : ℕ) (es : List Expression) (p : ℕ) → seen (v ∷ []) (drop p es) ≡ cond (looks_at_value all moved (slice_index_or (each_reads es) p nothing_read)) (assigned rs (v ∷ []) (drop p es)) []
   value_seen v [] zero = sym (nothing (looks_at all moved []))
   value_seen v [] (suc p) = sym (nothing (looks_at all moved []))
   value_seen v (e ∷ es) zero = append-nil (one v e)

@@ -7,7 +7,7 @@ use Rattle.model_core.specs.EventGraph.{Variable}
 use Rattle.range_infer.specs.declared.postfix.PostfixItem.{PostfixItem}
 use Rattle.range_infer.specs.declared.ranges_left.RangesLeft.{RangesLeft}
 use Rattle.range_infer.specs.Inner.RangesLeft.{variables_left}
-use Rattle.range_infer.specs.Inner.KeptRanges.{Stands}
+use Rattle.range_infer.specs.Inner.KeptRanges.{LeftOnWalk}
 use Rattle.range_infer.specs.Inner.Postfix.{Walk, is_of_ranges, after_item, walked}
 use Rattle.range_infer.proofs.PostfixBounds.{walk, of_ranges, of_operands}
 
@@ -17,7 +17,7 @@ walk_more w xs i d small = ap (walk w) (take_more xs i d small) ∙ fold-append 
 -- what is known of a walk over so many of these items
 pub record WalkedOver (first : RangesLeft) (w : Walk) (now : RangesLeft) (before : List Bounds) (kept : List ℕ) (last : Bounds) : Type 0 where
   pub found : last ∷ reverse before ≡ w.found
-  pub stands : Stands first now (reverse kept) w
+  pub stands : LeftOnWalk first now (reverse kept) w
 
 module _ (first : RangesLeft) (w : Walk) (xs : List PostfixItem) (i : ℕ) (d : PostfixItem) (small : i < length xs) (now : RangesLeft) (before : List Bounds) (kept : List ℕ) (last : Bounds) (walked_so : WalkedOver first (walk w (take i xs)) now before kept last) where
   abbrev before_it : Walk
@@ -26,12 +26,12 @@ module _ (first : RangesLeft) (w : Walk) (xs : List PostfixItem) (i : ℕ) (d : 
   abbrev it : PostfixItem
   it = slice_index_or xs i d
 
-  pub ranges_more : is_of_ranges it ≡ true → (next : RangesLeft) (after : List ℕ) → ((f : RangesLeft) (u : Walk) → is_of_ranges it ≡ true → Stands f now (reverse kept) u → Stands f next (reverse after) (walked u it)) → WalkedOver first (walk w (take (i + 1) xs)) next before after last
+  pub ranges_more : is_of_ranges it ≡ true → (next : RangesLeft) (after : List ℕ) → ((f : RangesLeft) (u : Walk) → is_of_ranges it ≡ true → LeftOnWalk f now (reverse kept) u → LeftOnWalk f next (reverse after) (walked u it)) → WalkedOver first (walk w (take (i + 1) xs)) next before after last
   ranges_more is next after goes =
       let more = walk_more w xs i d small in
       record {
         found = walked_so.found ∙ (sym (of_ranges before_it it is) ∙ ap (λ (u : Walk). u.found) (sym more));
-        stands = subst (Stands first next (reverse after)) (sym more) (goes first before_it is walked_so.stands);
+        stands = subst (LeftOnWalk first next (reverse after)) (sym more) (goes first before_it is walked_so.stands);
       }
 
   pub operand_more : is_of_ranges it ≡ false → (after : List Bounds) (next : Bounds) → next ∷ reverse after ≡ after_item (variables_left now) (last ∷ reverse before) it → WalkedOver first (walk w (take (i + 1) xs)) now after kept next
@@ -39,12 +39,12 @@ module _ (first : RangesLeft) (w : Walk) (xs : List PostfixItem) (i : ℕ) (d : 
       let more = walk_more w xs i d small ∙ of_operands before_it it is in
       record {
         found = found ∙ (ap₂ (λ (rs : List Variable) (fs : List Bounds). after_item rs fs it) walked_so.stands.ranges walked_so.found ∙ ap (λ (u : Walk). u.found) (sym more));
-        stands = subst (Stands first now (reverse kept)) (sym more) (record { ranges = walked_so.stands.ranges; kept = walked_so.stands.kept });
+        stands = subst (LeftOnWalk first now (reverse kept)) (sym more) (record { ranges = walked_so.stands.ranges; kept = walked_so.stands.kept });
       }
 
 -- the same, under other names
 pub same_walk : (first : RangesLeft) (w : Walk) (left now : RangesLeft) (xs before : List Bounds) (ns kept : List ℕ) (b last : Bounds) → left ≡ now → xs ≡ before → ns ≡ kept → b ≡ last → WalkedOver first w left xs ns b → WalkedOver first w now before kept last
 same_walk first w left now xs before ns kept b last one two three four so = record {
   found = sym (ap₂ (λ (x : Bounds) (ys : List Bounds). x ∷ reverse ys) four two) ∙ so.found;
-  stands = subst (λ (l : RangesLeft). Stands first l (reverse kept) w) one (subst (λ (ms : List ℕ). Stands first left (reverse ms) w) three so.stands);
+  stands = subst (λ (l : RangesLeft). LeftOnWalk first l (reverse kept) w) one (subst (λ (ms : List ℕ). LeftOnWalk first left (reverse ms) w) three so.stands);
 }

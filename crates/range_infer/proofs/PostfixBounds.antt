@@ -16,7 +16,7 @@ use Rattle.model_core.specs.Rules.Exclusive.{number_literal, literal_number}
 use Rattle.model_core.specs.Ranges.Refined.{opposite_comparison, where_holds, refined_by, tells_of_both, refined}
 use Rattle.range_infer.specs.declared.postfix.PostfixItem.{PostfixItem}
 use Rattle.range_infer.specs.declared.postfix.PostfixItem.TheVariants as items
-use Rattle.range_infer.specs.Inner.Postfix.{op_of, number_items, literal_items, compared_items, left_items, tells_both, left_by, with_right, guard_of, with_operands, postfix_of, Walk, signed, is_of_ranges, after_item, walked}
+use Rattle.range_infer.specs.Inner.Postfix.{op_of, number_items, literal_items, compared_items, left_items, tells_both, left_by, with_right, guard_of, with_operands, postfix_of, Walk, signed_number, is_of_ranges, after_item, walked}
 
 same_operator : (op : Operator) → operator_of (op_of op) ≡ op
 same_operator Add = refl
@@ -72,7 +72,7 @@ module _ (kept : List (List Variable)) (found : List Bounds) where
   abbrev ranges_at : List Variable → Walk
   ranges_at rs = standing rs kept found
 
-  number_left : (op : Op) (v : ℕ) (negative : Bool) (n : Option ℤ) (rs : List Variable) → walk (ranges_at rs) (number_items op v negative n) ≡ ranges_at (slice_set rs v (where_holds (operator_of op) (option_map (signed negative) n) (ranged_at rs v)))
+  number_left : (op : Op) (v : ℕ) (negative : Bool) (n : Option ℤ) (rs : List Variable) → walk (ranges_at rs) (number_items op v negative n) ≡ ranges_at (slice_set rs v (where_holds (operator_of op) (option_map (signed_number negative) n) (ranged_at rs v)))
   number_left op v negative None rs = ap ranges_at (sym (set-get_or rs v no_variable))
   number_left op v negative (Some n) rs = refl
 

@@ -8,9 +8,9 @@ ghost use Rattle.model_core.specs.Ranges.Refined.{refined};
 ghost use Rattle.model_core.specs.Code.Views.{expression_of};
 ghost use Rattle.range_infer.specs.declared.ranges_left.RangesLeft.{RangesLeft};
 ghost use Rattle.range_infer.specs.Inner.RangesLeft.{variables_left, StaysLeft, LeadsBack};
-ghost use Rattle.range_infer.specs.Inner.KeptRanges.{Stands};
+ghost use Rattle.range_infer.specs.Inner.KeptRanges.{LeftOnWalk};
 ghost use Rattle.range_infer.specs.Inner.PartReads.{long_postfix};
-ghost use Rattle.range_infer.specs.Inner.Postfix.{Walk, signed, postfix_of, operated, chosen, is_of_ranges, after_item, walked};
+ghost use Rattle.range_infer.specs.Inner.Postfix.{Walk, signed_number, postfix_of, operated, chosen, is_of_ranges, after_item, walked};
 
 use crate::bounds_left::{bounds_left, quiet_index, variable_bounds};
 use crate::postfix::{PostfixItem, is_of_ranges};
@@ -88,8 +88,8 @@ fn after_item(
 }
 
 /// A number with its sign.
-fn signed(negative: bool, n: i64) -> i128
-    ensures value { result ≡ signed negative n }
+fn signed_number(negative: bool, n: i64) -> i128
+    ensures value { result ≡ signed_number negative n }
     ensures near { IsNear result }
 {
     if negative { -(n as i128) } else { n as i128 }
@@ -97,7 +97,7 @@ fn signed(negative: bool, n: i64) -> i128
 
 /// Puts the ranges back that were kept last, if any were.
 fn put_back(left: &mut RangesLeft, kept: &mut Vec<usize>)
-    ensures { (first : RangesLeft) (w : Walk) → Stands first left.old (reverse kept.old.items) w → Stands first left.new (reverse kept.new.items) (walked w PostfixItem.PutBack) }
+    ensures { (first : RangesLeft) (w : Walk) → LeftOnWalk first left.old (reverse kept.old.items) w → LeftOnWalk first left.new (reverse kept.new.items) (walked w PostfixItem.PutBack) }
 {
     if let Some(count) = kept.pop() {
         forget(left, count);
@@ -110,7 +110,7 @@ fn ranges_after(
     kept: &mut Vec<usize>,
     item: PostfixItem,
 ) -> Result<(), NoMemory>
-    ensures { OnOk result ((first : RangesLeft) (w : Walk) → is_of_ranges item ≡ true → Stands first left.old (reverse kept.old.items) w → Stands first left.new (reverse kept.new.items) (walked w item)) }
+    ensures { OnOk result ((first : RangesLeft) (w : Walk) → is_of_ranges item ≡ true → LeftOnWalk first left.old (reverse kept.old.items) w → LeftOnWalk first left.new (reverse kept.new.items) (walked w item)) }
 {
     match item {
         PostfixItem::Kept => kept.push(left.replaced.len())?,
@@ -119,7 +119,7 @@ fn ranges_after(
             left,
             op,
             var,
-            signed(negative, n),
+            signed_number(negative, n),
         )?,
         PostfixItem::Number(_) | PostfixItem::Truth(_) | PostfixItem::Clock => {}
         PostfixItem::Variable(_) | PostfixItem::CellOf(_) => {}

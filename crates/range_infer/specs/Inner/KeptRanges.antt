@@ -13,6 +13,6 @@ AreKept first (n ∷ ns) (rs ∷ kept) now = (old : RangesLeft) × (n ≡ length
 AreKept first ns kept now = ⊥
 
 -- the ranges of a walk are those that are left
-pub record Stands (first now : RangesLeft) (counts : List ℕ) (w : Walk) : Type 0 where
+pub record LeftOnWalk (first now : RangesLeft) (counts : List ℕ) (w : Walk) : Type 0 where
   pub ranges : variables_left now ≡ w.ranges
   pub kept : AreKept first counts w.kept now

@@ -102,8 +102,8 @@ pub record Walk : Type 0 where
   pub kept : List (List Variable)
   pub found : List Bounds
 
-abbrev pub signed : Bool → ℤ → ℤ
-signed negative n = cond negative (neg_ℤ n) n
+abbrev pub signed_number : Bool → ℤ → ℤ
+signed_number negative n = cond negative (neg_ℤ n) n
 
 -- ranges that were kept are put back
 abbrev pub put_back_kept : List Variable → List (List Variable) → List Bounds → Walk
@@ -158,5 +158,5 @@ is_of_ranges i = false
 abbrev pub walked : Walk → PostfixItem → Walk
 walked w items.Kept = record { ranges = w.ranges; kept = w.ranges ∷ w.kept; found = w.found }
 walked w items.PutBack = put_back_kept w.ranges w.kept w.found
-walked w (items.Left op v negative n) = record { ranges = slice_set w.ranges v (where_holds (operator_of op) (Some (signed negative n)) (ranged_at w.ranges v)); kept = w.kept; found = w.found }
+walked w (items.Left op v negative n) = record { ranges = slice_set w.ranges v (where_holds (operator_of op) (Some (signed_number negative n)) (ranged_at w.ranges v)); kept = w.kept; found = w.found }
 walked w i = record { ranges = w.ranges; kept = w.kept; found = after_item w.ranges w.found i }

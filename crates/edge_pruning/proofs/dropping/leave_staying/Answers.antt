@@ -6,7 +6,7 @@ use Rattle.model_core.specs.EventGraph.{EventVertex, Watched}
 use Rattle.model_core.specs.Rules.MarkedPlaces.{rank, marked_of}
 use Rattle.model_core.specs.Rules.Drop.{vertex_renumbered, watched_renumbered}
 use Rattle.model_core.specs.Code.Views.{graph_of, vertex_of, watched_of}
-use Rattle.marked_walks.proofs.MarkedItems.{marked_of-map}
+use Rattle.mark_laws.proofs.MarkedItems.{marked_of-map}
 use Rattle.edge_pruning.proofs.dropping.leave_staying.Goals as goal
 
 pub returns : goal.returns

@@ -1,4 +1,4 @@
-use Rattle.edge_pruning.proofs.LinesLeft.{lines-left}
+use Rattle.edge_pruning.proofs.LinesOfOthers.{lines-left}
 use Rattle.edge_pruning.proofs.law.dropping_one_leaves_lines.Goals as goal
 
 pub returns : goal.returns

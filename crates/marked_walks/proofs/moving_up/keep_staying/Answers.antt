@@ -2,8 +2,8 @@
 use Rattle.std.proofs.Common.{◌∙◌, ◌<◌, length, drop, ap, sym, arith}
 use Rattle.std.proofs.lemmas.List.{map-id}
 use Rattle.model_core.specs.Rules.MarkedPlaces.{marked_of}
-use Rattle.marked_walks.proofs.LeftInPlace.{one_kept, all_left}
-use Rattle.marked_walks.proofs.MarkedItems.{marked-at, marked-none}
+use Rattle.mark_laws.proofs.LeftInPlace.{one_kept, all_left}
+use Rattle.mark_laws.proofs.MarkedItems.{marked-at, marked-none}
 use Rattle.marked_walks.proofs.moving_up.keep_staying.Goals as goal
 
 pub loop-place-preserved : goal.loop-place-preserved

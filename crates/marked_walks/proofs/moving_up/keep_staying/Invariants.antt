@@ -1,6 +1,6 @@
 use Rattle.std.proofs.Common.{drop}
 use Rattle.model_core.specs.Rules.MarkedPlaces.{marked_of}
-use Rattle.marked_walks.proofs.LeftInPlace.{LeftInPlace}
+use Rattle.mark_laws.proofs.LeftInPlace.{LeftInPlace}
 use Rattle.marked_walks.proofs.moving_up.keep_staying.Given as goal
 
 abbrev pub invariant-loop-place : goal.invariant-loop-place

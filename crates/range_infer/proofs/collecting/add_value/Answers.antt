@@ -4,7 +4,7 @@ use Rattle.model_core.specs.Code.Views.{expression_of}
 use Rattle.model_core.specs.Ranges.Incoming.{assigned}
 use Rattle.model_core.specs.declared.incoming.Incoming.{Incoming}
 use Rattle.range_infer.specs.Inner.RangesLeft.{variables_left}
-use Rattle.range_infer.specs.Inner.PartReads.{no_value}
+use Rattle.range_infer.specs.Inner.PartReads.{nothing_read}
 use Rattle.range_infer.specs.declared.part_reads.ValueReads.{ValueReads}
 use Rattle.range_infer.specs.Inner.LookedAt.{looks_at_value}
 use Rattle.range_infer.proofs.AssignedBeside.{value_seen}
@@ -19,7 +19,7 @@ returns-in_ok-add_value_at-clause-out c =
     c.in_ok-add_value_at.ensures.out
     ∙ ap (λ (is : List Incoming). c.args.out.now.items ++ is)
     (sym (value_seen look.all look.moved.now rs c.args.variable es c.args.place
-    ∙ ap (λ (reads : List ValueReads). cond (looks_at_value look.all look.moved.now (slice_index_or reads c.args.place no_value)) all []) (sym c.requires.reads)
+    ∙ ap (λ (reads : List ValueReads). cond (looks_at_value look.all look.moved.now (slice_index_or reads c.args.place nothing_read)) all []) (sym c.requires.reads)
     ∙ ap (λ (b : Bool). cond b all []) (sym c.looks_at_place.ensures ∙ c.if-looks_at_place.true)))
 
 pub returns-else-looks_at_place-clause-out : goal.returns-else-looks_at_place-clause-out
@@ -31,5 +31,5 @@ returns-else-looks_at_place-clause-out c =
     sym (append-nil c.args.out.now.items)
     ∙ ap (λ (is : List Incoming). c.args.out.now.items ++ is)
     (sym (value_seen look.all look.moved.now rs c.args.variable es c.args.place
-    ∙ ap (λ (reads : List ValueReads). cond (looks_at_value look.all look.moved.now (slice_index_or reads c.args.place no_value)) all []) (sym c.requires.reads)
+    ∙ ap (λ (reads : List ValueReads). cond (looks_at_value look.all look.moved.now (slice_index_or reads c.args.place nothing_read)) all []) (sym c.requires.reads)
     ∙ ap (λ (b : Bool). cond b all []) (sym c.looks_at_place.ensures ∙ c.if-looks_at_place.false)))

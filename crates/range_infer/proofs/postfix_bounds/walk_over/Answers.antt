@@ -6,7 +6,7 @@ use Rattle.range_infer.specs.declared.postfix.PostfixItem.{PostfixItem}
 use Rattle.range_infer.specs.declared.postfix.PostfixItem.TheVariants as items
 use Rattle.model_core.specs.declared.bounds.Bounds.{Bounds}
 use Rattle.range_infer.specs.Inner.RangesLeft.{variables_left}
-use Rattle.range_infer.specs.Inner.KeptRanges.{Stands}
+use Rattle.range_infer.specs.Inner.KeptRanges.{LeftOnWalk}
 use Rattle.range_infer.specs.Inner.Postfix.{Walk, walked}
 use Rattle.range_infer.proofs.KeptBack.{itself, begins, all-back}
 use Rattle.range_infer.proofs.PostfixBounds.{walk, last_is}
@@ -20,7 +20,7 @@ loop-item-init c =
     let w : Walk = record { ranges = variables_left first; kept = []; found = c.number_bounds-last.result ∷ reverse c.args.before.now.items } in
     record {
       found = refl;
-      stands = subst (λ (ns : List ℕ). Stands first first ns w) (sym (ap reverse c.requires)) (begins first first w (itself first) refl refl);
+      stands = subst (λ (ns : List ℕ). LeftOnWalk first first ns w) (sym (ap reverse c.requires)) (begins first first w (itself first) refl refl);
     }
 
 pub loop-item-preserved : goal.loop-item-preserved

@@ -6,7 +6,7 @@ use Rattle.model_core.specs.EventGraph.{EventVertex}
 use Rattle.model_core.specs.Rules.MarkedPlaces.{marked_of}
 use Rattle.model_core.specs.Rules.Slice.{watched_left, vertex_left}
 use Rattle.model_core.specs.Code.Views.{graph_of, variable_of, watched_of, vertex_of}
-use Rattle.marked_walks.proofs.MarkedItems.{marked_of-map}
+use Rattle.mark_laws.proofs.MarkedItems.{marked_of-map}
 use Rattle.var_slicing.specs.Inner.StepsOfLeaving.{edges_left_in, own_parts_left}
 use Rattle.var_slicing.proofs.LeftInSteps.{seen_parameters, in_two_steps}
 use Rattle.var_slicing.proofs.leaving.leave.Goals as goal

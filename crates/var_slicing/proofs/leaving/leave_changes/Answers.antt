@@ -4,7 +4,7 @@ use Rattle.std.specs.List.{flat_map}
 use Rattle.model_core.specs.EventGraph.{StateChange}
 use Rattle.model_core.specs.Rules.Slice.{change_left}
 use Rattle.model_core.specs.Code.Views.{change_of}
-use Rattle.marked_walks.proofs.LeftInPlace.{one_left, all_left}
+use Rattle.mark_laws.proofs.LeftInPlace.{one_left, all_left}
 use Rattle.var_slicing.proofs.leaving.leave_changes.Goals as goal
 
 pub loop-place-preserved : goal.loop-place-preserved

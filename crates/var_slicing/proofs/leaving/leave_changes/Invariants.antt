@@ -1,7 +1,7 @@
 use Rattle.std.specs.List.{flat_map}
 use Rattle.model_core.specs.Rules.Slice.{change_left}
 use Rattle.model_core.specs.Code.Views.{change_of}
-use Rattle.marked_walks.proofs.LeftInPlace.{LeftInPlace}
+use Rattle.mark_laws.proofs.LeftInPlace.{LeftInPlace}
 use Rattle.var_slicing.proofs.leaving.leave_changes.Given as goal
 
 abbrev pub invariant-loop-place : goal.invariant-loop-place

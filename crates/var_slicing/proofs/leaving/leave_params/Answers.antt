@@ -3,7 +3,7 @@ use Rattle.std.proofs.Common.{◌∙◌, ◌<◌, length, refl, sym, ap, arith}
 use Rattle.std.proofs.lemmas.List.{map-id}
 use Rattle.model_core.specs.Rules.Slice.{parameters_left}
 use Rattle.var_slicing.proofs.LeftLists.{parameters-at}
-use Rattle.marked_walks.proofs.LeftInPlace.{one_left, all_left}
+use Rattle.mark_laws.proofs.LeftInPlace.{one_left, all_left}
 use Rattle.var_slicing.proofs.leaving.leave_params.Goals as goal
 
 pub loop-place-preserved : goal.loop-place-preserved

@@ -1,5 +1,5 @@
 use Rattle.model_core.specs.Rules.Slice.{parameters_left}
-use Rattle.marked_walks.proofs.LeftInPlace.{LeftInPlace}
+use Rattle.mark_laws.proofs.LeftInPlace.{LeftInPlace}
 use Rattle.var_slicing.proofs.leaving.leave_params.Given as goal
 
 abbrev pub invariant-loop-place : goal.invariant-loop-place

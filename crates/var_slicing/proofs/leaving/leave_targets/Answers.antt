@@ -3,7 +3,7 @@ use Rattle.std.proofs.Common.{◌∙◌, ◌<◌, length, map, refl, ap, arith}
 use Rattle.model_core.specs.Rules.Slice.{targets_left}
 use Rattle.model_core.specs.Code.Views.{location_of}
 use Rattle.var_slicing.proofs.LeftLists.{targets-at}
-use Rattle.marked_walks.proofs.LeftInPlace.{one_left, all_left}
+use Rattle.mark_laws.proofs.LeftInPlace.{one_left, all_left}
 use Rattle.var_slicing.proofs.leaving.leave_targets.Goals as goal
 
 pub loop-place-preserved : goal.loop-place-preserved

@@ -1,6 +1,6 @@
 use Rattle.model_core.specs.Rules.Slice.{targets_left}
 use Rattle.model_core.specs.Code.Views.{location_of}
-use Rattle.marked_walks.proofs.LeftInPlace.{LeftInPlace}
+use Rattle.mark_laws.proofs.LeftInPlace.{LeftInPlace}
 use Rattle.var_slicing.proofs.leaving.leave_targets.Given as goal
 
 abbrev pub invariant-loop-place : goal.invariant-loop-place

@@ -3,7 +3,7 @@ use Rattle.std.proofs.Common.{◌∙◌, ◌<◌, length, map, drop, ap, arith}
 use Rattle.model_core.specs.Rules.Slice.{values_left}
 use Rattle.model_core.specs.Code.Views.{expression_of}
 use Rattle.var_slicing.proofs.LeftLists.{values-at, values-none}
-use Rattle.marked_walks.proofs.LeftInPlace.{one_left, all_left}
+use Rattle.mark_laws.proofs.LeftInPlace.{one_left, all_left}
 use Rattle.var_slicing.proofs.leaving.leave_values.Goals as goal
 
 pub loop-place-preserved : goal.loop-place-preserved

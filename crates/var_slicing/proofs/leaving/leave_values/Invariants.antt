@@ -1,7 +1,7 @@
 use Rattle.std.proofs.Common.{drop}
 use Rattle.model_core.specs.Rules.Slice.{values_left}
 use Rattle.model_core.specs.Code.Views.{expression_of}
-use Rattle.marked_walks.proofs.LeftInPlace.{LeftInPlace}
+use Rattle.mark_laws.proofs.LeftInPlace.{LeftInPlace}
 use Rattle.var_slicing.proofs.leaving.leave_values.Given as goal
 
 abbrev pub invariant-loop-place : goal.invariant-loop-place
