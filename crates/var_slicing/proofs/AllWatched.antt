@@ -15,17 +15,17 @@ use Rattle.var_slicing.specs.Inner.Unwatched.{unwatched}
 use Rattle.var_slicing.proofs.LinkedLaws.{linked-length, pairs-linked, linked-pairs}
 
 -- what is there at first, with nothing that any pair leads to, is entailed by more at first and by pairs
-no_pair : (count : ℕ) (first whole : List ℕ) (pairs : List (ℕ × ℕ)) → ((k : ℕ) → Among k first → Among k whole) → {k : ℕ} → Entailed count first [] k → Entailed count whole pairs k
+pub no_pair : (count : ℕ) (first whole : List ℕ) (pairs : List (ℕ × ℕ)) → ((k : ℕ) → Among k first → Among k whole) → {k : ℕ} → Entailed count first [] k → Entailed count whole pairs k
 no_pair count first whole pairs more (from_first k below there) = from_first k below (contained-among whole k (more k (among-contained first k there)))
 no_pair count first whole pairs more (over_pair j k below before there) = absurd (among-contained [] (j, k) there)
 
-module _ (g : EventGraph) where
-  -- the marks that are found with nothing behind any variable
-  pub unlinked-marked : (next : List (List ℕ)) (n : ℕ) → n ≡ length g.variables → next ≡ linked [] (no_lists n) → entailed_marks (length next) (watched_variables g.watch) (pairs_from 0 next) ≡ entailed_marks (length g.variables) (watched_variables g.watch) []
-  unlinked-marked next n sized listed = rw (listed, sized)
-      (ap (λ (m : ℕ). entailed_marks m (watched_variables g.watch) (pairs_from 0 (linked [] (no_lists (length g.variables))))) (linked-length [] (length g.variables))
-      ∙ marks-implied (length g.variables) (watched_variables g.watch) (pairs_from 0 (linked [] (no_lists (length g.variables)))) [] (linked-pairs [] (length g.variables) (watched_variables g.watch)) (pairs-linked [] (length g.variables) (watched_variables g.watch)))
+-- the marks that are found with nothing behind any place
+pub unlinked-marked : (first : List ℕ) (next : List (List ℕ)) (n : ℕ) → next ≡ linked [] (no_lists n) → entailed_marks (length next) first (pairs_from 0 next) ≡ entailed_marks n first []
+unlinked-marked first next n listed = rw listed
+    (ap (λ (m : ℕ). entailed_marks m first (pairs_from 0 (linked [] (no_lists n)))) (linked-length [] n)
+    ∙ marks-implied n first (pairs_from 0 (linked [] (no_lists n))) [] (linked-pairs [] n first) (pairs-linked [] n first))
 
+module _ (g : EventGraph) where
   watched-needed : (k : ℕ) → Among k (watched_variables g.watch) → Among k (needed_at_once g)
   watched-needed k there =
       among-front _ (needed_by_delays g) k (among-front _ (flat_map (needed_by_edge g) (all_edges g)) k (among-front _ (flat_map (faulting_writes g) (all_changes g)) k

@@ -20,7 +20,7 @@ among-of_flat_map {A} {B} f (z ∷ xs) y among = by (among-either (f z) (flat_ma
   by (inl here) rest = (z, inl refl, here)
   by (inr later) rest = let (x, among, there) = rest later in (x, inr among, there)
 
-among-filtered : {A : Type 0} (test : A → Bool) (xs : List A) (x : A) → Among x (filter test xs) → Among x xs × (test x ≡ true)
+pub among-filtered : {A : Type 0} (test : A → Bool) (xs : List A) (x : A) → Among x (filter test xs) → Among x xs × (test x ≡ true)
 among-filtered test [] x among = absurd among
 among-filtered {A} test (y ∷ xs) x among = tested (test y) refl among (among-filtered test xs x) where
   tested : (b : Bool) → test y ≡ b → Among x (cond b (y ∷ filter test xs) (filter test xs)) → (Among x (filter test xs) → Among x xs × (test x ≡ true)) → Among x (y ∷ xs) × (test x ≡ true)

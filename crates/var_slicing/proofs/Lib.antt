@@ -2,8 +2,12 @@ pub mod LinkedLaws
 pub mod LeadingLaws
 pub mod SideBySide
 pub mod DelayStreams
-pub mod NeedsCollected
+pub mod LeavingOut
+pub mod ReadsBeside
+pub mod FaultsAdded
+pub mod MarkedAgain
 pub mod AllWatched
+pub mod NeedsCollected
 pub mod LeftLists
 pub mod LeftInSteps
 pub mod HeldByAll

@@ -3,12 +3,14 @@
 
 mod beside;
 mod delays;
+mod faults;
 mod law;
 mod leaving;
 mod linking;
 mod marking;
 mod needs;
 mod new_numbers;
+mod reads_beside;
 mod slicing;
 mod streams;
 

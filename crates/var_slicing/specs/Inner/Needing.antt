@@ -1,10 +1,13 @@
--- What is collected from a model, part by part.
-use Rattle.std.specs.Prelude.{ℕ, cond, List, [], ◌∷◌, ◌++◌}
-use Rattle.model_core.specs.EventGraph.{EventGraph, EventVertex, EventEdge, StateChange, watched_variables}
+-- What is collected from a model, part by part: first what is needed at once but for what may fault, and then pairs, but for those
+-- that lead to what is marked already.
+use Rattle.std.specs.Prelude.{ℕ, Bool, not, cond, List, [], ◌∷◌, ◌++◌, length, filter, zip}
+use Rattle.std.specs.List.{flat_map}
+use Rattle.model_core.specs.EventGraph.{EventGraph, Expression, Location, EventVertex, EventEdge, StateChange, Set, Draw, watched_variables}
 use Rattle.model_core.specs.Run.Step.{vertex_at}
-use Rattle.model_core.specs.Rules.MarkedPlaces.{is_among}
-use Rattle.model_core.specs.Rules.Uses.{edge_streams}
-use Rattle.model_core.specs.Rules.Needed.{faulting_writes, needed_by_edge, needed_by_targets, needed_by_parameters, streams_drawn, drawn_from}
+use Rattle.model_core.specs.Rules.MarkedPlaces.{is_marked, is_among}
+use Rattle.model_core.specs.Rules.Entailed.{entailed_marks}
+use Rattle.model_core.specs.Rules.Uses.{variables_in, location_reads, edge_streams}
+use Rattle.model_core.specs.Rules.Needed.{carried_pairs, compared_parameters, deciding_reads, each_beside, streams_drawn, drawn_from}
 use Rattle.var_slicing.specs.declared.needs.Needs.{Needs}
 
 pub record Collected : Type 0 where
@@ -19,7 +22,7 @@ collected_of n = record { first = n.first.items; pairs = n.pairs.items; draws = 
 abbrev pub nothing : Collected
 nothing = record { first = []; pairs = []; draws = []; delays = [] }
 
--- ---- one value beside each target or parameter
+-- ---- lists that grow part by part
 
 -- what f gives for each two that stand side by side, added one by one
 abbrev pub along : {A B C : Type 0} → (A → B → List C) → List A → List B → List C → List C
@@ -27,18 +30,15 @@ along f [] bs out = out
 along f (a ∷ as_) [] out = out
 along f (a ∷ as_) (b ∷ bs) out = along f as_ bs (out ++ f a b)
 
--- ---- changes and edges
+-- what f gives for each of these, added one by one
+abbrev pub added_each : {A C : Type 0} → (A → List C) → List A → List C → List C
+added_each f [] out = out
+added_each f (a ∷ as_) out = added_each f as_ (out ++ f a)
 
-abbrev pub with_change : EventGraph → StateChange → Collected → Collected
-with_change g c n = record n { first = n.first ++ faulting_writes g c; pairs = n.pairs ++ needed_by_targets c; draws = n.draws ++ streams_drawn c }
+-- ---- what an edge needs, whatever else is needed, but for what may fault
 
-abbrev pub with_changes : EventGraph → List StateChange → Collected → Collected
-with_changes g [] n = n
-with_changes g (c ∷ cs) n = with_changes g cs (with_change g c n)
-
-abbrev pub with_all_changes : EventGraph → List EventVertex → Collected → Collected
-with_all_changes g [] n = n
-with_all_changes g (v ∷ vs) n = with_all_changes g vs (with_changes g v.changes n)
+abbrev pub needed_to_decide : EventGraph → EventEdge → List ℕ
+needed_to_decide g e = compared_parameters g e ++ deciding_reads e
 
 -- streams, each once, and one more
 abbrev pub with_stream : List ℕ → ℕ → List ℕ
@@ -49,7 +49,7 @@ with_streams streams [] = streams
 with_streams streams (s ∷ more) = with_streams (with_stream streams s) more
 
 abbrev pub with_edge : EventGraph → EventEdge → Collected → Collected
-with_edge g e n = record n { first = n.first ++ needed_by_edge g e; pairs = n.pairs ++ needed_by_parameters g e; delays = with_streams n.delays (edge_streams e) }
+with_edge g e n = record n { first = n.first ++ needed_to_decide g e; delays = with_streams n.delays (edge_streams e) }
 
 abbrev pub with_edges : EventGraph → List EventEdge → Collected → Collected
 with_edges g [] n = n
@@ -59,10 +59,67 @@ abbrev pub with_all_edges : EventGraph → List EventVertex → Collected → Co
 with_all_edges g [] n = n
 with_all_edges g (v ∷ vs) n = with_all_edges g vs (with_edges g v.edges n)
 
+abbrev pub collected_at_once : EventGraph → Collected
+collected_at_once g = with_all_edges g g.vertices (record nothing { first = watched_variables g.watch ++ (vertex_at g 0).parameters })
+
+-- ---- pairs, but for those whose second place is marked
+
+abbrev pub with_read : List Bool → ℕ → List (ℕ × ℕ) → ℕ → List (ℕ × ℕ)
+with_read known v pairs w = cond (is_marked known w) pairs (pairs ++ (v, w) ∷ [])
+
+abbrev pub with_reads : List Bool → ℕ → List (ℕ × ℕ) → List ℕ → List (ℕ × ℕ)
+with_reads known v pairs [] = pairs
+with_reads known v pairs (w ∷ ws) = with_reads known v (with_read known v pairs w) ws
+
+abbrev pub open_pairs : List Bool → List (ℕ × ℕ) → List (ℕ × ℕ)
+open_pairs known pairs = filter (λ (v, w). not (is_marked known w)) pairs
+
+-- those of a target, and of a parameter
+abbrev pub target_pairs : List Bool → Location → Expression → List (ℕ × ℕ)
+target_pairs known l e = open_pairs known (each_beside l.variable (location_reads l ++ variables_in e))
+
+abbrev pub value_pairs : List Bool → ℕ → Expression → List (ℕ × ℕ)
+value_pairs known v e = open_pairs known (each_beside v (variables_in e))
+
+abbrev pub with_targets : List Bool → StateChange → List (ℕ × ℕ) → List (ℕ × ℕ)
+with_targets known (Set targets rights) pairs = pairs ++ flat_map (λ (l, e). target_pairs known l e) (zip targets rights)
+with_targets known (Draw target stream choice) pairs = with_reads known target.variable pairs (location_reads target)
+
+abbrev pub with_change : List Bool → StateChange → Collected → Collected
+with_change known c n = record n { pairs = with_targets known c n.pairs; draws = n.draws ++ streams_drawn c }
+
+abbrev pub with_changes : List Bool → List StateChange → Collected → Collected
+with_changes known [] n = n
+with_changes known (c ∷ cs) n = with_changes known cs (with_change known c n)
+
+abbrev pub with_all_changes : List Bool → List EventVertex → Collected → Collected
+with_all_changes known [] n = n
+with_all_changes known (v ∷ vs) n = with_all_changes known vs (with_changes known v.changes n)
+
+-- those of what an edge carries
+abbrev pub edge_pairs : List Bool → EventGraph → EventEdge → List (ℕ × ℕ)
+edge_pairs known g e = flat_map (λ (v, x). value_pairs known v x) (carried_pairs g e)
+
+abbrev pub with_value_pairs : List Bool → EventGraph → List EventVertex → List (ℕ × ℕ) → List (ℕ × ℕ)
+with_value_pairs known g [] pairs = pairs
+with_value_pairs known g (v ∷ vs) pairs = with_value_pairs known g vs (added_each (edge_pairs known g) v.edges pairs)
+
+-- ---- a model
+
 -- what is drawn from a stream of a delay is needed at once
 abbrev pub with_drawn : Collected → Collected
 with_drawn n = record n { first = n.first ++ drawn_from n.delays n.draws }
 
+-- what is needed at once is marked
+abbrev pub known_at_once : EventGraph → List Bool
+known_at_once g = entailed_marks (length g.variables) (collected_at_once g).first []
+
+-- all pairs after what is needed at once
+abbrev pub with_all_pairs : List Bool → EventGraph → Collected → Collected
+with_all_pairs known g n =
+    let changed = with_all_changes known g.vertices n in
+    record changed { pairs = with_value_pairs known g g.vertices changed.pairs }
+
 -- all that is collected from a graph
 abbrev pub collected : EventGraph → Collected
-collected g = with_drawn (with_all_edges g g.vertices (with_all_changes g g.vertices (record nothing { first = watched_variables g.watch ++ (vertex_at g 0).parameters })))
+collected g = with_drawn (with_all_pairs (known_at_once g) g (collected_at_once g))
