@@ -21,6 +21,20 @@ last_fails [] last none fails = ap (λ b. first_failed (b ∷ [])) (sym fails)
 last_fails (true ∷ before) last none fails = ap (option_map (λ n. suc n)) (last_fails before last (none_before (first_failed before) none) fails)
 last_fails (false ∷ before) last none fails = cc
 
+pub last_holds : (before : List Bool) (last : Bool) → first_failed before ≡ None → last ≡ true → None ≡ first_failed (before ++ last ∷ [])
+last_holds [] last none holds = ap (λ b. first_failed (b ∷ [])) (sym holds)
+last_holds (true ∷ before) last none holds = ap (option_map (λ n. suc n)) (last_holds before last (none_before (first_failed before) none) holds)
+last_holds (false ∷ before) last none holds = cc
+
+-- one that fails is the first whatever stands behind it
+pub one_fails : (before : List Bool) (last : Bool) (n : ℕ) → first_failed before ≡ Some n → Some n ≡ first_failed (before ++ last ∷ [])
+one_fails [] last n fails = cc
+one_fails (false ∷ before) last n fails = sym fails
+one_fails (true ∷ before) last n fails = by (first_failed before) (one_fails before last) fails where
+  by : (o : Option ℕ) → ((m : ℕ) → o ≡ Some m → Some m ≡ first_failed (before ++ last ∷ [])) → option_map (λ n. suc n) o ≡ Some n → Some n ≡ option_map (λ n. suc n) (first_failed (before ++ last ∷ []))
+  by None later e = cc
+  by (Some m) later e = sym e ∙ ap (option_map (λ n. suc n)) (later m refl)
+
 -- where no condition fails none of the first ones does
 pub front_holds : (n : ℕ) (conditions : List Bool) → first_failed conditions ≡ None → first_failed (take n conditions) ≡ None
 front_holds zero conditions none = refl

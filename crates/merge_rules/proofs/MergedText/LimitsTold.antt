@@ -1,5 +1,5 @@
 -- What the first seven conditions of a merge say of the code's two vertices, and by how much the merge makes the text longer.
-use Rattle.std.proofs.Common.{◌≡◌, ◌∙◌, ◌==◌, ℕ, zero, suc, ◌+◌, ◌<◌, ◌≤◌, nat_lt, nat_le, Bool, true, ◌&&◌, not, List, [], ◌∷◌, map, take, length, min, get_or, slice_get, Some, None, is_some, IsSome, sym, ap, ap₂, arith, length-append}
+use Rattle.std.proofs.Common.{◌≡◌, ◌∙◌, ◌==◌, ℕ, zero, suc, ◌+◌, ◌-◌, ◌<◌, ◌≤◌, nat_lt, nat_le, Bool, true, ◌&&◌, not, List, [], ◌∷◌, ◌++◌, map, take, length, min, get_or, slice_get, Some, None, is_some, IsSome, sym, ap, ap₂, arith, length-append}
 use Rattle.std.specs.List.{flat_map, remove}
 use Rattle.std.specs.Option.{option_map_or}
 use Rattle.std.proofs.lemmas.Bool.Decides.{nat_tests}
@@ -94,6 +94,12 @@ edges_many a b place is =
     let one = length-remove a.edges place (plain_within a place is) in
     omega (arith, whole, parts, one)
 
+-- all changes, those that set the parameters of the second, and the second's
+pub changes_many : (a b : EventVertex) (place : ℕ) → plain_urgent a ≡ Some place → length (merged_with b a).changes ≡ length a.changes + length (set_parameters b.parameters (values_at_once a)) + length b.changes
+changes_many a b place is =
+    let set = set_parameters b.parameters (values_at_once a) in
+    ap (λ (v : EventVertex). length v.changes) (with_merged b a place is) ∙ length-append (a.changes ++ set) b.changes ∙ ap (λ n. n + length b.changes) (length-append a.changes set)
+
 -- ---- how long the text is
 
 -- lengths that stop at the greatest number give the sum's that stops there
@@ -103,6 +109,10 @@ capped_sum top rest more whole is = omega (arith, is)
 -- a length that stops at a number beyond the limit is within the limit where the length is
 pub capped_test : (limit top whole seen : ℕ) → limit < top → seen ≡ min whole top → nat_le seen limit ≡ nat_le whole limit
 capped_test limit top whole seen beyond is = grind (arith, nat_tests)
+
+-- a part that is no longer than the whole, where the whole doesn't stop
+pub part_taken : (top seen whole part gone : ℕ) → seen ≡ whole → part ≤ whole → gone ≡ min part top → seen ≤ top → seen - gone ≡ min (whole - part) top
+part_taken top seen whole part gone is within stops few = omega (arith, is, within, stops, few)
 
 -- the code's vertices and its edge, as the conditions find them
 module _ (g : EventGraph) (first second : ℕ) (h : Leads g first second) where

@@ -1,5 +1,5 @@
 -- The lines that the code measures are those that the `set` adds and that go.
-use Rattle.std.proofs.Common.{◌≡◌, ◌∙◌, List, ℕ, map, length, sym, ap, ap₂}
+use Rattle.std.proofs.Common.{◌≡◌, ◌∙◌, List, ℕ, map, length, sym, ap, ap₂, arith}
 use Rattle.std.specs.List.{flat_map}
 use Rattle.model_core.specs.declared.expr.Expr.{Expr}
 use Rattle.model_core.specs.declared.vertex.Vertex.{Vertex}
@@ -7,7 +7,7 @@ use Rattle.model_core.specs.Text.Canonical.{change_line}
 use Rattle.model_core.specs.Rules.Merge.{set_parameters}
 use Rattle.model_core.specs.Code.Views.{graph_of, expression_of}
 use Rattle.merge_rules.specs.Growth.{bytes_set, capped}
-use Rattle.merge_rules.proofs.MergedText.LimitsTold.{gone_here, set_here}
+use Rattle.merge_rules.proofs.MergedText.LimitsTold.{first_among, second_among, urgent_there, gone_here, set_here}
 use Rattle.merge_rules.proofs.growth.moved_growth.Goals as goal
 
 pub returns : goal.returns
@@ -31,3 +31,15 @@ returns c =
     ∙ ap capped (sym (gone_here m c.args.first c.args.second c.requires.holds seen c.as_slice-vertices.ensures a c.index-vertices-first.is place c.urgent_place.ensures.at c.urgent_place.ensures.within
     c.as_slice.result.now c.as_slice.ensures e c.index-as_slice-urgent_place.is)) in
     λ i. record { added = added i; gone = gone i }
+
+pub bounds-vertices-first : goal.bounds-vertices-first
+bounds-vertices-first c = first_among c.args.model.now c.args.first c.args.second c.requires.holds c.as_slice-vertices.result.now c.as_slice-vertices.ensures
+
+pub bounds-vertices-second : goal.bounds-vertices-second
+bounds-vertices-second c = second_among c.args.model.now c.args.first c.args.second c.requires.holds c.as_slice-vertices.result.now c.as_slice-vertices.ensures
+
+pub urgent_place-requires : goal.urgent_place-requires
+urgent_place-requires c = urgent_there c.args.model.now c.args.first c.args.second c.requires.holds c.as_slice-vertices.result.now c.as_slice-vertices.ensures c.index-vertices-first.result c.index-vertices-first.is
+
+pub bounds-as_slice-urgent_place : goal.bounds-as_slice-urgent_place
+bounds-as_slice-urgent_place c = let same = ap length c.as_slice.ensures in omega (arith, same, c.urgent_place.ensures.within)

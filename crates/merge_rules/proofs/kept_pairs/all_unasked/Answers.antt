@@ -1,0 +1,16 @@
+-- One vertex more.
+use Rattle.std.proofs.Common.{◌∙◌, ◌++◌, ◌∷◌, [], List, map, sym, ap, ap₂}
+use Rattle.std.proofs.lemmas.List.{map-append}
+use Rattle.sig_base.proofs.Lists.{seen_more}
+use Rattle.model_core.specs.Code.Views.{vertex_of}
+use Rattle.model_core.specs.EventGraph.{EventVertex}
+use Rattle.merge_rules.specs.declared.kept_pairs.KeptPair.{KeptPair}
+use Rattle.merge_rules.specs.Inner.PairMoves.{unasked}
+use Rattle.merge_rules.proofs.kept_pairs.all_unasked.Goals as goal
+
+pub loop-vertex-preserved : goal.loop-vertex-preserved
+loop-vertex-preserved c =
+    let vertices = c.args.vertices.now in
+    c.in_ok-push.ensures.items
+    ∙ ap₂ (λ (pairs : List KeptPair) (pair : KeptPair). pairs ++ pair ∷ []) c.loop-vertex.invariant c.unasked.ensures
+    ∙ sym (ap (map unasked) (seen_more vertex_of vertices c.loop-vertex.vertex-index c.vertex-item.result c.loop-vertex-test.true c.vertex-item.is) ∙ map-append unasked _ (vertex_of c.vertex-item.result ∷ []))
