@@ -66,3 +66,11 @@ returns-clause-told c = (
       ∙ ap (λ (g : EventGraph). length (canonical g)) (sym c.in_ok-put_together.ensures.done)),
   refl,
 )
+
+-- ---- what the calls for its lengths want
+
+pub find_body-body-requires-clause-there : goal.find_body-body-requires-clause-there
+find_body-body-requires-clause-there c = second_among c.args.model.now c.args.vertex c.args.target (front_holds 7 (merge_conditions (graph_of c.args.model.now) c.args.vertex c.args.target) c.requires.holds) c.args.model.now.vertices refl
+
+pub grows_by-grows-requires-clause-holds : goal.grows_by-grows-requires-clause-holds
+grows_by-grows-requires-clause-holds c = front_holds 7 (merge_conditions (graph_of c.args.model.now) c.args.vertex c.args.target) c.requires.holds
