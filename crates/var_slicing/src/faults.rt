@@ -24,10 +24,12 @@ fn add_faulting_target(
 ) -> Result<(), NoMemory>
     ensures { OnOk result (out.new.items ≡ out.old.items ++ fault_unless marks.now target.now.var (quiet_set (graph_of model.now) (location_of target.now) (expression_of value.now))) }
 {
-    if is_marked(marks, target.var) || quiet_set(model, target, value) {
+    if is_marked(marks, target.var) {
         return Ok(());
     }
-    out.push(target.var)?;
+    if !quiet_set(model, target, value) {
+        out.push(target.var)?;
+    }
     Ok(())
 }
 
