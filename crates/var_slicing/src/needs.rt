@@ -2,11 +2,9 @@
 //! all but what is needed since something may fault.
 
 ghost use Rattle.std.specs.Prelude.{◌≡◌, ◌++◌, map, OnOk, IfOk};
-ghost use Rattle.std.specs.List.{flat_map};
 ghost use Rattle.model_core.specs.EventGraph.{watched_variables};
 ghost use Rattle.model_core.specs.Rules.Needed.{compared_parameters, compares_values};
 ghost use Rattle.model_core.specs.Code.Views.{graph_of, vertex_of, change_of, edge_of, edge_kind_of, watched_of};
-ghost use Rattle.var_slicing.specs.Inner.Leading.{leaders_of, led_pairs};
 ghost use Rattle.var_slicing.specs.Inner.Needing.{collected_of, nothing, added_each, with_change, with_changes, with_all_changes, edge_pairs, with_value_pairs, with_edge, with_edges, with_all_edges, collected_at_once, with_all_pairs, with_drawn};
 
 use crate::delays::{add_delay_stream, add_drawn_from};

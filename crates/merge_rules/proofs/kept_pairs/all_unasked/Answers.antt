@@ -3,7 +3,6 @@ use Rattle.std.proofs.Common.{◌∙◌, ◌++◌, ◌∷◌, [], List, map, sym
 use Rattle.std.proofs.lemmas.List.{map-append}
 use Rattle.sig_base.proofs.Lists.{seen_more}
 use Rattle.model_core.specs.Code.Views.{vertex_of}
-use Rattle.model_core.specs.EventGraph.{EventVertex}
 use Rattle.merge_rules.specs.declared.kept_pairs.KeptPair.{KeptPair}
 use Rattle.merge_rules.specs.Inner.PairMoves.{unasked}
 use Rattle.merge_rules.proofs.kept_pairs.all_unasked.Goals as goal

@@ -1,5 +1,5 @@
 -- All changes, those that set the parameters of the second, and the second's.
-use Rattle.std.proofs.Common.{◌≡◌, ◌∙◌, ℕ, List, length, map, ap, arith}
+use Rattle.std.proofs.Common.{◌≡◌, ◌∙◌, ℕ, List, length, ap, arith}
 use Rattle.std.proofs.lemmas.List.{length-map}
 use Rattle.model_core.specs.Rules.Merge.{set_parameters, values_at_once}
 use Rattle.model_core.specs.Code.Views.{vertex_of, change_of}
