@@ -12,7 +12,7 @@ use Rattle.model_core.specs.Ranges.Incoming.{assigned, into_change, into_edge, i
 use Rattle.range_infer.specs.Inner.PartReads.{each_reads}
 use Rattle.range_infer.specs.Inner.LookedAt.{looks_at_value, assigned_seen, change_seen, values_seen, edge_seen, vertex_seen, incoming_seen}
 
-pub nothing : (b : Bool) → let none : List Incoming = [] in cond b none none ≡ none
+nothing : (b : Bool) → let none : List Incoming = [] in cond b none none ≡ none
 nothing true = refl
 nothing false = refl
 

@@ -1,7 +1,8 @@
 -- What variables take of the values beside them, one after the other.
-use Rattle.std.proofs.Common.{◌≡◌, ℕ, zero, suc, ◌+◌, ◌<◌, Bool, false, cond, List, [], ◌∷◌, ◌++◌, append_assoc, append-nil, length, map, drop, slice_index_or, refl, sym, ◌∙◌, ap, ap₂, arith}
+use Rattle.std.proofs.Common.{◌≡◌, ℕ, zero, suc, ◌+◌, ◌<◌, ◌≤◌, Bool, true, false, cond, List, [], ◌∷◌, ◌++◌, append_assoc, append-nil, length, map, drop, slice_index_or, refl, sym, ◌∙◌, ap, ap₂, arith}
 use Rattle.std.specs.List.{list_any}
 use Rattle.std.proofs.Math.Seq.{drop-cons}
+use Rattle.std.proofs.lemmas.List.{drop_all, length-map}
 use Rattle.model_core.specs.declared.vertex.Target.{Target}
 use Rattle.model_core.specs.EventGraph.{Variable, Expression, Location}
 use Rattle.model_core.specs.declared.incoming.Incoming.{Incoming}
@@ -11,17 +12,9 @@ use Rattle.model_core.specs.Code.Views.{expression_of, location_of}
 use Rattle.model_core.specs.Rules.BoundsOf.{bounds_under}
 use Rattle.model_core.specs.Rules.Uses.{variables_in}
 use Rattle.model_core.specs.Ranges.Refined.{refined}
-use Rattle.model_core.specs.Ranges.Incoming.{assigned}
 use Rattle.model_core.proofs.EachOne.{either_false}
-use Rattle.range_infer.specs.Inner.PartReads.{nothing_read, each_reads}
+use Rattle.range_infer.specs.Inner.PartReads.{each_reads}
 use Rattle.range_infer.specs.Inner.LookedAt.{looks_at, looks_at_value, assigned_seen}
-use Rattle.range_infer.proofs.AllSeen.{nothing}
-
--- what a value that is looked up gives
-pub value_found : (rs : List Variable) (v : ℕ) (values : List Expr) (p : ℕ) (found : Expr) (b : Bounds) → p < length values → found ≡ slice_index_or values p found → b ≡ bounds_under refined rs (expression_of found) → record { variable = v; bounds = b } ∷ [] ≡ assigned rs (v ∷ []) (drop p (map expression_of values))
-value_found rs v [] p found b small is so = absurd (omega arith)
-value_found rs v (x ∷ values) zero found b small is so = ap (λ (b : Bounds). record { variable = v; bounds = b } ∷ []) (so ∙ ap (λ (e : Expr). bounds_under refined rs (expression_of e)) is)
-value_found rs v (x ∷ values) (suc p) found b small is so = value_found rs v values p found b (omega arith) is so
 
 module _ (all : Bool) (moved : List Bool) (rs : List Variable) where
   abbrev seen : List ℕ → List Expression → List Incoming
@@ -58,12 +51,30 @@ module _ (all : Bool) (moved : List Bool) (rs : List Variable) where
       (append_assoc before (seen (v ∷ []) (drop p es)) (seen (drop (suc p) ns) (drop (suc p) es)) ∙
       (ap (λ (xs : List Incoming). before ++ xs) (sym (split v (drop (suc p) ns) es p) ∙ ap (λ (vs : List ℕ). seen vs (drop p es)) (sym first)) ∙ so)))
 
-  -- the value at a place, as it is looked at or passed over
-  pub value_seen : (v : ℕ) (es : List Expression) (p : ℕ) → seen (v ∷ []) (drop p es) ≡ cond (looks_at_value all moved (slice_index_or (each_reads es) p nothing_read)) (assigned rs (v ∷ []) (drop p es)) []
-  value_seen v [] zero = sym (nothing (looks_at all moved []))
-  value_seen v [] (suc p) = sym (nothing (looks_at all moved []))
-  value_seen v (e ∷ es) zero = append-nil (one v e)
-  value_seen v (e ∷ es) (suc p) = value_seen v es p
+  -- at the end of the variables
+  pub all_given : (ns : List ℕ) (es : List Expression) (p : ℕ) (out whole : List Incoming) → length ns ≤ p → out ++ seen (drop p ns) (drop p es) ≡ whole → out ≡ whole
+  all_given ns es p out whole past so = sym (append-nil out) ∙ (ap (λ (vs : List ℕ). out ++ seen vs (drop p es)) (sym (drop_all p ns past)) ∙ so)
+
+  -- the value at a place
+  there : (v : ℕ) (values : List Expr) (p : ℕ) (x : Expr) → p < length values → x ≡ slice_index_or values p x → seen (v ∷ []) (drop p (map expression_of values)) ≡ one v (expression_of x)
+  there v [] p x small is = absurd (omega arith)
+  there v (y ∷ values) zero x small is = append-nil (one v (expression_of y)) ∙ ap (λ (y : Expr). one v (expression_of y)) (sym is)
+  there v (y ∷ values) (suc p) x small is = there v values p x (omega arith) is
+
+  -- it is looked at, is passed over, or isn't there
+  pub value_seen : (v : ℕ) (values : List Expr) (p : ℕ) (x : Expr) (vars : List ℕ) (b : Bounds) (before new : List Incoming) → p < length values → x ≡ slice_index_or values p x → vars ≡ variables_in (expression_of x) → looks_at all moved vars ≡ true → b ≡ bounds_under refined rs (expression_of x) → new ≡ before ++ record { variable = v; bounds = b } ∷ [] → new ≡ before ++ seen (v ∷ []) (drop p (map expression_of values))
+  value_seen v values p x vars b before new small is read looked found added =
+      added ∙ ap (λ (is : List Incoming). before ++ is)
+      (ap (λ (b : Bounds). record { variable = v; bounds = b } ∷ []) found
+      ∙ sym (there v values p x small is ∙ ap (λ (t : Bool). cond t (record { variable = v; bounds = bounds_under refined rs (expression_of x) } ∷ []) []) (ap (looks_at all moved) (sym read) ∙ looked)))
+
+  pub value_passed : (v : ℕ) (values : List Expr) (p : ℕ) (x : Expr) (vars : List ℕ) (before : List Incoming) → p < length values → x ≡ slice_index_or values p x → vars ≡ variables_in (expression_of x) → looks_at all moved vars ≡ false → before ≡ before ++ seen (v ∷ []) (drop p (map expression_of values))
+  value_passed v values p x vars before small is read passed =
+      sym (append-nil before) ∙ ap (λ (is : List Incoming). before ++ is)
+      (sym (there v values p x small is ∙ ap (λ (t : Bool). cond t (record { variable = v; bounds = bounds_under refined rs (expression_of x) } ∷ []) []) (ap (looks_at all moved) (sym read) ∙ passed)))
+
+  pub no_value : (v : ℕ) (values : List Expr) (p : ℕ) (before : List Incoming) → length values ≤ p → before ≡ before ++ seen (v ∷ []) (drop p (map expression_of values))
+  no_value v values p before past = sym (append-nil before) ∙ ap (λ (es : List Expression). before ++ seen (v ∷ []) es) (sym (drop_all p (map expression_of values) (omega (arith, past, length-map values expression_of))))
 
 -- ---- targets
 

@@ -11,6 +11,7 @@ mod SameChanges
 mod SameEdges
 mod NarrowedRuns
 mod ValidNarrowed
+mod GuardsBeside
 mod PostfixBounds
 pub mod LongValues
 mod KeptBack
@@ -30,6 +31,7 @@ mod AssignedBeside
 mod FittingTests
 mod FirstOutside
 mod Numbered
+mod OneMorePut
 mod ReadersFound
 mod PartsSeen
 mod ListsReadAgain

@@ -1,8 +1,14 @@
 -- What stands at the place of a part in a list made of all parts.
-use Rattle.std.proofs.Common.{◌≡◌, ℕ, zero, suc, ◌<◌, List, [], ◌∷◌, append-nil, length, map, slice_index_or, sym, ◌∙◌, ap, arith}
+use Rattle.std.proofs.Common.{◌≡◌, ℕ, zero, suc, ◌+◌, ◌<◌, List, [], ◌∷◌, ◌++◌, append-nil, append_assoc, length, map, take, slice_index_or, sym, ◌∙◌, ap, ap₂, arith}
 use Rattle.std.specs.List.{flat_map}
 use Rattle.std.proofs.lemmas.List.{get_or-map, length-map}
+use Rattle.model_core.specs.EventGraph.{EventGraph, Variable}
+use Rattle.model_core.specs.Code.Views.{graph_of}
+use Rattle.model_core.specs.declared.incoming.Incoming.{Incoming}
+use Rattle.range_infer.specs.declared.ranges_left.RangesLeft.{RangesLeft}
+use Rattle.range_infer.specs.Inner.RangesLeft.{variables_left, StaysLeft}
 use Rattle.range_infer.specs.Inner.Readers.{one_at}
+use Rattle.range_infer.proofs.LedBack.{same_variables}
 
 pub made_of_part : {A B C : Type 0} (view : A → B) (f : B → C) (xs : List A) (ys : List C) (i : ℕ) (x : A) (y : C) → ys ≡ map f (map view xs) → i < length xs → x ≡ slice_index_or xs i x → y ≡ slice_index_or ys i y → y ≡ f (view x)
 made_of_part view f xs ys i x y made small here beside =
@@ -14,3 +20,19 @@ pub part_given : {A B C : Type 0} (view : A → B) (f : B → List C) (xs : List
 part_given view f [] i x small is = absurd (omega arith)
 part_given view f (y ∷ xs) zero x small is = append-nil (f (view y)) ∙ ap (λ z. f (view z)) (sym is)
 part_given view f (y ∷ xs) (suc i) x small is = part_given view f xs i x (omega arith) is
+
+-- what all parts give, one part after the other
+one_more : {A B C : Type 0} (view : A → B) (f : B → List C) (xs : List A) (i : ℕ) (x : A) → i < length xs → x ≡ slice_index_or xs i x → flat_map f (map view (take (suc i) xs)) ≡ flat_map f (map view (take i xs)) ++ f (view x)
+one_more view f [] i x small is = absurd (omega arith)
+one_more view f (y ∷ xs) zero x small is = append-nil (f (view y)) ∙ ap (λ z. f (view z)) (sym is)
+one_more view f (y ∷ xs) (suc i) x small is = ap (λ zs. f (view y) ++ zs) (one_more view f xs i x (omega arith) is) ∙ sym (append_assoc (f (view y)) (flat_map f (map view (take i xs))) (f (view x)))
+
+pub part_more : {A B : Type 0} (view : A → B) (see : EventGraph → List Variable → B → List Incoming) (xs : List A) (i : ℕ) (x : A) (first now : RangesLeft) (before out next : List Incoming) → i < length xs → x ≡ slice_index_or xs i x → StaysLeft first now
+    → out ≡ before ++ flat_map (see (graph_of first.model.now) (variables_left first)) (map view (take i xs)) → next ≡ out ++ see (graph_of now.model.now) (variables_left now) (view x)
+    → next ≡ before ++ flat_map (see (graph_of first.model.now) (variables_left first)) (map view (take (i + 1) xs))
+part_more view see xs i x first now before out next small is stays so added =
+    let f = see (graph_of first.model.now) (variables_left first) in
+    let more : i + 1 ≡ suc i = omega arith in
+    added ∙ (ap₂ (λ (g : EventGraph) (rs : List Variable). out ++ see g rs (view x)) (ap graph_of stays.model) (same_variables first now stays)
+    ∙ (ap (λ (is : List Incoming). is ++ f (view x)) so ∙ (append_assoc before (flat_map f (map view (take i xs))) (f (view x))
+    ∙ ap (λ (is : List Incoming). before ++ is) (sym (ap (λ (k : ℕ). flat_map f (map view (take k xs))) more ∙ one_more view f xs i x small is)))))

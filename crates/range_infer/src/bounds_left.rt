@@ -1,7 +1,7 @@
 //! The bounds of an expression under the ranges that are left where it is evaluated.
 #![tactic(auto, using(crate::proofs::LedBack::leading_back))]
 
-ghost use Rattle.std.specs.Prelude.{◌≡◌, List, pos, int_le, int_lt, ◌&&◌, true, false, IfOk, OnOk};
+ghost use Rattle.std.specs.Prelude.{◌≡◌, List, length, pos, int_le, int_lt, ◌&&◌, true, false, IfOk, OnOk};
 ghost use Rattle.model_core.specs.EventGraph.{Variable, Expression};
 ghost use Rattle.model_core.specs.Run.State.{variable_at};
 ghost use Rattle.model_core.specs.Rules.BoundsTable.{kind_bounds, variable_bounds, quiet_index};
@@ -9,10 +9,11 @@ ghost use Rattle.model_core.specs.Rules.BoundsOf.{ranged_at, beside, bounds_unde
 ghost use Rattle.model_core.specs.Code.Views.{graph_of, expression_of, operator_of};
 ghost use Rattle.model_core.specs.Ranges.OtherRanges.{with_ranges};
 ghost use Rattle.model_core.specs.Ranges.Refined.{refined};
+ghost use Rattle.range_infer.specs.declared.ranges_left.RangesLeft.{RangesLeft};
 ghost use Rattle.range_infer.specs.Inner.RangesLeft.{variables_left, StaysLeft, LeadsBack};
 
 use crate::ranges_left::RangesLeft;
-use crate::refinement::{forget, refine, tells_of_both};
+use crate::refinement::{forget, guard_of, refine, tells_of_both};
 use model_core::{Bounds, Expr, Kind, Model, Op, VarRange};
 use range_bounds::{
     chosen_bounds, negative_bounds, number_bounds, operator_bounds, opposite, truth_bounds,
@@ -90,14 +91,22 @@ fn bounds_beside(left: &mut RangesLeft, op: Op, first: &Expr) -> Result<Bounds, 
     ensures left { OnOk result (variables_left left.new ≡ beside refined (operator_of op) (expression_of first.now) (variables_left left.old)) }
     ensures back { OnOk result (LeadsBack left.old left.new) }
 {
-    match op {
-        Op::And => bounds_where(left, first, true),
-        Op::Or => bounds_where(left, first, false),
-        Op::Eq | Op::Ne | Op::Lt | Op::Le | Op::Gt | Op::Ge => operand_left(left, first),
-        Op::Add | Op::Sub | Op::Mul | Op::Div | Op::Rem | Op::Min | Op::Max => {
-            operand_left(left, first)
-        }
+    match guard_of(op) {
+        None => operand_left(left, first),
+        Some(value) => bounds_where(left, first, value),
     }
+}
+
+/// The bounds of the last operand. What was replaced since there were so many replaced ranges is put back.
+#[cycle(bounds_left)]
+#[inline(always)]
+fn last_bounds(left: &mut RangesLeft, expr: &Expr, replaced: usize) -> Result<Bounds, NoMemory>
+    ensures bounds { IfOk result (λ b. b ≡ bounds_under refined (variables_left left.old) (expression_of expr.now)) }
+    ensures left { OnOk result ((old : RangesLeft) → replaced ≡ length old.replaced.items → LeadsBack old left.old → StaysLeft old left.new) }
+{
+    let bounds = operand_left(left, expr)?;
+    forget(left, replaced);
+    Ok(bounds)
 }
 
 /// The bounds of an expression under the ranges that are left. What is replaced on the way is put back.
@@ -147,18 +156,15 @@ fn any_bounds_left(left: &mut RangesLeft, expr: &Expr) -> Result<Bounds, NoMemor
         Expr::Binary(op, first, second) => {
             let replaced = left.replaced.len();
             let a = bounds_beside(left, *op, first)?;
-            let b = operand_left(left, second)?;
-            forget(left, replaced);
+            let b = last_bounds(left, second, replaced)?;
             Ok(operator_bounds(*op, &a, &b))
         }
         Expr::If(test, yes, no) => {
             let replaced = left.replaced.len();
             let c = bounds_where(left, test, true)?;
-            let a = operand_left(left, yes)?;
-            forget(left, replaced);
+            let a = last_bounds(left, yes, replaced)?;
             refine(left, test, false)?;
-            let b = operand_left(left, no)?;
-            forget(left, replaced);
+            let b = last_bounds(left, no, replaced)?;
             Ok(chosen_bounds(&c, &a, &b))
         }
     }

@@ -9,14 +9,14 @@ ghost use Rattle.model_core.specs.Rules.BoundsOf.{bounds_under};
 ghost use Rattle.model_core.specs.Code.Views.{graph_of, expression_of, location_of, change_of, edge_kind_of, edge_of, vertex_of};
 ghost use Rattle.model_core.specs.Ranges.OtherRanges.{with_ranges};
 ghost use Rattle.model_core.specs.Ranges.Refined.{refined};
-ghost use Rattle.model_core.specs.Ranges.Incoming.{assigned, incoming};
+ghost use Rattle.model_core.specs.Ranges.Incoming.{incoming};
 ghost use Rattle.range_infer.specs.Inner.RangesLeft.{variables_left, StaysLeft};
 ghost use Rattle.range_infer.specs.Inner.PartReads.{each_reads, set_reads, carried_reads, parts_read};
 ghost use Rattle.range_infer.specs.Inner.Readers.{one_at, readers_in};
-ghost use Rattle.range_infer.specs.Inner.LookedAt.{assigned_seen, change_seen, values_seen, edge_seen, vertex_seen, incoming_seen, vertex_part_seen, part_seen, TakesAgain};
+ghost use Rattle.range_infer.specs.Inner.LookedAt.{assigned_seen, change_seen, edge_seen, vertex_seen, incoming_seen, vertex_part_seen, part_seen, TakesAgain};
 
 use crate::bounds_left::bounds_where;
-use crate::looking::{Look, looks_at, looks_at_one, looks_at_place};
+use crate::looking::{Look, looks_at, looks_at_one};
 use crate::moves::moved_ranges;
 use crate::part_reads::{EdgeReads, ValueReads, VertexReads, part_count};
 use crate::postfix_bounds::value_bounds;
@@ -28,26 +28,6 @@ use model_core::{Change, Edge, EdgeForm, Expr, Incoming, Model, Target, VarRange
 use range_bounds::choice_bounds;
 use sig_base::{List, NoMemory};
 use std::alloc::Global;
-
-/// Adds what the variable takes of the value at this place, if there is one.
-fn add_value_at(
-    out: &mut Vec<Incoming>,
-    left: &mut RangesLeft,
-    variable: usize,
-    values: &[Expr],
-    reads: &[ValueReads],
-    place: usize,
-) -> Result<(), NoMemory>
-    requires reads { reads.now ≡ each_reads (map expression_of values.now) }
-    ensures out { OnOk result (out.new.items ≡ out.old.items ++ assigned (variables_left left.old) (variable ∷ []) (drop place (map expression_of values.now))) }
-    ensures left { OnOk result (StaysLeft left.old left.new) }
-{
-    if place < values.len() {
-        let bounds = value_bounds(left, &values[place], reads[place].postfix.as_slice())?;
-        out.push(Incoming { variable, bounds })?;
-    }
-    Ok(())
-}
 
 /// Adds what the variable takes of the value at this place, if there is one that is looked at.
 fn add_value(
@@ -63,13 +43,19 @@ fn add_value(
     ensures out { OnOk result (out.new.items ≡ out.old.items ++ assigned_seen look.now.all look.now.moved.now (variables_left left.old) (variable ∷ []) (drop place (map expression_of values.now))) }
     ensures left { OnOk result (StaysLeft left.old left.new) }
 {
-    if looks_at_place(look, reads, place) {
-        add_value_at(out, left, variable, values, reads, place)?;
+    if place < values.len() {
+        let value = &values[place];
+        let read = &reads[place];
+        if looks_at(look, read.vars.as_slice()) {
+            let bounds = value_bounds(left, value, read.postfix.as_slice())?;
+            out.push(Incoming { variable, bounds })?;
+        }
     }
     Ok(())
 }
 
-/// Adds what targets take of the values beside them.
+/// Adds what targets take of the values beside them, if one of these is looked at.
+// Behind the first round few are. So values that aren't are passed over together.
 fn add_targets(
     out: &mut Vec<Incoming>,
     left: &mut RangesLeft,
@@ -82,28 +68,11 @@ fn add_targets(
     ensures out { OnOk result (out.new.items ≡ out.old.items ++ assigned_seen look.now.all look.now.moved.now (variables_left left.old) (map (λ (l : Location). l.variable) (map location_of targets.now)) (map expression_of values.now)) }
     ensures left { OnOk result (StaysLeft left.old left.new) }
 {
+    if !looks_at_one(look, reads) {
+        return Ok(());
+    }
     for (place, target) in targets.iter().enumerate() {
         add_value(out, left, look, target.var, values, reads, place)?;
-    }
-    Ok(())
-}
-
-/// Adds what targets take of the values beside them, if one of these is looked at.
-// Behind the first round few are. So values that aren't are passed over together.
-fn add_set(
-    out: &mut Vec<Incoming>,
-    left: &mut RangesLeft,
-    look: &Look,
-    targets: &[Target],
-    values: &[Expr],
-    reads: &[ValueReads],
-) -> Result<(), NoMemory>
-    requires reads { reads.now ≡ each_reads (map expression_of values.now) }
-    ensures out { OnOk result (out.new.items ≡ out.old.items ++ assigned_seen look.now.all look.now.moved.now (variables_left left.old) (map (λ (l : Location). l.variable) (map location_of targets.now)) (map expression_of values.now)) }
-    ensures left { OnOk result (StaysLeft left.old left.new) }
-{
-    if looks_at_one(look, reads) {
-        add_targets(out, left, look, targets, values, reads)?;
     }
     Ok(())
 }
@@ -142,7 +111,7 @@ fn add_change(
     match change {
         Change::Set { targets, values } => {
             let targets = targets.as_slice();
-            add_set(out, left, look, targets, values.as_slice(), reads)
+            add_targets(out, left, look, targets, values.as_slice(), reads)
         }
         Change::Draw {
             target,
@@ -195,25 +164,7 @@ fn add_carried(
     Ok(())
 }
 
-/// Adds what an edge carries, if it schedules and carries something that is looked at.
-fn add_values(
-    out: &mut Vec<Incoming>,
-    left: &mut RangesLeft,
-    look: &Look,
-    edge: &Edge,
-    reads: &[ValueReads],
-) -> Result<(), NoMemory>
-    requires reads { reads.now ≡ each_reads (map expression_of edge.now.values) }
-    ensures out { OnOk result (out.new.items ≡ out.old.items ++ values_seen (graph_of left.old.model.now) look.now.all look.now.moved.now (variables_left left.old) (edge_of edge.now)) }
-    ensures left { OnOk result (StaysLeft left.old left.new) }
-{
-    if can_schedule(&edge.form) && looks_at_one(look, reads) {
-        add_carried(out, left, look, edge, reads)?;
-    }
-    Ok(())
-}
-
-/// Adds what an edge carries: all of it where its condition is looked at.
+/// Adds what an edge carries, if it schedules and carries something that is looked at: all of it where its condition is.
 fn add_edge(
     out: &mut Vec<Incoming>,
     left: &mut RangesLeft,
@@ -225,11 +176,17 @@ fn add_edge(
     ensures out { OnOk result (out.new.items ≡ out.old.items ++ edge_seen (graph_of left.old.model.now) look.now.all look.now.moved.now (variables_left left.old) (edge_of edge.now)) }
     ensures left { OnOk result (StaysLeft left.old left.new) }
 {
-    let whole = Look {
-        all: looks_at(look, reads.condition.as_slice()),
-        moved: look.moved,
-    };
-    add_values(out, left, &whole, edge, reads.values.as_slice())
+    if can_schedule(&edge.form) {
+        let whole = Look {
+            all: looks_at(look, reads.condition.as_slice()),
+            moved: look.moved,
+        };
+        let reads = reads.values.as_slice();
+        if looks_at_one(&whole, reads) {
+            add_carried(out, left, &whole, edge, reads)?;
+        }
+    }
+    Ok(())
 }
 
 fn add_changes(

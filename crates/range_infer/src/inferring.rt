@@ -41,18 +41,13 @@ fn make_rounds(
     let mut rounds = 0;
     loop {
         let late = EARLY_ROUNDS <= rounds;
-        let next = next_round(alloc, model, late, ranges.as_slice(), takes.as_slice())?;
-        if same_ranges(next.as_slice(), ranges.as_slice()) {
+        let before = ranges.as_slice();
+        let next = next_round(alloc, model, late, before, takes.as_slice())?;
+        let after = next.as_slice();
+        if same_ranges(after, before) {
             return Ok(List::from_vec(ranges));
         }
-        takes = taken_again(
-            alloc,
-            model,
-            reads,
-            readers,
-            ranges.as_slice(),
-            next.as_slice(),
-        )?;
+        takes = taken_again(alloc, model, reads, readers, before, after)?;
         ranges = next;
         rounds += 1;
     }

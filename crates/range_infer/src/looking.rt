@@ -1,9 +1,8 @@
 //! Which parts of a model are looked at: all of them, or those that read a variable whose range moved.
 
-ghost use Rattle.std.specs.Prelude.{◌≡◌, slice_index_or};
+ghost use Rattle.std.specs.Prelude.{◌≡◌};
 ghost use Rattle.std.specs.List.{list_any};
 ghost use Rattle.range_infer.specs.Inner.Moved.{is_moved};
-ghost use Rattle.range_infer.specs.Inner.PartReads.{nothing_read};
 ghost use Rattle.range_infer.specs.Inner.LookedAt.{looks_at, looks_at_value};
 
 use crate::moves::is_moved;
@@ -33,16 +32,6 @@ pub(crate) fn looks_at(look: &Look, vars: &[usize]) -> bool
     ensures { result ≡ looks_at look.now.all look.now.moved.now vars.now }
 {
     look.all || one_moved(look.moved, vars)
-}
-
-/// Whether the value at this place is looked at, of which this is read.
-pub(crate) fn looks_at_place(look: &Look, reads: &[ValueReads], place: usize) -> bool
-    ensures { result ≡ looks_at_value look.now.all look.now.moved.now (slice_index_or reads.now place nothing_read) }
-{
-    match reads.get(place) {
-        Some(value) => looks_at(look, value.vars.as_slice()),
-        None => look.all,
-    }
 }
 
 /// Whether one of the values is looked at of which this is read.

@@ -6,9 +6,9 @@ ghost use Rattle.std.specs.Prelude.{◌≡◌, [], ◌∷◌, ◌++◌, not, Non
 ghost use Rattle.std.specs.Option.{option_map};
 ghost use Rattle.model_core.specs.Code.Views.{expression_of, operator_of};
 ghost use Rattle.model_core.specs.Rules.Exclusive.{number_literal};
-ghost use Rattle.range_infer.specs.Inner.Postfix.{number_items, literal_items, compared_items, left_items, tells_both, left_by, with_right, guard_of, postfix_of, is_of_ranges};
+ghost use Rattle.range_infer.specs.Inner.Postfix.{number_items, literal_items, compared_items, left_items, tells_both, left_by, with_right, postfix_of, is_of_ranges};
 
-use crate::refinement::{comparison_where, tells_of_both};
+use crate::refinement::{comparison_where, guard_of, tells_of_both};
 use model_core::{Expr, Op};
 use sig_base::{List, NoMemory};
 use std::alloc::Global;
@@ -162,18 +162,6 @@ fn tells_both(op: Op, value: Option<bool>) -> bool
     }
 }
 
-/// The value that the left operand has where the right one is evaluated, if that is known.
-fn guard_of(op: Op) -> Option<bool>
-    ensures { result ≡ guard_of (operator_of op) }
-{
-    match op {
-        Op::And => Some(true),
-        Op::Or => Some(false),
-        Op::Eq | Op::Ne | Op::Lt | Op::Le | Op::Gt | Op::Ge => None,
-        Op::Add | Op::Sub | Op::Mul | Op::Div | Op::Rem | Op::Min | Op::Max => None,
-    }
-}
-
 fn opposite_value(value: Option<bool>) -> Option<bool>
     ensures { result ≡ option_map not value }
 {
@@ -181,6 +169,14 @@ fn opposite_value(value: Option<bool>) -> Option<bool>
         None => None,
         Some(value) => Some(!value),
     }
+}
+
+/// Adds an item.
+fn add_item(items: &mut Vec<PostfixItem>, item: PostfixItem) -> Result<(), NoMemory>
+    ensures { OnOk result (items.new.items ≡ items.old.items ++ item ∷ []) }
+{
+    items.push(item)?;
+    Ok(())
 }
 
 fn add_two(
@@ -191,8 +187,21 @@ fn add_two(
     ensures { OnOk result (items.new.items ≡ items.old.items ++ first ∷ second ∷ []) }
 {
     items.push(first)?;
-    items.push(second)?;
-    Ok(())
+    add_item(items, second)
+}
+
+/// Adds the postfix form of an operand, and the item that is made of it.
+#[cycle(add_postfix)]
+fn add_operand(
+    items: &mut Vec<PostfixItem>,
+    expr: &Expr,
+    value: Option<bool>,
+    item: PostfixItem,
+) -> Result<(), NoMemory>
+    ensures { OnOk result (items.new.items ≡ items.old.items ++ (postfix_of (expression_of expr.now) value ++ item ∷ [])) }
+{
+    add_postfix(items, expr, value)?;
+    add_item(items, item)
 }
 
 /// Adds the right operand of an operator, and the operator.
@@ -201,12 +210,10 @@ fn add_right(items: &mut Vec<PostfixItem>, op: Op, expr: &Expr) -> Result<(), No
     ensures { OnOk result (items.new.items ≡ items.old.items ++ with_right (operator_of op) (expression_of expr.now) (postfix_of (expression_of expr.now) None)) }
 {
     if let Expr::Scalar(var) = expr {
-        items.push(PostfixItem::Beside(op, *var))?;
+        add_item(items, PostfixItem::Beside(op, *var))
     } else {
-        add_postfix(items, expr, None)?;
-        items.push(PostfixItem::Operator(op))?;
+        add_operand(items, expr, None, PostfixItem::Operator(op))
     }
-    Ok(())
 }
 
 /// Adds the postfix form of an expression. Behind it the ranges are those where the expression has this value, or those before
@@ -220,28 +227,17 @@ fn add_postfix(
     ensures { OnOk result (items.new.items ≡ items.old.items ++ postfix_of (expression_of expr.now) value) }
 {
     match expr {
-        Expr::Int(n) => items.push(PostfixItem::Number(*n))?,
-        Expr::Truth(b) => items.push(PostfixItem::Truth(*b))?,
-        Expr::Clk => items.push(PostfixItem::Clock)?,
-        Expr::Scalar(var) => items.push(PostfixItem::Variable(*var))?,
-        Expr::Cell(var, index) => {
-            add_postfix(items, index, None)?;
-            items.push(PostfixItem::CellOf(*var))?;
-        }
-        Expr::Neg(a) => {
-            add_postfix(items, a, None)?;
-            items.push(PostfixItem::Negated)?;
-        }
-        Expr::Not(a) => {
-            add_postfix(items, a, opposite_value(value))?;
-            items.push(PostfixItem::Opposite)?;
-        }
+        Expr::Int(n) => add_item(items, PostfixItem::Number(*n)),
+        Expr::Truth(b) => add_item(items, PostfixItem::Truth(*b)),
+        Expr::Clk => add_item(items, PostfixItem::Clock),
+        Expr::Scalar(var) => add_item(items, PostfixItem::Variable(*var)),
+        Expr::Cell(var, index) => add_operand(items, index, None, PostfixItem::CellOf(*var)),
+        Expr::Neg(a) => add_operand(items, a, None, PostfixItem::Negated),
+        Expr::Not(a) => add_operand(items, a, opposite_value(value), PostfixItem::Opposite),
         Expr::Binary(op, first, second) => {
             if tells_both(*op, value) {
                 add_postfix(items, first, value)?;
-                add_postfix(items, second, value)?;
-                items.push(PostfixItem::Operator(*op))?;
-                return Ok(());
+                return add_operand(items, second, value, PostfixItem::Operator(*op));
             }
             match guard_of(*op) {
                 None => {
@@ -249,25 +245,24 @@ fn add_postfix(
                     add_right(items, *op, second)?;
                 }
                 Some(guard) => {
-                    items.push(PostfixItem::Kept)?;
+                    add_item(items, PostfixItem::Kept)?;
                     add_postfix(items, first, Some(guard))?;
                     add_postfix(items, second, None)?;
                     add_two(items, PostfixItem::PutBack, PostfixItem::Operator(*op))?;
                 }
             }
-            add_left_by(items, *op, first, second, value)?;
+            add_left_by(items, *op, first, second, value)
         }
         Expr::If(test, yes, no) => {
-            items.push(PostfixItem::Kept)?;
+            add_item(items, PostfixItem::Kept)?;
             add_postfix(items, test, Some(true))?;
             add_postfix(items, yes, None)?;
             add_two(items, PostfixItem::PutBack, PostfixItem::Kept)?;
             add_left(items, test, false)?;
             add_postfix(items, no, None)?;
-            add_two(items, PostfixItem::PutBack, PostfixItem::Chosen)?;
+            add_two(items, PostfixItem::PutBack, PostfixItem::Chosen)
         }
     }
-    Ok(())
 }
 
 /// The postfix form of a value.

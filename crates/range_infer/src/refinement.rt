@@ -8,6 +8,7 @@ ghost use Rattle.model_core.specs.Code.Views.{expression_of, operator_of};
 ghost use Rattle.model_core.specs.Ranges.Refined.{opposite_comparison, where_holds, refined_by, tells_of_both, refined};
 ghost use Rattle.range_infer.specs.declared.ranges_left.RangesLeft.{RangesLeft};
 ghost use Rattle.range_infer.specs.Inner.RangesLeft.{variables_left, StaysLeft, LeadsBack};
+ghost use Rattle.range_infer.specs.Inner.Postfix.{guard_of};
 
 use crate::numbers_left::where_holds;
 use crate::ranges_left::RangesLeft;
@@ -46,6 +47,18 @@ pub(crate) fn tells_of_both(op: Op, value: bool) -> bool
         Op::Or => !value,
         Op::Eq | Op::Ne | Op::Lt | Op::Le | Op::Gt | Op::Ge => false,
         Op::Add | Op::Sub | Op::Mul | Op::Div | Op::Rem | Op::Min | Op::Max => false,
+    }
+}
+
+/// The value that the left operand has where the right one is evaluated, if that is known.
+pub(crate) fn guard_of(op: Op) -> Option<bool>
+    ensures { result ≡ guard_of (operator_of op) }
+{
+    match op {
+        Op::And => Some(true),
+        Op::Or => Some(false),
+        Op::Eq | Op::Ne | Op::Lt | Op::Le | Op::Gt | Op::Ge => None,
+        Op::Add | Op::Sub | Op::Mul | Op::Div | Op::Rem | Op::Min | Op::Max => None,
     }
 }
 

@@ -3,7 +3,7 @@
 use model_core::VarRange;
 
 /// The range that the variable at this place had.
-#[derive(Clone, Copy, Debug, PartialEq, Eq)]
+#[derive(Clone, Copy)]
 pub(crate) struct ReplacedRange {
     pub(crate) var: usize,
     pub(crate) range: VarRange,

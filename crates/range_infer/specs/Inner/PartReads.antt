@@ -21,10 +21,6 @@ long_postfix e = cond (is_long e) (postfix_of e None) []
 abbrev pub value_reads : Expression → ValueReads
 value_reads e = record { vars = variables_in e; postfix = long_postfix e }
 
--- what is read where no value stands
-abbrev pub nothing_read : ValueReads
-nothing_read = record { vars = []; postfix = [] }
-
 abbrev pub each_reads : List Expression → List ValueReads
 each_reads values = map value_reads values
 

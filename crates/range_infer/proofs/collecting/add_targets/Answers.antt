@@ -1,11 +1,14 @@
--- One more target, with the value beside it.
-use Rattle.std.proofs.Common.{◌++◌, ◌∷◌, [], ◌∙◌, ◌<◌, ap, map, drop, length, List, arith}
+-- One more target, with the value beside it, or no value is looked at.
+use Rattle.std.proofs.Common.{refl, ◌++◌, ◌∷◌, [], ◌∙◌, ◌<◌, sym, ap, append-nil, map, drop, length, List, arith}
+use Rattle.std.specs.List.{list_any}
+use Rattle.model_core.specs.declared.incoming.Incoming.{Incoming}
 use Rattle.model_core.specs.EventGraph.{Location, Variable}
 use Rattle.model_core.specs.Code.Views.{location_of, expression_of}
 use Rattle.range_infer.specs.Inner.RangesLeft.{variables_left}
-use Rattle.range_infer.specs.Inner.LookedAt.{assigned_seen}
+use Rattle.range_infer.specs.Inner.LookedAt.{looks_at_value, assigned_seen}
+use Rattle.range_infer.proofs.KeptBack.{itself}
 use Rattle.range_infer.proofs.LedBack.{same_variables, stays-trans}
-use Rattle.range_infer.proofs.AssignedBeside.{one_seen, target_at, many_targets}
+use Rattle.range_infer.proofs.AssignedBeside.{nothing_seen, one_seen, all_given, target_at, many_targets}
 use Rattle.range_infer.proofs.collecting.add_targets.Goals as goal
 
 pub loop-place-preserved : goal.loop-place-preserved
@@ -22,3 +25,17 @@ loop-place-preserved c =
       out = one_seen look.all look.moved.now (variables_left c.args.left.now) vars es p t.var c.loop-place.out.items c.add_value.new.out.items _ small (target_at c.args.targets.now p t c.loop-place-test.true c.index-targets-place.is) added c.loop-place.invariant.out;
       left = stays-trans c.args.left.now c.loop-place.left c.add_value.new.left c.loop-place.invariant.left c.in_ok-add_value.ensures.left;
     }
+
+pub returns-then-not-looks_at_one-clause-out : goal.returns-then-not-looks_at_one-clause-out
+returns-then-not-looks_at_one-clause-out c =
+    let look = c.args.look.now in
+    let none = ap (list_any (looks_at_value look.all look.moved.now)) (sym c.requires.reads) ∙ (sym c.looks_at_one.ensures ∙ c.if-not-looks_at_one.true) in
+    sym (append-nil c.args.out.now.items)
+    ∙ ap (λ (is : List Incoming). c.args.out.now.items ++ is)
+    (sym (nothing_seen look.all look.moved.now (variables_left c.args.left.now) (map (λ (l : Location). l.variable) (map location_of c.args.targets.now)) (map expression_of c.args.values.now) none))
+
+pub loop-place-init : goal.loop-place-init
+loop-place-init c = record { out = refl; left = itself c.args.left.now }
+
+pub returns-clause-out : goal.returns-clause-out
+returns-clause-out c = all_given c.args.look.now.all c.args.look.now.moved.now (variables_left c.args.left.now) (map (λ (t : Location). t.variable) (map location_of c.args.targets.now)) (map expression_of c.args.values.now) c.loop-place.place c.loop-place.out.items _ (omega (arith, c.loop-place-test.false, many_targets c.args.targets.now)) c.loop-place.invariant.out

@@ -23,23 +23,23 @@ next_round-requires c =
     let g = graph_of c.args.model.now in
     let keeps = ((c.validity_is_by_parts.ensures.by_parts g).0 c.requires.valid).0.parts in
     let turn = c.loop-takes in
-    record { many = ap length c.as_slice-in-loop-takes.ensures.value ∙ (as_many g keeps turn.rounds turn.ranges.items turn.takes.items turn.invariant ∙ length-map c.args.model.now.vars variable_of) }
+    record { many = ap length c.as_slice-before.ensures.value ∙ (as_many g keeps turn.rounds turn.ranges.items turn.takes.items turn.invariant ∙ length-map c.args.model.now.vars variable_of) }
 
 pub same_ranges-requires : goal.same_ranges-requires
 same_ranges-requires c =
     let g = graph_of c.args.model.now in
     let keeps = ((c.validity_is_by_parts.ensures.by_parts g).0 c.requires.valid).0.parts in
     let turn = c.loop-takes in
-    let made = is_round g keeps turn.rounds turn.ranges.items turn.takes.items turn.invariant _ c.as_slice-in-loop-takes.result.now c.as_slice-in-loop-takes-2.result.now c.in_ok-next.next.items refl c.as_slice-in-loop-takes.ensures.value c.as_slice-in-loop-takes-2.ensures.value c.in_ok-next.ensures in
-    ap length c.as_slice-in-loop-takes-3.ensures.value ∙ (many_next g keeps turn.rounds turn.ranges.items turn.takes.items turn.invariant c.in_ok-next.next.items made ∙ sym (ap length c.as_slice-in-loop-takes-4.ensures.value ∙ as_many g keeps turn.rounds turn.ranges.items turn.takes.items turn.invariant))
+    let made = is_round g keeps turn.rounds turn.ranges.items turn.takes.items turn.invariant _ c.as_slice-before.result.now c.as_slice-in-loop-takes.result.now c.in_ok-next.next.items refl c.as_slice-before.ensures.value c.as_slice-in-loop-takes.ensures.value c.in_ok-next.ensures in
+    ap length c.as_slice-after.ensures.value ∙ (many_next g keeps turn.rounds turn.ranges.items turn.takes.items turn.invariant c.in_ok-next.next.items made ∙ sym (ap length c.as_slice-before.ensures.value ∙ as_many g keeps turn.rounds turn.ranges.items turn.takes.items turn.invariant))
 
 pub returns-then-same_ranges : goal.returns-then-same_ranges
 returns-then-same_ranges c =
     let g = graph_of c.args.model.now in
     let keeps = ((c.validity_is_by_parts.ensures.by_parts g).0 c.requires.valid).0.parts in
     let turn = c.loop-takes in
-    let made = is_round g keeps turn.rounds turn.ranges.items turn.takes.items turn.invariant _ c.as_slice-in-loop-takes.result.now c.as_slice-in-loop-takes-2.result.now c.in_ok-next.next.items refl c.as_slice-in-loop-takes.ensures.value c.as_slice-in-loop-takes-2.ensures.value c.in_ok-next.ensures in
-    let stays = sym c.as_slice-in-loop-takes-3.ensures.value ∙ (c.same_ranges.ensures.0 c.if-same_ranges.true ∙ c.as_slice-in-loop-takes-4.ensures.value) in
+    let made = is_round g keeps turn.rounds turn.ranges.items turn.takes.items turn.invariant _ c.as_slice-before.result.now c.as_slice-in-loop-takes.result.now c.in_ok-next.next.items refl c.as_slice-before.ensures.value c.as_slice-in-loop-takes.ensures.value c.in_ok-next.ensures in
+    let stays = sym c.as_slice-after.ensures.value ∙ (c.same_ranges.ensures.0 c.if-same_ranges.true ∙ c.as_slice-before.ensures.value) in
     subst (IsInferred g) (sym c.from_vec.ensures) (inferred g keeps turn.rounds turn.ranges.items turn.takes.items turn.invariant c.in_ok-next.next.items made stays)
 
 pub taken_again-requires-clause-many_old : goal.taken_again-requires-clause-many_old
@@ -47,12 +47,12 @@ taken_again-requires-clause-many_old c =
     let g = graph_of c.args.model.now in
     let keeps = ((c.validity_is_by_parts.ensures.by_parts g).0 c.requires.valid).0.parts in
     let turn = c.loop-takes in
-    ap length c.as_slice-in-loop-takes-5.ensures.value ∙ (as_many g keeps turn.rounds turn.ranges.items turn.takes.items turn.invariant ∙ length-map c.args.model.now.vars variable_of)
+    ap length c.as_slice-before.ensures.value ∙ (as_many g keeps turn.rounds turn.ranges.items turn.takes.items turn.invariant ∙ length-map c.args.model.now.vars variable_of)
 
 pub taken_again-requires-clause-many : goal.taken_again-requires-clause-many
 taken_again-requires-clause-many c =
     let g = graph_of c.args.model.now in
-    ap length (c.as_slice-in-loop-takes-6.ensures.value ∙ c.in_ok-next.ensures) ∙ (variables_given g _ ∙ length-map c.args.model.now.vars variable_of)
+    ap length (c.as_slice-after.ensures.value ∙ c.in_ok-next.ensures) ∙ (variables_given g _ ∙ length-map c.args.model.now.vars variable_of)
 
 pub overflow_add-rounds : goal.overflow_add-rounds
 overflow_add-rounds c =
@@ -67,6 +67,6 @@ loop-takes-preserved c =
     let g = graph_of c.args.model.now in
     let keeps = ((c.validity_is_by_parts.ensures.by_parts g).0 c.requires.valid).0.parts in
     let turn = c.loop-takes in
-    let made = is_round g keeps turn.rounds turn.ranges.items turn.takes.items turn.invariant _ c.as_slice-in-loop-takes.result.now c.as_slice-in-loop-takes-2.result.now c.in_ok-next.next.items refl c.as_slice-in-loop-takes.ensures.value c.as_slice-in-loop-takes-2.ensures.value c.in_ok-next.ensures in
-    let changes : c.in_ok-next.next.items ≡ turn.ranges.items → ⊥ = λ same. not_true_too c.same_ranges.result c.if-same_ranges.false (c.same_ranges.ensures.1 (c.as_slice-in-loop-takes-3.ensures.value ∙ (same ∙ sym c.as_slice-in-loop-takes-4.ensures.value))) in
-    next_turn g keeps turn.rounds turn.ranges.items turn.takes.items turn.invariant c.in_ok-next.next.items made changes c.as_slice-in-loop-takes-5.result.now c.as_slice-in-loop-takes-6.result.now c.in_ok-takes-2.takes.items c.as_slice-in-loop-takes-5.ensures.value c.as_slice-in-loop-takes-6.ensures.value c.in_ok-takes-2.ensures
+    let made = is_round g keeps turn.rounds turn.ranges.items turn.takes.items turn.invariant _ c.as_slice-before.result.now c.as_slice-in-loop-takes.result.now c.in_ok-next.next.items refl c.as_slice-before.ensures.value c.as_slice-in-loop-takes.ensures.value c.in_ok-next.ensures in
+    let changes : c.in_ok-next.next.items ≡ turn.ranges.items → ⊥ = λ same. not_true_too c.same_ranges.result c.if-same_ranges.false (c.same_ranges.ensures.1 (c.as_slice-after.ensures.value ∙ (same ∙ sym c.as_slice-before.ensures.value))) in
+    next_turn g keeps turn.rounds turn.ranges.items turn.takes.items turn.invariant c.in_ok-next.next.items made changes c.as_slice-before.result.now c.as_slice-after.result.now c.in_ok-takes-2.takes.items c.as_slice-before.ensures.value c.as_slice-after.ensures.value c.in_ok-takes-2.ensures

@@ -1,5 +1,6 @@
 -- What the check of ranges told, and whether the text was short.
-use Rattle.std.proofs.Common.{subst}
+use Rattle.std.proofs.Common.{subst, arith}
+use Rattle.std.proofs.lemmas.Grind.{common_steps}
 use Rattle.model_core.specs.Code.Views.{graph_of}
 use Rattle.model_core.specs.Ranges.Inductive.{Fitting, Inductive}
 use Rattle.range_infer.specs.ToldOfRanges.{FailsFirst, VerdictHolds, unfit, left}
@@ -28,3 +29,12 @@ returns-else-branch-clause-refused c =
     let g = graph_of c.args.model.now in
     let told : Fitting g c.args.ranges.now × Inductive g c.args.ranges.now = subst (VerdictHolds g c.args.ranges.now) c.in-Inductive.is c.in_ok-check_ranges.ensures in
     no_room g (graph_of c.redeclare_if_short.new.model) c.args.ranges.now c.as_slice.result.now told.0 told.1 c.as_slice.ensures c.in_ok-redeclare_if_short.field-0 c.in_ok-redeclare_if_short.ensures.value c.if-branch.false
+
+pub returns-in_err-check_ranges-clause-refused : goal.returns-in_err-check_ranges-clause-refused
+returns-in_err-check_ranges-clause-refused c = grind (arith, common_steps)
+
+pub returns-in_err-redeclare_if_short-clause-refused : goal.returns-in_err-redeclare_if_short-clause-refused
+returns-in_err-redeclare_if_short-clause-refused c = grind (arith, common_steps)
+
+pub returns-in_err-redeclare_if_short-clause-unchanged : goal.returns-in_err-redeclare_if_short-clause-unchanged
+returns-in_err-redeclare_if_short-clause-unchanged c = grind (arith, common_steps)
