@@ -10,10 +10,11 @@ use Rattle.model_core.specs.Text.Numbering as numbering
 use Rattle.model_core.specs.Text.Numbering.{each_numbered, written_or, declared_place, expression, natural}
 use Rattle.model_core.specs.Static.FaultOrder.{StaticFault}
 use Rattle.model_core.specs.Static.Meanings.{Meaning, MeansVariable, MeansTable, MeansVertex, AsVertex}
-use Rattle.model_core.specs.Static.PartFaults.{if_written, use_faults, operand_faults, priority_faults, target_takes, carried_faults, source_faults, delay_faults, schedule_faults, edge_faults}
+use Rattle.model_core.specs.Static.PartFaults.{if_written, use_faults, operand_faults, priority_faults, target_takes, carried_faults, source_faults, delay_faults, schedule_faults, edge_faults, values_faults, written_items}
 use Rattle.static_laws.specs.Checked.{Checked, NumberedAs, CheckedPart, CheckedPlain}
 use Rattle.static_laws.specs.Roles.{vertex_meant}
 use Rattle.sig_types.specs.Inner.Stored.{taken_by}
+use Rattle.static_laws.proofs.LeftOut.{each_numbered-items}
 use Rattle.static_laws.proofs.Checks.{both, made, two_numbered, four_numbered}
 
 takes_by_place : (means : List ℕ → Option Meaning) (taken : List (List (Option Kind))) (w : Option Meaning) → target_takes means taken w ≡ taken_by taken (vertex_meant w)
@@ -39,6 +40,12 @@ module _ (means : List ℕ → Option Meaning) (taken : List (List (Option Kind)
       → CheckedPart means t0 t2 (schedule_faults means taken (written.Schedule after priority)) (λ d. numbering.edge_kind d (written.Schedule after priority)) (graph.Schedule x n)
   schedule_checked t0 t1 t2 after priority x n c p =
       made (λ h. two_numbered means graph.Schedule (λ d. written_or (numbering.delay d) (graph.Fixed (graph.Number (pos 0))) after) (λ d. written_or natural 5 priority) h.0 (λ d q. h.1)) (both c p)
+
+  -- values that may be left out
+  pub values_left_out : (t0 t1 : Option StaticFault) (wanted : List (Option Kind)) (values : Option (List WrittenExpression)) (xs : List graph.Expression)
+      → CheckedPart means t0 t1 (values_faults means wanted (written_items values)) (λ d. each_numbered (expression d) (written_items values)) xs
+      → CheckedPart means t0 t1 (values_faults means wanted (written_items values)) (λ d. written_or (each_numbered (expression d)) [] values) xs
+  values_left_out t0 t1 wanted values xs c = made (λ h d p. sym (each_numbered-items (expression d) values) ∙ h d p) c
 
   there : (o : Option ℕ) (k : Option ℕ) (n : ℕ) → option_map (λ j. Some j) o ≡ Some k → n ≡ unwrap_or k 0 → o ≡ Some n
   there None k n e h = cc

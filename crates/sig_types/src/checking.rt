@@ -1,22 +1,24 @@
 //! The check of a whole model.
 
-ghost use Rattle.std.specs.Prelude.{◌≡◌, ℕ, nat_lt, Option, [], length, map, IfOk, OnOk, Err, Some, None};
+ghost use Rattle.std.specs.Prelude.{◌≡◌, ◌++◌, ℕ, nat_lt, Option, [], length, map, IfOk, OnOk, Err, Some, None};
+ghost use Rattle.std.specs.List.{flat_map};
 ghost use Rattle.sig_base.specs.declared.limits.TheConstants.{TEXT_MAX};
 ghost use Rattle.model_core.specs.declared.static_kind.StaticKind.{StaticKind as Rule};
-ghost use Rattle.model_core.specs.Code.Views.{graph_of};
-ghost use Rattle.model_core.specs.Code.WrittenViews.{written_model};
+ghost use Rattle.model_core.specs.Code.Views.{variable_of, table_of, watched_of, graph_of};
+ghost use Rattle.model_core.specs.Code.WrittenViews.{written_name, written_variable, written_table, written_model};
 ghost use Rattle.model_core.specs.Text.Canonical.{canonical};
 ghost use Rattle.model_core.specs.Text.Numbering as numbering;
+ghost use Rattle.model_core.specs.Text.Numbering.{each_numbered};
 ghost use Rattle.model_core.specs.Static.FaultOrder.{StaticFault, earliest_fault};
-ghost use Rattle.model_core.specs.Static.Meanings.{declarations, declared_name, meaning_of};
+ghost use Rattle.model_core.specs.Static.Meanings.{AsWatched, declarations, declared_name, meaning_of};
 ghost use Rattle.model_core.specs.Static.RuleTable.{model_too_long};
-ghost use Rattle.model_core.specs.Static.PartFaults.{repeated_names};
+ghost use Rattle.model_core.specs.Static.PartFaults.{use_faults, repeated_names, variable_faults, table_faults};
 ghost use Rattle.model_core.specs.Static.ModelFaults.{model_meaning, model_takes, faults_of_counts, faults_of_parts, told_fault, Accepted, IsTold};
 ghost use Rattle.sig_types.specs.declared.error.StaticError.TheVariants as errors;
-ghost use Rattle.static_laws.specs.Checked.{Checked};
+ghost use Rattle.static_laws.specs.Checked.{Checked, CheckedPart, CheckedPlain};
 ghost use Rattle.static_laws.specs.DeclaredFaults.{faults_of_declared};
 
-use crate::declaring::declare_all;
+use crate::declaring::{declare_all, tell_long_name};
 use crate::edges::items;
 use crate::error::StaticError;
 use crate::names::Names;
@@ -27,9 +29,9 @@ use crate::variables::check_variables;
 use crate::versions::tell_version;
 use crate::vertices::{taken, vertices};
 use crate::watch::watch_list;
-use model_core::{Kind, Model, RawModel, StaticKind};
+use model_core::{Kind, Model, RawModel, RawName, RawTable, RawVar, StaticKind, Var, Watch};
 use model_print::printed_length;
-use sig_base::{List, NAME_MAX, NoMemory, TABLES_MAX, TEXT_MAX, VARIABLES_MAX, VERTICES_MAX};
+use sig_base::{List, NoMemory, TABLES_MAX, TEXT_MAX, Table, VARIABLES_MAX, VERTICES_MAX};
 use std::alloc::Global;
 
 /// The names that a model declares. Those that are declared again are told.
@@ -59,11 +61,42 @@ pub fn declared(alloc: Global, raw: &RawModel, told: &mut Told) -> Result<Names,
     ensures means { IfOk result (λ names. meaning_of names ≡ model_meaning (written_model raw.now)) }
     ensures told { OnOk result (told.new ≡ earliest_fault told.old (faults_of_declared (written_model raw.now))) }
 {
-    let long = raw.name.name.as_slice().len() > NAME_MAX;
-    told.note(long, StaticKind::NameTooLong, raw.name.at);
+    tell_long_name(&raw.name, told);
     let names = names_of(alloc, raw, told)?;
     tell_counts(raw, told);
     Ok(names)
+}
+
+/// The variables, tables and watch list of a model.
+#[derive(Drop)]
+pub struct CheckedLists {
+    pub vars: List<Var>,
+    pub tables: List<Table>,
+    pub watch: List<Watch>,
+}
+
+/// Checks the variables of a model, then its tables, and then its watch list.
+pub fn check_lists(
+    alloc: Global,
+    names: &Names,
+    vars: List<RawVar>,
+    tables: List<RawTable>,
+    watch: &[RawName],
+    told: &mut Told,
+) -> Result<CheckedLists, NoMemory>
+    ensures { IfOk result (λ lists. (first : Option StaticFault) × (second : Option StaticFault)
+        × CheckedPlain told.old first (flat_map variable_faults (map written_variable vars)) (each_numbered numbering.variable (map written_variable vars)) (map variable_of lists.vars)
+        × CheckedPlain first second (flat_map table_faults (map written_table tables)) (each_numbered numbering.table (map written_table tables)) (map table_of lists.tables)
+        × CheckedPart (meaning_of names.now) second told.new (flat_map (use_faults (meaning_of names.now) AsWatched) (map written_name watch.now) ++ repeated_names [] (map written_name watch.now)) (λ d. each_numbered (numbering.watched d) (map written_name watch.now)) (map watched_of lists.watch)) }
+{
+    let vars = check_variables(alloc, vars, told)?;
+    let tables = check_tables(alloc, tables, told)?;
+    let watch = watch_list(alloc, names, watch, told)?;
+    Ok(CheckedLists {
+        vars,
+        tables,
+        watch,
+    })
 }
 
 /// The model among these names, where the vertices take parameters of these kinds. What the raw model held is let go
@@ -79,40 +112,41 @@ fn numbered_among(
         → (start : Option StaticFault) → told.old ≡ earliest_fault start (faults_of_declared (written_model raw))
         → Checked start told.new (faults_of_parts (written_model raw)) (numbering.numbered (written_model raw) ≡ Some (graph_of model))) }
 {
-    let vars = check_variables(alloc, raw.vars, told)?;
-    let tables = check_tables(alloc, raw.tables, told)?;
-    let watch = watch_list(alloc, names, items(&raw.watch), told)?;
+    let lists = check_lists(alloc, names, raw.vars, raw.tables, items(&raw.watch), told)?;
     let vertices = vertices(alloc, names, taken, raw.vertices, told)?;
     Ok(Model {
         name: raw.name.name,
-        vars,
-        tables,
-        watch,
+        vars: lists.vars,
+        tables: lists.tables,
+        watch: lists.watch,
         vertices,
     })
 }
 
-/// The model among these names, where the vertices take what it says.
-fn among_names(
-    alloc: Global,
-    names: &Names,
-    raw: RawModel,
-    told: &mut Told,
-) -> Result<Model, NoMemory>
-    ensures { IfOk result (λ model. meaning_of names.now ≡ model_meaning (written_model raw)
-        → (start : Option StaticFault) → told.old ≡ earliest_fault start (faults_of_declared (written_model raw))
-        → Checked start told.new (faults_of_parts (written_model raw)) (numbering.numbered (written_model raw) ≡ Some (graph_of model))) }
+/// The names that a model declares, and the kinds of the parameters of each vertex.
+#[derive(Drop)]
+struct Known {
+    names: Names,
+    taken: List<List<Option<Kind>>>,
+}
+
+/// What has to be known of a model before its parts are checked. What `declared` tells is told.
+fn known_of(alloc: Global, raw: &RawModel, told: &mut Told) -> Result<Known, NoMemory>
+    ensures means { IfOk result (λ known. meaning_of known.names ≡ model_meaning (written_model raw.now)) }
+    ensures takes { IfOk result (λ known. known.taken ≡ model_takes (written_model raw.now)) }
+    ensures told { OnOk result (told.new ≡ earliest_fault told.old (faults_of_declared (written_model raw.now))) }
 {
-    let taken = taken(alloc, names, raw.vertices.as_slice())?;
-    numbered_among(alloc, names, taken.as_slice(), raw, told)
+    let names = declared(alloc, raw, told)?;
+    let taken = taken(alloc, &names, raw.vertices.as_slice())?;
+    Ok(Known { names, taken })
 }
 
 /// The model with numbers in place of names. Where it has a fault, nothing is said of what is given.
 fn numbered(alloc: Global, raw: RawModel, told: &mut Told) -> Result<Model, NoMemory>
     ensures { IfOk result (λ model. Checked told.old told.new (faults_of_parts (written_model raw)) (numbering.numbered (written_model raw) ≡ Some (graph_of model))) }
 {
-    let names = declared(alloc, &raw, told)?;
-    among_names(alloc, &names, raw, told)
+    let known = known_of(alloc, &raw, told)?;
+    numbered_among(alloc, &known.names, known.taken.as_slice(), raw, told)
 }
 
 /// Whether the canonical text of a model has too many bytes.

@@ -1,17 +1,18 @@
-//! Declarations: each name with what it means, and names that are declared again.
+//! Declarations: each name with what it means, and names that are declared again or are too long.
 
 ghost use Rattle.std.specs.Prelude.{◌≡◌, ℕ, ◌++◌, OnOk, map};
 ghost use Rattle.model_core.specs.Code.WrittenViews.{written_name, written_kind, written_variable, written_table, written_vertex};
 ghost use Rattle.model_core.specs.Text.Written.{WrittenVariable, WrittenTable, WrittenVertex};
 ghost use Rattle.model_core.specs.Static.FaultOrder.{earliest_fault};
 ghost use Rattle.model_core.specs.Static.Meanings.{Declaration, declared_kind, variable_declaration, table_declaration, vertex_declaration, declarations_from, meaning_of};
+ghost use Rattle.model_core.specs.Static.RuleTable.{name_too_long};
 ghost use Rattle.sig_types.specs.Inner.Redeclared.{redeclared};
 ghost use Rattle.sig_types.specs.Seen.{meaning_seen};
 
 use crate::names::{Meaning, Names};
 use crate::told::Told;
 use model_core::{Kind, RawKind, RawName, RawTable, RawVar, RawVertex, StaticKind};
-use sig_base::NoMemory;
+use sig_base::{NAME_MAX, NoMemory};
 use std::alloc::Global;
 
 /// A part of a written model that declares a name.
@@ -51,6 +52,14 @@ pub(crate) fn declare_all<T: Declares>(
         told.note(!added, StaticKind::DuplicateName, name.at);
     }
     Ok(())
+}
+
+/// Tells a name that is declared and too long.
+pub fn tell_long_name(raw: &RawName, told: &mut Told)
+    ensures { told.new ≡ earliest_fault told.old (name_too_long (written_name raw.now)) }
+{
+    let long = raw.name.as_slice().len() > NAME_MAX;
+    told.note(long, StaticKind::NameTooLong, raw.at);
 }
 
 /// The kind of a variable.

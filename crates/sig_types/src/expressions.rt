@@ -35,17 +35,17 @@ pub(crate) fn operand(
     Ok(typed)
 }
 
-/// The same in a box.
+/// The same in a box, of a written one in a box, which is looked into once.
 #[cycle(expressions)]
 fn boxed_operand(
     alloc: Global,
     names: &Names,
     wanted: Option<Kind>,
-    raw: &RawExpr,
+    raw: &Box<RawExpr>,
     told: &mut Told,
 ) -> Result<Typed<Box<Expr>>, NoMemory>
-    ensures checked { IfOk result (λ e. CheckedPart (meaning_of names.now) told.old told.new (operand_faults (meaning_of names.now) wanted (written_expression raw.now)) (λ d. expression d (written_expression raw.now)) (expression_of e.part.value)) }
-    ensures kind { IfOk result (λ e. e.kind ≡ expression_kind (meaning_of names.now) (written_expression raw.now)) }
+    ensures checked { IfOk result (λ e. CheckedPart (meaning_of names.now) told.old told.new (operand_faults (meaning_of names.now) wanted (written_expression raw.now.value)) (λ d. expression d (written_expression raw.now.value)) (expression_of e.part.value)) }
+    ensures kind { IfOk result (λ e. e.kind ≡ expression_kind (meaning_of names.now) (written_expression raw.now.value)) }
 {
     let typed = operand(alloc, names, wanted, raw, told)?;
     let kind = typed.kind;

@@ -22,7 +22,8 @@ mod vertices;
 mod watch;
 
 pub use changes::{source, wanted_at};
-pub use checking::{check, declared, tell_too_long};
+pub use checking::{CheckedLists, check, check_lists, declared, tell_too_long};
+pub use declaring::tell_long_name;
 pub use edges::{edge, items};
 pub use error::StaticError;
 pub use kinds::{Typed, kinds_differ, known_or, operand_kind, result_kind, right_kind};

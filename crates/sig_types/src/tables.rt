@@ -12,11 +12,12 @@ ghost use Rattle.model_core.specs.Static.RuleTable.{certain_value, literal_too_l
 ghost use Rattle.model_core.specs.Static.PartFaults.{rows_faults, table_faults};
 ghost use Rattle.static_laws.specs.Checked.{CheckedPlain};
 
+use crate::declaring::tell_long_name;
 use crate::numbers::{certain_number, literal};
 use crate::placed::tell_too_many;
 use crate::told::Told;
 use model_core::{RawNumber, RawRow, RawTable, StaticKind};
-use sig_base::{List, NAME_MAX, NoMemory, ROWS_MAX, Row, Table, WEIGHTS_MAX};
+use sig_base::{List, NoMemory, ROWS_MAX, Row, Table, WEIGHTS_MAX};
 use std::alloc::Global;
 
 /// A weight, where those before it in its table sum to `before`. Below 0, which no text spells, it counts as 0.
@@ -82,11 +83,9 @@ fn rows(alloc: Global, raws: &[RawRow], told: &mut Told) -> Result<List<Row>, No
 fn rows_of(alloc: Global, raw: &RawTable, told: &mut Told) -> Result<List<Row>, NoMemory>
     ensures { IfOk result (λ rows. CheckedPlain told.old told.new (table_faults (written_table raw.now)) (each_numbered numbering.row (written_table raw.now).rows) (map weighted_of rows)) }
 {
-    let long = raw.name.name.as_slice().len() > NAME_MAX;
-    told.note(long, StaticKind::NameTooLong, raw.name.at);
+    tell_long_name(&raw.name, told);
     tell_too_many(ROWS_MAX, raw.rows.as_slice(), told);
-    let rows = rows(alloc, raw.rows.as_slice(), told)?;
-    Ok(rows)
+    rows(alloc, raw.rows.as_slice(), told)
 }
 
 /// A table.

@@ -12,10 +12,11 @@ ghost use Rattle.model_core.specs.Static.PartFaults.{if_written, size_faults, ra
 ghost use Rattle.static_laws.specs.Checked.{CheckedPlain};
 ghost use Rattle.sig_types.specs.Inner.HeldAsDeclared.{initial_faults, numbered_range};
 
+use crate::declaring::tell_long_name;
 use crate::numbers::{bounded, literal, tell_empty, tell_outside};
 use crate::told::Told;
 use model_core::{Kind, RawKind, RawLiteral, RawNumber, RawSigned, RawVar, StaticKind, Var};
-use sig_base::{ARRAY_CELLS_MAX, List, NAME_MAX, NoMemory};
+use sig_base::{ARRAY_CELLS_MAX, List, NoMemory};
 use std::alloc::Global;
 
 /// The number of cells of an array, and 0 of a scalar.
@@ -106,8 +107,7 @@ fn range_of(kind: &RawKind, initial: &RawLiteral, told: &mut Told) -> Range
 fn variable(raw: RawVar, told: &mut Told) -> Var
     ensures { CheckedPlain told.old told.new (variable_faults (written_variable raw)) (numbering.variable (written_variable raw)) (variable_of result) }
 {
-    let long = raw.name.name.as_slice().len() > NAME_MAX;
-    told.note(long, StaticKind::NameTooLong, raw.name.at);
+    tell_long_name(&raw.name, told);
     let size = size(&raw.size, told);
     let range = range_of(&raw.kind, &raw.initial, told);
     Var {

@@ -11,14 +11,15 @@ ghost use Rattle.model_core.specs.Static.PartFaults.{use_faults, parameter_kind,
 ghost use Rattle.static_laws.specs.Checked.{CheckedPart};
 
 use crate::changes::changes;
+use crate::declaring::tell_long_name;
 use crate::edges::{edges, items};
 use crate::names::Names;
 use crate::placed::tell_too_many;
 use crate::repeats::tell_repeated;
 use crate::told::Told;
 use crate::uses::{kind_of_scalar, variable};
-use model_core::{Change, Edge, Kind, RawName, RawVertex, StaticKind, Vertex};
-use sig_base::{CHANGES_MAX, EDGES_MAX, List, NAME_MAX, NoMemory, PARAMETERS_MAX};
+use model_core::{Change, Edge, Kind, RawName, RawVertex, Vertex};
+use sig_base::{CHANGES_MAX, EDGES_MAX, List, NoMemory, PARAMETERS_MAX};
 use std::alloc::Global;
 
 /// The kinds of the parameters of a vertex.
@@ -97,8 +98,7 @@ fn parts_of(
 ) -> Result<VertexParts, NoMemory>
     ensures { IfOk result (λ v. CheckedPart (meaning_of names.now) told.old told.new (vertex_faults (meaning_of names.now) taken.now (written_vertex raw.now)) (λ d. numbering.vertex d (written_vertex raw.now)) (record { name = raw.now.name.name; parameters = v.params; changes = map change_of v.changes; edges = map edge_of v.edges })) }
 {
-    let long = raw.name.name.as_slice().len() > NAME_MAX;
-    told.note(long, StaticKind::NameTooLong, raw.name.at);
+    tell_long_name(&raw.name, told);
     let params = parameters(alloc, names, items(&raw.params), told)?;
     tell_too_many(CHANGES_MAX, raw.changes.as_slice(), told);
     let changes = changes(alloc, names, raw.changes.as_slice(), told)?;

@@ -1,5 +1,8 @@
+use Rattle.std.proofs.Common.{◌∙◌}
 use Rattle.std.proofs.lemmas.Result.{IfOk-weaker}
 use Rattle.sig_types.proofs.checking.numbered.Goals as goal
 
 pub returns : goal.returns
-returns c = IfOk-weaker c.among_names.result _ _ (λ model checked. checked c.in_ok-names.ensures.means c.args.told.now c.in_ok-names.ensures.told) c.among_names.ensures
+returns c =
+    let known = c.in_ok-known.ensures in
+    IfOk-weaker c.numbered_among.result _ _ (λ model checked. checked known.means (c.as_slice.ensures ∙ known.takes) c.args.told.now known.told) c.numbered_among.ensures

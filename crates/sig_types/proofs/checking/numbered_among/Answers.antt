@@ -6,6 +6,7 @@ use Rattle.sig_types.proofs.checking.numbered_among.Goals as goal
 pub returns : goal.returns
 returns c =
     λ means takes start head.
-    let watch = rw (c.items.ensures, map-items written_name c.args.raw.watch, means) at c.in_ok-watch.ensures in
+    let lists = c.in_ok-lists.ensures in
+    let watch = rw (c.items.ensures, map-items written_name c.args.raw.watch, means) at lists.4 in
     let vertices = rw (means, takes) at c.in_ok-vertices.ensures in
-    model_checked (written_model c.args.raw) start c.args.told.now c.check_variables.new.told c.check_tables.new.told c.watch_list.new.told c.vertices.new.told _ _ _ _ head c.in_ok-vars.ensures c.in_ok-tables.ensures watch vertices
+    model_checked (written_model c.args.raw) start c.args.told.now lists.0 lists.1 c.check_lists.new.told c.vertices.new.told _ _ _ _ head lists.2 lists.3 watch vertices

@@ -17,25 +17,25 @@ operand-returns-clause-checked t c =
 
 pub typed_expression-returns-in_ok-index-in-Cell-clause-checked : goal.typed_expression-returns-in_ok-index-in-Cell-clause-checked
 typed_expression-returns-in_ok-index-in-Cell-clause-checked t c =
-    rw (c.in-Cell.is, ← c.deref.ensures)
-    (cell (meaning_of c.args.names.now) c.args.raw.now.at _ _ _ (written_name c.in-Cell.name) (written_expression c.deref.result.now) _ _ c.variable-var-in-Cell.ensures.checked c.in_ok-index-in-Cell.ensures.checked)
+    rw c.in-Cell.is
+    (cell (meaning_of c.args.names.now) c.args.raw.now.at _ _ _ (written_name c.in-Cell.name) (written_expression c.in-Cell.index.value) _ _ c.variable-var-in-Cell.ensures.checked c.in_ok-index-in-Cell.ensures.checked)
 
 pub typed_expression-returns-in_ok-number-in-Neg-clause-checked : goal.typed_expression-returns-in_ok-number-in-Neg-clause-checked
 typed_expression-returns-in_ok-number-in-Neg-clause-checked t c =
-    rw (c.in-Neg.is, ← c.deref-in-Neg.ensures) (negative (meaning_of c.args.names.now) c.args.raw.now.at _ _ (written_expression c.deref-in-Neg.result.now) _ c.in_ok-number-in-Neg.ensures.checked)
+    rw c.in-Neg.is (negative (meaning_of c.args.names.now) c.args.raw.now.at _ _ (written_expression c.in-Neg.number.value) _ c.in_ok-number-in-Neg.ensures.checked)
 
 pub typed_expression-returns-in_ok-truth-in-Not-clause-checked : goal.typed_expression-returns-in_ok-truth-in-Not-clause-checked
 typed_expression-returns-in_ok-truth-in-Not-clause-checked t c =
-    rw (c.in-Not.is, ← c.deref-in-Not.ensures) (negated (meaning_of c.args.names.now) c.args.raw.now.at _ _ (written_expression c.deref-in-Not.result.now) _ c.in_ok-truth-in-Not.ensures.checked)
+    rw c.in-Not.is (negated (meaning_of c.args.names.now) c.args.raw.now.at _ _ (written_expression c.in-Not.truth.value) _ c.in_ok-truth-in-Not.ensures.checked)
 
 pub typed_expression-returns-in_ok-right-in-Binary-clause-checked : goal.typed_expression-returns-in_ok-right-in-Binary-clause-checked
 typed_expression-returns-in_ok-right-in-Binary-clause-checked t c =
-    rw (c.in-Binary.is, ← c.deref-in-Binary.ensures, ← c.deref-in-Binary-2.ensures)
-    (binary (meaning_of c.args.names.now) c.args.raw.now.at _ _ _ (operator_of c.in-Binary.op) (written_expression c.deref-in-Binary.result.now) (written_expression c.deref-in-Binary-2.result.now) _ _ _ _ _
+    rw c.in-Binary.is
+    (binary (meaning_of c.args.names.now) c.args.raw.now.at _ _ _ (operator_of c.in-Binary.op) (written_expression c.in-Binary.left.value) (written_expression c.in-Binary.right.value) _ _ _ _ _
     c.operand_kind-wanted.ensures c.in_ok-left-in-Binary.ensures.kind c.right_kind.ensures c.in_ok-left-in-Binary.ensures.checked c.in_ok-right-in-Binary.ensures.checked)
 
 pub typed_expression-returns-in_ok-no-in-If-clause-checked : goal.typed_expression-returns-in_ok-no-in-If-clause-checked
 typed_expression-returns-in_ok-no-in-If-clause-checked t c =
-    rw (c.in-If.is, ← c.deref-in-If.ensures, ← c.deref-in-If-2.ensures, ← c.deref-in-If-3.ensures)
-    (choice (meaning_of c.args.names.now) c.args.raw.now.at _ _ _ _ (written_expression c.deref-in-If.result.now) (written_expression c.deref-in-If-2.result.now) (written_expression c.deref-in-If-3.result.now) _ _ _ _
+    rw c.in-If.is
+    (choice (meaning_of c.args.names.now) c.args.raw.now.at _ _ _ _ (written_expression c.in-If.test.value) (written_expression c.in-If.yes.value) (written_expression c.in-If.no.value) _ _ _ _
     c.in_ok-yes-in-If.ensures.kind c.in_ok-test-in-If.ensures.checked c.in_ok-yes-in-If.ensures.checked c.in_ok-no-in-If.ensures.checked)

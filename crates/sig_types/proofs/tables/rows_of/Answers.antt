@@ -1,4 +1,5 @@
 use Rattle.std.proofs.Common.{map, ◌++◌}
+use Rattle.std.proofs.lemmas.Result.{IfOk-weaker}
 use Rattle.sig_base.specs.declared.limits.TheConstants.{ROWS_MAX}
 use Rattle.model_core.specs.Code.WrittenViews.{written_table}
 use Rattle.model_core.specs.Text.Written.{WrittenRow}
@@ -11,5 +12,5 @@ returns c =
     let t = written_table c.args.raw.now in
     let long = name_too_long t.name in
     let many = too_many ROWS_MAX (map (λ (r : WrittenRow). r.at) t.rows) in
-    behind c.args.told.now (long ++ many)
-    (told_both c.args.told.now c.note.new.self c.tell_too_many.new.told long many (rw c.as_slice.ensures at c.note.ensures) (rw c.as_slice-2.ensures at c.tell_too_many.ensures)) (rw c.as_slice-3.ensures at c.in_ok-rows.ensures)
+    let told = told_both c.args.told.now c.tell_long_name.new.told c.tell_too_many.new.told long many c.tell_long_name.ensures (rw c.as_slice.ensures at c.tell_too_many.ensures) in
+    IfOk-weaker c.rows.result _ _ (λ rows checked. behind c.args.told.now (long ++ many) told (rw c.as_slice-2.ensures at checked)) c.rows.ensures
