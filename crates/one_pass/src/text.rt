@@ -1,84 +1,45 @@
 //! A whole model text.
 
-ghost use Rattle.std.specs.Prelude.{◌≡◌, ◌++◌, [], map, Option, None, IfOk};
-ghost use Rattle.std.specs.List.{flat_map};
+ghost use Rattle.std.specs.Prelude.{◌≡◌, [], map, Option, None, IfOk};
 ghost use Rattle.model_core.specs.declared.token.Word.TheVariants.{End};
-ghost use Rattle.model_core.specs.Code.Views.{variable_of, table_of, watched_of, vertex_of, graph_of};
-ghost use Rattle.model_core.specs.Code.WrittenViews.{written_name, written_variable, written_table, written_vertex, written_model};
+ghost use Rattle.model_core.specs.Code.Views.{vertex_of, graph_of};
+ghost use Rattle.model_core.specs.Code.WrittenViews.{written_vertex, written_model};
 ghost use Rattle.model_core.specs.Text.Format.{reserved};
-ghost use Rattle.model_core.specs.Text.Numbering as numbering;
-ghost use Rattle.model_core.specs.Text.Numbering.{each_numbered};
 ghost use Rattle.model_core.specs.Static.FaultOrder.{StaticFault, earliest_fault};
-ghost use Rattle.model_core.specs.Static.Meanings.{AsWatched, meaning_of};
-ghost use Rattle.model_core.specs.Static.PartFaults.{use_faults, repeated_names, kinds_taken};
+ghost use Rattle.model_core.specs.Static.Meanings.{meaning_of};
+ghost use Rattle.model_core.specs.Static.PartFaults.{kinds_taken};
 ghost use Rattle.model_core.specs.Static.ModelFaults.{model_meaning};
 ghost use Rattle.text_laws.specs.FormatReader.{took};
 ghost use Rattle.text_laws.specs.LanguageReader.{language_reader};
 ghost use Rattle.model_lex.specs.PiecesOfText.{pieces_lexemes};
 ghost use Rattle.model_read.specs.Beginnings.{with_vertices, model_beginning};
-ghost use Rattle.static_laws.specs.Checked.{CheckedPart};
 ghost use Rattle.static_laws.specs.DeclaredFaults.{faults_of_declared};
 ghost use Rattle.one_pass.specs.ReadModel.{AreAccepted};
-ghost use Rattle.one_pass.specs.Inner.ReadParts.{CheckedInTurn, ReadVertices, ReadBehind, ReadText};
+ghost use Rattle.one_pass.specs.Inner.ReadParts.{ReadVertices, ReadBehind, ReadText};
 
 use crate::beginnings::beginnings;
 use crate::not_read::NotRead;
 use crate::refusing::refuse_told;
 use crate::versions::refuse_version;
 use crate::vertices::vertices;
-use model_core::{Model, RawModel, RawName, RawTable, RawVar, RawVertex, Var, Vertex, Watch, Word};
+use model_core::{Model, RawModel, RawVertex, Vertex, Word};
 use model_lex::{Pieces, pieces_stand_in_text};
 use model_read::{Cursor, begun_model, first_too_deep};
-use sig_base::{List, OPENINGS_MAX, Table};
-use sig_types::{
-    Names, Told, check_tables, check_variables, declared, items, taken, tell_too_long, watch_list,
-};
+use sig_base::{List, OPENINGS_MAX};
+use sig_types::{Names, Told, check_lists, declared, items, taken, tell_too_long};
 use std::alloc::Global;
 
-/// The variables and tables of a model.
-#[derive(Drop)]
-struct Lists {
-    vars: List<Var>,
-    tables: List<Table>,
-}
-
-/// Checks the variables of a model, and then its tables.
-fn declarations(
-    alloc: Global,
-    vars: List<RawVar>,
-    tables: List<RawTable>,
-    told: &mut Told,
-) -> Result<Lists, NotRead>
-    ensures { IfOk result (λ d. CheckedInTurn (map written_variable vars) (map written_table tables) told.old told.new (map variable_of d.vars) (map table_of d.tables)) }
-{
-    let vars = check_variables(alloc, vars, told)?;
-    let tables = check_tables(alloc, tables, told)?;
-    Ok(Lists { vars, tables })
-}
-
-/// The watch list and the vertices of a model.
-#[derive(Drop)]
-struct Rest {
-    watch: List<Watch>,
-    vertices: List<Vertex>,
-}
-
-/// Checks the names of the watch list, and reads the vertices, which must begin as expected.
-fn watch_and_vertices(
+/// Reads the vertices, which must begin as expected.
+fn expected_vertices(
     alloc: Global,
     cursor: &mut Cursor<'_>,
     names: &Names,
-    watch: &[RawName],
     expected: &[RawVertex],
-    told: &mut Told,
-) -> Result<Rest, NotRead>
-    ensures watch { IfOk result (λ r. CheckedPart (meaning_of names.now) told.old told.new (flat_map (use_faults (meaning_of names.now) AsWatched) (map written_name watch.now) ++ repeated_names [] (map written_name watch.now)) (λ d. each_numbered (numbering.watched d) (map written_name watch.now)) (map watched_of r.watch)) }
-    ensures vertices { IfOk result (λ r. ReadVertices (meaning_of names.now) (map (kinds_taken (meaning_of names.now)) (map written_vertex expected.now)) (map written_vertex expected.now) cursor.old cursor.new (map vertex_of r.vertices)) }
+) -> Result<List<Vertex>, NotRead>
+    ensures { IfOk result (λ vs. ReadVertices (meaning_of names.now) (map (kinds_taken (meaning_of names.now)) (map written_vertex expected.now)) (map written_vertex expected.now) cursor.old cursor.new (map vertex_of vs)) }
 {
     let taken = taken(alloc, names, expected)?;
-    let watch = watch_list(alloc, names, watch, told)?;
-    let vertices = vertices(alloc, cursor, names, taken.as_slice(), expected)?;
-    Ok(Rest { watch, vertices })
+    vertices(alloc, cursor, names, taken.as_slice(), expected)
 }
 
 /// Reads the vertices of a model among these names.
@@ -93,21 +54,21 @@ fn among_names(
         → (start : Option StaticFault) → told.old ≡ earliest_fault start (faults_of_declared (written_model begun))
         → ReadBehind (written_model begun) cursor.old cursor.new start told.new (graph_of model)) }
 {
-    let declared = declarations(alloc, begun.vars, begun.tables, told)?;
-    let rest = watch_and_vertices(
+    let lists = check_lists(
         alloc,
-        cursor,
         names,
+        begun.vars,
+        begun.tables,
         items(&begun.watch),
-        begun.vertices.as_slice(),
         told,
     )?;
+    let vertices = expected_vertices(alloc, cursor, names, begun.vertices.as_slice())?;
     Ok(Model {
         name: begun.name.name,
-        vars: declared.vars,
-        tables: declared.tables,
-        watch: rest.watch,
-        vertices: rest.vertices,
+        vars: lists.vars,
+        tables: lists.tables,
+        watch: lists.watch,
+        vertices,
     })
 }
 

@@ -14,10 +14,10 @@ use crate::beginnings::begin_alike;
 use crate::not_read::NotRead;
 use crate::parts::take_all;
 use crate::refusing::refuse_told;
-use model_core::{Change, Edge, Kind, RawVertex, StaticKind, Symbol, Vertex};
+use model_core::{Change, Edge, Kind, RawVertex, Symbol, Vertex};
 use model_read::{Cursor, Repeated, begun_vertex};
-use sig_base::{CHANGES_MAX, EDGES_MAX, List, NAME_MAX, Name};
-use sig_types::{Names, Told, items, parameters};
+use sig_base::{CHANGES_MAX, EDGES_MAX, List, Name};
+use sig_types::{Names, Told, items, parameters, tell_long_name};
 use std::alloc::Global;
 
 /// The parameters of a vertex that begins as expected, and breaks no static rule up to its changes.
@@ -36,8 +36,7 @@ fn known_parameters(
         return Err(NotRead::Unexpected);
     }
     let mut told = Told::new();
-    let long = begun.name.name.as_slice().len() > NAME_MAX;
-    told.note(long, StaticKind::NameTooLong, begun.name.at);
+    tell_long_name(&begun.name, &mut told);
     let params = parameters(alloc, names, items(&begun.params), &mut told)?;
     refuse_told(&told)?;
     Ok(params)

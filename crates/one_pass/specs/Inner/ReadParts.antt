@@ -8,19 +8,19 @@ use Rattle.model_core.specs.EventGraph as graph
 use Rattle.model_core.specs.EventGraph.{EventGraph}
 use Rattle.model_core.specs.Text.Lexing.{Lexeme}
 use Rattle.model_core.specs.Text.Format.{Many, mark, at_least_one}
-use Rattle.model_core.specs.Text.Written.{WrittenVariable, WrittenTable, WrittenVertex, WrittenModel}
+use Rattle.model_core.specs.Text.Written.{WrittenVertex, WrittenModel}
 use Rattle.model_core.specs.Text.Expressions.{LanguageFormat}
 use Rattle.model_core.specs.Text.Language.{change_format, edge_format, vertex_format}
 use Rattle.model_core.specs.Text.Numbering as numbering
 use Rattle.model_core.specs.Text.Numbering.{Declared, each_numbered, numbered}
 use Rattle.model_core.specs.Static.FaultOrder.{StaticFault}
 use Rattle.model_core.specs.Static.Meanings.{Meaning}
-use Rattle.model_core.specs.Static.PartFaults.{written_items, variable_faults, table_faults, change_faults, edge_faults, vertex_faults}
+use Rattle.model_core.specs.Static.PartFaults.{written_items, change_faults, edge_faults, vertex_faults}
 use Rattle.model_core.specs.Static.ModelFaults.{faults_of_parts, Accepted}
 use Rattle.text_laws.specs.FormatReader.{took}
 use Rattle.text_laws.specs.LanguageReader.{language_reader, text_read}
 use Rattle.model_read.specs.Beginnings.{with_vertices}
-use Rattle.static_laws.specs.Checked.{Checked, CheckedPlain, NumberedAs}
+use Rattle.static_laws.specs.Checked.{Checked, NumberedAs}
 
 -- between these tokens, where names mean this, stands a part without faults, which has this number
 pub record ReadSure {W B : Type 0} (f : LanguageFormat W) (means : List ℕ → Option Meaning) (faults : W → List StaticFault) (number : Declared → W → Option B) (before after : List Lexeme) (part : B) : Type 0 where
@@ -70,12 +70,6 @@ module _ (means : List ℕ → Option Meaning) (taken : List (List (Option Kind)
   pub record ReadVertices (expected : List WrittenVertex) (before after : List Lexeme) (vs : List graph.EventVertex) : Type 0 where
     pub parts : ReadSure (at_least_one vertex_format) means (flat_map (vertex_faults means taken)) (λ d. each_numbered (numbering.vertex d)) before after vs
     pub alike : AllBeginAlike parts.written expected
-
--- variables and tables, which are checked one after another
-pub record CheckedInTurn (vs : List WrittenVariable) (ts : List WrittenTable) (before after : Option StaticFault) (xs : List graph.Variable) (ys : List graph.WeightTable) : Type 0 where
-  pub between : Option StaticFault
-  pub variables : CheckedPlain before between (flat_map variable_faults vs) (each_numbered numbering.variable vs) xs
-  pub tables : CheckedPlain between after (flat_map table_faults ts) (each_numbered numbering.table ts) ys
 
 -- the vertices of a model of which what stands before them is known
 pub record ReadBehind (m : WrittenModel) (before after : List Lexeme) (t0 t1 : Option StaticFault) (g : EventGraph) : Type 0 where

@@ -10,8 +10,8 @@ pub returns : goal.returns
 returns c =
     λ means start head.
     let m = meaning_of c.args.names.now in
-    let declared = c.in_ok-declared.ensures in
-    let watch = rw (c.items.ensures, map-items written_name c.args.begun.watch) at c.in_ok-rest.ensures.watch in
-    let vertices = rw c.as_slice.ensures at c.in_ok-rest.ensures.vertices in
-    model_taken (written_model c.args.begun) m (map (kinds_taken m) (map written_vertex c.args.begun.vertices)) c.args.cursor.now c.watch_and_vertices.new.cursor
-    start c.args.told.now declared.between c.declarations.new.told c.watch_and_vertices.new.told _ _ _ _ means refl head declared.variables declared.tables watch vertices
+    let lists = c.in_ok-lists.ensures in
+    let watch = rw (c.items.ensures, map-items written_name c.args.begun.watch) at lists.4 in
+    let vertices = rw c.as_slice.ensures at c.in_ok-vertices.ensures in
+    model_taken (written_model c.args.begun) m (map (kinds_taken m) (map written_vertex c.args.begun.vertices)) c.args.cursor.now c.expected_vertices.new.cursor
+    start c.args.told.now lists.0 lists.1 c.check_lists.new.told _ _ _ _ means refl head lists.2 lists.3 watch vertices
