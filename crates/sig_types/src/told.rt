@@ -8,7 +8,7 @@ use model_core::StaticKind;
 use std::marker::Model;
 
 /// A rule that is broken, and the byte at which that is told.
-#[derive(Clone, Copy, Debug, PartialEq, Eq)]
+#[derive(Clone, Copy)]
 pub struct Fault {
     pub at: usize,
     pub kind: StaticKind,

@@ -23,7 +23,7 @@ use model_core::{Kind, RawName, StaticKind, Watch};
 use sig_base::NAME_MAX;
 
 /// What a name is used as.
-#[derive(Clone, Copy, Debug, PartialEq, Eq)]
+#[derive(Clone, Copy)]
 pub enum Role {
     Scalar,
     Array,
