@@ -97,7 +97,7 @@ fn table(alloc: Global, raw: RawTable, told: &mut Told) -> Result<Table, NoMemor
 }
 
 /// The tables of a model.
-pub fn check_tables(
+pub(crate) fn check_tables(
     alloc: Global,
     raws: List<RawTable>,
     told: &mut Told,

@@ -122,7 +122,7 @@ fn variable(raw: RawVar, told: &mut Told) -> Var
 }
 
 /// The variables of a model.
-pub fn check_variables(
+pub(crate) fn check_variables(
     alloc: Global,
     raws: List<RawVar>,
     told: &mut Told,

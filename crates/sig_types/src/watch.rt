@@ -35,7 +35,7 @@ fn all_watched(
 }
 
 /// The watch list.
-pub fn watch_list(
+pub(crate) fn watch_list(
     alloc: Global,
     names: &Names,
     raws: &[RawName],
