@@ -6,6 +6,7 @@ ghost use Rattle.model_core.specs.Text.Canonical.{joined, after_commas, initial_
 ghost use Rattle.model_core.specs.Code.Views.{graph_of, variable_of, weighted_of, table_of, watched_of};
 ghost use Rattle.describe.specs.Description.{variable_phrase, kept_phrase, range_phrase, held_phrase, variable_sentence, row_phrase, table_sentence, watch_sentence};
 
+use crate::phrases::put_all;
 use model_core::{Kind, Model, Var, Watch};
 use sig_base::{NoMemory, Row, Table, put_bytes, put_number, put_signed};
 
@@ -14,12 +15,9 @@ fn put_subject(out: &mut Vec<u8>, var: &Var) -> Result<(), NoMemory>
     ensures { OnOk result (out.new.items ≡ out.old.items ++ variable_phrase var.now.name var.now.size) }
 {
     if var.size == 0 {
-        put_bytes(out, b"The variable ")?;
-        put_bytes(out, var.name.as_slice())
+        put_all(out, &[b"The variable ", var.name.as_slice()])
     } else {
-        put_bytes(out, b"The array ")?;
-        put_bytes(out, var.name.as_slice())?;
-        put_bytes(out, b" of ")?;
+        put_all(out, &[b"The array ", var.name.as_slice(), b" of "])?;
         put_number(out, var.size as u64)?;
         put_bytes(out, b" cells")
     }
@@ -60,8 +58,13 @@ fn put_held(out: &mut Vec<u8>, var: &Var) -> Result<(), NoMemory>
 {
     match var.kind {
         Kind::Truth => {
-            put_bytes(out, b" is a truth value and starts at ")?;
-            put_bytes(out, initial_truth(var.initial))
+            put_all(
+                out,
+                &[
+                    b" is a truth value and starts at ",
+                    initial_truth(var.initial),
+                ],
+            )
         }
         Kind::Range => {
             put_range(out, var.lo, var.hi, var.clip)?;
@@ -125,9 +128,7 @@ fn put_rows(out: &mut Vec<u8>, rows: &[Row]) -> Result<(), NoMemory>
 fn put_table(out: &mut Vec<u8>, table: &Table) -> Result<(), NoMemory>
     ensures { OnOk result (out.new.items ≡ out.old.items ++ table_sentence (table_of table.now)) }
 {
-    put_bytes(out, b"The table ")?;
-    put_bytes(out, table.name.as_slice())?;
-    put_bytes(out, b" gives ")?;
+    put_all(out, &[b"The table ", table.name.as_slice(), b" gives "])?;
     put_rows(out, table.rows.as_slice())?;
     put_bytes(out, b".\n")
 }
@@ -157,8 +158,7 @@ fn put_later_watched(out: &mut Vec<u8>, model: &Model, watch: &[Watch]) -> Resul
     ensures { OnOk result (out.new.items ≡ out.old.items ++ after_commas (map (watched_name (graph_of model.now)) (map watched_of watch.now))) }
 {
     for watched in watch {
-        put_bytes(out, b", ")?;
-        put_bytes(out, watched_name(model, *watched))?;
+        put_all(out, &[b", ", watched_name(model, *watched)])?;
     }
     Ok(())
 }

@@ -7,7 +7,7 @@ ghost use Rattle.model_core.specs.Text.Canonical.{vertex_name, expression_texts}
 ghost use Rattle.model_core.specs.Code.Views.{graph_of, expression_of, edge_delay_of, edge_kind_of, edge_of};
 ghost use Rattle.describe.specs.Description.{condition_phrase, delay_phrase, values_phrase, deed_phrase, edge_sentence};
 
-use crate::phrases::{put_drawn, put_expression, put_expressions};
+use crate::phrases::{put_all, put_drawn, put_expression, put_expressions};
 use model_core::{Delay, Edge, EdgeForm, Expr, Model};
 use sig_base::{NoMemory, put_bytes, put_number};
 use std::alloc::Global;
@@ -73,9 +73,8 @@ fn put_scheduling(
 ) -> Result<(), NoMemory>
     ensures { OnOk result (out.new.items ≡ out.old.items ++ deed_phrase (graph_of model.now) (Schedule (edge_delay_of delay.now) priority) (vertex_name (graph_of model.now) edge.now.target) (expression_texts (graph_of model.now) (map expression_of edge.now.values))) }
 {
-    put_bytes(out, b"event ")?;
-    put_bytes(out, model.vertex_name(edge.target))?;
-    put_bytes(out, b" is scheduled after ")?;
+    let name = model.vertex_name(edge.target);
+    put_all(out, &[b"event ", name, b" is scheduled after "])?;
     put_delay(alloc, out, model, delay)?;
     put_bytes(out, b" with priority ")?;
     put_number(out, u64::from(priority))?;
@@ -92,27 +91,16 @@ fn put_deed(alloc: Global, out: &mut Vec<u8>, model: &Model, edge: &Edge) -> Res
             put_scheduling(alloc, out, model, edge, delay, *priority)
         }
         EdgeForm::Urgent => {
-            put_bytes(out, b"event ")?;
-            put_bytes(out, name)?;
-            put_bytes(out, b" follows at once")?;
+            put_all(out, &[b"event ", name, b" follows at once"])?;
             put_values(alloc, out, model, b", carrying ", edge.values.as_slice())
         }
-        EdgeForm::CancelNext => {
-            put_bytes(out, b"the next pending ")?;
-            put_bytes(out, name)?;
-            put_bytes(out, b" is cancelled")
-        }
+        EdgeForm::CancelNext => put_all(out, &[b"the next pending ", name, b" is cancelled"]),
         EdgeForm::CancelEqual => {
-            put_bytes(out, b"the next pending ")?;
-            put_bytes(out, name)?;
+            put_all(out, &[b"the next pending ", name])?;
             put_values(alloc, out, model, b" carrying ", edge.values.as_slice())?;
             put_bytes(out, b" is cancelled")
         }
-        EdgeForm::CancelAll => {
-            put_bytes(out, b"every pending ")?;
-            put_bytes(out, name)?;
-            put_bytes(out, b" is cancelled")
-        }
+        EdgeForm::CancelAll => put_all(out, &[b"every pending ", name, b" is cancelled"]),
     }
 }
 
@@ -126,9 +114,7 @@ fn put_edge(
 ) -> Result<(), NoMemory>
     ensures { OnOk result (out.new.items ≡ out.old.items ++ edge_sentence (graph_of model.now) name.now (edge_of edge.now)) }
 {
-    put_bytes(out, b"After ")?;
-    put_bytes(out, name)?;
-    put_bytes(out, b", ")?;
+    put_all(out, &[b"After ", name, b", "])?;
     put_condition(alloc, out, model, &edge.condition)?;
     put_deed(alloc, out, model, edge)?;
     put_bytes(out, b".\n")

@@ -1,6 +1,7 @@
 //! Phrases that sentences of several kinds have in common: numbers, expressions, locations and draws.
 
 ghost use Rattle.std.specs.Prelude.{◌≡◌, ◌++◌, map, option_map, OnOk};
+ghost use Rattle.std.specs.List.{flat_map};
 ghost use Rattle.model_core.specs.Text.Canonical.{joined, after_commas, expression_text, expression_texts, index_text, location_text};
 ghost use Rattle.model_core.specs.Code.Views.{graph_of, expression_of, location_of, choice_of};
 ghost use Rattle.describe.specs.Description.{choice_phrase, drawn_phrase};
@@ -9,6 +10,16 @@ use model_core::{Choice, Expr, Model, Target};
 use model_print::put_expr;
 use sig_base::{NoMemory, put_bytes, put_number, put_signed};
 use std::alloc::Global;
+
+/// Adds texts one after the other.
+pub(crate) fn put_all(out: &mut Vec<u8>, texts: &[&[u8]]) -> Result<(), NoMemory>
+    ensures { OnOk result (out.new.items ≡ out.old.items ++ flat_map (λ text. text.now) texts.now) }
+{
+    for text in texts {
+        put_bytes(out, text)?;
+    }
+    Ok(())
+}
 
 /// Adds an expression.
 pub(crate) fn put_expression(
@@ -95,10 +106,7 @@ fn put_choice(out: &mut Vec<u8>, model: &Model, choice: Choice) -> Result<(), No
             put_bytes(out, b" and ")?;
             put_signed(out, hi)
         }
-        Choice::ByTable { table } => {
-            put_bytes(out, b" by the table ")?;
-            put_bytes(out, model.table_name(table))
-        }
+        Choice::ByTable { table } => { put_all(out, &[b" by the table ", model.table_name(table)]) }
     }
 }
 

@@ -1,7 +1,7 @@
 -- what is added, piece by piece
-use Rattle.std.proofs.Common.{append_assoc}
+use Rattle.std.proofs.Common.{append_assoc, append-nil}
 use Rattle.describe.proofs.PiecesAdded.{all_added}
 use Rattle.describe.proofs.edges.put_scheduling.Goals as goal
 
 pub returns : goal.returns
-returns c = all_added _ _ _ _ c.put_values.ensures (rw (c.in_ok-put_number.ensures, c.in_ok-put_bytes-4.ensures, c.in_ok-put_delay.ensures, c.in_ok-put_bytes-3.ensures, c.in_ok-put_bytes-2.ensures, c.in_ok-put_bytes.ensures, c.vertex_name.ensures, c.as_slice.ensures, c.from.ensures) (simp append_assoc))
+returns c = all_added _ _ _ _ c.put_values.ensures (rw (c.in_ok-put_number.ensures, c.in_ok-put_bytes.ensures, c.in_ok-put_delay.ensures, c.in_ok-put_all.ensures, c.vertex_name-name.ensures, c.as_slice.ensures, c.from.ensures) (simp (append_assoc, append-nil)))
