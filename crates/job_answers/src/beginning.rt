@@ -1,7 +1,6 @@
 //! Beginning a run of a model, or why it can't begin.
 
-ghost use Rattle.std.specs.Prelude.{◌≡◌, ◌++◌, IfOk, IfErr, OnOk};
-ghost use Rattle.std.specs.Fmt.{signed_decimal};
+ghost use Rattle.std.specs.Prelude.{◌≡◌, IfOk, IfErr};
 ghost use Rattle.model_core.specs.Static.Reading.{IsValid};
 ghost use Rattle.model_core.specs.Code.Views.{graph_of};
 ghost use Rattle.run_control.specs.Beginning.{BegunRun, RefusesStart};
@@ -10,11 +9,10 @@ ghost use Rattle.job_answers.specs.Inner.StartSteps.{RefusalLine, RefusesRun};
 
 use answer_delivery::{Failure, Refusal, Said};
 use event_heap::HeapPending;
-use itoa::Buffer;
 use model_core::Model;
 use round_trip::validity_is_by_parts;
 use run_control::{BeginError, Run, check_starts, kept_models_can_be_run};
-use sig_base::{List, NoMemory, Text, put_bytes, put_number};
+use sig_base::{List, NoMemory, Text, put_bytes, put_number, put_signed};
 use std::alloc::Global;
 
 /// The line that tells that other starting values are needed.
@@ -30,14 +28,6 @@ fn count_line(alloc: Global, needed: usize, given: usize) -> Result<Text, NoMemo
     Ok(Text::from_vec(line))
 }
 
-/// Adds a whole number in decimal, without leading zeros.
-fn put_whole(out: &mut Vec<u8>, number: i64) -> Result<(), NoMemory>
-    ensures { OnOk result (out.new.items ≡ out.old.items ++ signed_decimal number) }
-{
-    let mut buffer = Buffer::new();
-    put_bytes(out, buffer.format(number).as_bytes())
-}
-
 /// The line that tells the first starting value outside its range. Places count from 1.
 fn outside_line(alloc: Global, place: usize, value: i64) -> Result<Text, NoMemory>
     ensures { IfOk result (λ line. line ≡ outside_line place value) }
@@ -46,7 +36,7 @@ fn outside_line(alloc: Global, place: usize, value: i64) -> Result<Text, NoMemor
     put_bytes(&mut line, b"sigma: starting value ")?;
     put_number(&mut line, place as u64)?;
     put_bytes(&mut line, b" outside: ")?;
-    put_whole(&mut line, value)?;
+    put_signed(&mut line, value)?;
     put_bytes(&mut line, b"\n")?;
     Ok(Text::from_vec(line))
 }
