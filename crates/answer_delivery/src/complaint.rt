@@ -4,7 +4,7 @@ ghost use Rattle.std.specs.Prelude.{◌≡◌, IfOk};
 ghost use Rattle.answer_delivery.specs.Complaints.{static_message, message_of, byte_line};
 
 use model_core::StaticKind;
-use sig_base::{NoMemory, Text, put_bytes, put_number};
+use sig_base::{NoMemory, Text, put_counted, put_texts};
 use std::alloc::Global;
 
 /// What there is to complain of in a text, at one of its bytes.
@@ -67,11 +67,8 @@ impl Complaint {
         ensures { IfOk result (λ line. line ≡ byte_line at (message_of self)) }
     {
         let mut line = Vec::new(alloc);
-        put_bytes(&mut line, b"sigma: byte ")?;
-        put_number(&mut line, at as u64)?;
-        put_bytes(&mut line, b": ")?;
-        put_bytes(&mut line, self.message())?;
-        put_bytes(&mut line, b"\n")?;
+        put_counted(&mut line, b"sigma: byte ", at as u64)?;
+        put_texts(&mut line, &[b": ", self.message(), b"\n"])?;
         Ok(Text::from_vec(line))
     }
 }

@@ -7,7 +7,7 @@ ghost use Rattle.conflict_report.specs.ConflictText.{reasons_text, conflict_line
 
 use crate::pairs::conflict_list;
 use model_core::{Model, Pair, Reasons};
-use sig_base::{NoMemory, Text, put_bytes};
+use sig_base::{NoMemory, Text, put_texts};
 use std::alloc::Global;
 
 /// The names of the reasons that hold, with a comma between two.
@@ -30,12 +30,9 @@ fn reasons_text(reasons: Reasons) -> &'static [u8]
 fn put_line(out: &mut Vec<u8>, model: &Model, pair: Pair) -> Result<(), NoMemory>
     ensures { OnOk result (out.new.items ≡ out.old.items ++ conflict_line (graph_of model.now) pair) }
 {
-    put_bytes(out, model.vertex_name(pair.a))?;
-    put_bytes(out, b" ")?;
-    put_bytes(out, model.vertex_name(pair.b))?;
-    put_bytes(out, b" ")?;
-    put_bytes(out, reasons_text(pair.reasons))?;
-    put_bytes(out, b"\n")
+    let first = model.vertex_name(pair.a);
+    let second = model.vertex_name(pair.b);
+    put_texts(out, &[first, b" ", second, b" ", reasons_text(pair.reasons), b"\n"])
 }
 
 /// Adds the lines of pairs.

@@ -7,9 +7,9 @@ ghost use Rattle.model_core.specs.EventGraph.{Expression};
 ghost use Rattle.model_core.specs.Code.Views.{graph_of, expression_of, location_of, change_of};
 ghost use Rattle.describe.specs.Description.{becomes_phrase, after_ands, joined_by_and, change_phrase, change_sentence};
 
-use crate::phrases::{put_all, put_drawn, put_expression, put_target};
+use crate::phrases::{put_drawn, put_expression, put_target};
 use model_core::{Change, Expr, Model, Target};
-use sig_base::{NoMemory, put_bytes};
+use sig_base::{NoMemory, put_bytes, put_texts};
 use std::alloc::Global;
 
 /// Adds what a target becomes.
@@ -118,7 +118,7 @@ fn put_change(
 ) -> Result<(), NoMemory>
     ensures { OnOk result (out.new.items ≡ out.old.items ++ change_sentence (graph_of model.now) name.now (change_of change.now)) }
 {
-    put_all(out, &[b"When ", name, b" occurs, "])?;
+    put_texts(out, &[b"When ", name, b" occurs, "])?;
     put_effect(alloc, out, model, change)?;
     put_bytes(out, b".\n")
 }

@@ -6,18 +6,17 @@ ghost use Rattle.model_core.specs.Text.Canonical.{joined, after_commas, initial_
 ghost use Rattle.model_core.specs.Code.Views.{graph_of, variable_of, weighted_of, table_of, watched_of};
 ghost use Rattle.describe.specs.Description.{variable_phrase, kept_phrase, range_phrase, held_phrase, variable_sentence, row_phrase, table_sentence, watch_sentence};
 
-use crate::phrases::put_all;
 use model_core::{Kind, Model, Var, Watch};
-use sig_base::{NoMemory, Row, Table, put_bytes, put_number, put_signed};
+use sig_base::{NoMemory, Row, Table, put_bytes, put_counted, put_number, put_signed, put_texts};
 
 /// Adds what the sentence of a variable is about: the variable, or the array with its number of cells.
 fn put_subject(out: &mut Vec<u8>, var: &Var) -> Result<(), NoMemory>
     ensures { OnOk result (out.new.items ≡ out.old.items ++ variable_phrase var.now.name var.now.size) }
 {
     if var.size == 0 {
-        put_all(out, &[b"The variable ", var.name.as_slice()])
+        put_texts(out, &[b"The variable ", var.name.as_slice()])
     } else {
-        put_all(out, &[b"The array ", var.name.as_slice(), b" of "])?;
+        put_texts(out, &[b"The array ", var.name.as_slice(), b" of "])?;
         put_number(out, var.size as u64)?;
         put_bytes(out, b" cells")
     }
@@ -58,7 +57,7 @@ fn put_held(out: &mut Vec<u8>, var: &Var) -> Result<(), NoMemory>
 {
     match var.kind {
         Kind::Truth => {
-            put_all(
+            put_texts(
                 out,
                 &[
                     b" is a truth value and starts at ",
@@ -98,8 +97,7 @@ fn put_row(out: &mut Vec<u8>, row: Row) -> Result<(), NoMemory>
     ensures { OnOk result (out.new.items ≡ out.old.items ++ row_phrase (weighted_of row)) }
 {
     put_signed(out, row.value)?;
-    put_bytes(out, b" with weight ")?;
-    put_number(out, row.weight)
+    put_counted(out, b" with weight ", row.weight)
 }
 
 /// Adds values of a table with their weights, each behind a comma and a space.
@@ -128,7 +126,7 @@ fn put_rows(out: &mut Vec<u8>, rows: &[Row]) -> Result<(), NoMemory>
 fn put_table(out: &mut Vec<u8>, table: &Table) -> Result<(), NoMemory>
     ensures { OnOk result (out.new.items ≡ out.old.items ++ table_sentence (table_of table.now)) }
 {
-    put_all(out, &[b"The table ", table.name.as_slice(), b" gives "])?;
+    put_texts(out, &[b"The table ", table.name.as_slice(), b" gives "])?;
     put_rows(out, table.rows.as_slice())?;
     put_bytes(out, b".\n")
 }
@@ -158,7 +156,7 @@ fn put_later_watched(out: &mut Vec<u8>, model: &Model, watch: &[Watch]) -> Resul
     ensures { OnOk result (out.new.items ≡ out.old.items ++ after_commas (map (watched_name (graph_of model.now)) (map watched_of watch.now))) }
 {
     for watched in watch {
-        put_all(out, &[b", ", watched_name(model, *watched)])?;
+        put_texts(out, &[b", ", watched_name(model, *watched)])?;
     }
     Ok(())
 }

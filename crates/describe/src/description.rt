@@ -6,24 +6,23 @@ ghost use Rattle.model_core.specs.Code.Views.{graph_of};
 ghost use Rattle.describe.specs.Description.{model_sentence, first_event_sentence, description};
 
 use crate::declarations::{put_tables, put_variables, put_watch};
-use crate::phrases::put_all;
 use crate::vertices::put_vertices;
 use model_core::Model;
-use sig_base::{NoMemory, Text};
+use sig_base::{NoMemory, Text, put_texts};
 use std::alloc::Global;
 
 /// Adds the sentence of the model's name.
 fn put_model_name(out: &mut Vec<u8>, model: &Model) -> Result<(), NoMemory>
     ensures { OnOk result (out.new.items ≡ out.old.items ++ model_sentence model.now.name) }
 {
-    put_all(out, &[b"This is the model ", model.name.as_slice(), b".\n"])
+    put_texts(out, &[b"This is the model ", model.name.as_slice(), b".\n"])
 }
 
 /// Adds the sentence of the first event.
 fn put_first_event(out: &mut Vec<u8>, model: &Model) -> Result<(), NoMemory>
     ensures { OnOk result (out.new.items ≡ out.old.items ++ first_event_sentence (vertex_name (graph_of model.now) 0)) }
 {
-    put_all(out, &[b"The first event is ", model.vertex_name(0), b".\n"])
+    put_texts(out, &[b"The first event is ", model.vertex_name(0), b".\n"])
 }
 
 /// Adds the sentences of a model.

@@ -7,9 +7,9 @@ ghost use Rattle.model_core.specs.Text.Canonical.{vertex_name, expression_texts}
 ghost use Rattle.model_core.specs.Code.Views.{graph_of, expression_of, edge_delay_of, edge_kind_of, edge_of};
 ghost use Rattle.describe.specs.Description.{condition_phrase, delay_phrase, values_phrase, deed_phrase, edge_sentence};
 
-use crate::phrases::{put_all, put_drawn, put_expression, put_expressions};
+use crate::phrases::{put_drawn, put_expression, put_expressions};
 use model_core::{Delay, Edge, EdgeForm, Expr, Model};
-use sig_base::{NoMemory, put_bytes, put_number};
+use sig_base::{NoMemory, put_bytes, put_counted, put_texts};
 use std::alloc::Global;
 
 /// Adds a condition, or nothing where it is the word `true`.
@@ -74,10 +74,9 @@ fn put_scheduling(
     ensures { OnOk result (out.new.items ≡ out.old.items ++ deed_phrase (graph_of model.now) (Schedule (edge_delay_of delay.now) priority) (vertex_name (graph_of model.now) edge.now.target) (expression_texts (graph_of model.now) (map expression_of edge.now.values))) }
 {
     let name = model.vertex_name(edge.target);
-    put_all(out, &[b"event ", name, b" is scheduled after "])?;
+    put_texts(out, &[b"event ", name, b" is scheduled after "])?;
     put_delay(alloc, out, model, delay)?;
-    put_bytes(out, b" with priority ")?;
-    put_number(out, u64::from(priority))?;
+    put_counted(out, b" with priority ", u64::from(priority))?;
     put_values(alloc, out, model, b", carrying ", edge.values.as_slice())
 }
 
@@ -91,16 +90,16 @@ fn put_deed(alloc: Global, out: &mut Vec<u8>, model: &Model, edge: &Edge) -> Res
             put_scheduling(alloc, out, model, edge, delay, *priority)
         }
         EdgeForm::Urgent => {
-            put_all(out, &[b"event ", name, b" follows at once"])?;
+            put_texts(out, &[b"event ", name, b" follows at once"])?;
             put_values(alloc, out, model, b", carrying ", edge.values.as_slice())
         }
-        EdgeForm::CancelNext => put_all(out, &[b"the next pending ", name, b" is cancelled"]),
+        EdgeForm::CancelNext => put_texts(out, &[b"the next pending ", name, b" is cancelled"]),
         EdgeForm::CancelEqual => {
-            put_all(out, &[b"the next pending ", name])?;
+            put_texts(out, &[b"the next pending ", name])?;
             put_values(alloc, out, model, b" carrying ", edge.values.as_slice())?;
             put_bytes(out, b" is cancelled")
         }
-        EdgeForm::CancelAll => put_all(out, &[b"every pending ", name, b" is cancelled"]),
+        EdgeForm::CancelAll => put_texts(out, &[b"every pending ", name, b" is cancelled"]),
     }
 }
 
@@ -114,7 +113,7 @@ fn put_edge(
 ) -> Result<(), NoMemory>
     ensures { OnOk result (out.new.items ≡ out.old.items ++ edge_sentence (graph_of model.now) name.now (edge_of edge.now)) }
 {
-    put_all(out, &[b"After ", name, b", "])?;
+    put_texts(out, &[b"After ", name, b", "])?;
     put_condition(alloc, out, model, &edge.condition)?;
     put_deed(alloc, out, model, edge)?;
     put_bytes(out, b".\n")

@@ -1,25 +1,14 @@
 //! Phrases that sentences of several kinds have in common: numbers, expressions, locations and draws.
 
 ghost use Rattle.std.specs.Prelude.{◌≡◌, ◌++◌, map, option_map, OnOk};
-ghost use Rattle.std.specs.List.{flat_map};
 ghost use Rattle.model_core.specs.Text.Canonical.{joined, after_commas, expression_text, expression_texts, index_text, location_text};
 ghost use Rattle.model_core.specs.Code.Views.{graph_of, expression_of, location_of, choice_of};
 ghost use Rattle.describe.specs.Description.{choice_phrase, drawn_phrase};
 
 use model_core::{Choice, Expr, Model, Target};
 use model_print::put_expr;
-use sig_base::{NoMemory, put_bytes, put_number, put_signed};
+use sig_base::{NoMemory, put_bytes, put_counted, put_signed, put_texts};
 use std::alloc::Global;
-
-/// Adds texts one after the other.
-pub(crate) fn put_all(out: &mut Vec<u8>, texts: &[&[u8]]) -> Result<(), NoMemory>
-    ensures { OnOk result (out.new.items ≡ out.old.items ++ flat_map (λ text. text.now) texts.now) }
-{
-    for text in texts {
-        put_bytes(out, text)?;
-    }
-    Ok(())
-}
 
 /// Adds an expression.
 pub(crate) fn put_expression(
@@ -106,7 +95,7 @@ fn put_choice(out: &mut Vec<u8>, model: &Model, choice: Choice) -> Result<(), No
             put_bytes(out, b" and ")?;
             put_signed(out, hi)
         }
-        Choice::ByTable { table } => { put_all(out, &[b" by the table ", model.table_name(table)]) }
+        Choice::ByTable { table } => { put_texts(out, &[b" by the table ", model.table_name(table)]) }
     }
 }
 
@@ -119,7 +108,6 @@ pub(crate) fn put_drawn(
 ) -> Result<(), NoMemory>
     ensures { OnOk result (out.new.items ≡ out.old.items ++ drawn_phrase (graph_of model.now) stream (choice_of choice)) }
 {
-    put_bytes(out, b"drawn from stream ")?;
-    put_number(out, u64::from(stream))?;
+    put_counted(out, b"drawn from stream ", u64::from(stream))?;
     put_choice(out, model, choice)
 }

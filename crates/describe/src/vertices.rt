@@ -8,9 +8,8 @@ ghost use Rattle.describe.specs.Description.{parameters_phrase, vertex_sentences
 
 use crate::changes::put_changes;
 use crate::edges::put_edges;
-use crate::phrases::put_all;
 use model_core::{Model, Vertex};
-use sig_base::{NoMemory, put_bytes};
+use sig_base::{NoMemory, put_bytes, put_texts};
 use std::alloc::Global;
 
 /// Adds the names of variables, each behind a comma and a space.
@@ -18,7 +17,7 @@ fn put_later_parameters(out: &mut Vec<u8>, model: &Model, params: &[usize]) -> R
     ensures { OnOk result (out.new.items ≡ out.old.items ++ after_commas (map (variable_name (graph_of model.now)) params.now)) }
 {
     for param in params {
-        put_all(out, &[b", ", model.variable_name(*param)])?;
+        put_texts(out, &[b", ", model.variable_name(*param)])?;
     }
     Ok(())
 }
@@ -44,7 +43,7 @@ fn put_vertex(
     ensures { OnOk result (out.new.items ≡ out.old.items ++ vertex_sentences (graph_of model.now) (vertex_of vertex.now)) }
 {
     let name = vertex.name.as_slice();
-    put_all(out, &[b"Event ", name, b" takes "])?;
+    put_texts(out, &[b"Event ", name, b" takes "])?;
     put_parameters(out, model, vertex.params.as_slice())?;
     put_bytes(out, b".\n")?;
     put_changes(alloc, out, model, name, vertex.changes.as_slice())?;

@@ -12,7 +12,7 @@ use event_heap::HeapPending;
 use model_core::Model;
 use round_trip::validity_is_by_parts;
 use run_control::{BeginError, Run, check_starts, kept_models_can_be_run};
-use sig_base::{List, NoMemory, Text, put_bytes, put_number, put_signed};
+use sig_base::{List, NoMemory, Text, put_bytes, put_counted, put_signed};
 use std::alloc::Global;
 
 /// The line that tells that other starting values are needed.
@@ -20,10 +20,8 @@ fn count_line(alloc: Global, needed: usize, given: usize) -> Result<Text, NoMemo
     ensures { IfOk result (λ line. line ≡ count_line needed given) }
 {
     let mut line = Vec::new(alloc);
-    put_bytes(&mut line, b"sigma: starting values needed ")?;
-    put_number(&mut line, needed as u64)?;
-    put_bytes(&mut line, b" given ")?;
-    put_number(&mut line, given as u64)?;
+    put_counted(&mut line, b"sigma: starting values needed ", needed as u64)?;
+    put_counted(&mut line, b" given ", given as u64)?;
     put_bytes(&mut line, b"\n")?;
     Ok(Text::from_vec(line))
 }
@@ -33,8 +31,7 @@ fn outside_line(alloc: Global, place: usize, value: i64) -> Result<Text, NoMemor
     ensures { IfOk result (λ line. line ≡ outside_line place value) }
 {
     let mut line = Vec::new(alloc);
-    put_bytes(&mut line, b"sigma: starting value ")?;
-    put_number(&mut line, place as u64)?;
+    put_counted(&mut line, b"sigma: starting value ", place as u64)?;
     put_bytes(&mut line, b" outside: ")?;
     put_signed(&mut line, value)?;
     put_bytes(&mut line, b"\n")?;

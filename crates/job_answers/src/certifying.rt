@@ -14,7 +14,7 @@ use crate::document_reading::Document;
 use answer_delivery::{Answer, End};
 use reduction_cert::{Verdict, check_chain, verdicts_tell_chains};
 use round_trip::documents_have_valid_models;
-use sig_base::{NoMemory, Text, put_bytes, put_number};
+use sig_base::{NoMemory, Text, put_bytes, put_counted};
 use std::alloc::Global;
 
 /// The line that rejects a certificate at this line of it.
@@ -22,8 +22,7 @@ fn rejection_line(alloc: Global, line: usize) -> Result<Text, NoMemory>
     ensures { IfOk result (λ out. Gives End.Rejected out ≡ answer_of_verdict (verdict_of (Verdict.Rejected line))) }
 {
     let mut out = Vec::new(alloc);
-    put_bytes(&mut out, b"rejected ")?;
-    put_number(&mut out, line as u64)?;
+    put_counted(&mut out, b"rejected ", line as u64)?;
     put_bytes(&mut out, b"\n")?;
     Ok(Text::from_vec(out))
 }

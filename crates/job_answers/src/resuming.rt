@@ -16,7 +16,7 @@ use model_core::Model;
 use round_trip::validity_is_by_parts;
 use run_control::kept_models_can_be_run;
 use run_snapshot::{Snapshot, resume};
-use sig_base::{EVENTS_MAX, NoMemory, Sink, Text, put_bytes, put_number};
+use sig_base::{EVENTS_MAX, NoMemory, Sink, Text, put_bytes, put_counted};
 use std::alloc::Global;
 
 /// As many pending events as a run can't count.
@@ -27,8 +27,7 @@ fn below_clock_line(alloc: Global, clock: u64) -> Result<Text, NoMemory>
     ensures { IfOk result (λ line. line ≡ below_clock_line clock) }
 {
     let mut line = Vec::new(alloc);
-    put_bytes(&mut line, b"sigma: stop time below clock ")?;
-    put_number(&mut line, clock)?;
+    put_counted(&mut line, b"sigma: stop time below clock ", clock)?;
     put_bytes(&mut line, b"\n")?;
     Ok(Text::from_vec(line))
 }

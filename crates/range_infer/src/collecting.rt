@@ -3,10 +3,10 @@
 
 ghost use Rattle.std.specs.Prelude.{◌≡◌, length, cond, true, [], ◌∷◌, ◌++◌, map, drop, OnOk, IfOk};
 ghost use Rattle.std.specs.List.{flat_map};
-ghost use Rattle.model_core.specs.EventGraph.{Location, is_scheduling};
+ghost use Rattle.model_core.specs.EventGraph.{Location};
 ghost use Rattle.model_core.specs.Run.Step.{vertex_at};
 ghost use Rattle.model_core.specs.Rules.BoundsOf.{bounds_under};
-ghost use Rattle.model_core.specs.Code.Views.{graph_of, expression_of, location_of, change_of, edge_kind_of, edge_of, vertex_of};
+ghost use Rattle.model_core.specs.Code.Views.{graph_of, expression_of, location_of, change_of, edge_of, vertex_of};
 ghost use Rattle.model_core.specs.Ranges.OtherRanges.{with_ranges};
 ghost use Rattle.model_core.specs.Ranges.Refined.{refined};
 ghost use Rattle.model_core.specs.Ranges.Incoming.{incoming};
@@ -24,7 +24,7 @@ use crate::ranges_left::RangesLeft;
 use crate::readers::{PartPlace, are_few, readers_of_moved};
 use crate::refinement::forget;
 use crate::rounds::copied;
-use model_core::{Change, Edge, EdgeForm, Expr, Incoming, Model, Target, VarRange, Vertex};
+use model_core::{Change, Edge, Expr, Incoming, Model, Target, VarRange, Vertex};
 use range_bounds::choice_bounds;
 use sig_base::{List, NoMemory};
 use std::alloc::Global;
@@ -128,19 +128,6 @@ fn add_change(
     }
 }
 
-fn can_schedule(form: &EdgeForm) -> bool
-    ensures { result ≡ is_scheduling (edge_kind_of form.now) }
-{
-    match form {
-        EdgeForm::Schedule {
-            delay: _,
-            priority: _,
-        } => true,
-        EdgeForm::Urgent => true,
-        EdgeForm::CancelNext | EdgeForm::CancelEqual | EdgeForm::CancelAll => false,
-    }
-}
-
 /// Adds what the parameters of the vertex take to which an edge leads, where its condition is true, if it can be.
 fn add_carried(
     out: &mut Vec<Incoming>,
@@ -176,7 +163,7 @@ fn add_edge(
     ensures out { OnOk result (out.new.items ≡ out.old.items ++ edge_seen (graph_of left.old.model.now) look.now.all look.now.moved.now (variables_left left.old) (edge_of edge.now)) }
     ensures left { OnOk result (StaysLeft left.old left.new) }
 {
-    if can_schedule(&edge.form) {
+    if edge.form.is_scheduling() {
         let whole = Look {
             all: looks_at(look, reads.condition.as_slice()),
             moved: look.moved,

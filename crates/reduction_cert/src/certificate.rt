@@ -7,7 +7,7 @@ ghost use Rattle.model_core.specs.Rules.Reduction.{Merge};
 ghost use Rattle.model_core.specs.Rules.Certificate.{application_line, certificate};
 
 use model_core::Application;
-use sig_base::{List, Name, NoMemory, Text, put_bytes, put_number};
+use sig_base::{List, Name, NoMemory, Text, put_bytes, put_counted, put_texts};
 use std::alloc::Global;
 
 /// The certificate: a line for each application, in order.
@@ -42,10 +42,8 @@ fn put_applications(out: &mut Vec<u8>, applications: &[Application]) -> Result<(
 fn put_edge(out: &mut Vec<u8>, vertex: &Name, edge: u64) -> Result<(), NoMemory>
     ensures { OnOk result (out.new.items ≡ out.old.items ++ codes " " ++ vertex.now ++ codes " " ++ decimal edge ++ codes "\n") }
 {
-    put_bytes(out, b" ")?;
-    put_bytes(out, vertex.as_slice())?;
-    put_bytes(out, b" ")?;
-    put_number(out, edge)?;
+    put_texts(out, &[b" ", vertex.as_slice()])?;
+    put_counted(out, b" ", edge)?;
     put_bytes(out, b"\n")
 }
 
@@ -53,11 +51,7 @@ fn put_edge(out: &mut Vec<u8>, vertex: &Name, edge: u64) -> Result<(), NoMemory>
 fn put_merge(out: &mut Vec<u8>, vertex: &Name, target: &Name) -> Result<(), NoMemory>
     ensures { OnOk result (out.new.items ≡ out.old.items ++ application_line (Merge vertex.now target.now)) }
 {
-    put_bytes(out, b"merge ")?;
-    put_bytes(out, vertex.as_slice())?;
-    put_bytes(out, b" ")?;
-    put_bytes(out, target.as_slice())?;
-    put_bytes(out, b"\n")
+    put_texts(out, &[b"merge ", vertex.as_slice(), b" ", target.as_slice(), b"\n"])
 }
 
 /// Adds names, each behind a space.
@@ -65,8 +59,7 @@ fn put_names(out: &mut Vec<u8>, names: &[Name]) -> Result<(), NoMemory>
     ensures { OnOk result (out.new.items ≡ out.old.items ++ flat_map (λ (name : List ℕ). codes " " ++ name) names.now) }
 {
     for name in names {
-        put_bytes(out, b" ")?;
-        put_bytes(out, name.as_slice())?;
+        put_texts(out, &[b" ", name.as_slice()])?;
     }
     Ok(())
 }

@@ -1,10 +1,11 @@
 -- A table's sums: the last is the sum of all weights, and the first that is above x stands at the place at which the weights summed
 -- so far exceed x. A later word has no smaller share.
-use Rattle.std.proofs.Common.{◌≡◌, ℕ, zero, suc, ◌<◌, ◌≤◌, ◌+◌, ◌-◌, ◌*◌, ◌/◌, ◌^◌, Bool, true, false, cond, List, [], ◌∷◌, length, get_or, refl, ap, ◌∙◌, arith}
+use Rattle.std.proofs.Common.{◌≡◌, ℕ, zero, suc, ◌<◌, ◌≤◌, ◌+◌, ◌-◌, ◌*◌, ◌/◌, ◌%◌, ◌^◌, Bool, true, false, cond, List, [], ◌∷◌, ◌++◌, length, get_or, refl, ap, ◌∙◌, arith}
 use Rattle.std.specs.Prelude.{sum, nat_lt}
-use Rattle.std.proofs.Math.Nat.{mul-le-mul_right}
+use Rattle.std.proofs.Math.Nat.{mul-le-mul_right, mod-eq_of_lt, div-mul-le_self}
 use Rattle.std.proofs.lemmas.Bool.{ltb-true, ltb-false}
-use Rattle.std.proofs.lemmas.List.{get_or_default, get_or_past}
+use Rattle.std.proofs.Math.ListN.{get_or-append}
+use Rattle.std.proofs.lemmas.List.{get_or_default, get_or_past, get_or_push}
 use Rattle.std.proofs.lemmas.List.Sums.{sum_by-cons}
 use Rattle.sig_base.specs.Stream.{share, place_exceeding}
 use Rattle.sig_base.specs.RunningSums.{running_sums, AtMostBefore, StartsAt}
@@ -94,3 +95,32 @@ start_known sums starts total shift started part = pick (nat_lt part (length sta
     pick false e =
         let none : get_or starts part 0 ≡ 0 = get_or_past starts part 0 (ltb-false part (length starts) e) in
         (omega arith, λ i below. absurd (omega arith))
+
+-- ---- one part after the other
+
+-- the starts of so many parts, and that of the next one
+pub one_more_start : (sums starts : List ℕ) (total shift part place : ℕ) → length starts ≡ part
+    → ((k : ℕ) → k < part → AtMostBefore sums (share (k * 2 ^ shift) total) (get_or starts k 0))
+    → AtMostBefore sums (share (part * 2 ^ shift) total) place
+    → (k : ℕ) → k < part + 1 → AtMostBefore sums (share (k * 2 ^ shift) total) (get_or (starts ++ place ∷ []) k 0)
+one_more_start sums starts total shift part place long started last k below = pick (nat_lt k part) refl
+  where
+    pick : (b : Bool) → nat_lt k part ≡ b → AtMostBefore sums (share (k * 2 ^ shift) total) (get_or (starts ++ place ∷ []) k 0)
+    pick true e = let earlier : k < part = ltb-true k part e in rw (get_or-append starts (place ∷ []) 0 k (omega (arith, long))) (started k earlier)
+    pick false e =
+        let past : part ≤ k = ltb-false k part e in
+        let here : k ≡ part = omega arith in
+        rw (here, get_or_push starts place 0 part long) last
+
+-- no word of the next part has a smaller share than the first of this one
+pub start_rises : (sums : List ℕ) (total shift part place : ℕ) → AtMostBefore sums (share (part * 2 ^ shift) total) place → AtMostBefore sums (share ((part + 1) * 2 ^ shift) total) place
+start_rises sums total shift part place before =
+    before_rises sums (share (part * 2 ^ shift) total) (share ((part + 1) * 2 ^ shift) total) place
+    (share_rises (part * 2 ^ shift) ((part + 1) * 2 ^ shift) total (mul-le-mul_right (2 ^ shift) (omega arith)))
+    before
+
+-- the first word of a part is a word
+pub first_word : (part shift : ℕ) → part ≤ 4294967295 / 2 ^ shift → part * 2 ^ shift % 4294967296 ≡ part * 2 ^ shift
+first_word part shift within =
+    let most : part * 2 ^ shift ≤ 4294967295 / 2 ^ shift * 2 ^ shift = mul-le-mul_right (2 ^ shift) within in
+    mod-eq_of_lt (omega (arith, most, div-mul-le_self 4294967295 (2 ^ shift)))

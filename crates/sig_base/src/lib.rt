@@ -39,7 +39,7 @@ pub use memory_source::MemorySource;
 pub use name::Name;
 pub use no_memory::{Failed, NoMemory};
 pub use null_sink::NullSink;
-pub use printing::{put_bytes, put_number, put_signed};
+pub use printing::{put_bytes, put_counted, put_number, put_signed, put_texts};
 pub use putting::put;
 pub use sink::Sink;
 pub use source::Source;

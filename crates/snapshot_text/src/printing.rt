@@ -13,7 +13,7 @@ use crate::numbers::SEED_PART;
 use crate::snapshot::Snapshot;
 use event_list::Entry;
 use model_core::{Model, Var};
-use sig_base::{List, NoMemory, Text, put_bytes, put_number, put_signed};
+use sig_base::{List, NoMemory, Text, put_bytes, put_counted, put_signed, put_texts};
 use std::alloc::Global;
 
 /// Adds values, each behind a comma.
@@ -45,10 +45,8 @@ fn put_stream(out: &mut Vec<u8>, stream: u64, words: u64) -> Result<(), NoMemory
     if words == 0 {
         return Ok(());
     }
-    put_bytes(out, b"stream ")?;
-    put_number(out, stream)?;
-    put_bytes(out, b" ")?;
-    put_number(out, words)?;
+    put_counted(out, b"stream ", stream)?;
+    put_counted(out, b" ", words)?;
     put_bytes(out, b"\n")
 }
 
@@ -66,9 +64,7 @@ fn put_streams(out: &mut Vec<u8>, taken: &[u64]) -> Result<(), NoMemory>
 fn put_value(out: &mut Vec<u8>, var: &Var, values: &[i64]) -> Result<(), NoMemory>
     ensures { OnOk result (out.new.items ≡ out.old.items ++ value_line (variable_of var.now) values.now) }
 {
-    put_bytes(out, b"value ")?;
-    put_bytes(out, var.name.as_slice())?;
-    put_bytes(out, b" ")?;
+    put_texts(out, &[b"value ", var.name.as_slice(), b" "])?;
     put_values(out, values)?;
     put_bytes(out, b"\n")
 }
@@ -125,15 +121,11 @@ fn put_carried(out: &mut Vec<u8>, values: &[i64]) -> Result<(), NoMemory>
 fn put_pending(out: &mut Vec<u8>, model: &Model, ticks: u64, entry: &Entry) -> Result<(), NoMemory>
     ensures { OnOk result (out.new.items ≡ out.old.items ++ event_line (graph_of model.now) ticks entry.now) }
 {
-    put_bytes(out, b"pending ")?;
-    put_number(out, ticks)?;
-    put_bytes(out, b" ")?;
-    put_number(out, u64::from(entry.priority))?;
-    put_bytes(out, b" ")?;
-    put_bytes(out, model.vertex_name(entry.vertex))?;
+    put_counted(out, b"pending ", ticks)?;
+    put_counted(out, b" ", u64::from(entry.priority))?;
+    put_texts(out, &[b" ", model.vertex_name(entry.vertex)])?;
     put_carried(out, entry.values.as_slice())?;
-    put_bytes(out, b"\n")?;
-    Ok(())
+    put_bytes(out, b"\n")
 }
 
 /// Adds a line for each pending event.
@@ -156,22 +148,17 @@ fn put_all_pending(
 fn put_seed(out: &mut Vec<u8>, high: u64, low: u64) -> Result<(), NoMemory>
     ensures { OnOk result (out.new.items ≡ out.old.items ++ seed_lines high low) }
 {
-    put_bytes(out, b"snapshot\nseed ")?;
-    put_number(out, high)?;
-    put_bytes(out, b" ")?;
-    put_number(out, low)?;
-    put_bytes(out, b"\n")?;
-    Ok(())
+    put_counted(out, b"snapshot\nseed ", high)?;
+    put_counted(out, b" ", low)?;
+    put_bytes(out, b"\n")
 }
 
 /// Adds the lines of the clock and the number of events.
 fn put_clock(out: &mut Vec<u8>, clock: u64, events: u64) -> Result<(), NoMemory>
     ensures { OnOk result (out.new.items ≡ out.old.items ++ clock_lines clock events) }
 {
-    put_bytes(out, b"clk ")?;
-    put_number(out, clock)?;
-    put_bytes(out, b"\nevents ")?;
-    put_number(out, events)?;
+    put_counted(out, b"clk ", clock)?;
+    put_counted(out, b"\nevents ", events)?;
     put_bytes(out, b"\n")
 }
 

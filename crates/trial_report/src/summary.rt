@@ -1,6 +1,6 @@
 //! The lines of a summary.
 
-ghost use Rattle.std.specs.Prelude.{◌≡◌, ◌-◌, ◌^◌, ◌++◌, min, map, decimal, length, OnOk};
+ghost use Rattle.std.specs.Prelude.{◌≡◌, ◌-◌, ◌^◌, ◌++◌, min, map, length, OnOk};
 ghost use Rattle.std.specs.List.{sum_by};
 ghost use Rattle.model_core.specs.Static.Reading.{IsValid};
 ghost use Rattle.model_core.specs.Code.Views.{graph_of, vertex_of};
@@ -10,7 +10,7 @@ ghost use Rattle.trial_report.specs.TrialText.{edges_in, size_line, applications
 use crate::run_measure::RunMeasure;
 use model_core::{Model, Vertex};
 use round_trip::validity_is_by_parts;
-use sig_base::{NoMemory, put_bytes, put_number};
+use sig_base::{NoMemory, put_bytes, put_counted, put_texts};
 use watch_trace::{Outcome, fault_word};
 
 /// How many edges vertices have, or the last count where they are more.
@@ -33,14 +33,6 @@ fn edges_in(model: &Model) -> u64
     edges_of(model.vertices.as_slice())
 }
 
-/// Puts a word and a number.
-fn put_counted(out: &mut Vec<u8>, word: &[u8], number: u64) -> Result<(), NoMemory>
-    ensures { OnOk result (out.new.items ≡ out.old.items ++ word.now ++ decimal number) }
-{
-    put_bytes(out, word)?;
-    put_number(out, number)
-}
-
 /// Puts how large a model is.
 pub(crate) fn put_size(out: &mut Vec<u8>, name: &[u8], model: &Model) -> Result<(), NoMemory>
     requires { IsValid (graph_of model.now) }
@@ -57,8 +49,7 @@ pub(crate) fn put_size(out: &mut Vec<u8>, name: &[u8], model: &Model) -> Result<
 pub(crate) fn put_applications(out: &mut Vec<u8>, applications: usize) -> Result<(), NoMemory>
     ensures { OnOk result (out.new.items ≡ out.old.items ++ applications_line applications) }
 {
-    put_bytes(out, b"applications ")?;
-    put_number(out, applications as u64)?;
+    put_counted(out, b"applications ", applications as u64)?;
     put_bytes(out, b"\n")
 }
 
@@ -76,8 +67,7 @@ fn put_standing(
         Outcome::Stopped => put_counted(out, b"stopped ", until),
         Outcome::Faulted { time, kind } => {
             put_counted(out, b"fault ", time)?;
-            put_bytes(out, b" ")?;
-            put_bytes(out, fault_word(kind))
+            put_texts(out, &[b" ", fault_word(kind)])
         }
         Outcome::Budget => put_counted(out, b"budget ", events),
         Outcome::WriteFault | Outcome::NoMemory => Ok(()),
@@ -94,8 +84,7 @@ pub(crate) fn put_run(
 ) -> Result<(), NoMemory>
     ensures { OnOk result (out.new.items ≡ out.old.items ++ measure_line name.now until events run) }
 {
-    put_bytes(out, name)?;
-    put_bytes(out, b" ")?;
+    put_texts(out, &[name, b" "])?;
     put_standing(out, until, events, run.outcome)?;
     put_counted(out, b" events ", run.events)?;
     put_counted(out, b" notes ", run.notes)?;

@@ -9,7 +9,7 @@ ghost use Rattle.use_analysis.specs.UsesText.{users_text, yes_or_no, uses_line, 
 
 use crate::table::{UseRow, use_table};
 use model_core::Model;
-use sig_base::{NoMemory, put_bytes};
+use sig_base::{NoMemory, put_bytes, put_texts};
 use std::alloc::Global;
 
 /// Adds the names of vertices, each behind a comma.
@@ -17,8 +17,7 @@ fn put_later_users(out: &mut Vec<u8>, model: &Model, vertices: &[usize]) -> Resu
     ensures { OnOk result (out.new.items ≡ out.old.items ++ flat_map (λ (w : ℕ). codes "," ++ vertex_name (graph_of model.now) w) vertices.now) }
 {
     for vertex in vertices {
-        put_bytes(out, b",")?;
-        put_bytes(out, model.vertex_name(*vertex))?;
+        put_texts(out, &[b",", model.vertex_name(*vertex)])?;
     }
     Ok(())
 }
@@ -45,14 +44,11 @@ fn yes_or_no(watched: bool) -> &'static [u8]
 fn put_uses_line(out: &mut Vec<u8>, model: &Model, var: usize, row: &UseRow) -> Result<(), NoMemory>
     ensures { OnOk result (out.new.items ≡ out.old.items ++ uses_line (graph_of model.now) var (uses_row row.now)) }
 {
-    put_bytes(out, model.variable_name(var))?;
-    put_bytes(out, b" readers ")?;
+    put_texts(out, &[model.variable_name(var), b" readers "])?;
     put_users(out, model, row.readers.as_slice())?;
     put_bytes(out, b" writers ")?;
     put_users(out, model, row.writers.as_slice())?;
-    put_bytes(out, b" watched ")?;
-    put_bytes(out, yes_or_no(row.watched))?;
-    put_bytes(out, b"\n")
+    put_texts(out, &[b" watched ", yes_or_no(row.watched), b"\n"])
 }
 
 /// Adds a line for each row of the model's table.

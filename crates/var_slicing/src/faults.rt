@@ -3,14 +3,14 @@
 
 ghost use Rattle.std.specs.Prelude.{◌≡◌, ℕ, ◌++◌, map, zip, OnOk};
 ghost use Rattle.std.specs.List.{flat_map};
-ghost use Rattle.model_core.specs.EventGraph.{Location, Expression, scalar_location, is_scheduling};
+ghost use Rattle.model_core.specs.EventGraph.{Location, Expression, scalar_location};
 ghost use Rattle.model_core.specs.Rules.BoundsOfParts.{quiet_set};
-ghost use Rattle.model_core.specs.Code.Views.{graph_of, vertex_of, change_of, edge_of, edge_kind_of, location_of, expression_of};
+ghost use Rattle.model_core.specs.Code.Views.{graph_of, vertex_of, change_of, edge_of, location_of, expression_of};
 ghost use Rattle.var_slicing.specs.Inner.Needing.{added_each};
 ghost use Rattle.var_slicing.specs.Inner.Faulting.{fault_unless, faults_in_change, faults_in_edge, with_faults};
 
 use marked_walks::is_marked;
-use model_core::{Change, Edge, EdgeForm, Expr, Model, Target, Vertex};
+use model_core::{Change, Edge, Expr, Model, Target, Vertex};
 use range_bounds::{bounds, quiet_change, quiet_set, quiet_store};
 use sig_base::NoMemory;
 
@@ -91,20 +91,6 @@ fn add_faulting_changes(
     Ok(())
 }
 
-/// Whether an edge of this form schedules an event.
-fn is_scheduling(form: &EdgeForm) -> bool
-    ensures { result ≡ is_scheduling (edge_kind_of form.now) }
-{
-    match form {
-        EdgeForm::Schedule {
-            delay: _,
-            priority: _,
-        }
-        | EdgeForm::Urgent => true,
-        EdgeForm::CancelNext | EdgeForm::CancelEqual | EdgeForm::CancelAll => false,
-    }
-}
-
 /// Adds a parameter for which a value that may fault is carried, or whose store may, unless it is marked.
 fn add_faulting_value(
     out: &mut Vec<usize>,
@@ -150,7 +136,7 @@ fn add_faulting_carried(
 ) -> Result<(), NoMemory>
     ensures { OnOk result (out.new.items ≡ out.old.items ++ faults_in_edge marks.now (graph_of model.now) (edge_of edge.now)) }
 {
-    if is_scheduling(&edge.form) {
+    if edge.form.is_scheduling() {
         add_faulting_values(
             out,
             marks,
