@@ -32,7 +32,8 @@ fn put_line(out: &mut Vec<u8>, model: &Model, pair: Pair) -> Result<(), NoMemory
 {
     let first = model.vertex_name(pair.a);
     let second = model.vertex_name(pair.b);
-    put_texts(out, &[first, b" ", second, b" ", reasons_text(pair.reasons), b"\n"])
+    put_texts(out, &[first, b" ", second, b" "])?;
+    put_texts(out, &[reasons_text(pair.reasons), b"\n"])
 }
 
 /// Adds the lines of pairs.

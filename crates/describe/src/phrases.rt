@@ -95,7 +95,9 @@ fn put_choice(out: &mut Vec<u8>, model: &Model, choice: Choice) -> Result<(), No
             put_bytes(out, b" and ")?;
             put_signed(out, hi)
         }
-        Choice::ByTable { table } => { put_texts(out, &[b" by the table ", model.table_name(table)]) }
+        Choice::ByTable { table } => {
+            put_texts(out, &[b" by the table ", model.table_name(table)])
+        }
     }
 }
 

@@ -1,16 +1,18 @@
--- What dropping vertices takes from the canonical text: their lines, where no line of the version stands.
-use Rattle.std.proofs.Common.{◌≡◌, inl, inr, ℕ, zero, suc, cond, ◌+◌, ◌<◌, ◌≤◌, Bool, true, false, not, List, [], ◌∷◌, ◌++◌, map, filter, length, slice_get, slice_index_or, None, refl, sym, ap, ap₂, subst, arith, ◌∙◌, length-append}
+-- What dropping vertices takes from the canonical text: their lines alone, where none of them needs version 2 of a text.
+use Rattle.std.proofs.Common.{◌≡◌, inl, inr, ℕ, zero, suc, cond, ◌||◌, ◌+◌, ◌<◌, ◌≤◌, Bool, true, false, not, List, [], ◌∷◌, ◌++◌, map, filter, length, slice_get, slice_index_or, None, refl, sym, ap, ap₂, subst, arith, ◌∙◌, length-append}
 use Rattle.std.specs.Prelude.{codes, nat_lt, Option}
 use Rattle.std.proofs.lemmas.Bool.Decides.{nat_tests}
-use Rattle.std.specs.List.{flat_map, range_with_len}
+use Rattle.std.specs.List.{flat_map, list_any, range_with_len}
 use Rattle.std.specs.Option.{option_map_or}
 use Rattle.std.proofs.lemmas.Simd.{map-map}
 use Rattle.std.proofs.lemmas.Option.{slice_get_past}
+use Rattle.sig_base.specs.declared.limits.TheConstants.{PARAMETERS_MAX_VERSION_1}
 use Rattle.model_core.specs.EventGraph.{EventGraph, EventVertex, EventEdge, Watched, WatchedVariable, WatchedVertex}
 use Rattle.model_core.specs.Run.Step.{no_vertex, vertex_at}
 use Rattle.model_core.specs.Text.Canonical.{vertex_name, vertex_lines, variable_name, change_line, edge_line, edge_word, expression_texts, timing_text, condition_text, in_parentheses, variable_line, table_line, watched_name, watch_names_line, watch_line, canonical, version_line}
-use Rattle.model_core.specs.Text.VersionNeeded.{needs_version_two}
+use Rattle.model_core.specs.Text.VersionNeeded.{is_large_array, has_many_targets, has_later_parts, needs_version_two}
 use Rattle.model_core.specs.Rules.Conditions.{first_failed}
+use Rattle.model_core.specs.Rules.Uses.{has_drawn_delay}
 use Rattle.model_core.specs.Rules.MarkedPlaces.{rank, marked_of, is_marked, unmarked_places}
 use Rattle.model_core.specs.Rules.Reached.{reached_marks, unreached}
 use Rattle.model_core.specs.Rules.Drop.{edge_renumbered, vertex_renumbered, watched_renumbered, drop_conditions, only_marked, dropped}
@@ -19,8 +21,6 @@ use Rattle.mark_laws.proofs.MarksBelow.{marked-among}
 use Rattle.mark_laws.proofs.ReachedLong.{reached_marks-long}
 use Rattle.model_core.proofs.Among.{Among}
 use Rattle.model_core.proofs.Images.{shown-map, flat_map-map}
-use Rattle.model_core.proofs.SomeOfAList.{some-marked_of}
-use Rattle.round_trip.proofs.VersionsKept.{needed-kept}
 use Rattle.mark_laws.proofs.MarkedItems.{marked_of-map}
 use Rattle.edge_pruning.proofs.DropResult.{lists_unreached, without_unreached}
 use Rattle.edge_pruning.proofs.ReachedMarks.{watched-begins, HoldReached, reached_marks-hold}
@@ -59,17 +59,43 @@ filter-next p (k ∷ ks) = kept-next (p (suc k)) (suc k) (map suc ks) (filter p 
 pub unmarked-next : (b : Bool) (bs : List Bool) → unmarked_places (b ∷ bs) ≡ cond (not b) (0 ∷ map suc (unmarked_places bs)) (map suc (unmarked_places bs))
 unmarked-next b bs = ap (λ ks. cond (not b) (0 ∷ ks) ks) (ap (filter (λ k. not (is_marked (b ∷ bs) k))) (next_ones 0 (length bs)) ∙ filter-next (λ k. not (is_marked (b ∷ bs) k)) (range_with_len 0 (length bs)))
 
--- the texts of the elements at these places are those of the elements that aren't marked
+-- the elements at these places are those that aren't marked
+elements-unmarked : {A : Type 0} (d : A) (marks : List Bool) (xs : List A) → length marks ≡ length xs → map (λ k. slice_index_or xs k d) (unmarked_places marks) ≡ marked_of (map not marks) xs
+elements-unmarked d [] xs long = refl
+elements-unmarked d (b ∷ bs) [] long = absurd (omega (arith, long))
+elements-unmarked d (true ∷ bs) (x ∷ xs) long =
+    ap (map (λ k. slice_index_or (x ∷ xs) k d)) (unmarked-next true bs)
+    ∙ map-map (λ k. slice_index_or (x ∷ xs) k d) suc (unmarked_places bs)
+    ∙ elements-unmarked d bs xs (omega (arith, long))
+elements-unmarked d (false ∷ bs) (x ∷ xs) long =
+    ap (map (λ k. slice_index_or (x ∷ xs) k d)) (unmarked-next false bs)
+    ∙ ap (λ ys. x ∷ ys) (map-map (λ k. slice_index_or (x ∷ xs) k d) suc (unmarked_places bs) ∙ elements-unmarked d bs xs (omega (arith, long)))
+
+-- and so are their texts
 texts-unmarked : {A : Type 0} (old : A → List ℕ) (d : A) (marks : List Bool) (xs : List A) → length marks ≡ length xs → flat_map (λ k. old (slice_index_or xs k d)) (unmarked_places marks) ≡ flat_map old (marked_of (map not marks) xs)
-texts-unmarked old d [] xs long = refl
-texts-unmarked old d (b ∷ bs) [] long = absurd (omega (arith, long))
-texts-unmarked old d (true ∷ bs) (x ∷ xs) long =
-    ap (flat_map (λ k. old (slice_index_or (x ∷ xs) k d))) (unmarked-next true bs)
-    ∙ flat_map-map suc (λ k. old (slice_index_or (x ∷ xs) k d)) (unmarked_places bs)
-    ∙ texts-unmarked old d bs xs (omega (arith, long))
-texts-unmarked old d (false ∷ bs) (x ∷ xs) long =
-    ap (flat_map (λ k. old (slice_index_or (x ∷ xs) k d))) (unmarked-next false bs)
-    ∙ ap (λ texts. old x ++ texts) (flat_map-map suc (λ k. old (slice_index_or (x ∷ xs) k d)) (unmarked_places bs) ∙ texts-unmarked old d bs xs (omega (arith, long)))
+texts-unmarked old d marks xs long = sym (flat_map-map (λ k. slice_index_or xs k d) old (unmarked_places marks)) ∙ ap (flat_map old) (elements-unmarked d marks xs long)
+
+-- ---- tests of elements
+
+any-mapped : {A B : Type 0} (new : B → Bool) (f : A → B) (old : A → Bool) → ((x : A) → new (f x) ≡ old x) → (xs : List A) → list_any new (map f xs) ≡ list_any old xs
+any-mapped new f old same [] = refl
+any-mapped new f old same (x ∷ xs) = ap₂ (λ a b. a || b) (same x) (any-mapped new f old same xs)
+
+-- where none of the others passes a test, as many pass it as among all
+any-parted : {A : Type 0} (test : A → Bool) (marks : List Bool) (xs : List A) → length marks ≡ length xs → list_any test (marked_of (map not marks) xs) ≡ false → list_any test (marked_of marks xs) ≡ list_any test xs
+any-parted test [] [] long none = refl
+any-parted test [] (x ∷ xs) long none = absurd (omega (arith, long))
+any-parted test (b ∷ bs) [] long none = absurd (omega (arith, long))
+any-parted test (true ∷ bs) (x ∷ xs) long none = ap (λ b. test x || b) (any-parted test bs xs (omega (arith, long)) none)
+any-parted test (false ∷ bs) (x ∷ xs) long none = behind (test x) (list_any test (marked_of (map not bs) xs)) none (any-parted test bs xs (omega (arith, long)))
+  where
+    behind : (b others : Bool) → (b || others) ≡ false → (others ≡ false → list_any test (marked_of bs xs) ≡ list_any test xs) → list_any test (marked_of bs xs) ≡ (b || list_any test xs)
+    behind true others h later = absurd cc
+    behind false others h later = later h
+
+-- new places leave a vertex the parts that only a text of version 2 can write
+later-same : (f : ℕ → ℕ) (v : EventVertex) → has_later_parts (vertex_renumbered f v) ≡ has_later_parts v
+later-same f v = ap (λ drawn. nat_lt PARAMETERS_MAX_VERSION_1 (length v.parameters) || list_any has_many_targets v.changes || drawn) (any-mapped has_drawn_delay (edge_renumbered f) has_drawn_delay (λ e. refl) v.edges)
 
 -- ---- places
 
@@ -148,27 +174,29 @@ module _ (g : EventGraph) (marks : List Bool) (hold : HoldReached g marks) (long
   abbrev front : Bool → List ℕ → List ℕ
   front needed watch = version_line needed ++ codes "model " ++ g.name ++ codes ";\n" ++ flat_map variable_line g.variables ++ flat_map table_line g.tables ++ watch
 
-  needed_same : needs_version_two g ≡ false → needs_version_two h ≡ false
-  needed_same none = go (needs_version_two h) refl
-    where
-      go : (b : Bool) → needs_version_two h ≡ b → b ≡ false
-      go true e = sym (needed-kept g kept f h.watch (some-marked_of marks g.vertices) e) ∙ none
-      go false e = refl
+  abbrev NoneLater : Type 0
+  NoneLater = list_any (λ k. has_later_parts (vertex_at g k)) (unmarked_places marks) ≡ false
 
-  text_parted : needs_version_two g ≡ false → length (canonical h) + length (flat_map (λ k. vertex_lines g (vertex_at g k)) (unmarked_places marks)) ≡ length (canonical g)
+  needed_same : NoneLater → needs_version_two h ≡ needs_version_two g
+  needed_same none =
+      let at = λ (k : ℕ). slice_index_or g.vertices k no_vertex in
+      let gone = ap (list_any has_later_parts) (sym (elements-unmarked no_vertex marks g.vertices long)) ∙ any-mapped has_later_parts at (λ k. has_later_parts (at k)) (λ k. refl) (unmarked_places marks) ∙ none in
+      ap (λ later. list_any is_large_array g.variables || later) (any-mapped has_later_parts (vertex_renumbered f) has_later_parts (later-same f) kept ∙ any-parted has_later_parts marks g.vertices long gone)
+
+  text_parted : NoneLater → length (canonical h) + length (flat_map (λ k. vertex_lines g (vertex_at g k)) (unmarked_places marks)) ≡ length (canonical g)
   text_parted none =
       let lines_h = flat_map (vertex_lines h) h.vertices in
       let lines_g = flat_map (vertex_lines g) g.vertices in
       let front_h = front (needs_version_two h) (watch_line h) in
       let front_g = front (needs_version_two g) (watch_line g) in
-      let same : length front_h ≡ length front_g = ap (λ b. length (front b (watch_line h))) (needed_same none ∙ sym none) ∙ ap (λ w. length (front (needs_version_two g) w)) watch_same in
+      let same : length front_h ≡ length front_g = ap (λ b. length (front b (watch_line h))) (needed_same none) ∙ ap (λ w. length (front (needs_version_two g) w)) watch_same in
       omega (arith, same, vertices_parted, length-append (front_h ++ lines_h) (codes "end\n"), length-append front_h lines_h, length-append (front_g ++ lines_g) (codes "end\n"), length-append front_g lines_g)
 
 -- where drop's conditions hold, the lines of the vertices go, and nothing else
-pub lines-go : (g : EventGraph) (vertices : List ℕ) → first_failed (drop_conditions g vertices) ≡ None → needs_version_two g ≡ false
+pub lines-go : (g : EventGraph) (vertices : List ℕ) → first_failed (drop_conditions g vertices) ≡ None → list_any (λ k. has_later_parts (vertex_at g k)) vertices ≡ false
     → length (canonical (dropped g vertices)) + length (flat_map (λ k. vertex_lines g (vertex_at g k)) vertices) ≡ length (canonical g)
 lines-go g vertices holds none =
     let is = lists_unreached g vertices holds in
     ap (λ vs. length (canonical (dropped g vs)) + length (flat_map (λ k. vertex_lines g (vertex_at g k)) vs)) is
     ∙ ap (λ (x : EventGraph). length (canonical x) + length (flat_map (λ k. vertex_lines g (vertex_at g k)) (unreached g))) (without_unreached g)
-    ∙ text_parted g (reached_marks g) (reached_marks-hold g) (reached_marks-long g) none
+    ∙ text_parted g (reached_marks g) (reached_marks-hold g) (reached_marks-long g) (ap (list_any (λ k. has_later_parts (vertex_at g k))) (sym is) ∙ none)

@@ -7,7 +7,7 @@ ghost use Rattle.job_answers.specs.Answers.{accepted_line};
 
 use answer_delivery::{Answer, End};
 use model_core::Model;
-use sig_base::{NoMemory, Text, put_bytes};
+use sig_base::{NoMemory, Text, put_texts};
 use std::alloc::Global;
 
 /// That the model of this name is accepted.
@@ -15,8 +15,6 @@ pub fn acceptance(alloc: Global, model: &Model) -> Result<Answer, NoMemory>
     ensures { IfOk result (λ a. a ≡ done (accepted_line (graph_of model.now))) }
 {
     let mut out = Vec::new(alloc);
-    put_bytes(&mut out, b"accepted ")?;
-    put_bytes(&mut out, model.name.as_slice())?;
-    put_bytes(&mut out, b"\n")?;
+    put_texts(&mut out, &[b"accepted ", model.name.as_slice(), b"\n"])?;
     Ok(Answer::Given(End::Done, Text::from_vec(out)))
 }

@@ -51,7 +51,8 @@ fn put_edge(out: &mut Vec<u8>, vertex: &Name, edge: u64) -> Result<(), NoMemory>
 fn put_merge(out: &mut Vec<u8>, vertex: &Name, target: &Name) -> Result<(), NoMemory>
     ensures { OnOk result (out.new.items ≡ out.old.items ++ application_line (Merge vertex.now target.now)) }
 {
-    put_texts(out, &[b"merge ", vertex.as_slice(), b" ", target.as_slice(), b"\n"])
+    put_texts(out, &[b"merge ", vertex.as_slice(), b" "])?;
+    put_texts(out, &[target.as_slice(), b"\n"])
 }
 
 /// Adds names, each behind a space.

@@ -2,11 +2,12 @@
 //! known of it with them; and, where one vertex alone is dropped, how long the lines of what the others do are.
 
 ghost use Rattle.std.specs.Prelude.{◌≡◌, None, length, map};
-ghost use Rattle.std.specs.List.{flat_map};
+ghost use Rattle.std.specs.List.{flat_map, list_any};
 ghost use Rattle.std.specs.Option.{IfSome};
 ghost use Rattle.model_core.specs.EventGraph.{EventGraph};
 ghost use Rattle.model_core.specs.Run.Step.{vertex_at};
 ghost use Rattle.model_core.specs.Text.Canonical.{vertex_lines};
+ghost use Rattle.model_core.specs.Text.VersionNeeded.{has_later_parts};
 ghost use Rattle.model_core.specs.Rules.Conditions.{first_failed};
 ghost use Rattle.model_core.specs.Rules.Drop.{drop_conditions, dropped};
 ghost use Rattle.model_core.specs.Code.Views.{graph_of};
@@ -14,8 +15,9 @@ ghost use Rattle.merge_rules.specs.Known.{IsMeasured, AreBodies, IsKnown};
 
 use edge_pruning::{dropping_one_leaves_lines, dropping_takes_lines};
 use merge_rules::{Bodies, Known};
-use model_core::{Model, needs_version_two};
+use model_core::{Model, one_has_later_parts};
 use model_print::vertex_length;
+use std::slice::from_ref;
 
 /// How many bytes the lines of the vertices at these places have, or None where a place has no vertex or they are too many to
 /// count.
@@ -33,6 +35,28 @@ fn lines_length(model: &Model, vertices: &[usize]) -> Option<u64>
     Some(bytes)
 }
 
+/// Whether the vertex at this place, where there is one, has parts that only a text of version 2 can write.
+fn has_later_parts_at(model: &Model, vertex: usize) -> bool
+    ensures { result ≡ has_later_parts (vertex_at (graph_of model.now) vertex) }
+{
+    match model.vertices.as_slice().get(vertex) {
+        Some(vertex) => one_has_later_parts(from_ref(vertex)),
+        None => false,
+    }
+}
+
+/// Whether one of the vertices at these places has.
+fn one_is_later(model: &Model, vertices: &[usize]) -> bool
+    ensures { result ≡ list_any (λ k. has_later_parts (vertex_at (graph_of model.now) k)) vertices.now }
+{
+    for vertex in vertices {
+        if has_later_parts_at(model, *vertex) {
+            return true;
+        }
+    }
+    false
+}
+
 /// How many bytes the text has behind a drop of these vertices, told before it, or None where that isn't known: where the text
 /// may lose the line of its version.
 fn bytes_without(model: &Model, bytes: Option<u64>, vertices: &[usize]) -> Option<u64>
@@ -41,7 +65,7 @@ fn bytes_without(model: &Model, bytes: Option<u64>, vertices: &[usize]) -> Optio
 {
     dropping_takes_lines();
     let bytes = bytes?;
-    if needs_version_two(model) {
+    if one_is_later(model, vertices) {
         return None;
     }
     bytes.checked_sub(lines_length(model, vertices)?)

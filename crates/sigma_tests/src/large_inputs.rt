@@ -1,7 +1,7 @@
 //! Large inputs, and counts that few models reach: with ample memory each job is done all the same.
 
 use crate::calls::{Answer, SOUND, called, done, told};
-use sig_base::{NoMemory, VERTICES_MAX, put_bytes, put_number};
+use sig_base::{NoMemory, VERTICES_MAX, put_bytes, put_counted, put_number, put_texts};
 use sigma_top::Status;
 use std::alloc::Global;
 use std::test::*;
@@ -58,12 +58,9 @@ fn dense_text(alloc: Global) -> Result<Vec<u8>, NoMemory> {
         if vertex == 0 {
             put_bytes(&mut text, b"A")?;
         } else {
-            put_bytes(&mut text, b"V")?;
-            put_number(&mut text, vertex)?;
+            put_counted(&mut text, b"V", vertex)?;
         }
-        put_bytes(&mut text, b"{")?;
-        put_bytes(&mut text, edges.as_slice())?;
-        put_bytes(&mut text, b"}")?;
+        put_texts(&mut text, &[b"{", edges.as_slice(), b"}"])?;
     }
     Ok(text)
 }
@@ -85,8 +82,7 @@ fn a_model_that_is_too_long_is_told_at_its_last_word(rt: HostRuntime) -> Result<
 fn canonical_text(alloc: Global) -> Result<Vec<u8>, NoMemory> {
     let mut text = Vec::from_slice(alloc, b"model M;\n")?;
     for vertex in 0..6 {
-        put_bytes(&mut text, b"vertex V")?;
-        put_number(&mut text, vertex)?;
+        put_counted(&mut text, b"vertex V", vertex)?;
         let edges = repeated(alloc, b" {\n", b"  cancel V0;\n", 1_000, b"}\n")?;
         put_bytes(&mut text, edges.as_slice())?;
     }
@@ -120,8 +116,7 @@ fn each_other_vertex(
 ) -> Result<Vec<u8>, NoMemory> {
     let mut text = Vec::from_slice(alloc, front)?;
     for vertex in 1..VERTICES_MAX {
-        put_bytes(&mut text, before)?;
-        put_number(&mut text, vertex as u64)?;
+        put_counted(&mut text, before, vertex as u64)?;
         put_bytes(&mut text, behind)?;
     }
     put_bytes(&mut text, back)?;

@@ -1,7 +1,7 @@
 //! The version of a text: where it is printed, and which limits a text of each version has.
 
 use crate::calls::{SOUND, called, done, told};
-use sig_base::{NoMemory, put_bytes, put_number};
+use sig_base::{NoMemory, put_bytes, put_counted, put_number, put_texts};
 use sigma_top::Status;
 use std::alloc::Global;
 use std::test::*;
@@ -134,9 +134,7 @@ fn with_parameters(alloc: Global, version: &[u8], names: &[u8]) -> Result<Listin
     let mut text = Vec::from_slice(alloc, version)?;
     put_bytes(&mut text, b"model W;")?;
     for name in names {
-        put_bytes(&mut text, b" var ")?;
-        put_bytes(&mut text, &[*name])?;
-        put_bytes(&mut text, b" : 0..9 = 0;")?;
+        put_texts(&mut text, &[b" var ", &[*name], b" : 0..9 = 0;"])?;
     }
     put_bytes(&mut text, b" vertex RUN { } vertex GO(A")?;
     let mut last = text.len();
@@ -155,14 +153,12 @@ fn with_parameters(alloc: Global, version: &[u8], names: &[u8]) -> Result<Listin
 fn with_arrays(alloc: Global, more: usize) -> Result<Listing, NoMemory> {
     let mut text = Vec::from_slice(alloc, b"version 2; model W;")?;
     for array in 0..256 {
-        put_bytes(&mut text, b" var A")?;
-        put_number(&mut text, array)?;
+        put_counted(&mut text, b" var A", array)?;
         put_bytes(&mut text, b"[65536] : 0..9 = 0;")?;
     }
     let last = text.len() + 1;
     for array in 0..more {
-        put_bytes(&mut text, b" var B")?;
-        put_number(&mut text, array as u64)?;
+        put_counted(&mut text, b" var B", array as u64)?;
         put_bytes(&mut text, b"[1] : 0..9 = 0;")?;
     }
     put_bytes(&mut text, b" vertex RUN { } end")?;
