@@ -8,4 +8,5 @@ pub mod StayingMarks
 pub mod PairsBehind
 pub mod ReachedLong
 pub mod LeftInPlace
+pub mod WrittenAnew
 pub mod MarkedItems

@@ -1,30 +1,13 @@
-use Rattle.std.proofs.Common.{◌≡◌, ◌∙◌, ◌<◌, ap, map, length, get_or, List, ℕ, add-one, arith}
-use Rattle.std.proofs.lemmas.List.{take_at}
-use Rattle.model_core.specs.declared.vertex.Edge.{Edge}
-use Rattle.model_core.specs.Rules.Drop.{edge_renumbered}
+-- One more is written anew.
+use Rattle.std.proofs.Common.{ℕ, get_or, ap}
 use Rattle.model_core.specs.Code.Views.{edge_of}
-use Rattle.sig_base.proofs.Lists.{ChangedTo-step, ChangedTo-all, ChangedTo-length}
+use Rattle.mark_laws.proofs.WrittenAnew.{one_written, all_written}
 use Rattle.marked_walks.proofs.renumbering.renumber_edges.Goals as goal
 
 pub loop-edge-preserved : goal.loop-edge-preserved
 loop-edge-preserved g c =
-    let f = edge_renumbered (g.N.NewPlaces.moved c.args.places.now) in
-    let i = c.loop-edge.edge-index in
-    let xs = c.deref_mut-edge-items.result.now in
-    let ys = c.loop-edge.edge-items in
-    let d = c.edge-item.result in
-    let same_length = ChangedTo-length edge_of f i xs ys c.loop-edge.invariant in
-    let below : i < length ys = omega (arith, same_length, c.loop-edge-test.true) in
-    rw add-one (ChangedTo-step edge_of f i xs ys d _ below (ap (λ (k : ℕ). record (edge_of (get_or ys i d)) { target = k }) c.place-edge.ensures) c.loop-edge.invariant)
+    let edge = get_or c.loop-edge.edge-items c.loop-edge.edge-index c.edge-item.result in
+    one_written c.loop-edge.invariant _ _ c.loop-edge-test.true (ap (λ (k : ℕ). record (edge_of edge) { target = k }) c.place-edge.ensures)
 
 pub returns : goal.returns
-returns g c =
-    let f = edge_renumbered (g.N.NewPlaces.moved c.args.places.now) in
-    let i = c.loop-edge.edge-index in
-    let xs = c.deref_mut-edge-items.result.now in
-    let ys = c.loop-edge.edge-items in
-    let same_length = ChangedTo-length edge_of f i xs ys c.loop-edge.invariant in
-    let at_end : length ys ≡ i = omega (arith, same_length) in
-    ap (map edge_of) (take_at ys _ _ (omega (arith, same_length, c.args.edges.now.ok.0)))
-    ∙ ChangedTo-all edge_of f i xs ys at_end c.loop-edge.invariant
-    ∙ ap (λ (vs : List Edge). map f (map edge_of vs)) c.deref_mut-edge-items.ensures.value
+returns g c = all_written c.loop-edge.invariant _ _ c.loop-edge-test.false c.loop-edge.auto.edge-index-end c.args.edges.now.ok.0 c.deref_mut-edge-items.ensures.value

@@ -1,29 +1,9 @@
-use Rattle.std.proofs.Common.{◌≡◌, ◌∙◌, ◌<◌, ap, map, length, List, add-one, arith}
-use Rattle.std.proofs.lemmas.List.{take_at}
-use Rattle.model_core.specs.declared.model.Watch.{Watch}
-use Rattle.model_core.specs.Rules.Drop.{watched_renumbered}
-use Rattle.model_core.specs.Code.Views.{watched_of}
-use Rattle.sig_base.proofs.Lists.{ChangedTo-step, ChangedTo-all, ChangedTo-length}
+-- One more is written anew.
+use Rattle.mark_laws.proofs.WrittenAnew.{one_written, all_written}
 use Rattle.marked_walks.proofs.renumbering.renumber_watch.Goals as goal
 
 pub loop-watched-preserved : goal.loop-watched-preserved
-loop-watched-preserved g c =
-    let f = watched_renumbered (g.N.NewPlaces.moved c.args.places.now) in
-    let i = c.loop-watched.watched-index in
-    let xs = c.deref_mut-watched-items.result.now in
-    let ys = c.loop-watched.watched-items in
-    let same_length = ChangedTo-length watched_of f i xs ys c.loop-watched.invariant in
-    let below : i < length ys = omega (arith, same_length, c.loop-watched-test.true) in
-    rw add-one (ChangedTo-step watched_of f i xs ys _ _ below c.renumbered.ensures c.loop-watched.invariant)
+loop-watched-preserved g c = one_written c.loop-watched.invariant _ _ c.loop-watched-test.true c.renumbered.ensures
 
 pub returns : goal.returns
-returns g c =
-    let f = watched_renumbered (g.N.NewPlaces.moved c.args.places.now) in
-    let i = c.loop-watched.watched-index in
-    let xs = c.deref_mut-watched-items.result.now in
-    let ys = c.loop-watched.watched-items in
-    let same_length = ChangedTo-length watched_of f i xs ys c.loop-watched.invariant in
-    let at_end : length ys ≡ i = omega (arith, same_length) in
-    ap (map watched_of) (take_at ys _ _ (omega (arith, same_length, c.args.watch.now.ok.0)))
-    ∙ ChangedTo-all watched_of f i xs ys at_end c.loop-watched.invariant
-    ∙ ap (λ (vs : List Watch). map f (map watched_of vs)) c.deref_mut-watched-items.ensures.value
+returns g c = all_written c.loop-watched.invariant _ _ c.loop-watched-test.false c.loop-watched.auto.watched-index-end c.args.watch.now.ok.0 c.deref_mut-watched-items.ensures.value
