@@ -1,8 +1,9 @@
 -- Numbers that move at variables one by one move as the contracts say: each by one, once.
-use Rattle.std.proofs.Common.{◌≡◌, ℕ, zero, suc, ◌+◌, ◌<◌, ◌≤◌, ◌==◌, Bool, true, false, cond, ◌||◌, List, [], ◌∷◌, ◌++◌, map, length, drop, get_or, replicate, refl, sym, ◌∙◌, ap, ap₂, subst, add-one, arith}
+use Rattle.std.proofs.Common.{◌≡◌, ℕ, zero, suc, ◌+◌, ◌<◌, ◌≤◌, ◌==◌, Bool, true, false, cond, ◌||◌, List, [], ◌∷◌, ◌++◌, map, length, take, drop, get_or, replicate, refl, sym, ◌∙◌, ap, ap₂, subst, add-one, arith}
 use Rattle.std.specs.Prelude.{slice_index}
 use Rattle.std.specs.List.{flat_map}
 use Rattle.std.proofs.Math.Seq.{drop-cons}
+use Rattle.std.proofs.lemmas.List.{take_at}
 use Rattle.std.proofs.lemmas.Bool.Decides.{nat_tests}
 use Rattle.model_core.specs.Rules.MarkedPlaces.{is_among}
 use Rattle.model_core.specs.Rules.PlacedEdges.{with_place}
@@ -117,13 +118,16 @@ stamped_below last xs all = every-map (λ (x : Stamped). x.stamp ≤ last) (λ (
 pub stamped_to : (last next : ℕ) (xs : List Stamped) → last ≡ next → StampedBelow next xs → StampedTo last xs
 stamped_to last next xs same all = every-map (λ (x : Stamped). x.stamp < next) (λ (x : Stamped). x.stamp ≤ last) (λ x below. omega (arith, below, same)) xs all
 
--- what the code makes of numbers in a part that has a new stamp
-module _ (part : Part) (vs : List ℕ) (before now : List Stamped) (new : StampedBelow part.stamp before) (moves : now ≡ moved_at part vs before) where
-  pub part_done : (way : Way) (old : List Stamped) → part.way ≡ way → numbers_of before ≡ numbers_of old → numbers_of now ≡ changed_where (is_among vs) (shifted way) 0 (numbers_of old)
-  part_done way old is same = ap numbers_of moves ∙ part_moves part vs before new ∙ ap₂ (λ way ns. changed_where (is_among vs) (shifted way) 0 ns) is same
+-- what the code makes of the numbers of a vector, which lends them all, in a part that has a new stamp
+module _ (part : Part) (vs : List ℕ) {items lent now : List Stamped} {count : ℕ} (all : lent ≡ items) (counted : count ≡ length items) (same : length now ≡ length lent) (new : StampedBelow part.stamp items) (moves : now ≡ moved_at part vs lent) where
+  given_back : take count (now ++ drop (length now) items) ≡ moved_at part vs items
+  given_back = take_at now _ count (omega (arith, same, counted, ap length all)) ∙ moves ∙ ap (moved_at part vs) all
 
-  pub part_stamped : (last : ℕ) → last ≡ part.stamp → StampedTo last now
-  part_stamped last is = subst (λ n. StampedTo n now) (sym is) (subst (StampedTo part.stamp) (sym moves) (part_stamps part vs before new))
+  pub part_done : {way : Way} {before : List ℕ} → part.way ≡ way → numbers_of items ≡ before → numbers_of (take count (now ++ drop (length now) items)) ≡ changed_where (is_among vs) (shifted way) 0 before
+  part_done is kept = ap numbers_of given_back ∙ part_moves part vs items new ∙ ap₂ (λ way ns. changed_where (is_among vs) (shifted way) 0 ns) is kept
+
+  pub part_stamped : {last : ℕ} → last ≡ part.stamp → StampedTo last (take count (now ++ drop (length now) items))
+  part_stamped is = subst (λ n. StampedTo n (take count (now ++ drop (length now) items))) (sym is) (subst (StampedTo part.stamp) (sym given_back) (part_stamps part vs items new))
 
 -- ---- up and down by one
 
