@@ -1,6 +1,7 @@
 pub mod LinkedLaws
 pub mod LeadingLaws
 pub mod SideBySide
+pub mod AddedInTurn
 pub mod DelayStreams
 pub mod LeavingOut
 pub mod ReadsBeside

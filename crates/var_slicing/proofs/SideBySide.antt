@@ -1,39 +1,43 @@
--- Two lists walked side by side.
-use Rattle.std.proofs.Common.{◌≡◌, ℕ, zero, suc, ◌<◌, List, [], ◌∷◌, ◌++◌, map, zip, drop, length, min, get_or, refl, sym, ap, ap₂, ◌∙◌, arith, append-nil, append_assoc}
+-- Two lists walked side by side, by a loop over a `zip`: what it adds for each two that stand beside each other.
+use Rattle.std.proofs.Common.{◌≡◌, ◌⊎◌, inl, inr, List, [], ◌∷◌, ◌++◌, map, zip, Option, None, Some, refl, sym, ap, ap₂, ◌∙◌, append-nil, append_assoc}
 use Rattle.std.specs.List.{flat_map}
-use Rattle.var_slicing.specs.Inner.Needing.{along}
+use Rattle.std.specs.Iterator.Adapters.{zip_first, zip_second}
+use Rattle.std.specs.Slice.Iter.{iter_rest}
+use Rattle.std.specs.declared.iter.Zip.{Zip}
+use Rattle.std.specs.declared.slice.Iter.{Iter}
+use Rattle.std.proofs.iter.Yields.{fronts}
+use Rattle.std.proofs.lemmas.Iterator.{zips}
+use Rattle.std.proofs.lemmas.Slice.Zip.{Zip-more, either_empty_from_Zip}
+use denote.Ref.{Bor}
 
-pub drop-viewed : {X A : Type 0} (view : X → A) (xs : List X) (i : ℕ) (x : X) → i < length xs → x ≡ get_or xs i x → drop i (map view xs) ≡ view x ∷ drop (suc i) (map view xs)
-drop-viewed view [] i x below is = absurd (omega arith)
-drop-viewed view (y ∷ xs) zero x below is = ap (λ z. view z ∷ map view xs) (sym is)
-drop-viewed view (y ∷ xs) (suc i) x below is = drop-viewed view xs i x (omega arith) is
+-- what was added so far, with what f gives for each two that are left, is what was there before, with what f gives for all
+pub record AddedBeside {X Y A B C : Type 0} (f : A × B → List C) (view : X → A) (see : Y → B) (as_ : List A) (bs : List B) (s : Zip (Iter X) (Iter Y)) (before out : List C) : Type 0 where
+  pub so_far : out ++ flat_map f (zip (map view (iter_rest (zip_first s))) (map see (iter_rest (zip_second s)))) ≡ before ++ flat_map f (zip as_ bs)
 
-pub drop-itself : {A : Type 0} (as_ : List A) (i : ℕ) (a : A) → i < length as_ → a ≡ get_or as_ i a → drop i as_ ≡ a ∷ drop (suc i) as_
-drop-itself [] i a below is = absurd (omega arith)
-drop-itself (b ∷ as_) zero a below is = ap (λ c. c ∷ as_) (sym is)
-drop-itself (b ∷ as_) (suc i) a below is = drop-itself as_ i a (omega arith) is
+module _ {X Y A B C : Type 0} {f : A × B → List C} {view : X → A} {see : Y → B} {as_ : List A} {bs : List B} {s : Zip (Iter X) (Iter Y)} {before : List C} where
+  pub none_beside : map view (iter_rest (zip_first s)) ≡ as_ → map see (iter_rest (zip_second s)) ≡ bs → AddedBeside f view see as_ bs s before before
+  none_beside first second = record { so_far = ap₂ (λ (xs : List A) (ys : List B). before ++ flat_map f (zip xs ys)) first second }
 
-module _ {A B C : Type 0} (f : A → B → List C) where
-  along-flat : (as_ : List A) (bs : List B) (out : List C) → along f as_ bs out ≡ out ++ flat_map (λ ((a, b) : A × B). f a b) (zip as_ bs)
-  along-flat [] bs out = sym (append-nil out)
-  along-flat (a ∷ as_) [] out = sym (append-nil out)
-  along-flat (a ∷ as_) (b ∷ bs) out = along-flat as_ bs (out ++ f a b) ∙ append_assoc out (f a b) (flat_map (λ ((a, b) : A × B). f a b) (zip as_ bs))
+  module _ {out : List C} (h : AddedBeside f view see as_ bs s before out) {r : Option (Bor X × Bor Y)} where
+    -- one more of both lists
+    pub one_beside : {t : Zip (Iter X) (Iter Y)} {p : Bor X × Bor Y} {after : List C} → r ≡ Some p → zips fronts fronts s r t → after ≡ out ++ f (view p.0.now, see p.1.now) → AddedBeside f view see as_ bs t before after
+    one_beside {t} {p} is steps added =
+        let both = Zip-more s t r p is steps in
+        let later = flat_map f (zip (map view (iter_rest (zip_first t))) (map see (iter_rest (zip_second t)))) in
+        record {
+          so_far = ap (λ (cs : List C). cs ++ later) added
+              ∙ append_assoc out (f (view p.0.now, see p.1.now)) later
+              ∙ ap₂ (λ (xs : List X) (ys : List Y). out ++ flat_map f (zip (map view xs) (map see ys))) (sym both.0) (sym both.1)
+              ∙ h.so_far;
+        }
 
-  -- one more of both lists
-  pub along-more : (as_ : List A) (bs : List B) (i : ℕ) (a : A) (b : B) (out after total : List C) → drop i as_ ≡ a ∷ drop (suc i) as_ → drop i bs ≡ b ∷ drop (suc i) bs → after ≡ out ++ f a b
-      → along f (drop i as_) (drop i bs) out ≡ total → along f (drop (suc i) as_) (drop (suc i) bs) after ≡ total
-  along-more as_ bs i a b out after total first second added so_far =
-      ap (along f (drop (suc i) as_) (drop (suc i) bs)) added ∙ sym (ap₂ (λ (ls : List A) (ms : List B). along f ls ms out) first second) ∙ so_far
+    -- the shorter one has come to its end
+    pub all_beside : (t : Zip (Iter X) (Iter Y)) → r ≡ None → zips fronts fronts s r t → out ≡ before ++ flat_map f (zip as_ bs)
+    all_beside t none steps = sym (append-nil out) ∙ ap (λ (cs : List C). out ++ cs) (sym (ended (either_empty_from_Zip s t r none steps))) ∙ h.so_far where
+      no_second : (xs : List A) → flat_map f (zip xs []) ≡ []
+      no_second [] = refl
+      no_second (x ∷ xs) = refl
 
-  -- the shorter one has come to its end
-  along-gone : (as_ : List A) (bs : List B) (i : ℕ) (out : List C) → i ≡ min (length as_) (length bs) → along f (drop i as_) (drop i bs) out ≡ out
-  along-gone [] bs zero out is = refl
-  along-gone [] bs (suc i) out is = refl
-  along-gone (a ∷ as_) [] zero out is = refl
-  along-gone (a ∷ as_) [] (suc i) out is = absurd (omega arith)
-  along-gone (a ∷ as_) (b ∷ bs) zero out is = absurd (omega arith)
-  along-gone (a ∷ as_) (b ∷ bs) (suc i) out is = along-gone as_ bs i out (omega arith)
-
-  pub along-ended : (as_ : List A) (bs : List B) (i : ℕ) (out before : List C) → i ≡ min (length as_) (length bs) → along f (drop i as_) (drop i bs) out ≡ along f as_ bs before
-      → out ≡ before ++ flat_map (λ ((a, b) : A × B). f a b) (zip as_ bs)
-  along-ended as_ bs i out before at_end so_far = sym (along-gone as_ bs i out at_end) ∙ so_far ∙ along-flat as_ bs before
+      ended : (iter_rest (zip_first s) ≡ []) ⊎ (iter_rest (zip_second s) ≡ []) → flat_map f (zip (map view (iter_rest (zip_first s))) (map see (iter_rest (zip_second s)))) ≡ []
+      ended (inl none) = ap (λ (xs : List X). flat_map f (zip (map view xs) (map see (iter_rest (zip_second s))))) none
+      ended (inr none) = ap (λ (ys : List Y). flat_map f (zip (map view (iter_rest (zip_first s))) (map see ys))) none ∙ no_second (map view (iter_rest (zip_first s)))

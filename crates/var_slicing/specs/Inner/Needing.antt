@@ -24,12 +24,6 @@ nothing = record { first = []; pairs = []; draws = []; delays = [] }
 
 -- ---- lists that grow part by part
 
--- what f gives for each two that stand side by side, added one by one
-abbrev pub along : {A B C : Type 0} → (A → B → List C) → List A → List B → List C → List C
-along f [] bs out = out
-along f (a ∷ as_) [] out = out
-along f (a ∷ as_) (b ∷ bs) out = along f as_ bs (out ++ f a b)
-
 -- what f gives for each of these, added one by one
 abbrev pub added_each : {A C : Type 0} → (A → List C) → List A → List C → List C
 added_each f [] out = out

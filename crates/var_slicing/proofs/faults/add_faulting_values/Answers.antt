@@ -1,30 +1,15 @@
 -- One more of both lists, or one of them has come to its end.
-use Rattle.std.proofs.Common.{◌∙◌, map, length, min, sym, ap, add-one, ℕ}
-use Rattle.std.proofs.lemmas.List.{length-map, length_push}
-use Rattle.std.proofs.lemmas.Slice.Zip.{zip_turn, zip_end}
-use Rattle.model_core.specs.EventGraph.{Expression, scalar_location}
-use Rattle.model_core.specs.Rules.BoundsOfParts.{quiet_set}
-use Rattle.model_core.specs.Code.Views.{graph_of, expression_of}
-use Rattle.var_slicing.specs.Inner.Faulting.{fault_unless}
-use Rattle.var_slicing.proofs.SideBySide.{drop-itself, drop-viewed, along-more, along-ended}
+use Rattle.std.proofs.Common.{◌∙◌, map, ap}
+use Rattle.std.proofs.lemmas.List.{map-id}
+use Rattle.model_core.specs.Code.Views.{expression_of}
+use Rattle.var_slicing.proofs.SideBySide.{none_beside, one_beside, all_beside}
 use Rattle.var_slicing.proofs.faults.add_faulting_values.Goals as goal
 
+pub loop-param-init : goal.loop-param-init
+loop-param-init c = none_beside (map-id _ ∙ (cc)) (ap (map expression_of) (cc))
+
 pub loop-param-preserved : goal.loop-param-preserved
-loop-param-preserved c =
-    let f = (λ (v : ℕ) (e : Expression). fault_unless c.args.marks.now v (quiet_set (graph_of c.args.model.now) (scalar_location v) e)) in
-    let n = length c.loop-param.yielded in
-    let (here, there, is, is_too) =
-    zip_turn c.args.params.now c.args.values.now c.loop-param.yielded c.into_iter-param-iterator.result c.loop-param.param-iterator c.next.new.self c.next.result (cc) (cc) c.loop-param.yielded_by (c.in-Some.param, c.in-Some.value) c.in-Some.is c.next.ensures.steps in
-    rw (length_push c.loop-param.yielded (c.in-Some.param, c.in-Some.value), add-one)
-    (along-more f c.args.params.now (map expression_of c.args.values.now) n c.in-Some.param.now (expression_of c.in-Some.value.now) c.loop-param.out.items _ _
-    (drop-itself c.args.params.now n c.in-Some.param.now here (is c.in-Some.param.now))
-    (drop-viewed expression_of c.args.values.now n c.in-Some.value.now there (is_too c.in-Some.value.now))
-    c.in_ok-add_faulting_value.ensures c.loop-param.invariant)
+loop-param-preserved c = one_beside c.loop-param.invariant c.in-Some.is c.next.ensures.steps c.in_ok-add_faulting_value.ensures
 
 pub returns : goal.returns
-returns c =
-    let f = (λ (v : ℕ) (e : Expression). fault_unless c.args.marks.now v (quiet_set (graph_of c.args.model.now) (scalar_location v) e)) in
-    let ended = zip_end c.args.params.now c.args.values.now c.loop-param.yielded c.into_iter-param-iterator.result c.loop-param.param-iterator c.next.new.self c.next.result (cc) (cc) c.loop-param.yielded_by c.in-None.is c.next.ensures.steps in
-    along-ended f c.args.params.now (map expression_of c.args.values.now) (length c.loop-param.yielded) c.loop-param.out.items c.args.out.now.items
-    (ended ∙ ap (min (length c.args.params.now)) (sym (length-map c.args.values.now expression_of)))
-    c.loop-param.invariant
+returns c = all_beside c.loop-param.invariant c.next.new.self c.in-None.is c.next.ensures.steps

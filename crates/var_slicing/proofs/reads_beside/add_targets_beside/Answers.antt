@@ -1,29 +1,14 @@
 -- One more of both lists, or one of them has come to its end.
-use Rattle.std.proofs.Common.{◌∙◌, map, length, min, sym, ap₂, add-one}
-use Rattle.std.proofs.lemmas.List.{length-map, length_push}
-use Rattle.std.proofs.lemmas.Slice.Zip.{zip_turn, zip_end}
-use Rattle.model_core.specs.EventGraph.{Location, Expression}
+use Rattle.std.proofs.Common.{map, ap}
 use Rattle.model_core.specs.Code.Views.{location_of, expression_of}
-use Rattle.var_slicing.specs.Inner.Needing.{target_pairs}
-use Rattle.var_slicing.proofs.SideBySide.{drop-viewed, along-more, along-ended}
+use Rattle.var_slicing.proofs.SideBySide.{none_beside, one_beside, all_beside}
 use Rattle.var_slicing.proofs.reads_beside.add_targets_beside.Goals as goal
 
+pub loop-target-init : goal.loop-target-init
+loop-target-init c = none_beside (ap (map location_of) (cc)) (ap (map expression_of) (cc))
+
 pub loop-target-preserved : goal.loop-target-preserved
-loop-target-preserved c =
-    let f = (λ (t : Location) (e : Expression). target_pairs c.args.known.now t e) in
-    let n = length c.loop-target.yielded in
-    let (here, there, is, is_too) =
-    zip_turn c.args.targets.now c.args.values.now c.loop-target.yielded c.into_iter-target-iterator.result c.loop-target.target-iterator c.next.new.self c.next.result (cc) (cc) c.loop-target.yielded_by (c.in-Some.target, c.in-Some.value) c.in-Some.is c.next.ensures.steps in
-    rw (length_push c.loop-target.yielded (c.in-Some.target, c.in-Some.value), add-one)
-    (along-more f (map location_of c.args.targets.now) (map expression_of c.args.values.now) n (location_of c.in-Some.target.now) (expression_of c.in-Some.value.now) c.loop-target.pairs.items _ _
-    (drop-viewed location_of c.args.targets.now n c.in-Some.target.now here (is c.in-Some.target.now))
-    (drop-viewed expression_of c.args.values.now n c.in-Some.value.now there (is_too c.in-Some.value.now))
-    c.in_ok-add_target_beside.ensures c.loop-target.invariant)
+loop-target-preserved c = one_beside c.loop-target.invariant c.in-Some.is c.next.ensures.steps c.in_ok-add_target_beside.ensures
 
 pub returns : goal.returns
-returns c =
-    let f = (λ (t : Location) (e : Expression). target_pairs c.args.known.now t e) in
-    let ended = zip_end c.args.targets.now c.args.values.now c.loop-target.yielded c.into_iter-target-iterator.result c.loop-target.target-iterator c.next.new.self c.next.result (cc) (cc) c.loop-target.yielded_by c.in-None.is c.next.ensures.steps in
-    along-ended f (map location_of c.args.targets.now) (map expression_of c.args.values.now) (length c.loop-target.yielded) c.loop-target.pairs.items c.args.pairs.now.items
-    (ended ∙ ap₂ min (sym (length-map c.args.targets.now location_of)) (sym (length-map c.args.values.now expression_of)))
-    c.loop-target.invariant
+returns c = all_beside c.loop-target.invariant c.next.new.self c.in-None.is c.next.ensures.steps
