@@ -110,12 +110,7 @@ class-front bytes class some is =
 abbrev pub begins_word : Class → Bool
 begins_word classes.Name = true
 begins_word classes.Word = true
-begins_word classes.Blank = false
-begins_word classes.Comment = false
-begins_word classes.Digit = false
-begins_word classes.Pair = false
-begins_word (classes.Alone symbol) = false
-begins_word classes.Nothing = false
+begins_word _ = false
 
 letter_by : (blank comment letter : Bool) (words : List (List ℕ × Word)) (digit pair : Bool) (symbol : Option Symbol) → begins_word (class_by blank comment letter words digit pair symbol) ≡ true → letter ≡ true
 letter_by true comment letter words digit pair symbol e = absurd (false≢true e)
@@ -136,13 +131,7 @@ word_byte_first c class is begins = rw (letter_first c class is begins) refl
 -- a byte that begins a number is a digit
 abbrev begins_number : Class → Bool
 begins_number classes.Digit = true
-begins_number classes.Name = false
-begins_number classes.Word = false
-begins_number classes.Blank = false
-begins_number classes.Comment = false
-begins_number classes.Pair = false
-begins_number (classes.Alone symbol) = false
-begins_number classes.Nothing = false
+begins_number _ = false
 
 digit_by : (blank comment letter : Bool) (words : List (List ℕ × Word)) (digit pair : Bool) (symbol : Option Symbol) → begins_number (class_by blank comment letter words digit pair symbol) ≡ true → digit ≡ true
 digit_by true comment letter words digit pair symbol e = absurd (false≢true e)

@@ -4,7 +4,6 @@ ghost use Rattle.std.specs.Prelude.{◌≡◌};
 ghost use Rattle.model_lex.specs.declared.lex_error.LexError.TheVariants.{NoMemory as OutOfMemory};
 
 use sig_base::NoMemory;
-use std::alloc::{AllocError, AllocFailed};
 use thiserror::Error;
 
 /// Why a text isn't cut into tokens.
@@ -22,22 +21,6 @@ impl From<NoMemory> for LexError {
     ghost from_gives = { λ _ e. e ≡ OutOfMemory };
 
     fn from(_error: NoMemory) -> LexError {
-        LexError::NoMemory
-    }
-}
-
-impl From<AllocError> for LexError {
-    ghost from_gives = { λ _ e. e ≡ OutOfMemory };
-
-    fn from(_error: AllocError) -> LexError {
-        LexError::NoMemory
-    }
-}
-
-impl<T: Drop> From<AllocFailed<T>> for LexError {
-    ghost from_gives = { λ _ e. e ≡ OutOfMemory };
-
-    fn from(_error: AllocFailed<T>) -> LexError {
         LexError::NoMemory
     }
 }

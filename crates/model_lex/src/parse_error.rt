@@ -1,10 +1,5 @@
 //! Why tokens can't be read.
 
-ghost use Rattle.std.specs.Prelude.{◌≡◌};
-ghost use Rattle.model_lex.specs.declared.parse_error.ParseError.TheVariants.{NoMemory as OutOfMemory};
-
-use sig_base::NoMemory;
-use std::alloc::{AllocError, AllocFailed};
 use thiserror::Error;
 
 /// Why a reader of tokens refuses them.
@@ -20,28 +15,4 @@ pub enum ParseError {
     /// Memory was refused.
     #[error("out of memory")]
     NoMemory,
-}
-
-impl From<NoMemory> for ParseError {
-    ghost from_gives = { λ _ e. e ≡ OutOfMemory };
-
-    fn from(_error: NoMemory) -> ParseError {
-        ParseError::NoMemory
-    }
-}
-
-impl From<AllocError> for ParseError {
-    ghost from_gives = { λ _ e. e ≡ OutOfMemory };
-
-    fn from(_error: AllocError) -> ParseError {
-        ParseError::NoMemory
-    }
-}
-
-impl<T: Drop> From<AllocFailed<T>> for ParseError {
-    ghost from_gives = { λ _ e. e ≡ OutOfMemory };
-
-    fn from(_error: AllocFailed<T>) -> ParseError {
-        ParseError::NoMemory
-    }
 }
