@@ -7,7 +7,7 @@ some_there [] i below = absurd (omega arith)
 some_there (x ∷ xs) zero below = (x, refl)
 some_there (x ∷ xs) (suc i) below = some_there xs i (omega arith)
 
--- seen by view, the first k of ys are what are left of the items of xs before place i, and from there on ys is as xs was. What
+-- seen by view, the first k of ys are what is left of the items of xs before place i, and from there on ys is as xs was. What
 -- is left of items may go by the place from which they stand
 pub record LeftInPlace {X A : Type 0} (view : X → A) (left : ℕ → List A → List A) (xs ys : List X) (k i : ℕ) : Type 0 where
   pub so_far : map view (take k ys) ++ left i (map view (drop i xs)) ≡ left 0 (map view xs)
