@@ -87,21 +87,21 @@ fn draw(alloc: Global, cursor: &mut Cursor<'_>) -> Result<RawChange, Stop>
     })
 }
 
-impl Phrase for RawExpr {
+impl<'t> Phrase<'t> for RawExpr {
     ghost Plain = { WrittenExpression };
 
     ghost plain = { written_expression };
 
     ghost format = { expression_format };
 
-    fn read(alloc: Global, cursor: &mut Cursor<'_>) -> Result<RawExpr, Stop> {
+    fn read(alloc: Global, cursor: &mut Cursor<'t>) -> Result<RawExpr, Stop> {
         expression(alloc, cursor)
     }
 
     ghost some_tokens = { refl };
 }
 
-impl Phrase for RawTarget {
+impl<'t> Phrase<'t> for RawTarget {
     ghost Plain = { WrittenTarget };
 
     ghost plain = { written_target };
@@ -109,7 +109,7 @@ impl Phrase for RawTarget {
     ghost format = { target_format };
 
     #[tactic(auto, unfolding(model_core::specs::Text::Language::target_format))]
-    fn read(alloc: Global, cursor: &mut Cursor<'_>) -> Result<RawTarget, Stop> {
+    fn read(alloc: Global, cursor: &mut Cursor<'t>) -> Result<RawTarget, Stop> {
         let name = cursor.name(alloc)?;
         let index = index(alloc, cursor)?;
         Ok(RawTarget {
@@ -122,7 +122,7 @@ impl Phrase for RawTarget {
     ghost some_tokens = { target-some };
 }
 
-impl Phrase for RawChange {
+impl<'t> Phrase<'t> for RawChange {
     ghost Plain = { WrittenChange };
 
     ghost plain = { written_change };
@@ -130,7 +130,7 @@ impl Phrase for RawChange {
     ghost format = { change_format };
 
     #[tactic(auto, unfolding(model_core::specs::Text::Language::change_format, crate::specs::Inner::LineFormats::set_format, crate::specs::Inner::LineFormats::draw_format))]
-    fn read(alloc: Global, cursor: &mut Cursor<'_>) -> Result<RawChange, Stop> {
+    fn read(alloc: Global, cursor: &mut Cursor<'t>) -> Result<RawChange, Stop> {
         if cursor.begins_word(Word::Set) {
             set(alloc, cursor)
         } else {
@@ -141,7 +141,7 @@ impl Phrase for RawChange {
     ghost some_tokens = { change-some };
 }
 
-impl Repeated for RawChange {
+impl<'t> Repeated<'t> for RawChange {
     #[tactic(auto, unfolding(model_core::specs::Text::Language::change_format))]
     fn begins(cursor: &Cursor<'_>) -> bool {
         cursor.begins_word(Word::Set) || cursor.begins_word(Word::Draw)

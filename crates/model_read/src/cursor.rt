@@ -190,10 +190,7 @@ impl<'t> Cursor<'t> {
         ensures shorter { IfOk result (λ at. length self.new + 1 ≤ length self.old) }
         ensures unexpected { IfErr result (λ e. e ≡ Stop.Unexpected) }
     {
-        match self.word_if_next(word) {
-            Some(at) => Ok(at),
-            None => Err(Stop::Unexpected),
-        }
+        self.word_if_next(word).ok_or(Stop::Unexpected)
     }
 
     /// Takes the symbol, where it comes next, and gives its place.
@@ -212,10 +209,7 @@ impl<'t> Cursor<'t> {
         ensures shorter { IfOk result (λ at. length self.new + 1 ≤ length self.old) }
         ensures unexpected { IfErr result (λ e. e ≡ Stop.Unexpected) }
     {
-        match self.symbol_if_next(symbol) {
-            Some(at) => Ok(at),
-            None => Err(Stop::Unexpected),
-        }
+        self.symbol_if_next(symbol).ok_or(Stop::Unexpected)
     }
 
     /// Takes the name with this spelling, and gives its place.

@@ -44,21 +44,21 @@ pub(crate) fn watch(alloc: Global, cursor: &mut Cursor<'_>) -> Result<Option<Lis
     Ok(Some(names))
 }
 
-impl Phrase for RawName {
+impl<'t> Phrase<'t> for RawName {
     ghost Plain = { WrittenName };
 
     ghost plain = { written_name };
 
     ghost format = { any_name };
 
-    fn read(alloc: Global, cursor: &mut Cursor<'_>) -> Result<RawName, Stop> {
+    fn read(alloc: Global, cursor: &mut Cursor<'t>) -> Result<RawName, Stop> {
         cursor.name(alloc)
     }
 
     ghost some_tokens = { refl };
 }
 
-impl Phrase for RawVar {
+impl<'t> Phrase<'t> for RawVar {
     ghost Plain = { WrittenVariable };
 
     ghost plain = { written_variable };
@@ -66,7 +66,7 @@ impl Phrase for RawVar {
     ghost format = { variable_format };
 
     #[tactic(auto, unfolding(model_core::specs::Text::Language::variable_format))]
-    fn read(alloc: Global, cursor: &mut Cursor<'_>) -> Result<RawVar, Stop> {
+    fn read(alloc: Global, cursor: &mut Cursor<'t>) -> Result<RawVar, Stop> {
         let at = cursor.word(Word::Var)?;
         let name = cursor.name(alloc)?;
         let size = size(cursor)?;
@@ -87,14 +87,14 @@ impl Phrase for RawVar {
     ghost some_tokens = { variable-some };
 }
 
-impl Repeated for RawVar {
+impl<'t> Repeated<'t> for RawVar {
     #[tactic(auto, unfolding(model_core::specs::Text::Language::variable_format))]
     fn begins(cursor: &Cursor<'_>) -> bool {
         cursor.begins_word(Word::Var)
     }
 }
 
-impl Phrase for RawRow {
+impl<'t> Phrase<'t> for RawRow {
     ghost Plain = { WrittenRow };
 
     ghost plain = { written_row };
@@ -102,7 +102,7 @@ impl Phrase for RawRow {
     ghost format = { row_format };
 
     #[tactic(auto, unfolding(model_core::specs::Text::Language::row_format))]
-    fn read(_alloc: Global, cursor: &mut Cursor<'_>) -> Result<RawRow, Stop> {
+    fn read(_alloc: Global, cursor: &mut Cursor<'t>) -> Result<RawRow, Stop> {
         let value = signed(cursor)?;
         cursor.symbol(Symbol::Colon)?;
         let weight = cursor.number()?;
@@ -117,14 +117,14 @@ impl Phrase for RawRow {
     ghost some_tokens = { row-some };
 }
 
-impl Repeated for RawRow {
+impl<'t> Repeated<'t> for RawRow {
     #[tactic(auto, unfolding(model_core::specs::Text::Language::row_format, model_core::specs::Text::Language::signed_format))]
     fn begins(cursor: &Cursor<'_>) -> bool {
         cursor.begins_symbol(Symbol::Minus) || cursor.begins_number()
     }
 }
 
-impl Phrase for RawTable {
+impl<'t> Phrase<'t> for RawTable {
     ghost Plain = { WrittenTable };
 
     ghost plain = { written_table };
@@ -132,7 +132,7 @@ impl Phrase for RawTable {
     ghost format = { table_format };
 
     #[tactic(auto, unfolding(model_core::specs::Text::Language::table_format))]
-    fn read(alloc: Global, cursor: &mut Cursor<'_>) -> Result<RawTable, Stop> {
+    fn read(alloc: Global, cursor: &mut Cursor<'t>) -> Result<RawTable, Stop> {
         let at = cursor.word(Word::Table)?;
         let name = cursor.name(alloc)?;
         cursor.symbol(Symbol::OpenBrace)?;
@@ -144,7 +144,7 @@ impl Phrase for RawTable {
     ghost some_tokens = { table-some };
 }
 
-impl Repeated for RawTable {
+impl<'t> Repeated<'t> for RawTable {
     #[tactic(auto, unfolding(model_core::specs::Text::Language::table_format))]
     fn begins(cursor: &Cursor<'_>) -> bool {
         cursor.begins_word(Word::Table)

@@ -188,7 +188,7 @@ fn cancel(alloc: Global, cursor: &mut Cursor<'_>) -> Result<RawEdge, Stop>
     })
 }
 
-impl Phrase for RawEdge {
+impl<'t> Phrase<'t> for RawEdge {
     ghost Plain = { WrittenEdge };
 
     ghost plain = { written_edge };
@@ -196,7 +196,7 @@ impl Phrase for RawEdge {
     ghost format = { edge_format };
 
     #[tactic(auto, unfolding(model_core::specs::Text::Language::edge_format, model_core::specs::Text::Language::schedule_format, model_core::specs::Text::Language::urgent_format))]
-    fn read(alloc: Global, cursor: &mut Cursor<'_>) -> Result<RawEdge, Stop> {
+    fn read(alloc: Global, cursor: &mut Cursor<'t>) -> Result<RawEdge, Stop> {
         if cursor.begins_word(Word::Schedule) {
             schedule(alloc, cursor)
         } else if cursor.begins_word(Word::Urgent) {
@@ -209,7 +209,7 @@ impl Phrase for RawEdge {
     ghost some_tokens = { edge-some };
 }
 
-impl Repeated for RawEdge {
+impl<'t> Repeated<'t> for RawEdge {
     #[tactic(auto, unfolding(model_core::specs::Text::Language::edge_format, model_core::specs::Text::Language::schedule_format, model_core::specs::Text::Language::urgent_format, model_core::specs::Text::Language::cancel_format))]
     fn begins(cursor: &Cursor<'_>) -> bool {
         cursor.begins_word(Word::Schedule)

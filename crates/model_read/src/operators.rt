@@ -1,8 +1,9 @@
 //! The operators that stand between two operands.
 
-ghost use Rattle.std.specs.Prelude.{◌≡◌, ℕ, List};
+ghost use Rattle.std.specs.Prelude.{◌≡◌, ℕ, List, Some};
 ghost use Rattle.std.specs.Option.{option_map};
 ghost use Rattle.model_lex.specs.PieceViews.{piece_kind};
+ghost use Rattle.model_core.specs.Code.Views.{operator_of};
 ghost use Rattle.model_core.specs.Text.Lexing.{Reserved, Mark};
 ghost use Rattle.text_laws.specs.Ladder.{infix_of_kind, next_level};
 ghost use Rattle.model_read.specs.Infixes.{infix_of};
@@ -49,55 +50,29 @@ pub(crate) fn infix_of(kind: PieceKind) -> Option<Infix>
     }
 }
 
+/// The operator with its level.
+fn some_infix(level: usize, op: Op) -> Option<Infix>
+    ensures { option_map infix_of result ≡ Some (level, operator_of op) }
+{
+    Some(Infix { op, level })
+}
+
 /// The operator that the symbol is, if any.
 fn infix_symbol(symbol: Symbol) -> Option<Infix>
     ensures { option_map infix_of result ≡ infix_of_kind (Mark symbol) }
 {
     match symbol {
-        Symbol::Times => Some(Infix {
-            op: Op::Mul,
-            level: 0,
-        }),
-        Symbol::Over => Some(Infix {
-            op: Op::Div,
-            level: 0,
-        }),
-        Symbol::Percent => Some(Infix {
-            op: Op::Rem,
-            level: 0,
-        }),
-        Symbol::Plus => Some(Infix {
-            op: Op::Add,
-            level: 1,
-        }),
-        Symbol::Minus => Some(Infix {
-            op: Op::Sub,
-            level: 1,
-        }),
-        Symbol::Equal => Some(Infix {
-            op: Op::Eq,
-            level: 2,
-        }),
-        Symbol::NotEqual => Some(Infix {
-            op: Op::Ne,
-            level: 2,
-        }),
-        Symbol::Below => Some(Infix {
-            op: Op::Lt,
-            level: 2,
-        }),
-        Symbol::AtMost => Some(Infix {
-            op: Op::Le,
-            level: 2,
-        }),
-        Symbol::Above => Some(Infix {
-            op: Op::Gt,
-            level: 2,
-        }),
-        Symbol::AtLeast => Some(Infix {
-            op: Op::Ge,
-            level: 2,
-        }),
+        Symbol::Times => some_infix(0, Op::Mul),
+        Symbol::Over => some_infix(0, Op::Div),
+        Symbol::Percent => some_infix(0, Op::Rem),
+        Symbol::Plus => some_infix(1, Op::Add),
+        Symbol::Minus => some_infix(1, Op::Sub),
+        Symbol::Equal => some_infix(2, Op::Eq),
+        Symbol::NotEqual => some_infix(2, Op::Ne),
+        Symbol::Below => some_infix(2, Op::Lt),
+        Symbol::AtMost => some_infix(2, Op::Le),
+        Symbol::Above => some_infix(2, Op::Gt),
+        Symbol::AtLeast => some_infix(2, Op::Ge),
         _ => None,
     }
 }
@@ -107,14 +82,8 @@ fn infix_word(word: Word) -> Option<Infix>
     ensures { option_map infix_of result ≡ infix_of_kind (Reserved word) }
 {
     match word {
-        Word::And => Some(Infix {
-            op: Op::And,
-            level: 3,
-        }),
-        Word::Or => Some(Infix {
-            op: Op::Or,
-            level: 4,
-        }),
+        Word::And => some_infix(3, Op::And),
+        Word::Or => some_infix(4, Op::Or),
         _ => None,
     }
 }

@@ -16,7 +16,7 @@ use sig_base::List;
 use std::alloc::Global;
 
 /// A part of a text that a list may have many of.
-pub trait Phrase: Drop {
+pub trait Phrase<'t>: Drop {
     // What is written.
     ghost Plain: { Type 0 };
 
@@ -26,16 +26,16 @@ pub trait Phrase: Drop {
     // Which tokens spell it.
     ghost format: { LanguageFormat Plain };
 
-    /// Reads a phrase.
-    fn read(alloc: Global, cursor: &mut Cursor<'_>) -> Result<Self, Stop>
-        ensures { Returned plain result cursor.new (language_reader format cursor.old) };
-
     // It has a token at least.
     ghost some_tokens: { nullable format ≡ false };
+
+    /// Reads a phrase.
+    fn read(alloc: Global, cursor: &mut Cursor<'t>) -> Result<Self, Stop>
+        ensures { Returned plain result cursor.new (language_reader format cursor.old) };
 }
 
 /// A phrase whose first token tells that it comes.
-pub trait Repeated: Phrase {
+pub trait Repeated<'t>: Phrase<'t> {
     /// Whether a phrase comes.
     fn begins(cursor: &Cursor<'_>) -> bool
         ensures { result ≡ begins_among (first_sorts level_lookahead Self.format) cursor.now };
@@ -51,9 +51,9 @@ pub fn packed<T>(items: List<T>) -> List<T>
 }
 
 /// Reads phrases as long as one comes, behind those that were read.
-fn and_more<T: Repeated>(
+fn and_more<'t, T: Repeated<'t>>(
     alloc: Global,
-    cursor: &mut Cursor<'_>,
+    cursor: &mut Cursor<'t>,
     items: List<T>,
 ) -> Result<List<T>, Stop>
     ensures { Returned (map T.plain) result cursor.new (with_front (map T.plain items) (language_reader (Many T.format) cursor.old)) }
@@ -66,16 +66,16 @@ fn and_more<T: Repeated>(
 }
 
 /// Reads any number of phrases.
-pub fn many<T: Repeated>(alloc: Global, cursor: &mut Cursor<'_>) -> Result<List<T>, Stop>
+pub fn many<'t, T: Repeated<'t>>(alloc: Global, cursor: &mut Cursor<'t>) -> Result<List<T>, Stop>
     ensures { Returned (map T.plain) result cursor.new (language_reader (Many T.format) cursor.old) }
 {
     and_more(alloc, cursor, List::new(alloc))
 }
 
 /// Reads one or more phrases.
-pub(crate) fn at_least_one<T: Repeated>(
+pub(crate) fn at_least_one<'t, T: Repeated<'t>>(
     alloc: Global,
-    cursor: &mut Cursor<'_>,
+    cursor: &mut Cursor<'t>,
 ) -> Result<List<T>, Stop>
     ensures { Returned (map T.plain) result cursor.new (language_reader (at_least_one T.format) cursor.old) }
 {
@@ -84,7 +84,7 @@ pub(crate) fn at_least_one<T: Repeated>(
 }
 
 /// Reads a comma and the phrase behind it.
-fn next<T: Phrase>(alloc: Global, cursor: &mut Cursor<'_>) -> Result<T, Stop>
+fn next<'t, T: Phrase<'t>>(alloc: Global, cursor: &mut Cursor<'t>) -> Result<T, Stop>
     ensures { Returned T.plain result cursor.new (language_reader (mark Comma *> T.format) cursor.old) }
 {
     cursor.symbol(Symbol::Comma)?;
@@ -92,9 +92,9 @@ fn next<T: Phrase>(alloc: Global, cursor: &mut Cursor<'_>) -> Result<T, Stop>
 }
 
 /// Reads a comma and a phrase as long as a comma comes, behind the phrases that were read.
-fn and_others<T: Phrase>(
+fn and_others<'t, T: Phrase<'t>>(
     alloc: Global,
-    cursor: &mut Cursor<'_>,
+    cursor: &mut Cursor<'t>,
     items: List<T>,
 ) -> Result<List<T>, Stop>
     ensures { Returned (map T.plain) result cursor.new (with_front (map T.plain items) (language_reader (Many (mark Comma *> T.format)) cursor.old)) }
@@ -107,7 +107,7 @@ fn and_others<T: Phrase>(
 }
 
 /// Reads one or more phrases, separated by commas.
-pub fn separated<T: Phrase>(alloc: Global, cursor: &mut Cursor<'_>) -> Result<List<T>, Stop>
+pub fn separated<'t, T: Phrase<'t>>(alloc: Global, cursor: &mut Cursor<'t>) -> Result<List<T>, Stop>
     ensures { Returned (map T.plain) result cursor.new (language_reader (separated T.format) cursor.old) }
 {
     let first = List::of_one(alloc, T::read(alloc, cursor)?)?;

@@ -63,14 +63,14 @@ pub(crate) fn literal(cursor: &mut Cursor<'_>) -> Result<RawLiteral, Stop>
     Ok(RawLiteral::Signed(signed(cursor)?))
 }
 
-impl Phrase for RawSigned {
+impl<'t> Phrase<'t> for RawSigned {
     ghost Plain = { WrittenSigned };
 
     ghost plain = { written_signed };
 
     ghost format = { signed_format };
 
-    fn read(_alloc: Global, cursor: &mut Cursor<'_>) -> Result<RawSigned, Stop> {
+    fn read(_alloc: Global, cursor: &mut Cursor<'t>) -> Result<RawSigned, Stop> {
         signed(cursor)
     }
 

@@ -49,7 +49,7 @@ pub fn begun_vertex(alloc: Global, cursor: &mut Cursor<'_>) -> Result<RawVertex,
     })
 }
 
-impl Phrase for RawVertex {
+impl<'t> Phrase<'t> for RawVertex {
     ghost Plain = { WrittenVertex };
 
     ghost plain = { written_vertex };
@@ -57,7 +57,7 @@ impl Phrase for RawVertex {
     ghost format = { vertex_format };
 
     #[tactic(auto, unfolding(model_core::specs::Text::Language::vertex_format, crate::specs::Beginnings::vertex_beginning))]
-    fn read(alloc: Global, cursor: &mut Cursor<'_>) -> Result<RawVertex, Stop> {
+    fn read(alloc: Global, cursor: &mut Cursor<'t>) -> Result<RawVertex, Stop> {
         let begun = Held::of(begun_vertex(alloc, cursor)?);
         let changes = many(alloc, cursor)?;
         let edges = many(alloc, cursor)?;
@@ -72,7 +72,7 @@ impl Phrase for RawVertex {
     ghost some_tokens = { vertex-some };
 }
 
-impl Repeated for RawVertex {
+impl<'t> Repeated<'t> for RawVertex {
     #[tactic(auto, unfolding(model_core::specs::Text::Language::vertex_format))]
     fn begins(cursor: &Cursor<'_>) -> bool {
         cursor.begins_word(Word::Vertex)

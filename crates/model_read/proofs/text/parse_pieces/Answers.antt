@@ -13,23 +13,15 @@ use Rattle.model_read.proofs.text.parse_pieces.Goals as goal
 pub returns-in-Some-clause-too_deep : goal.returns-in-Some-clause-too_deep
 returns-in-Some-clause-too_deep c = λ at e. deep-place OPENINGS_MAX (pieces_lexemes c.args.pieces.now) c.first_too_deep.result c.in-Some.at at (rw c.as_slice-list.ensures at (c.first_too_deep.ensures c.args.pieces.now.text.now)) c.in-Some.is e
 
-pub returns-clause-ok : goal.returns-clause-ok
-returns-clause-ok c =
-    let are : c.new-cursor.result ≡ pieces_lexemes c.args.pieces.now = c.new-cursor.ensures ∙ ap (map (piece_of c.args.pieces.now.text.now)) c.as_slice-list.ensures in
-    whole-ok c.args.pieces.now.text.now (pieces_lexemes c.args.pieces.now) c.whole-read.new.cursor OPENINGS_MAX c.placed.result
-    (placed-tells written_model c.args.pieces.now.text.now c.whole-read.result c.whole-read.new.cursor (text_read (pieces_lexemes c.args.pieces.now)) c.placed.result (c.placed.ensures c.args.pieces.now.text.now refl) (rw are at c.whole-read.ensures))
-    (none-is_few OPENINGS_MAX (pieces_lexemes c.args.pieces.now) (sym (rw c.as_slice-list.ensures at (c.first_too_deep.ensures c.args.pieces.now.text.now)) ∙ c.in_default.is))
-
-pub returns-clause-unexpected : goal.returns-clause-unexpected
-returns-clause-unexpected c = λ at e.
-    let are : c.new-cursor.result ≡ pieces_lexemes c.args.pieces.now = c.new-cursor.ensures ∙ ap (map (piece_of c.args.pieces.now.text.now)) c.as_slice-list.ensures in (
-      sym (rw c.as_slice-list.ensures at (c.first_too_deep.ensures c.args.pieces.now.text.now)) ∙ c.in_default.is,
-      whole-unexpected c.args.pieces.now.text.now (pieces_lexemes c.args.pieces.now) c.whole-read.new.cursor c.placed.result at
-          (placed-tells written_model c.args.pieces.now.text.now c.whole-read.result c.whole-read.new.cursor (text_read (pieces_lexemes c.args.pieces.now)) c.placed.result (c.placed.ensures c.args.pieces.now.text.now refl) (rw are at c.whole-read.ensures)) e,
-    )
-
-pub returns-clause-too_deep : goal.returns-clause-too_deep
-returns-clause-too_deep c = λ at e.
-    let are : c.new-cursor.result ≡ pieces_lexemes c.args.pieces.now = c.new-cursor.ensures ∙ ap (map (piece_of c.args.pieces.now.text.now)) c.as_slice-list.ensures in
-    absurd (never_deep c.args.pieces.now.text.now (pieces_lexemes c.args.pieces.now) c.whole-read.new.cursor c.placed.result at
-    (placed-tells written_model c.args.pieces.now.text.now c.whole-read.result c.whole-read.new.cursor (text_read (pieces_lexemes c.args.pieces.now)) c.placed.result (c.placed.ensures c.args.pieces.now.text.now refl) (rw are at c.whole-read.ensures)) e)
+pub returns : goal.returns
+returns c =
+    let text = c.args.pieces.now.text.now in
+    let tokens = pieces_lexemes c.args.pieces.now in
+    let are : c.new-cursor.result ≡ tokens = c.new-cursor.ensures ∙ ap (map (piece_of text)) c.as_slice-list.ensures in
+    let none = sym (rw c.as_slice-list.ensures at (c.first_too_deep.ensures text)) ∙ c.in_default.is in
+    let tells = placed-tells written_model text c.whole-read.result c.whole-read.new.cursor (text_read tokens) c.placed.result (c.placed.ensures text refl) (rw are at c.whole-read.ensures) in
+    record {
+      ok = whole-ok text tokens c.whole-read.new.cursor OPENINGS_MAX c.placed.result tells (none-is_few OPENINGS_MAX tokens none);
+      unexpected = λ at e. (none, whole-unexpected text tokens c.whole-read.new.cursor c.placed.result at tells e);
+      too_deep = λ at e. absurd (never_deep text tokens c.whole-read.new.cursor c.placed.result at tells e);
+    }
