@@ -1,2 +1,3 @@
 -- The code of this crate, restated for its proofs. Nobody has to believe these.
 pub mod Walk
+pub mod OneEdge

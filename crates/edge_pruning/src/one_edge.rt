@@ -4,9 +4,11 @@ ghost use Rattle.std.specs.Prelude.{◌≡◌, Some, None, OnOk, OnErr, IfErr};
 ghost use Rattle.model_core.specs.Rules.Conditions.{first_failed};
 ghost use Rattle.model_core.specs.Rules.Prune.{prune_conditions, without_edge, pruned};
 ghost use Rattle.model_core.specs.Rules.Settle.{settle_conditions, with_settled, settled};
+ghost use Rattle.model_core.specs.Rules.PlacedEdges.{with_vertex};
 ghost use Rattle.model_core.specs.Code.Views.{graph_of, vertex_of};
+ghost use Rattle.edge_pruning.specs.Inner.OneEdge.{changed_by};
 
-use crate::finding::is_literal_true;
+use crate::finding::{EdgeRule, is_literal_true};
 use model_core::{Expr, Model, RuleRefused, Vertex};
 use range_bounds::{proved, refuted};
 
@@ -66,21 +68,22 @@ fn make_unconditional(vertex: &mut Vertex, edge: usize)
     }
 }
 
-/// Takes an edge of the model away, if there is one at these places.
-fn take_away_at(model: &mut Model, vertex: usize, edge: usize)
-    ensures { graph_of model.new ≡ pruned (graph_of model.old) vertex edge }
+/// Changes the edge at this place by the rule, if there is one.
+fn change(rule: EdgeRule, vertex: &mut Vertex, edge: usize)
+    ensures { vertex_of vertex.new ≡ changed_by rule edge (vertex_of vertex.old) }
 {
-    if let Some(vertex) = model.vertices.as_mut_vec().get_mut(vertex) {
-        take_away(vertex, edge);
+    match rule {
+        EdgeRule::Prune => take_away(vertex, edge),
+        EdgeRule::Settle => make_unconditional(vertex, edge),
     }
 }
 
-/// Makes the condition of an edge of the model `true`, if there is one at these places.
-fn make_unconditional_at(model: &mut Model, vertex: usize, edge: usize)
-    ensures { graph_of model.new ≡ settled (graph_of model.old) vertex edge }
+/// Changes an edge of the model by the rule, if there is one at these places.
+fn change_at(model: &mut Model, rule: EdgeRule, vertex: usize, edge: usize)
+    ensures { graph_of model.new ≡ with_vertex (changed_by rule edge) vertex (graph_of model.old) }
 {
     if let Some(vertex) = model.vertices.as_mut_vec().get_mut(vertex) {
-        make_unconditional(vertex, edge);
+        change(rule, vertex, edge);
     }
 }
 
@@ -95,7 +98,7 @@ pub fn prune(model: &mut Model, vertex: usize, edge: usize) -> Result<(), RuleRe
     if let Some(condition) = failed_prune(model, vertex, edge) {
         return Err(RuleRefused { condition });
     }
-    take_away_at(model, vertex, edge);
+    change_at(model, EdgeRule::Prune, vertex, edge);
     Ok(())
 }
 
@@ -110,6 +113,6 @@ pub fn settle(model: &mut Model, vertex: usize, edge: usize) -> Result<(), RuleR
     if let Some(condition) = failed_settle(model, vertex, edge) {
         return Err(RuleRefused { condition });
     }
-    make_unconditional_at(model, vertex, edge);
+    change_at(model, EdgeRule::Settle, vertex, edge);
     Ok(())
 }
