@@ -2,5 +2,4 @@
 pub mod AllButOne
 pub mod CountedEdges
 pub mod StandAside
-pub mod FirstOfSeven
 pub mod PairsFound

@@ -3,7 +3,7 @@ use Rattle.std.proofs.Common.{◌≡◌, ◌∙◌, ℕ, zero, suc, ◌+◌, ◌
 use Rattle.std.proofs.lemmas.Bool.Decides.{nat_tests}
 use Rattle.std.specs.Prelude.{is_none, is_some, filter_map}
 use Rattle.std.specs.List.{range_with_len, cons_option}
-use Rattle.std.specs.Option.{option_map_or}
+use Rattle.std.specs.Option.{option_map_or, option_or}
 use Rattle.sig_base.specs.declared.limits.TheConstants.{TEXT_MAX}
 use Rattle.model_core.specs.EventGraph.{EventGraph, EventEdge}
 use Rattle.model_core.specs.Run.Step.{vertex_at}
@@ -16,24 +16,17 @@ use Rattle.merge_rules.proofs.OneStepForTwo.MergeHolds.{conditions_hold}
 
 -- ---- the last condition
 
-pub last_fails : (before : List Bool) (last : Bool) → first_failed before ≡ None → last ≡ false → Some (suc (length before)) ≡ first_failed (before ++ last ∷ [])
-last_fails [] last none fails = ap (λ b. first_failed (b ∷ [])) (sym fails)
-last_fails (true ∷ before) last none fails = ap (option_map (λ n. suc n)) (last_fails before last (none_before (first_failed before) none) fails)
-last_fails (false ∷ before) last none fails = cc
+suc_or : (o : Option ℕ) (last : Bool) (n : ℕ) → option_or (option_map (λ n. suc n) o) (cond last None (Some (suc n))) ≡ option_map (λ n. suc n) (option_or o (cond last None (Some n)))
+suc_or None true n = refl
+suc_or None false n = refl
+suc_or (Some m) last n = refl
 
-pub last_holds : (before : List Bool) (last : Bool) → first_failed before ≡ None → last ≡ true → None ≡ first_failed (before ++ last ∷ [])
-last_holds [] last none holds = ap (λ b. first_failed (b ∷ [])) (sym holds)
-last_holds (true ∷ before) last none holds = ap (option_map (λ n. suc n)) (last_holds before last (none_before (first_failed before) none) holds)
-last_holds (false ∷ before) last none holds = cc
-
--- one that fails is the first whatever stands behind it
-pub one_fails : (before : List Bool) (last : Bool) (n : ℕ) → first_failed before ≡ Some n → Some n ≡ first_failed (before ++ last ∷ [])
-one_fails [] last n fails = cc
-one_fails (false ∷ before) last n fails = sym fails
-one_fails (true ∷ before) last n fails = by (first_failed before) (one_fails before last) fails where
-  by : (o : Option ℕ) → ((m : ℕ) → o ≡ Some m → Some m ≡ first_failed (before ++ last ∷ [])) → option_map (λ n. suc n) o ≡ Some n → Some n ≡ option_map (λ n. suc n) (first_failed (before ++ last ∷ []))
-  by None later e = cc
-  by (Some m) later e = sym e ∙ ap (option_map (λ n. suc n)) (later m refl)
+-- what the first ones and the last tell together
+pub with_last : (before : List Bool) (last : Bool) → option_or (first_failed before) (cond last None (Some (suc (length before)))) ≡ first_failed (before ++ last ∷ [])
+with_last [] true = refl
+with_last [] false = refl
+with_last (false ∷ before) last = refl
+with_last (true ∷ before) last = suc_or (first_failed before) last (suc (length before)) ∙ ap (option_map (λ n. suc n)) (with_last before last)
 
 -- where no condition fails none of the first ones does
 pub front_holds : (n : ℕ) (conditions : List Bool) → first_failed conditions ≡ None → first_failed (take n conditions) ≡ None

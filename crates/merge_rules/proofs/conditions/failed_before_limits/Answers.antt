@@ -1,4 +1,4 @@
-use Rattle.std.proofs.Common.{◌≡◌, ◌≢◌, ◌∙◌, ◌==◌, ℕ, nat_lt, Bool, true, false, ◌&&◌, not, List, take, drop, length, get_or, Option, Some, None, is_some, refl, sym, ap, subst, arith}
+use Rattle.std.proofs.Common.{◌≡◌, ◌≢◌, ◌∙◌, ◌==◌, ℕ, nat_lt, Bool, true, false, ◌&&◌, not, List, ◌∷◌, take, drop, length, get_or, Option, Some, None, is_some, refl, sym, ap, subst, arith}
 use Rattle.std.specs.Prelude.{is_none}
 use Rattle.std.specs.Option.{option_map_or}
 use Rattle.std.proofs.lemmas.Bool.Decides.{nat_tests}
@@ -8,11 +8,11 @@ use Rattle.model_core.specs.declared.vertex.Vertex.{Vertex}
 use Rattle.model_core.specs.EventGraph.{EventGraph, EventVertex}
 use Rattle.model_core.specs.Run.Step.{no_vertex, vertex_at}
 use Rattle.model_core.specs.Rules.UrgentEdges.{plain_urgent, plain_urgent_edge, single_urgent}
+use Rattle.model_core.specs.Rules.Conditions.{first_failed}
 use Rattle.model_core.specs.Rules.Merge.{leads_to, merge_conditions}
 use Rattle.model_core.specs.Code.Views.{graph_of, vertex_of}
 use Rattle.merge_rules.specs.KeptPairs.{TellsUnseen}
 use Rattle.merge_rules.proofs.OneStepForTwo.MergeHolds.{is_below}
-use Rattle.merge_rules.proofs.ConditionsAsked.FirstOfSeven.{first_fails, second_fails, third_fails, three_hold}
 use Rattle.merge_rules.proofs.conditions.failed_before_limits.Goals as goal
 use Rattle.merge_rules.proofs.conditions.failed_before_limits.Goals.{then-first-second-via-then-first-second, then-first-second-via-else-first-second+then-not-leads_at_once}
 
@@ -34,20 +34,9 @@ leads second a = option_map_or (leads_to second) (plain_urgent_edge a) false
 abbrev first_condition : EventGraph → ℕ → ℕ → Bool
 first_condition g first second = nat_lt first (length g.vertices) && nat_lt second (length g.vertices) && not (first == second) && leads second (vertex_at g first)
 
-no_first : (p q r s : Bool) → p ≡ false → p && q && r && s ≡ false
-no_first p q r s not_p = ap (λ p. p && q && r && s) not_p
-
-no_second : (p q r s : Bool) → p ≡ true → q ≡ false → p && q && r && s ≡ false
-no_second p q r s is_p not_q = λ i. is_p i && not_q i && r && s
-
-not_apart : (p q r s : Bool) → p ≡ true → q ≡ true → r ≡ false → p && q && r && s ≡ false
-not_apart p q r s is_p is_q not_r = λ i. is_p i && is_q i && not_r i && s
-
-no_edge : (p q r s : Bool) → p ≡ true → q ≡ true → r ≡ true → s ≡ false → p && q && r && s ≡ false
-no_edge p q r s is_p is_q is_r not_s = λ i. is_p i && is_q i && is_r i && not_s i
-
-all_four : (p q r s : Bool) → p ≡ true → q ≡ true → r ≡ true → s ≡ true → p && q && r && s ≡ true
-all_four p q r s is_p is_q is_r is_s = λ i. is_p i && is_q i && is_r i && is_s i
+-- where it is known what each of its four parts is
+parts_told : (p q r s : Bool) {w x y z : Bool} → p ≡ w → q ≡ x → r ≡ y → s ≡ z → p && q && r && s ≡ w && x && y && z
+parts_told p q r s is_p is_q is_r is_s = λ i. is_p i && is_q i && is_r i && is_s i
 
 same_place : (i k : ℕ) → i ≡ k → not (i == k) ≡ false
 same_place i k e = grind (arith, nat_tests)
@@ -58,27 +47,27 @@ other_place i k e = grind (arith, nat_tests)
 module _ (m : Model) (first second : ℕ) (seen : List Vertex) (same : seen ≡ m.vertices) where
   -- the first vertex isn't there
   absent_first : false ≡ nat_lt first (length seen) → first_condition (graph_of m) first second ≡ false
-  absent_first past = no_first (nat_lt first (length (graph_of m).vertices)) (nat_lt second (length (graph_of m).vertices)) (not (first == second)) (leads second (vertex_at (graph_of m) first)) (counted m seen first false same past)
+  absent_first past = parts_told (nat_lt first (length (graph_of m).vertices)) (nat_lt second (length (graph_of m).vertices)) (not (first == second)) (leads second (vertex_at (graph_of m) first)) (counted m seen first false same past) refl refl refl
 
   module _ (below : true ≡ nat_lt first (length seen)) where
     -- the second isn't
     absent_second : false ≡ nat_lt second (length seen) → first_condition (graph_of m) first second ≡ false
-    absent_second past = no_second (nat_lt first (length (graph_of m).vertices)) (nat_lt second (length (graph_of m).vertices)) (not (first == second)) (leads second (vertex_at (graph_of m) first))
-        (counted m seen first true same below) (counted m seen second false same past)
+    absent_second past = parts_told (nat_lt first (length (graph_of m).vertices)) (nat_lt second (length (graph_of m).vertices)) (not (first == second)) (leads second (vertex_at (graph_of m) first))
+        (counted m seen first true same below) (counted m seen second false same past) refl refl
 
     module _ (a : Vertex) (is : a ≡ get_or seen first a) (second_below : true ≡ nat_lt second (length seen)) where
       -- they are one
       one_alone : first ≡ second → first_condition (graph_of m) first second ≡ false
-      one_alone e = not_apart (nat_lt first (length (graph_of m).vertices)) (nat_lt second (length (graph_of m).vertices)) (not (first == second)) (leads second (vertex_at (graph_of m) first))
-          (counted m seen first true same below) (counted m seen second true same second_below) (same_place first second e)
+      one_alone e = parts_told (nat_lt first (length (graph_of m).vertices)) (nat_lt second (length (graph_of m).vertices)) (not (first == second)) (leads second (vertex_at (graph_of m) first))
+          (counted m seen first true same below) (counted m seen second true same second_below) (same_place first second e) refl
 
       -- no plain urgent edge leads from the first to the second, or one does
       not_led : first ≢ second → false ≡ leads second (vertex_of a) → first_condition (graph_of m) first second ≡ false
-      not_led apart told = no_edge (nat_lt first (length (graph_of m).vertices)) (nat_lt second (length (graph_of m).vertices)) (not (first == second)) (leads second (vertex_at (graph_of m) first))
+      not_led apart told = parts_told (nat_lt first (length (graph_of m).vertices)) (nat_lt second (length (graph_of m).vertices)) (not (first == second)) (leads second (vertex_at (graph_of m) first))
           (counted m seen first true same below) (counted m seen second true same second_below) (other_place first second apart) (ap (leads second) (sym (there m seen first a same below is)) ∙ sym told)
 
       led : first ≢ second → true ≡ leads second (vertex_of a) → first_condition (graph_of m) first second ≡ true
-      led apart told = all_four (nat_lt first (length (graph_of m).vertices)) (nat_lt second (length (graph_of m).vertices)) (not (first == second)) (leads second (vertex_at (graph_of m) first))
+      led apart told = parts_told (nat_lt first (length (graph_of m).vertices)) (nat_lt second (length (graph_of m).vertices)) (not (first == second)) (leads second (vertex_at (graph_of m) first))
           (counted m seen first true same below) (counted m seen second true same second_below) (other_place first second apart) (ap (leads second) (sym (there m seen first a same below is)) ∙ sym told)
 
 -- ---- the second condition
@@ -92,38 +81,43 @@ second_condition v w o b same is test = none_or_some (plain_urgent w) ∙ ap (λ
 
 -- ---- the exits
 
+-- the first that fails, where it is known what each of the first three is
+three_told : (g : EventGraph) (first second : ℕ) {x y z : Bool} → first_condition g first second ≡ x → is_none (plain_urgent (vertex_at g second)) ≡ y → single_urgent g ≡ z
+    → first_failed (x ∷ y ∷ z ∷ drop 3 (take 7 (merge_conditions g first second))) ≡ first_failed (take 7 (merge_conditions g first second))
+three_told g first second a b c = λ i. first_failed (sym a i ∷ sym b i ∷ sym c i ∷ drop 3 (take 7 (merge_conditions g first second)))
+
 pub returns-in_default-clause-failed : goal.returns-in_default-clause-failed
 returns-in_default-clause-failed t c =
     let g = graph_of c.args.model.now in
-    first_fails (first_condition g c.args.first c.args.second) (drop 1 (take 7 (merge_conditions g c.args.first c.args.second)))
-    (absent_first c.args.model.now c.args.first c.args.second c.as_slice-vertices.result.now c.as_slice-vertices.ensures c.in_default.ensures.lookup.0)
+    three_told g c.args.first c.args.second
+    (absent_first c.args.model.now c.args.first c.args.second c.as_slice-vertices.result.now c.as_slice-vertices.ensures c.in_default.ensures.lookup.0) refl refl
 
 pub returns-in_default-get-clause-failed : goal.returns-in_default-get-clause-failed
 returns-in_default-get-clause-failed t c =
     let g = graph_of c.args.model.now in
-    first_fails (first_condition g c.args.first c.args.second) (drop 1 (take 7 (merge_conditions g c.args.first c.args.second)))
-    (absent_second c.args.model.now c.args.first c.args.second c.as_slice-vertices.result.now c.as_slice-vertices.ensures c.in-Some.ensures.lookup.0 c.in_default-get.ensures.lookup.0)
+    three_told g c.args.first c.args.second
+    (absent_second c.args.model.now c.args.first c.args.second c.as_slice-vertices.result.now c.as_slice-vertices.ensures c.in-Some.ensures.lookup.0 c.in_default-get.ensures.lookup.0) refl refl
 
 pub returns-then-first-second-clause-failed : goal.returns-then-first-second-clause-failed
 returns-then-first-second-clause-failed t c =
     let g = graph_of c.args.model.now in
-    first_fails (first_condition g c.args.first c.args.second) (drop 1 (take 7 (merge_conditions g c.args.first c.args.second)))
+    three_told g c.args.first c.args.second
     (elim c.then-first-second.branch [
       | then-first-second-via-then-first-second w ↦ one_alone c.args.model.now c.args.first c.args.second c.as_slice-vertices.result.now c.as_slice-vertices.ensures c.in-Some.ensures.lookup.0 c.in-Some.a.now c.in-Some.ensures.lookup.1 c.in-Some-get.ensures.lookup.0 w.if-first-second.true
       | then-first-second-via-else-first-second+then-not-leads_at_once w ↦ not_led c.args.model.now c.args.first c.args.second c.as_slice-vertices.result.now c.as_slice-vertices.ensures c.in-Some.ensures.lookup.0 c.in-Some.a.now c.in-Some.ensures.lookup.1 c.in-Some-get.ensures.lookup.0 w.if-first-second.false w.if-not-leads_at_once.ensures
-    ])
+    ]) refl refl
 
 pub returns-then-is_some-clause-failed : goal.returns-then-is_some-clause-failed
 returns-then-is_some-clause-failed t c =
     let g = graph_of c.args.model.now in
-    second_fails (first_condition g c.args.first c.args.second) (is_none (plain_urgent (vertex_at g c.args.second))) (drop 2 (take 7 (merge_conditions g c.args.first c.args.second)))
+    three_told g c.args.first c.args.second
     (led c.args.model.now c.args.first c.args.second c.as_slice-vertices.result.now c.as_slice-vertices.ensures c.in-Some.ensures.lookup.0 c.in-Some.a.now c.in-Some.ensures.lookup.1 c.in-Some-get.ensures.lookup.0 c.if-first-second.false c.if-not-leads_at_once.ensures)
-    (second_condition (vertex_of c.in-Some-get.b.now) (vertex_at g c.args.second) c.plain_urgent.result true (there c.args.model.now c.as_slice-vertices.result.now c.args.second c.in-Some-get.b.now c.as_slice-vertices.ensures c.in-Some-get.ensures.lookup.0 c.in-Some-get.ensures.lookup.1) c.plain_urgent.ensures c.if-is_some.ensures)
+    (second_condition (vertex_of c.in-Some-get.b.now) (vertex_at g c.args.second) c.plain_urgent.result true (there c.args.model.now c.as_slice-vertices.result.now c.args.second c.in-Some-get.b.now c.as_slice-vertices.ensures c.in-Some-get.ensures.lookup.0 c.in-Some-get.ensures.lookup.1) c.plain_urgent.ensures c.if-is_some.ensures) refl
 
 pub returns-then-not-single-clause-failed : goal.returns-then-not-single-clause-failed
 returns-then-not-single-clause-failed t c =
     let g = graph_of c.args.model.now in
-    third_fails (first_condition g c.args.first c.args.second) (is_none (plain_urgent (vertex_at g c.args.second))) (single_urgent g) (drop 3 (take 7 (merge_conditions g c.args.first c.args.second)))
+    three_told g c.args.first c.args.second
     (led c.args.model.now c.args.first c.args.second c.as_slice-vertices.result.now c.as_slice-vertices.ensures c.in-Some.ensures.lookup.0 c.in-Some.a.now c.in-Some.ensures.lookup.1 c.in-Some-get.ensures.lookup.0 c.if-first-second.false c.if-not-leads_at_once.ensures)
     (second_condition (vertex_of c.in-Some-get.b.now) (vertex_at g c.args.second) c.plain_urgent.result false (there c.args.model.now c.as_slice-vertices.result.now c.args.second c.in-Some-get.b.now c.as_slice-vertices.ensures c.in-Some-get.ensures.lookup.0 c.in-Some-get.ensures.lookup.1) c.plain_urgent.ensures c.if-is_some.ensures)
     (sym c.requires.single ∙ c.if-not-single.true)
@@ -132,7 +126,7 @@ pub returns-clause-failed : goal.returns-clause-failed
 returns-clause-failed t c =
     let g = graph_of c.args.model.now in
     c.failed_later.ensures.failed
-    ∙ three_hold (first_condition g c.args.first c.args.second) (is_none (plain_urgent (vertex_at g c.args.second))) (single_urgent g) (drop 3 (take 7 (merge_conditions g c.args.first c.args.second)))
+    ∙ three_told g c.args.first c.args.second
     (led c.args.model.now c.args.first c.args.second c.as_slice-vertices.result.now c.as_slice-vertices.ensures c.in-Some.ensures.lookup.0 c.in-Some.a.now c.in-Some.ensures.lookup.1 c.in-Some-get.ensures.lookup.0 c.if-first-second.false c.if-not-leads_at_once.ensures)
     (second_condition (vertex_of c.in-Some-get.b.now) (vertex_at g c.args.second) c.plain_urgent.result false (there c.args.model.now c.as_slice-vertices.result.now c.args.second c.in-Some-get.b.now c.as_slice-vertices.ensures c.in-Some-get.ensures.lookup.0 c.in-Some-get.ensures.lookup.1) c.plain_urgent.ensures c.if-is_some.ensures)
     (sym c.requires.single ∙ c.if-not-single.false)

@@ -1,28 +1,13 @@
-use Rattle.std.proofs.Common.{◌≡◌, ◌∙◌, ◌<◌, sym, ap, map, length, add-one, arith}
-use Rattle.std.proofs.lemmas.List.{take_at, map-id}
-use Rattle.sig_base.proofs.Lists.{ChangedTo-step, ChangedTo-all, ChangedTo-length}
+use Rattle.std.proofs.Common.{◌∙◌, ap, map, arith}
 use Rattle.merge_rules.specs.Inner.PairMoves.{asked_again}
-use Rattle.merge_rules.specs.declared.kept_pairs.KeptPair.{KeptPair}
+use Rattle.merge_rules.proofs.WrittenAnew.{one_anew, all_anew}
 use Rattle.merge_rules.proofs.kept_pairs.ask_again.Goals as goal
 
 pub loop-pair-preserved : goal.loop-pair-preserved
 loop-pair-preserved c =
-    let f = asked_again c.args.first in
-    let i = c.loop-pair.pair-index in
-    let xs = c.deref_mut-pair-items.result.now in
-    let ys = c.loop-pair.pair-items in
-    let same_length = ChangedTo-length (λ (p : KeptPair). p) f i xs ys c.loop-pair.invariant in
-    let below : i < length ys = omega (arith, same_length, c.loop-pair-test.true) in
-    rw add-one (ChangedTo-step (λ (p : KeptPair). p) f i xs ys _ _ below c.asked_again.ensures c.loop-pair.invariant)
+    one_anew (asked_again c.args.first) c.loop-pair.pair-index c.deref_mut-pair-items.result.now c.loop-pair.pair-items c.loop-pair.invariant _ _ c.loop-pair-test.true c.asked_again.ensures
 
 pub returns : goal.returns
 returns c =
     let f = asked_again c.args.first in
-    let i = c.loop-pair.pair-index in
-    let xs = c.deref_mut-pair-items.result.now in
-    let ys = c.loop-pair.pair-items in
-    let same_length = ChangedTo-length (λ (p : KeptPair). p) f i xs ys c.loop-pair.invariant in
-    let at_end : length ys ≡ i = omega (arith, same_length) in
-    take_at ys _ _ (omega (arith, same_length, c.args.pairs.now.ok.0))
-    ∙ sym (map-id ys) ∙ ChangedTo-all (λ (p : KeptPair). p) f i xs ys at_end c.loop-pair.invariant
-    ∙ ap (map f) (map-id xs) ∙ ap (map f) c.deref_mut-pair-items.ensures.value
+    all_anew f c.loop-pair.pair-index c.deref_mut-pair-items.result.now c.loop-pair.pair-items c.loop-pair.invariant _ _ (omega arith) (omega (arith, c.args.pairs.now.ok.0)) ∙ ap (map f) c.deref_mut-pair-items.ensures.value

@@ -1,25 +1,24 @@
--- Seven conditions hold, and the last one fails.
-use Rattle.std.proofs.Common.{◌∙◌, sym, take}
+-- Seven conditions hold, and the last one fails or holds, or one of the seven fails.
+use Rattle.std.proofs.Common.{◌≡◌, ◌∙◌, ℕ, Bool, Option, Some, None, cond, refl, sym, take}
+use Rattle.std.specs.Option.{option_or}
+use Rattle.model_core.specs.EventGraph.{EventGraph}
+use Rattle.model_core.specs.Rules.Conditions.{first_failed}
 use Rattle.model_core.specs.Rules.Merge.{merge_conditions, merged, is_within_limits}
 use Rattle.model_core.specs.Code.Views.{graph_of}
-use Rattle.merge_rules.proofs.ConditionsAsked.PairsFound.{last_fails, last_holds, one_fails}
+use Rattle.merge_rules.proofs.ConditionsAsked.PairsFound.{with_last}
 use Rattle.merge_rules.proofs.merging.failed_merge.Goals as goal
+
+eight_told : (g : EventGraph) (first second : ℕ) {front : Option ℕ} {last : Bool} → front ≡ first_failed (take 7 (merge_conditions g first second)) → last ≡ is_within_limits (merged g first second) first
+    → option_or front (cond last None (Some 8)) ≡ first_failed (merge_conditions g first second)
+eight_told g first second front last = (λ i. option_or (front i) (cond (last i) None (Some 8))) ∙ with_last (take 7 (merge_conditions g first second)) (is_within_limits (merged g first second) first)
 
 pub returns-else-is_within_limits-clause-failed : goal.returns-else-is_within_limits-clause-failed
 returns-else-is_within_limits-clause-failed t c =
-    let g = graph_of c.args.model.now in
-    last_fails (take 7 (merge_conditions g c.args.first c.args.second)) (is_within_limits (merged g c.args.first c.args.second) c.args.first)
-    (sym c.failed_before_limits.ensures.failed ∙ c.in_default.is)
-    (sym c.is_within_limits.ensures.is ∙ c.if-is_within_limits.false)
+    eight_told (graph_of c.args.model.now) c.args.first c.args.second (sym c.in_default.is ∙ c.failed_before_limits.ensures.failed) (sym c.if-is_within_limits.false ∙ c.is_within_limits.ensures.is)
 
 pub returns-then-is_within_limits-clause-failed : goal.returns-then-is_within_limits-clause-failed
 returns-then-is_within_limits-clause-failed t c =
-    let g = graph_of c.args.model.now in
-    last_holds (take 7 (merge_conditions g c.args.first c.args.second)) (is_within_limits (merged g c.args.first c.args.second) c.args.first)
-    (sym c.failed_before_limits.ensures.failed ∙ c.in_default.is)
-    (sym c.is_within_limits.ensures.is ∙ c.if-is_within_limits.true)
+    eight_told (graph_of c.args.model.now) c.args.first c.args.second (sym c.in_default.is ∙ c.failed_before_limits.ensures.failed) (sym c.if-is_within_limits.true ∙ c.is_within_limits.ensures.is)
 
 pub returns-in-Some-clause-failed : goal.returns-in-Some-clause-failed
-returns-in-Some-clause-failed t c =
-    let g = graph_of c.args.model.now in
-    one_fails (take 7 (merge_conditions g c.args.first c.args.second)) (is_within_limits (merged g c.args.first c.args.second) c.args.first) c.in-Some.condition (sym c.failed_before_limits.ensures.failed ∙ c.in-Some.is)
+returns-in-Some-clause-failed t c = eight_told (graph_of c.args.model.now) c.args.first c.args.second (sym c.in-Some.is ∙ c.failed_before_limits.ensures.failed) refl
