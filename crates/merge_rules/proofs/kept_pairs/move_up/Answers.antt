@@ -1,13 +1,13 @@
-use Rattle.std.proofs.Common.{◌∙◌, ap, map, arith}
+use Rattle.std.proofs.Common.{◌∙◌, sym, ap, map}
+use Rattle.std.proofs.lemmas.List.{map-id}
+use Rattle.mark_laws.proofs.WrittenAnew.{one_written, all_written}
 use Rattle.merge_rules.specs.Inner.PairMoves.{moved_up}
-use Rattle.merge_rules.proofs.WrittenAnew.{one_anew, all_anew}
 use Rattle.merge_rules.proofs.kept_pairs.move_up.Goals as goal
 
 pub loop-pair-preserved : goal.loop-pair-preserved
-loop-pair-preserved c =
-    one_anew (moved_up c.args.gone) c.loop-pair.pair-index c.deref_mut-pair-items.result.now c.loop-pair.pair-items c.loop-pair.invariant _ _ c.loop-pair-test.true c.moved_up.ensures
+loop-pair-preserved c = one_written c.loop-pair.invariant _ _ c.loop-pair-test.true c.moved_up.ensures
 
 pub returns : goal.returns
 returns c =
-    let f = moved_up c.args.gone in
-    all_anew f c.loop-pair.pair-index c.deref_mut-pair-items.result.now c.loop-pair.pair-items c.loop-pair.invariant _ _ (omega arith) (omega (arith, c.args.pairs.now.ok.0)) ∙ ap (map f) c.deref_mut-pair-items.ensures.value
+    sym (map-id _) ∙ all_written c.loop-pair.invariant _ _ c.loop-pair-test.false c.loop-pair.auto.pair-index-end c.args.pairs.now.ok.0 c.deref_mut-pair-items.ensures.value
+    ∙ ap (map (moved_up c.args.gone)) (map-id c.args.pairs.now.items)
