@@ -4,7 +4,7 @@ use Rattle.std.specs.Ordering.{int_eq}
 use Rattle.std.proofs.lemmas.Int.{ints, clamps}
 use Rattle.std.specs.Int.Signed.{≤ℤ_refl}
 use Rattle.sig_base.specs.declared.fault.FaultKind.TheVariants as faults
-use Rattle.model_core.specs.EventGraph.{EventGraph, Expression, Number, Negative, Operator, Add, Subtract, Multiply, Divide, Remainder, Least, Greatest, Equal, NotEqual, Below, AtMost, Above, AtLeast, And, Or}
+use Rattle.model_core.specs.EventGraph.{EventGraph, Expression, Number, Negative, Operator, Equal, NotEqual, Below, AtMost, Above, AtLeast}
 use Rattle.model_core.specs.Run.State.{State, within}
 use Rattle.model_core.specs.Run.Value.{number_of, exact, operate, value_of}
 use Rattle.model_core.specs.Rules.Exclusive.{number_literal, literal_number}
@@ -62,38 +62,18 @@ down_by true hi = omega (arith, ints)
 down_by false hi = omega (arith, ints)
 
 pub low_left : (op : Operator) (n : ℤ) (r : VarRange) → r.lo ≤ℤ (numbers_left op n r).lo
-low_left Below n r = ≤ℤ_refl r.lo
-low_left AtMost n r = ≤ℤ_refl r.lo
 low_left Above n r = omega (arith, ints, clamps)
 low_left AtLeast n r = omega (arith, ints, clamps)
 low_left Equal n r = omega (arith, ints, clamps)
 low_left NotEqual n r = up_by (int_eq r.lo n) r.lo
-low_left Add n r = ≤ℤ_refl r.lo
-low_left Subtract n r = ≤ℤ_refl r.lo
-low_left Multiply n r = ≤ℤ_refl r.lo
-low_left Divide n r = ≤ℤ_refl r.lo
-low_left Remainder n r = ≤ℤ_refl r.lo
-low_left Least n r = ≤ℤ_refl r.lo
-low_left Greatest n r = ≤ℤ_refl r.lo
-low_left And n r = ≤ℤ_refl r.lo
-low_left Or n r = ≤ℤ_refl r.lo
+low_left op n r = ≤ℤ_refl r.lo
 
 pub high_left : (op : Operator) (n : ℤ) (r : VarRange) → (numbers_left op n r).hi ≤ℤ r.hi
 high_left Below n r = omega (arith, ints, clamps)
 high_left AtMost n r = omega (arith, ints, clamps)
-high_left Above n r = ≤ℤ_refl r.hi
-high_left AtLeast n r = ≤ℤ_refl r.hi
 high_left Equal n r = omega (arith, ints, clamps)
 high_left NotEqual n r = down_by (int_eq r.hi n) r.hi
-high_left Add n r = ≤ℤ_refl r.hi
-high_left Subtract n r = ≤ℤ_refl r.hi
-high_left Multiply n r = ≤ℤ_refl r.hi
-high_left Divide n r = ≤ℤ_refl r.hi
-high_left Remainder n r = ≤ℤ_refl r.hi
-high_left Least n r = ≤ℤ_refl r.hi
-high_left Greatest n r = ≤ℤ_refl r.hi
-high_left And n r = ≤ℤ_refl r.hi
-high_left Or n r = ≤ℤ_refl r.hi
+high_left op n r = ≤ℤ_refl r.hi
 
 -- above and at least are told with their operands the other way round
 lt_swapped : (x n : ℤ) (b : Bool) → int_lt n x ≡ b → int_le x n ≡ not b

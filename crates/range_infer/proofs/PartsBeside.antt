@@ -8,7 +8,7 @@ use Rattle.model_core.specs.declared.incoming.Incoming.{Incoming}
 use Rattle.range_infer.specs.declared.ranges_left.RangesLeft.{RangesLeft}
 use Rattle.range_infer.specs.Inner.RangesLeft.{variables_left, StaysLeft}
 use Rattle.range_infer.specs.Inner.Readers.{one_at}
-use Rattle.range_infer.proofs.LedBack.{same_variables}
+use Rattle.range_infer.proofs.LedBack.{same_variables, stays-trans}
 
 pub made_of_part : {A B C : Type 0} (view : A → B) (f : B → C) (xs : List A) (ys : List C) (i : ℕ) (x : A) (y : C) → ys ≡ map f (map view xs) → i < length xs → x ≡ slice_index_or xs i x → y ≡ slice_index_or ys i y → y ≡ f (view x)
 made_of_part view f xs ys i x y made small here beside =
@@ -27,12 +27,20 @@ one_more view f [] i x small is = absurd (omega arith)
 one_more view f (y ∷ xs) zero x small is = append-nil (f (view y)) ∙ ap (λ z. f (view z)) (sym is)
 one_more view f (y ∷ xs) (suc i) x small is = ap (λ zs. f (view y) ++ zs) (one_more view f xs i x (omega arith) is) ∙ sym (append_assoc (f (view y)) (flat_map f (map view (take i xs))) (f (view x)))
 
-pub part_more : {A B : Type 0} (view : A → B) (see : EventGraph → List Variable → B → List Incoming) (xs : List A) (i : ℕ) (x : A) (first now : RangesLeft) (before out next : List Incoming) → i < length xs → x ≡ slice_index_or xs i x → StaysLeft first now
-    → out ≡ before ++ flat_map (see (graph_of first.model.now) (variables_left first)) (map view (take i xs)) → next ≡ out ++ see (graph_of now.model.now) (variables_left now) (view x)
-    → next ≡ before ++ flat_map (see (graph_of first.model.now) (variables_left first)) (map view (take (i + 1) xs))
-part_more view see xs i x first now before out next small is stays so added =
+-- what the parts before place i have given where a loop stands there, and that the ranges stayed
+pub record GivenSoFar {A B : Type 0} (view : A → B) (see : EventGraph → List Variable → B → List Incoming) (xs : List A) (i : ℕ) (first now : RangesLeft) (before given : List Incoming) : Type 0 where
+  pub out : given ≡ before ++ flat_map (see (graph_of first.model.now) (variables_left first)) (map view (take i xs))
+  pub left : StaysLeft first now
+
+pub part_more : {A B : Type 0} {view : A → B} {see : EventGraph → List Variable → B → List Incoming} {xs : List A} {i : ℕ} {first now after : RangesLeft} {before given next : List Incoming}
+    → GivenSoFar view see xs i first now before given → {x : A} → i < length xs → x ≡ slice_index_or xs i x → next ≡ given ++ see (graph_of now.model.now) (variables_left now) (view x)
+    → StaysLeft now after → GivenSoFar view see xs (i + 1) first after before next
+part_more {view = view} {see = see} {xs = xs} {i = i} {first = first} {now = now} {after = after} {before = before} {given = given} so {x = x} small is added stays =
     let f = see (graph_of first.model.now) (variables_left first) in
     let more : i + 1 ≡ suc i = omega arith in
-    added ∙ (ap₂ (λ (g : EventGraph) (rs : List Variable). out ++ see g rs (view x)) (ap graph_of stays.model) (same_variables first now stays)
-    ∙ (ap (λ (is : List Incoming). is ++ f (view x)) so ∙ (append_assoc before (flat_map f (map view (take i xs))) (f (view x))
-    ∙ ap (λ (is : List Incoming). before ++ is) (sym (ap (λ (k : ℕ). flat_map f (map view (take k xs))) more ∙ one_more view f xs i x small is)))))
+    record {
+      out = added ∙ (ap₂ (λ (g : EventGraph) (rs : List Variable). given ++ see g rs (view x)) (ap graph_of so.left.model) (same_variables first now so.left)
+          ∙ (ap (λ (is : List Incoming). is ++ f (view x)) so.out ∙ (append_assoc before (flat_map f (map view (take i xs))) (f (view x))
+          ∙ ap (λ (is : List Incoming). before ++ is) (sym (ap (λ (k : ℕ). flat_map f (map view (take k xs))) more ∙ one_more view f xs i x small is)))));
+      left = stays-trans first now after so.left stays;
+    }

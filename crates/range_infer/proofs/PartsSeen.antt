@@ -108,29 +108,24 @@ module _ (P : Incoming → Type 0) where
           let found = among-contained parts p (are_all p v (contained-among (part_vars (map parts_read us) p) v reads) is) in
           one_of (vertex_part_seen g false moved rs p) (one_at p.vertex us) u (one_of (part_seen g false moved rs us) parts p held found) stands
 
-      change_held : (i : ℕ) (u : EventVertex) → Among u (one_at i us) → (j : ℕ) (c : StateChange) → Among c (one_at j u.changes) → AllByRecursion P (change c)
-      change_held i u stands j c here = by (list_any (is_moved moved) (value_vars (set_reads c))) refl where
-        p : PartPlace
-        p = record { vertex = i; is_edge = false; place = j }
-
-        by : (b : Bool) → list_any (is_moved moved) (value_vars (set_reads c)) ≡ b → AllByRecursion P (change c)
-        by false none = subst (AllByRecursion P) (sym (quiet_change c none)) tt
+      -- of a vertex the part at a place, which stands in this list
+      part_held : {A R : Type 0} (gives : A → List Incoming) (reads : A → R) (vars : R → List ℕ) (xs : List A) (p : PartPlace) (u : EventVertex)
+          → flat_map vars (one_at p.place (map reads xs)) ≡ vertex_part_vars p (parts_read u) → vertex_part_seen g false moved rs p u ≡ flat_map gives (one_at p.place xs)
+          → ((x : A) → list_any (is_moved moved) (vars (reads x)) ≡ false → gives x ≡ [])
+          → Among u (one_at p.vertex us) → (x : A) → Among x (one_at p.place xs) → AllByRecursion P (gives x)
+      part_held gives reads vars xs p u read seen quiet stands x here = by (list_any (is_moved moved) (vars (reads x))) refl where
+        by : (b : Bool) → list_any (is_moved moved) (vars (reads x)) ≡ b → AllByRecursion P (gives x)
+        by false none = subst (AllByRecursion P) (sym (quiet x none)) tt
         by true some =
-            let (v, among, is) = any-among (is_moved moved) (value_vars (set_reads c)) some in
-            let has = among-flat_map value_vars (one_at j (map set_reads u.changes)) (set_reads c) v (one-map set_reads j u.changes c here) among in
-            one_of change (one_at j u.changes) c (there p u stands (among-any (is_moved moved) (vertex_part_vars p (parts_read u)) v has is)) here
+            let (v, among, is) = any-among (is_moved moved) (vars (reads x)) some in
+            let has = subst (Among v) read (among-flat_map vars (one_at p.place (map reads xs)) (reads x) v (one-map reads p.place xs x here) among) in
+            one_of gives (one_at p.place xs) x (subst (AllByRecursion P) seen (there p u stands (among-any (is_moved moved) (vertex_part_vars p (parts_read u)) v has is))) here
+
+      change_held : (i : ℕ) (u : EventVertex) → Among u (one_at i us) → (j : ℕ) (c : StateChange) → Among c (one_at j u.changes) → AllByRecursion P (change c)
+      change_held i u stands j = part_held change set_reads value_vars u.changes (record { vertex = i; is_edge = false; place = j }) u refl refl quiet_change stands
 
       edge_held : (i : ℕ) (u : EventVertex) → Among u (one_at i us) → (j : ℕ) (e : EventEdge) → Among e (one_at j u.edges) → AllByRecursion P (edge e)
-      edge_held i u stands j e here = by (list_any (is_moved moved) (edge_vars (carried_reads e))) refl where
-        p : PartPlace
-        p = record { vertex = i; is_edge = true; place = j }
-
-        by : (b : Bool) → list_any (is_moved moved) (edge_vars (carried_reads e)) ≡ b → AllByRecursion P (edge e)
-        by false none = subst (AllByRecursion P) (sym (quiet_edge e none)) tt
-        by true some =
-            let (v, among, is) = any-among (is_moved moved) (edge_vars (carried_reads e)) some in
-            let has = among-flat_map edge_vars (one_at j (map carried_reads u.edges)) (carried_reads e) v (one-map carried_reads j u.edges e here) among in
-            one_of edge (one_at j u.edges) e (there p u stands (among-any (is_moved moved) (vertex_part_vars p (parts_read u)) v has is)) here
+      edge_held i u stands j = part_held edge carried_reads edge_vars u.edges (record { vertex = i; is_edge = true; place = j }) u refl refl quiet_edge stands
 
       pub all_seen_too : AllByRecursion P (flat_map (vertex_seen g false moved rs) us)
       all_seen_too = by_places (vertex_seen g false moved rs) us (λ i u stands.

@@ -7,7 +7,7 @@ use Rattle.std.proofs.lemmas.List.Sums.{fold-append}
 use Rattle.model_core.specs.declared.op.Op.{Op}
 use Rattle.model_core.specs.declared.op.Op.TheVariants as ops
 use Rattle.model_core.specs.declared.bounds.Bounds.{Bounds}
-use Rattle.model_core.specs.EventGraph.{Variable, Operator, Add, Subtract, Multiply, Divide, Remainder, Least, Greatest, Equal, NotEqual, Below, AtMost, Above, AtLeast, And, Or, Expression, Number, Truth, Clock, Scalar, Cell, Negative, Not, Binary, If}
+use Rattle.model_core.specs.EventGraph.{Variable, Operator, Add, And, Or, Expression, Scalar, Cell, Negative, Not, Binary, If}
 use Rattle.model_core.specs.Run.State.{no_variable}
 use Rattle.model_core.specs.Code.Views.{operator_of}
 use Rattle.model_core.specs.Rules.BoundsTable.{operator_bounds}
@@ -20,37 +20,11 @@ use Rattle.range_infer.specs.Inner.Postfix.{op_of, number_items, literal_items, 
 
 same_operator : (op : Operator) → operator_of (op_of op) ≡ op
 same_operator Add = refl
-same_operator Subtract = refl
-same_operator Multiply = refl
-same_operator Divide = refl
-same_operator Remainder = refl
-same_operator Least = refl
-same_operator Greatest = refl
-same_operator Equal = refl
-same_operator NotEqual = refl
-same_operator Below = refl
-same_operator AtMost = refl
-same_operator Above = refl
-same_operator AtLeast = refl
-same_operator And = refl
-same_operator Or = refl
+same_operator op = refl
 
 pub same_op : (op : Op) → op_of (operator_of op) ≡ op
 same_op ops.Add = refl
-same_op ops.Sub = refl
-same_op ops.Mul = refl
-same_op ops.Div = refl
-same_op ops.Rem = refl
-same_op ops.Min = refl
-same_op ops.Max = refl
-same_op ops.Eq = refl
-same_op ops.Ne = refl
-same_op ops.Lt = refl
-same_op ops.Le = refl
-same_op ops.Gt = refl
-same_op ops.Ge = refl
-same_op ops.And = refl
-same_op ops.Or = refl
+same_op op = refl
 
 -- ---- one walk behind another
 
@@ -78,27 +52,13 @@ module _ (kept : List (List Variable)) (found : List Bounds) where
 
   literal_left : (op : Op) (v : ℕ) (e : Expression) (rs : List Variable) → walk (ranges_at rs) (literal_items op v e) ≡ ranges_at (slice_set rs v (where_holds (operator_of op) (literal_number e) (ranged_at rs v)))
   literal_left op v (Negative a) rs = number_left op v true (number_literal a) rs
-  literal_left op v (Number n) rs = number_left op v false (Some n) rs
-  literal_left op v (Truth t) rs = number_left op v false None rs
-  literal_left op v Clock rs = number_left op v false None rs
-  literal_left op v (Scalar w) rs = number_left op v false None rs
-  literal_left op v (Cell w e) rs = number_left op v false None rs
-  literal_left op v (Not a) rs = number_left op v false None rs
-  literal_left op v (Binary o a c) rs = number_left op v false None rs
-  literal_left op v (If c x y) rs = number_left op v false None rs
+  literal_left op v e rs = number_left op v false (number_literal e) rs
 
   compared_left : (op : Operator) (a c : Expression) (b : Bool) (rs : List Variable) → walk (ranges_at rs) (compared_items op a c b) ≡ ranges_at (refined_by op a c b rs)
   compared_left op (Scalar v) c b rs =
       let o = cond b op (opposite_comparison op) in
       literal_left (op_of o) v c rs ∙ ap (λ (o : Operator). ranges_at (slice_set rs v (where_holds o (literal_number c) (ranged_at rs v)))) (same_operator o)
-  compared_left op (Number n) c b rs = refl
-  compared_left op (Truth t) c b rs = refl
-  compared_left op Clock c b rs = refl
-  compared_left op (Cell v e) c b rs = refl
-  compared_left op (Negative a) c b rs = refl
-  compared_left op (Not a) c b rs = refl
-  compared_left op (Binary o x y) c b rs = refl
-  compared_left op (If t x y) c b rs = refl
+  compared_left op a c b rs = refl
 
   either_left : (t : Bool) (w : Walk) (xs ys : List PostfixItem) (one other : List Variable) → walk w xs ≡ ranges_at one → walk w ys ≡ ranges_at other → walk w (cond t xs ys) ≡ ranges_at (cond t one other)
   either_left true w xs ys one other first second = first
@@ -110,13 +70,7 @@ module _ (kept : List (List Variable)) (found : List Bounds) where
       either_left (tells_of_both op b) (ranges_at rs) (left_items a b ++ left_items c b) (compared_items op a c b) (refined c b (refined a b rs)) (refined_by op a c b rs)
       (both (ranges_at rs) (left_items a b) (left_items c b) (ranges_at (refined a b rs)) (ranges_at (refined c b (refined a b rs))) (known_left a b rs) (known_left c b (refined a b rs)))
       (compared_left op a c b rs)
-  known_left (Number n) b rs = refl
-  known_left (Truth t) b rs = refl
-  known_left Clock b rs = refl
-  known_left (Scalar v) b rs = refl
-  known_left (Cell v e) b rs = refl
-  known_left (Negative a) b rs = refl
-  known_left (If c x y) b rs = refl
+  known_left e b rs = refl
 
 -- ---- what is left behind an expression
 
@@ -161,14 +115,7 @@ module _ (kept : List (List Variable)) (found : List Bounds) where
 
   right_found : (op : Operator) (c : Expression) (a : Bounds) (rs : List Variable) → IsFound c → walk (standing rs kept (a ∷ found)) (with_right op c (postfix_of c None)) ≡ standing rs kept (operator_bounds op a (bounds rs c) ∷ found)
   right_found op (Scalar v) a rs right = ap (λ (o : Operator). standing rs kept (operator_bounds o a (bounds rs (Scalar v)) ∷ found)) (same_operator op)
-  right_found op (Number n) a rs right = by_items op (Number n) a rs right
-  right_found op (Truth t) a rs right = by_items op (Truth t) a rs right
-  right_found op Clock a rs right = by_items op Clock a rs right
-  right_found op (Cell v e) a rs right = by_items op (Cell v e) a rs right
-  right_found op (Negative e) a rs right = by_items op (Negative e) a rs right
-  right_found op (Not e) a rs right = by_items op (Not e) a rs right
-  right_found op (Binary o x y) a rs right = by_items op (Binary o x y) a rs right
-  right_found op (If t x y) a rs right = by_items op (If t x y) a rs right
+  right_found op c a rs right = by_items op c a rs right
 
   module _ (a c : Expression) (left : IsFound a) (right : IsFound c) (rs : List Variable) where
     abbrev operated_to : Operator → Walk
@@ -190,19 +137,7 @@ module _ (kept : List (List Variable)) (found : List Bounds) where
     operands_found : (op : Operator) → walk (standing rs kept found) (with_operands (guard_of op) op c (postfix_of a) (postfix_of c)) ≡ operated_to op
     operands_found And = guarded_found ops.And true
     operands_found Or = guarded_found ops.Or false
-    operands_found Add = plain_found Add
-    operands_found Subtract = plain_found Subtract
-    operands_found Multiply = plain_found Multiply
-    operands_found Divide = plain_found Divide
-    operands_found Remainder = plain_found Remainder
-    operands_found Least = plain_found Least
-    operands_found Greatest = plain_found Greatest
-    operands_found Equal = plain_found Equal
-    operands_found NotEqual = plain_found NotEqual
-    operands_found Below = plain_found Below
-    operands_found AtMost = plain_found AtMost
-    operands_found Above = plain_found Above
-    operands_found AtLeast = plain_found AtLeast
+    operands_found op = plain_found op
 
     -- both operands are told of
     told_found : (op : Operator) (b : Bool) → tells_of_both op b ≡ true → walk (standing rs kept found) (postfix_of a (Some b) ++ (postfix_of c (Some b) ++ items.Operator (op_of op) ∷ [])) ≡ standing (refined (Binary op a c) b rs) kept (operator_bounds op (bounds rs a) (bounds (beside refined op a rs) c) ∷ found)
@@ -262,10 +197,6 @@ nothing_told : (e : Expression) (m : Option Bool) (rs : List Variable) (kept : L
 nothing_told e m rs kept found stays = ap (λ (vs : List Variable). standing vs kept found) (untold e m rs stays)
 
 pub is_found : (e : Expression) → IsFound e
-is_found (Number n) m rs kept found = nothing_told (Number n) m rs kept (bounds rs (Number n) ∷ found) (λ b. refl)
-is_found (Truth t) m rs kept found = nothing_told (Truth t) m rs kept (bounds rs (Truth t) ∷ found) (λ b. refl)
-is_found Clock m rs kept found = nothing_told Clock m rs kept (bounds rs Clock ∷ found) (λ b. refl)
-is_found (Scalar v) m rs kept found = nothing_told (Scalar v) m rs kept (bounds rs (Scalar v) ∷ found) (λ b. refl)
 is_found (Cell v e) m rs kept found =
     both (standing rs kept found) (postfix_of e None) (items.CellOf v ∷ []) (standing rs kept (bounds rs e ∷ found)) (standing (left_behind (Cell v e) m rs) kept (bounds rs (Cell v e) ∷ found)) (is_found e None rs kept found)
     (nothing_told (Cell v e) m rs kept (bounds rs (Cell v e) ∷ found) (λ b. refl))
@@ -278,6 +209,7 @@ is_found (Not a) m rs kept found =
     (ap (λ (vs : List Variable). standing vs kept (bounds rs (Not a) ∷ found)) (negated_behind a m rs))
 is_found (Binary op a c) m rs kept found = binary_found kept found a c (is_found a) (is_found c) rs op m
 is_found (If c a b) m rs kept found = if_found c a b (is_found c) (is_found a) (is_found b) rs kept found ∙ nothing_told (If c a b) m rs kept (bounds rs (If c a b) ∷ found) (λ t. refl)
+is_found e m rs kept found = nothing_told e m rs kept (bounds rs e ∷ found) (λ b. refl)
 
 -- ---- one item
 

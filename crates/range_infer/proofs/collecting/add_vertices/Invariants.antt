@@ -1,12 +1,9 @@
-use Rattle.std.proofs.Common.{◌≡◌, ◌++◌, map, take}
-use Rattle.std.specs.List.{flat_map}
-use Rattle.model_core.specs.Code.Views.{graph_of, vertex_of}
-use Rattle.range_infer.specs.Inner.RangesLeft.{variables_left, StaysLeft}
+use Rattle.model_core.specs.Code.Views.{vertex_of}
+use Rattle.model_core.specs.EventGraph.{EventGraph, Variable}
+use Rattle.std.proofs.Common.{List}
 use Rattle.range_infer.specs.Inner.LookedAt.{vertex_seen}
+use Rattle.range_infer.proofs.PartsBeside.{GivenSoFar}
 use Rattle.range_infer.proofs.collecting.add_vertices.Given as goal
 
 abbrev pub invariant-loop-place : goal.invariant-loop-place
-invariant-loop-place l = record {
-  out : l.out.items ≡ l.initial.out.items ++ flat_map (vertex_seen (graph_of l.initial.left.model.now) l.look.all l.look.moved.now (variables_left l.initial.left)) (map vertex_of (take l.place l.vertices));
-  left : StaysLeft l.initial.left l.left;
-}
+invariant-loop-place l = GivenSoFar vertex_of (λ (g : EventGraph) (rs : List Variable). vertex_seen g l.look.all l.look.moved.now rs) l.vertices l.place l.initial.left l.left l.initial.out.items l.out.items
