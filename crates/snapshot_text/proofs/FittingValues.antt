@@ -1,9 +1,9 @@
 -- Values fit the cells of a variable where there are as many, and each is known and in its range.
-use Rattle.std.proofs.Common.{◌≡◌, ℕ, ◌≤◌, drop, ◌++◌, zero, suc, Bool, true, false, not, ◌&&◌, nat_lt, map, take, ℤ, pos, List, [], ◌∷◌, length, replicate, unwrap_or, Some, None, ◌+◌, refl, sym, ap, ap₂, subst, ◌∙◌, arith, append_assoc}
+use Rattle.std.proofs.Common.{◌≡◌, ℕ, ◌≤◌, drop, ◌++◌, zero, suc, Bool, true, false, not, ◌&&◌, nat_lt, map, take, ℤ, pos, List, [], ◌∷◌, length, replicate, unwrap_or, Some, None, ◌+◌, ◌-◌, refl, sym, ap, ap₂, subst, ◌∙◌, arith, append_assoc}
 use Rattle.std.specs.List.{list_all}
 use Rattle.std.specs.Option.{is_some}
 use Rattle.std.proofs.lemmas.Bool.Decides.{nat_tests}
-use Rattle.std.proofs.lemmas.List.{length-map, take-map, drop-map, drop-drop, append-nil}
+use Rattle.std.proofs.lemmas.List.{length-map, length-drop, take-map, drop-map, drop-drop, append-nil}
 use Rattle.std.proofs.lemmas.Bool.{le-ltb}
 use lib.Pointwise.{bytes_decides}
 use Rattle.model_core.specs.declared.raw.RawSigned.{RawSigned}
@@ -36,14 +36,16 @@ fit-each v (suc n) (s ∷ ws) long =
 pub same_so_far : (v : Variable) (w : WrittenValue) → w.variable.name ≡ v.name → length w.values ≡ cell_count v → list_all (fits_between v.lo v.hi) w.values ≡ value_good v w
 same_so_far v w named count = sym (ap₂ (λ a b. a && b) ((bytes_decides w.variable.name v.name).1 named) (fit-each v (cell_count v) w.values count))
 
--- the cells of a variable are good where the first values fit
-pub cells-good : (v : Variable) (raws : List RawSigned) (b : Bool) (lo hi : ℤ) (n : ℕ) → n ≡ cell_count v → lo ≡ v.lo → hi ≡ v.hi → n ≤ length raws → b ≡ list_all (fits_between lo hi) (map written_signed (take n raws))
-    → b ≡ cells_good v (map written_signed raws)
-cells-good v raws b lo hi n count low high some is =
-    let enough : nat_lt (length (map written_signed raws)) (cell_count v) ≡ false = le-ltb (length (map written_signed raws)) (cell_count v) (omega (arith, length-map raws written_signed, count)) in
+-- the cells of a variable are good where the first of the values from a place on fit
+pub cells-good : (v : Variable) (values : List RawSigned) (from : ℕ) (b : Bool) (lo hi : ℤ) (n : ℕ) → n ≡ cell_count v → lo ≡ v.lo → hi ≡ v.hi → n ≤ length values - from
+    → b ≡ list_all (fits_between lo hi) (map written_signed (take ((from + n) - from) (drop from values))) → b ≡ cells_good v (map written_signed (drop from values))
+cells-good v values from b lo hi n count low high some is =
+    let raws = drop from values in
+    let span : (from + n) - from ≡ cell_count v = omega (arith, count) in
+    let enough : nat_lt (length (map written_signed raws)) (cell_count v) ≡ false = le-ltb (length (map written_signed raws)) (cell_count v) (omega (arith, length-map raws written_signed, length-drop from values, count)) in
     is
-    ∙ ap₂ (λ (x y : ℤ). list_all (fits_between x y) (map written_signed (take n raws))) low high
-    ∙ ap (λ (k : ℕ). list_all (fits_between v.lo v.hi) (map written_signed (take k raws))) count
+    ∙ ap₂ (λ (x y : ℤ). list_all (fits_between x y) (map written_signed (take ((from + n) - from) raws))) low high
+    ∙ ap (λ (k : ℕ). list_all (fits_between v.lo v.hi) (map written_signed (take k raws))) span
     ∙ ap (list_all (fits_between v.lo v.hi)) (sym (take-map written_signed (cell_count v) raws))
     ∙ ap (λ e. not e && list_all (fits_between v.lo v.hi) (take (cell_count v) (map written_signed raws))) (sym enough)
 

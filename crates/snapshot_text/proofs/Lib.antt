@@ -10,6 +10,5 @@ mod DigitsRead
 mod FewParameters
 mod FittingValues
 mod JudgedParts
-mod PartsBegin
 mod PassingOver
 mod PrintedLines

@@ -62,14 +62,20 @@ pub(crate) fn judged(
     requires few { AllByRecursion (λ (v : EventVertex). length v.parameters ≤ PARAMETERS_MAX) (graph_of model.now).vertices }
     ensures { Judged result (snapshot_parts (graph_of model.now) (written_snapshot raw.now)) (λ s. s ≡ saved_run (graph_of model.now) (written_snapshot raw.now)) }
 {
-    let Some(seed) = seed_of(raw.seed, raw.seed_rest) else {
-        return Err(SnapshotError::Bad { at: raw.seed_at });
+    let Some(seed) = seed_of(raw.head.seed, raw.head.seed_rest) else {
+        return Err(SnapshotError::Bad {
+            at: raw.head.seed_at,
+        });
     };
-    let Some(clock) = at_most(raw.clock, STOP_MAX) else {
-        return Err(SnapshotError::Bad { at: raw.clock_at });
+    let Some(clock) = at_most(raw.head.clock, STOP_MAX) else {
+        return Err(SnapshotError::Bad {
+            at: raw.head.clock_at,
+        });
     };
-    let Some(events) = at_most(raw.events, EVENTS_MAX) else {
-        return Err(SnapshotError::Bad { at: raw.events_at });
+    let Some(events) = at_most(raw.head.events, EVENTS_MAX) else {
+        return Err(SnapshotError::Bad {
+            at: raw.head.events_at,
+        });
     };
     later_judged(alloc, model, raw, seed, clock, events)
 }

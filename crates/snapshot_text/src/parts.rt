@@ -59,13 +59,7 @@ pub(crate) struct RawHead {
 /// A snapshot.
 #[derive(Drop)]
 pub(crate) struct RawSnapshot<'t> {
-    pub seed_at: usize,
-    pub seed: RawNumber,
-    pub seed_rest: RawNumber,
-    pub clock_at: usize,
-    pub clock: RawNumber,
-    pub events_at: usize,
-    pub events: RawNumber,
+    pub head: RawHead,
     pub streams: List<RawStream>,
     pub values: List<RawValue<'t>>,
     pub noted: Option<RawNoted>,

@@ -1,14 +1,15 @@
 //! Reads the parts of a snapshot from its tokens.
 
-ghost use Rattle.std.specs.Prelude.{drop, map, IfOk};
+ghost use Rattle.std.specs.Prelude.{◌≡◌, drop, map, IfOk};
 ghost use Rattle.std.specs.Option.{option_map};
-ghost use Rattle.model_core.specs.declared.token.Symbol.TheVariants.{Comma};
 ghost use Rattle.model_core.specs.Code.WrittenViews.{written_signed};
-ghost use Rattle.model_core.specs.Text.Format.{Many, mark, ◌*>◌, maybe, separated};
+ghost use Rattle.model_core.specs.Text.Format.{maybe, separated};
 ghost use Rattle.model_core.specs.Text.Language.{signed_format};
-ghost use Rattle.model_core.specs.Text.SnapshotGrammar.{stream_format, value_format, noted_format, carried_format, carries_format, pending_format, snapshot_format, IsSnapshot};
-ghost use Rattle.text_laws.specs.FormatReader.{and_next, with_front, whole_read};
-ghost use Rattle.text_laws.specs.LanguageReader.{language_reader};
+ghost use Rattle.model_core.specs.Text.SnapshotGrammar.{WrittenStream, WrittenValue, WrittenCarried, WrittenPending, stream_format, value_format, noted_format, carried_format, carries_format, pending_format, snapshot_format, IsSnapshot};
+ghost use Rattle.text_laws.specs.FirstTokens.{first_sorts, begins_among};
+ghost use Rattle.text_laws.specs.FormatReader.{and_next, whole_read};
+ghost use Rattle.text_laws.specs.LanguageReader.{level_lookahead, language_reader};
+ghost use Rattle.snapshot_text.specs.Inner.SomeParts.{stream-some, value-some, carried-some, pending-some};
 ghost use Rattle.model_lex.specs.PiecesOfText.{pieces_lexemes};
 ghost use Rattle.model_read.specs.ReadCalls.{Returned};
 ghost use Rattle.snapshot_text.specs.Inner.SnapshotHead.{with_parts, head_format};
@@ -17,56 +18,64 @@ ghost use Rattle.snapshot_text.specs.Inner.RawParts.{written_stream, written_val
 use crate::parts::{RawCarried, RawHead, RawNoted, RawPending, RawSnapshot, RawStream, RawValue};
 use model_core::{RawSigned, Symbol, Word};
 use model_lex::Pieces;
-use model_read::{Cursor, Stop, separated};
+use model_read::{Cursor, Phrase, Repeated, Stop, many, separated};
 use sig_base::{List, NoMemory};
 use std::alloc::Global;
 
-/// Reads a stream and its words.
-#[tactic(auto, unfolding(model_core::specs::Text::SnapshotGrammar::stream_format))]
-fn stream(cursor: &mut Cursor<'_>) -> Result<RawStream, Stop>
-    ensures { Returned written_stream result cursor.new (language_reader stream_format cursor.old) }
-{
-    let at = cursor.this_name(b"stream")?;
-    let stream = cursor.number()?;
-    let words = cursor.number()?;
-    Ok(RawStream { at, stream, words })
-}
+impl<'t> Phrase<'t> for RawStream {
+    ghost Plain = { WrittenStream };
 
-/// Reads any number of streams.
-fn streams(alloc: Global, cursor: &mut Cursor<'_>) -> Result<List<RawStream>, Stop>
-    ensures { Returned (map written_stream) result cursor.new (language_reader (Many stream_format) cursor.old) }
-{
-    let mut all = List::new(alloc);
-    while cursor.begins_spelled(b"stream") {
-        all.push(stream(cursor)?)?;
+    ghost plain = { written_stream };
+
+    ghost format = { stream_format };
+
+    #[tactic(auto, unfolding(model_core::specs::Text::SnapshotGrammar::stream_format))]
+    fn read(_alloc: Global, cursor: &mut Cursor<'t>) -> Result<RawStream, Stop> {
+        let at = cursor.this_name(b"stream")?;
+        let stream = cursor.number()?;
+        let words = cursor.number()?;
+        Ok(RawStream { at, stream, words })
     }
-    Ok(all)
+
+    ghost some_tokens = { stream-some };
 }
 
-/// Reads the values of a variable.
-#[tactic(auto, unfolding(model_core::specs::Text::SnapshotGrammar::value_format))]
-fn value<'t>(alloc: Global, cursor: &mut Cursor<'t>) -> Result<RawValue<'t>, Stop>
-    ensures { Returned written_value result cursor.new (language_reader value_format cursor.old) }
-{
-    let at = cursor.this_name(b"value")?;
-    let variable = cursor.spelling()?;
-    let values = separated(alloc, cursor)?;
-    Ok(RawValue {
-        at,
-        variable,
-        values,
-    })
-}
-
-/// Reads the values of any number of variables.
-fn values<'t>(alloc: Global, cursor: &mut Cursor<'t>) -> Result<List<RawValue<'t>>, Stop>
-    ensures { Returned (map written_value) result cursor.new (language_reader (Many value_format) cursor.old) }
-{
-    let mut all = List::new(alloc);
-    while cursor.begins_spelled(b"value") {
-        all.push(value(alloc, cursor)?)?;
+impl<'t> Repeated<'t> for RawStream {
+    #[tactic(auto, unfolding(model_core::specs::Text::SnapshotGrammar::stream_format))]
+    fn begins(cursor: &Cursor<'_>) -> bool {
+        cursor.begins_spelled(b"stream")
     }
-    Ok(all)
+}
+
+impl<'t> Phrase<'t> for RawValue<'t> {
+    ghost Plain = { WrittenValue };
+
+    ghost plain = { written_value };
+
+    ghost format = { value_format };
+
+    #[tactic(auto, unfolding(model_core::specs::Text::SnapshotGrammar::value_format))]
+    fn read(alloc: Global, cursor: &mut Cursor<'t>) -> Result<RawValue<'t>, Stop> {
+        let at = cursor.this_name(b"value")?;
+        let variable = cursor.spelling()?;
+        let values = separated(alloc, cursor)?;
+        Ok(RawValue {
+            at,
+            variable,
+            values,
+        })
+    }
+
+    ghost some_tokens = { value-some };
+}
+
+impl<'t> Repeated<'t> for RawValue<'t> {
+    #[tactic(auto, unfolding(model_core::specs::Text::SnapshotGrammar::value_format))]
+    fn begins(cursor: &Cursor<'_>) -> bool
+        ensures { result ≡ begins_among (first_sorts level_lookahead value_format) cursor.now }
+    {
+        cursor.begins_spelled(b"value")
+    }
 }
 
 /// Reads signed numbers, where some come.
@@ -101,54 +110,31 @@ fn noted(alloc: Global, cursor: &mut Cursor<'_>) -> Result<Option<RawNoted>, Sto
     Ok(Some(noted_values(alloc, cursor)?))
 }
 
-/// Reads a value that an event carries.
-#[tactic(auto, unfolding(model_core::specs::Text::SnapshotGrammar::carried_format))]
-fn carried<'t>(cursor: &mut Cursor<'t>) -> Result<RawCarried<'t>, Stop>
-    ensures { Returned written_carried result cursor.new (language_reader carried_format cursor.old) }
-{
-    if cursor.begins_symbol(Symbol::Minus) {
-        cursor.symbol(Symbol::Minus)?;
+impl<'t> Phrase<'t> for RawCarried<'t> {
+    ghost Plain = { WrittenCarried };
+
+    ghost plain = { written_carried };
+
+    ghost format = { carried_format };
+
+    #[tactic(auto, unfolding(model_core::specs::Text::SnapshotGrammar::carried_format))]
+    fn read(_alloc: Global, cursor: &mut Cursor<'t>) -> Result<RawCarried<'t>, Stop> {
+        if cursor.begins_symbol(Symbol::Minus) {
+            cursor.symbol(Symbol::Minus)?;
+            let digits = cursor.digits()?;
+            return Ok(RawCarried {
+                negative: true,
+                digits,
+            });
+        }
         let digits = cursor.digits()?;
-        return Ok(RawCarried {
-            negative: true,
+        Ok(RawCarried {
+            negative: false,
             digits,
-        });
+        })
     }
-    let digits = cursor.digits()?;
-    Ok(RawCarried {
-        negative: false,
-        digits,
-    })
-}
 
-/// Reads a comma and the value behind it.
-fn next_carried<'t>(cursor: &mut Cursor<'t>) -> Result<RawCarried<'t>, Stop>
-    ensures { Returned written_carried result cursor.new (language_reader (mark Comma *> carried_format) cursor.old) }
-{
-    cursor.symbol(Symbol::Comma)?;
-    carried(cursor)
-}
-
-/// Reads a comma and a value as long as a comma comes, behind the values that were read.
-fn and_others<'t>(
-    cursor: &mut Cursor<'t>,
-    items: List<RawCarried<'t>>,
-) -> Result<List<RawCarried<'t>>, Stop>
-    ensures { Returned (map written_carried) result cursor.new (with_front (map written_carried items.entry) (language_reader (Many (mark Comma *> carried_format)) cursor.old)) }
-{
-    let mut all = items;
-    while cursor.begins_symbol(Symbol::Comma) {
-        all.push(next_carried(cursor)?)?;
-    }
-    Ok(all)
-}
-
-/// Reads one or more values, separated by commas.
-fn all_carried<'t>(alloc: Global, cursor: &mut Cursor<'t>) -> Result<List<RawCarried<'t>>, Stop>
-    ensures { Returned (map written_carried) result cursor.new (language_reader (separated carried_format) cursor.old) }
-{
-    let first = List::of_one(alloc, carried(cursor)?)?;
-    and_others(cursor, first)
+    ghost some_tokens = { carried-some };
 }
 
 /// Reads the values that an event carries, where it carries some.
@@ -160,39 +146,44 @@ fn carries<'t>(alloc: Global, cursor: &mut Cursor<'t>) -> Result<Option<List<Raw
         return Ok(None);
     }
     cursor.symbol(Symbol::OpenParenthesis)?;
-    let values = all_carried(alloc, cursor)?;
+    let values = separated(alloc, cursor)?;
     cursor.symbol(Symbol::CloseParenthesis)?;
     Ok(Some(values))
 }
 
-/// Reads a pending event.
-#[tactic(auto, unfolding(model_core::specs::Text::SnapshotGrammar::pending_format))]
-fn pending<'t>(alloc: Global, cursor: &mut Cursor<'t>) -> Result<RawPending<'t>, Stop>
-    ensures { Returned written_pending result cursor.new (language_reader pending_format cursor.old) }
-{
-    let at = cursor.this_name(b"pending")?;
-    let ticks = cursor.number()?;
-    let priority = cursor.number()?;
-    let vertex = cursor.spelling()?;
-    let values = carries(alloc, cursor)?;
-    Ok(RawPending {
-        at,
-        ticks,
-        priority,
-        vertex,
-        values,
-    })
+impl<'t> Phrase<'t> for RawPending<'t> {
+    ghost Plain = { WrittenPending };
+
+    ghost plain = { written_pending };
+
+    ghost format = { pending_format };
+
+    #[tactic(auto, unfolding(model_core::specs::Text::SnapshotGrammar::pending_format))]
+    fn read(alloc: Global, cursor: &mut Cursor<'t>) -> Result<RawPending<'t>, Stop> {
+        let at = cursor.this_name(b"pending")?;
+        let ticks = cursor.number()?;
+        let priority = cursor.number()?;
+        let vertex = cursor.spelling()?;
+        let values = carries(alloc, cursor)?;
+        Ok(RawPending {
+            at,
+            ticks,
+            priority,
+            vertex,
+            values,
+        })
+    }
+
+    ghost some_tokens = { pending-some };
 }
 
-/// Reads any number of pending events.
-fn all_pending<'t>(alloc: Global, cursor: &mut Cursor<'t>) -> Result<List<RawPending<'t>>, Stop>
-    ensures { Returned (map written_pending) result cursor.new (language_reader (Many pending_format) cursor.old) }
-{
-    let mut all = List::new(alloc);
-    while cursor.begins_spelled(b"pending") {
-        all.push(pending(alloc, cursor)?)?;
+impl<'t> Repeated<'t> for RawPending<'t> {
+    #[tactic(auto, unfolding(model_core::specs::Text::SnapshotGrammar::pending_format))]
+    fn begins(cursor: &Cursor<'_>) -> bool
+        ensures { result ≡ begins_among (first_sorts level_lookahead pending_format) cursor.now }
+    {
+        cursor.begins_spelled(b"pending")
     }
-    Ok(all)
 }
 
 /// Reads what a snapshot says before its streams.
@@ -225,19 +216,13 @@ fn snapshot<'t>(alloc: Global, cursor: &mut Cursor<'t>) -> Result<RawSnapshot<'t
     ensures { Returned written_snapshot result cursor.new (language_reader snapshot_format cursor.old) }
 {
     let head = head(cursor)?;
-    let streams = streams(alloc, cursor)?;
-    let values = values(alloc, cursor)?;
+    let streams = many(alloc, cursor)?;
+    let values = many(alloc, cursor)?;
     let noted = noted(alloc, cursor)?;
-    let pending = all_pending(alloc, cursor)?;
+    let pending = many(alloc, cursor)?;
     let end_at = cursor.word(Word::End)?;
     Ok(RawSnapshot {
-        seed_at: head.seed_at,
-        seed: head.seed,
-        seed_rest: head.seed_rest,
-        clock_at: head.clock_at,
-        clock: head.clock,
-        events_at: head.events_at,
-        events: head.events,
+        head,
         streams,
         values,
         noted,

@@ -1,46 +1,28 @@
 //! Whether tokens are a snapshot, and where they stop to begin one. The tokens are passed over, and nothing is kept of them.
 
-ghost use Rattle.std.specs.Prelude.{◌≡◌, ℕ, drop, false, refl, None, Some};
+ghost use Rattle.std.specs.Prelude.{◌≡◌, ℕ, drop, None, Some};
 ghost use Rattle.model_core.specs.declared.token.Word.TheVariants.{Clk, End};
 ghost use Rattle.model_core.specs.declared.token.Symbol.TheVariants as symbols;
-ghost use Rattle.model_core.specs.Text.Written.{WrittenSigned};
 ghost use Rattle.model_core.specs.Text.Format.{Many, mark, reserved, this_name, any_name, any_number, ◌*>◌, maybe, separated};
-ghost use Rattle.model_core.specs.Text.Expressions.{LanguageFormat};
 ghost use Rattle.model_core.specs.Text.Language.{signed_format};
-ghost use Rattle.model_core.specs.Text.SnapshotGrammar.{WrittenStream, WrittenValue, WrittenCarried, WrittenPending, WrittenSnapshot, stream_format, value_format, noted_format, exact_format, carried_format, carries_format, pending_format, snapshot_format, IsSnapshot, IsNoSnapshotAt};
-ghost use Rattle.text_laws.specs.FirstTokens.{nullable, first_sorts, begins_among};
-ghost use Rattle.text_laws.specs.LanguageReader.{level_lookahead};
-ghost use Rattle.text_laws.specs.SomeTokens.{signed-some};
+ghost use Rattle.model_core.specs.Text.SnapshotGrammar.{WrittenSnapshot, stream_format, value_format, noted_format, exact_format, carried_format, carries_format, pending_format, snapshot_format, IsSnapshot, IsNoSnapshotAt};
 ghost use Rattle.model_lex.specs.PiecesOfText.{pieces_lexemes};
 ghost use Rattle.snapshot_text.specs.Inner.Skimming.{skims, skims_whole, Passed};
-ghost use Rattle.snapshot_text.specs.Inner.SomeParts.{stream-some, value-some, carried-some, pending-some};
 
-use model_core::{Symbol, Word};
+use crate::parts::{RawCarried, RawPending, RawStream, RawValue};
+use model_core::{RawSigned, Symbol, Word};
 use model_lex::Pieces;
-use model_read::{Cursor, Stop};
+use model_read::{Cursor, Phrase, Repeated, Stop};
 
-/// A part that a list may have many of, whose first token tells that it comes.
-trait Skimmed {
-    // What is written.
-    ghost Plain: { Type 0 };
-
-    // Which tokens spell it.
-    ghost format: { LanguageFormat Plain };
-
-    /// Whether the part comes.
-    fn begins(cursor: &Cursor<'_>) -> bool
-        ensures { result ≡ begins_among (first_sorts level_lookahead format) cursor.now };
-
-    /// Passes over the part.
-    fn skim(cursor: &mut Cursor<'_>) -> Result<(), Stop>
-        ensures { Passed result cursor.new (skims format cursor.old) };
-
-    // It has a token at least.
-    ghost some_tokens: { nullable format ≡ false };
+/// A phrase that can be passed over.
+trait Skimmed<'t>: Phrase<'t> {
+    /// Passes over the phrase.
+    fn skim(cursor: &mut Cursor<'t>) -> Result<(), Stop>
+        ensures { Passed result cursor.new (skims Self.format cursor.old) };
 }
 
-/// Passes over any number of parts.
-fn skim_many<T: Skimmed>(cursor: &mut Cursor<'_>) -> Result<(), Stop>
+/// Passes over any number of phrases.
+fn skim_many<'t, T: Skimmed<'t> + Repeated<'t>>(cursor: &mut Cursor<'t>) -> Result<(), Stop>
     ensures { Passed result cursor.new (skims (Many T.format) cursor.old) }
 {
     while T::begins(cursor) {
@@ -49,34 +31,30 @@ fn skim_many<T: Skimmed>(cursor: &mut Cursor<'_>) -> Result<(), Stop>
     Ok(())
 }
 
-/// Passes over one or more parts, separated by commas.
-fn skim_separated<T: Skimmed>(cursor: &mut Cursor<'_>) -> Result<(), Stop>
+/// Passes over a comma and the phrase behind it.
+fn skim_next<'t, T: Skimmed<'t>>(cursor: &mut Cursor<'t>) -> Result<(), Stop>
+    ensures { Passed result cursor.new (skims (mark symbols.Comma *> T.format) cursor.old) }
+{
+    skim_symbol(cursor, Symbol::Comma)?;
+    T::skim(cursor)
+}
+
+/// Passes over a comma and a phrase as long as a comma comes.
+fn skim_others<'t, T: Skimmed<'t>>(cursor: &mut Cursor<'t>) -> Result<(), Stop>
+    ensures { Passed result cursor.new (skims (Many (mark symbols.Comma *> T.format)) cursor.old) }
+{
+    while cursor.begins_symbol(Symbol::Comma) {
+        skim_next::<T>(cursor)?;
+    }
+    Ok(())
+}
+
+/// Passes over one or more phrases, separated by commas.
+fn skim_separated<'t, T: Skimmed<'t>>(cursor: &mut Cursor<'t>) -> Result<(), Stop>
     ensures { Passed result cursor.new (skims (separated T.format) cursor.old) }
 {
     T::skim(cursor)?;
-    skim_many::<Next<T>>(cursor)
-}
-
-/// A comma and a part.
-struct Next<T> {
-    part: T,
-}
-
-impl<T: Skimmed> Skimmed for Next<T> {
-    ghost Plain = { T.Plain };
-
-    ghost format = { mark symbols.Comma *> T.format };
-
-    fn begins(cursor: &Cursor<'_>) -> bool {
-        cursor.begins_symbol(Symbol::Comma)
-    }
-
-    fn skim(cursor: &mut Cursor<'_>) -> Result<(), Stop> {
-        skim_symbol(cursor, Symbol::Comma)?;
-        T::skim(cursor)
-    }
-
-    ghost some_tokens = { refl };
+    skim_others::<T>(cursor)
 }
 
 /// Passes over the name with this spelling.
@@ -119,52 +97,24 @@ fn skim_word(cursor: &mut Cursor<'_>, word: Word) -> Result<(), Stop>
     Ok(())
 }
 
-/// A number with an optional `-` before it, below 2^63.
-struct Signed;
-
-impl Skimmed for Signed {
-    ghost Plain = { WrittenSigned };
-
-    ghost format = { signed_format };
-
+impl<'t> Skimmed<'t> for RawSigned {
     #[tactic(auto, unfolding(model_core::specs::Text::Language::signed_format))]
-    fn begins(cursor: &Cursor<'_>) -> bool {
-        cursor.begins_symbol(Symbol::Minus) || cursor.begins_number()
-    }
-
-    #[tactic(auto, unfolding(model_core::specs::Text::Language::signed_format))]
-    fn skim(cursor: &mut Cursor<'_>) -> Result<(), Stop> {
+    fn skim(cursor: &mut Cursor<'t>) -> Result<(), Stop> {
         if cursor.begins_symbol(Symbol::Minus) {
             skim_symbol(cursor, Symbol::Minus)?;
         }
         skim_number(cursor)
     }
-
-    ghost some_tokens = { signed-some };
 }
 
-/// A number with an optional `-` before it, as an event carries it.
-struct Carried;
-
-impl Skimmed for Carried {
-    ghost Plain = { WrittenCarried };
-
-    ghost format = { carried_format };
-
-    #[tactic(auto, unfolding(model_core::specs::Text::SnapshotGrammar::carried_format, model_core::specs::Text::SnapshotGrammar::exact_format))]
-    fn begins(cursor: &Cursor<'_>) -> bool {
-        cursor.begins_symbol(Symbol::Minus) || cursor.begins_number()
-    }
-
+impl<'t> Skimmed<'t> for RawCarried<'t> {
     #[tactic(auto, unfolding(model_core::specs::Text::SnapshotGrammar::carried_format))]
-    fn skim(cursor: &mut Cursor<'_>) -> Result<(), Stop> {
+    fn skim(cursor: &mut Cursor<'t>) -> Result<(), Stop> {
         if cursor.begins_symbol(Symbol::Minus) {
             skim_symbol(cursor, Symbol::Minus)?;
         }
         skim_digits(cursor)
     }
-
-    ghost some_tokens = { carried-some };
 }
 
 /// Passes over digits.
@@ -176,75 +126,33 @@ fn skim_digits(cursor: &mut Cursor<'_>) -> Result<(), Stop>
     Ok(())
 }
 
-/// A stream and how many words it gave.
-struct Stream;
-
-impl Skimmed for Stream {
-    ghost Plain = { WrittenStream };
-
-    ghost format = { stream_format };
-
+impl<'t> Skimmed<'t> for RawStream {
     #[tactic(auto, unfolding(model_core::specs::Text::SnapshotGrammar::stream_format))]
-    fn begins(cursor: &Cursor<'_>) -> bool {
-        cursor.begins_spelled(b"stream")
-    }
-
-    #[tactic(auto, unfolding(model_core::specs::Text::SnapshotGrammar::stream_format))]
-    fn skim(cursor: &mut Cursor<'_>) -> Result<(), Stop> {
+    fn skim(cursor: &mut Cursor<'t>) -> Result<(), Stop> {
         skim_name_so(cursor, b"stream")?;
         skim_number(cursor)?;
         skim_number(cursor)
     }
-
-    ghost some_tokens = { stream-some };
 }
 
-/// The values of a variable.
-struct Value;
-
-impl Skimmed for Value {
-    ghost Plain = { WrittenValue };
-
-    ghost format = { value_format };
-
+impl<'t> Skimmed<'t> for RawValue<'t> {
     #[tactic(auto, unfolding(model_core::specs::Text::SnapshotGrammar::value_format))]
-    fn begins(cursor: &Cursor<'_>) -> bool {
-        cursor.begins_spelled(b"value")
-    }
-
-    #[tactic(auto, unfolding(model_core::specs::Text::SnapshotGrammar::value_format))]
-    fn skim(cursor: &mut Cursor<'_>) -> Result<(), Stop> {
+    fn skim(cursor: &mut Cursor<'t>) -> Result<(), Stop> {
         skim_name_so(cursor, b"value")?;
         skim_name(cursor)?;
-        skim_separated::<Signed>(cursor)
+        skim_separated::<RawSigned>(cursor)
     }
-
-    ghost some_tokens = { value-some };
 }
 
-/// A pending event.
-struct PendingEvent;
-
-impl Skimmed for PendingEvent {
-    ghost Plain = { WrittenPending };
-
-    ghost format = { pending_format };
-
+impl<'t> Skimmed<'t> for RawPending<'t> {
     #[tactic(auto, unfolding(model_core::specs::Text::SnapshotGrammar::pending_format))]
-    fn begins(cursor: &Cursor<'_>) -> bool {
-        cursor.begins_spelled(b"pending")
-    }
-
-    #[tactic(auto, unfolding(model_core::specs::Text::SnapshotGrammar::pending_format))]
-    fn skim(cursor: &mut Cursor<'_>) -> Result<(), Stop> {
+    fn skim(cursor: &mut Cursor<'t>) -> Result<(), Stop> {
         skim_name_so(cursor, b"pending")?;
         skim_number(cursor)?;
         skim_number(cursor)?;
         skim_name(cursor)?;
         skim_carried(cursor)
     }
-
-    ghost some_tokens = { pending-some };
 }
 
 /// Passes over the values that an event carries, where it carries some.
@@ -256,7 +164,7 @@ fn skim_carried(cursor: &mut Cursor<'_>) -> Result<(), Stop>
         return Ok(());
     }
     skim_symbol(cursor, Symbol::OpenParenthesis)?;
-    skim_separated::<Carried>(cursor)?;
+    skim_separated::<RawCarried>(cursor)?;
     skim_symbol(cursor, Symbol::CloseParenthesis)
 }
 
@@ -265,10 +173,10 @@ fn skim_carried(cursor: &mut Cursor<'_>) -> Result<(), Stop>
 fn skim_some_signed(cursor: &mut Cursor<'_>) -> Result<(), Stop>
     ensures { Passed result cursor.new (skims (maybe (separated signed_format)) cursor.old) }
 {
-    if !Signed::begins(cursor) {
+    if !cursor.begins_symbol(Symbol::Minus) && !cursor.begins_number() {
         return Ok(());
     }
-    skim_separated::<Signed>(cursor)
+    skim_separated::<RawSigned>(cursor)
 }
 
 /// Passes over the values that were noted last, where they are written.
@@ -296,10 +204,10 @@ fn skim_snapshot(cursor: &mut Cursor<'_>) -> Result<(), Stop>
     skim_number(cursor)?;
     skim_name_so(cursor, b"events")?;
     skim_number(cursor)?;
-    skim_many::<Stream>(cursor)?;
-    skim_many::<Value>(cursor)?;
+    skim_many::<RawStream>(cursor)?;
+    skim_many::<RawValue>(cursor)?;
     skim_noted(cursor)?;
-    skim_many::<PendingEvent>(cursor)?;
+    skim_many::<RawPending>(cursor)?;
     skim_word(cursor, Word::End)
 }
 

@@ -10,6 +10,7 @@ use Rattle.snapshot_text.specs.declared.parts.RawNoted.{RawNoted}
 use Rattle.snapshot_text.specs.declared.parts.RawCarried.{RawCarried}
 use Rattle.snapshot_text.specs.declared.parts.RawPending.{RawPending}
 use Rattle.snapshot_text.specs.declared.parts.RawSnapshot.{RawSnapshot}
+use Rattle.snapshot_text.specs.Inner.SnapshotHead.{with_parts}
 
 abbrev pub written_stream : RawStream → WrittenStream
 written_stream s = record { at = s.at; stream = written_number s.stream; words = written_number s.words }
@@ -33,17 +34,4 @@ written_pending p = record {
 }
 
 abbrev pub written_snapshot : RawSnapshot → WrittenSnapshot
-written_snapshot s = record {
-  seed_at = s.seed_at;
-  seed = written_number s.seed;
-  seed_rest = written_number s.seed_rest;
-  clock_at = s.clock_at;
-  clock = written_number s.clock;
-  events_at = s.events_at;
-  events = written_number s.events;
-  streams = map written_stream s.streams;
-  values = map written_value s.values;
-  noted = option_map written_noted s.noted;
-  pending = map written_pending s.pending;
-  end_at = s.end_at;
-}
+written_snapshot s = with_parts s.head (map written_stream s.streams) (map written_value s.values) (option_map written_noted s.noted) (map written_pending s.pending) s.end_at
