@@ -1,12 +1,14 @@
 -- How many bytes the lines of what each vertex does have stays right where one number is counted, and through a merge.
-use Rattle.std.proofs.Common.{◌≡◌, ℕ, zero, suc, ◌+◌, ◌-◌, ◌≤◌, ◌==◌, Bool, true, false, List, [], ◌∷◌, min, slice_index_or, Option, None, refl, sym, subst, arith}
+use Rattle.std.proofs.Common.{◌≡◌, ℕ, zero, suc, ◌+◌, ◌-◌, ◌≤◌, ◌==◌, Bool, true, false, List, [], ◌∷◌, min, slice_index_or, Option, Some, None, refl, sym, subst, arith}
 use Rattle.model_core.specs.EventGraph.{EventGraph}
 use Rattle.model_core.specs.Run.Step.{vertex_at}
 use Rattle.model_core.specs.Rules.PlacedEdges.{with_place}
 use Rattle.model_core.specs.Rules.Merge.{merged_with, merged}
 use Rattle.model_core.proofs.PlacesChanged.{placed-elsewhere}
 use Rattle.merge_rules.specs.Growth.{body_lines}
-use Rattle.merge_rules.specs.Hollowed.{hollow, hollowed}
+use Rattle.merge_rules.specs.Hollowed.{hollow, hollowed, merged_leaving}
+use Rattle.merge_rules.specs.declared.taking_over.SecondVertex.{SecondVertex}
+use Rattle.merge_rules.specs.declared.taking_over.SecondVertex.TheVariants as seconds
 use Rattle.merge_rules.specs.Known.{TellsLength, AreBodies}
 use Rattle.merge_rules.proofs.PairsBetweenMerges.LedPlaces.{same-numbers}
 use Rattle.merge_rules.proofs.MergedText.ValidMerged.{name_stays}
@@ -46,8 +48,11 @@ are-joined g first second n bodies =
     let b = vertex_at g second in
     are-put g (merged g first second) first n bodies (body_elsewhere g (merged_with b) (name_stays b) first)
 
-pub are-hollowed : (g : EventGraph) (second : ℕ) (bodies : List (Option ℕ)) → AreBodies g bodies → AreBodies (hollowed g second) (with_place (λ m. None) second bodies)
-are-hollowed g second bodies = are-put g (hollowed g second) second None bodies (body_elsewhere g hollow (λ v. refl) second) tt
+-- and where less is left of the second
+pub are-left : (left : SecondVertex) (g : EventGraph) (first second n : ℕ) (bodies : List (Option ℕ)) → TellsLength (Some n) (body_lines (merged_leaving left g first second) (vertex_at (merged_leaving left g first second) second))
+    → AreBodies (merged g first second) bodies → AreBodies (merged_leaving left g first second) (with_place (λ m. Some n) second bodies)
+are-left seconds.Stays g first second n bodies = are-counted (merged g first second) second (Some n) bodies
+are-left seconds.GivesAway g first second n bodies = are-put (merged g first second) (hollowed (merged g first second) second) second (Some n) bodies (body_elsewhere (merged g first second) hollow (λ v. refl) second)
 
 -- ---- numbers that stop at the greatest one
 

@@ -1,8 +1,8 @@
--- The result of a merge whose second vertex gives its changes and edges away: its text, and that it is single urgent.
-use Rattle.std.proofs.Common.{◌≡◌, ◌⊎◌, inl, inr, ℕ, zero, suc, ◌+◌, ◌<◌, ◌≤◌, ◌==◌, ◌-◌, nat_lt, nat_le, true, false, not, ◌&&◌, ◌||◌, List, [], ◌∷◌, length, min, slice_index_or, None, refl, sym, ◌∙◌, ap, arith, length-append}
+-- The result of a merge whose second vertex stays or gives its changes and edges away: its text, and that it is single urgent.
+use Rattle.std.proofs.Common.{◌≡◌, ◌⊎◌, inl, inr, ℕ, zero, suc, ◌+◌, ◌<◌, ◌≤◌, ◌==◌, ◌-◌, nat_lt, true, false, not, ◌&&◌, ◌||◌, List, [], ◌∷◌, length, min, slice_index_or, slice_set, None, refl, sym, ◌∙◌, ap, arith, length-append}
 use Rattle.std.specs.List.{list_any, flat_map}
 use Rattle.std.proofs.lemmas.Bool.{not-true}
-use Rattle.std.proofs.lemmas.Bool.Decides.{nat_tests}
+use Rattle.std.proofs.lemmas.List.{set-get_or}
 use Rattle.sig_base.specs.declared.limits.TheConstants.{TEXT_MAX, PARAMETERS_MAX_VERSION_1}
 use Rattle.model_core.specs.EventGraph.{EventGraph, EventVertex}
 use Rattle.model_core.specs.Run.Step.{vertex_at, no_vertex}
@@ -12,20 +12,22 @@ use Rattle.model_core.specs.Rules.Conditions.{first_failed}
 use Rattle.model_core.specs.Rules.Uses.{has_drawn_delay}
 use Rattle.model_core.specs.Rules.PlacedEdges.{with_place}
 use Rattle.model_core.specs.Rules.UrgentEdges.{single_urgent}
-use Rattle.model_core.specs.Rules.Merge.{values_at_once, merged_with, merged, has_few_parts, merge_conditions}
+use Rattle.model_core.specs.Rules.Merge.{values_at_once, merged_with, merged, merge_conditions}
 use Rattle.model_core.proofs.AllHold.{every-holds}
 use Rattle.model_core.proofs.Among.{either_true, first_true, second_true}
 use Rattle.model_core.proofs.BothTrue.{and_first, and_second}
 use Rattle.model_core.proofs.PlacesChanged.{length_placed, placed-elsewhere, placed-there, suc-apart, apart-turned}
-use Rattle.merge_rules.specs.Growth.{body_lines, bytes_set, bytes_gone}
-use Rattle.merge_rules.specs.Hollowed.{hollow, hollowed}
+use Rattle.merge_rules.specs.Growth.{body_lines, bytes_leaving}
+use Rattle.merge_rules.specs.Hollowed.{hollow, hollowed, second_left, merged_leaving}
+use Rattle.merge_rules.specs.declared.taking_over.SecondVertex.{SecondVertex}
+use Rattle.merge_rules.specs.declared.taking_over.SecondVertex.TheVariants as seconds
 use Rattle.merge_rules.proofs.OneStepForTwo.MergeHolds.{Mergeable, conditions_hold, is_below}
 use Rattle.merge_rules.proofs.SingleUrgentModels.SingleKept.{apart_placed, merged_single}
-use Rattle.merge_rules.proofs.ConditionsAsked.PairsFound.{front_holds}
+use Rattle.merge_rules.proofs.ConditionsAsked.PairsFound.{counted_whole}
 use Rattle.merge_rules.proofs.MergedText.VersionMerged.{same_truth, gained, joined-late, at_place}
 use Rattle.merge_rules.proofs.MergedText.MergedLength.{lines_length, changed_length, body_elsewhere}
 use Rattle.merge_rules.proofs.MergedText.GrownTexts.{there-is}
-use Rattle.merge_rules.proofs.MergedText.LimitsTold.{with_merged, text_grown, text_added}
+use Rattle.merge_rules.proofs.MergedText.LimitsTold.{with_merged}
 use Rattle.merge_rules.proofs.MergedText.ValidMerged.{name_stays}
 
 -- the two are two
@@ -43,9 +45,20 @@ placed-twice f h zero (suc k) (x ∷ xs) apart = refl
 placed-twice f h (suc j) zero (x ∷ xs) apart = refl
 placed-twice f h (suc j) (suc k) (x ∷ xs) apart = ap (λ ys. x ∷ ys) (placed-twice f h j k xs (suc-apart j k apart))
 
--- what goes and what is added is counted to its end, where both lie below the greatest number
-pub exact_sum : (top limit bytes whole gone set gone_seen set_seen : ℕ) → whole + gone ≡ bytes + set → whole ≤ limit → limit < top → gone ≤ bytes → bytes ≤ top → gone_seen ≡ min gone top → set_seen ≡ min set top → bytes - gone_seen + set_seen ≡ whole
-exact_sum top limit bytes whole gone set gone_seen set_seen is within beyond part fits gone_is set_is = omega (arith, is, within, beyond, part, fits, gone_is, set_is)
+-- an element that a function makes of one is set in its place
+pub set_is : {A : Type 0} (f : A → A) (xs : List A) (k : ℕ) (x d : A) → x ≡ f (slice_index_or xs k d) → slice_set xs k x ≡ with_place f k xs
+set_is f [] k x d is = refl
+set_is f (y ∷ xs) zero x d is = ap (λ z. z ∷ xs) is
+set_is f (y ∷ xs) (suc k) x d is = ap (λ ys. y ∷ ys) (set_is f xs k x d is)
+
+-- what is left of the second vertex is set in its place, and the first one takes over what it did
+pub left_set : (left : SecondVertex) (g : EventGraph) (first second : ℕ) (x : EventVertex) → (first == second) ≡ false → x ≡ second_left left (vertex_at g second)
+    → record g { vertices = with_place (merged_with (vertex_at g second)) first (slice_set g.vertices second x) } ≡ merged_leaving left g first second
+left_set seconds.Stays g first second x apart is =
+    ap (λ (vs : List EventVertex). record g { vertices = with_place (merged_with (vertex_at g second)) first vs }) (ap (slice_set g.vertices second) is ∙ set-get_or g.vertices second no_vertex)
+left_set seconds.GivesAway g first second x apart is =
+    ap (λ (vs : List EventVertex). record g { vertices = vs })
+    (ap (with_place (merged_with (vertex_at g second)) first) (set_is hollow g.vertices second x no_vertex is) ∙ placed-twice (merged_with (vertex_at g second)) hollow first second g.vertices apart)
 
 -- ---- the version of the text
 
@@ -109,6 +122,9 @@ module _ (g : EventGraph) (first second : ℕ) (none : first_failed (merge_condi
 
   -- ---- its length
 
+  second_body : body_lines h (vertex_at h second) ≡ body_lines g b
+  second_body = body_elsewhere g (merged_with b) (name_stays b) first second (apart-turned first second apart)
+
   -- the lines of what it did are gone
   body-gone : length (canonical (hollowed h second)) + length (body_lines h (vertex_at h second)) ≡ length (canonical h)
   body-gone =
@@ -119,22 +135,32 @@ module _ (g : EventGraph) (first second : ℕ) (none : first_failed (merge_condi
       let body = length-append (flat_map (change_line h) v.changes) (flat_map (edge_line h) v.edges) in
       omega (arith, changed, old, new, body)
 
-  pub moved_text : length (canonical (hollowed h second)) + bytes_gone g first ≡ length (canonical g) + bytes_set g first
-  moved_text =
-      let front = front_holds 7 (merge_conditions g first second) none in
-      let grown = text_grown g first second front in
-      let added = text_added g first second front in
-      let same = ap length (body_elsewhere g (merged_with b) (name_stays b) first second (apart-turned first second apart)) in
-      omega (arith, body-gone, grown, added, same)
+  leaving_text : (left : SecondVertex) → length (canonical (merged_leaving left g first second)) + bytes_leaving left (length (body_lines g b)) ≡ length (canonical h)
+  leaving_text seconds.Stays = omega arith
+  leaving_text seconds.GivesAway = let same = ap length second_body in omega (arith, body-gone, same)
 
-  pub moved_within : length (canonical (hollowed h second)) ≤ TEXT_MAX
-  moved_within =
-      let short : length (canonical h) ≤ TEXT_MAX = within_limit (length (canonical h)) TEXT_MAX (and_second (has_few_parts (vertex_at h first)) _ m.within) in
-      omega (arith, body-gone, short) where
-        within_limit : (n limit : ℕ) → nat_le n limit ≡ true → n ≤ limit
-        within_limit n limit e = grind (arith, nat_tests)
+  -- what the second gave away is counted to its end, as a part of a text that is
+  pub leaving_measured : (left : SecondVertex) (top bytes body gone : ℕ) → TEXT_MAX < top → bytes ≡ min (length (canonical h)) top → body ≡ min (length (body_lines g b)) top → gone ≡ bytes_leaving left body
+      → (gone ≤ bytes) × (bytes - gone ≡ length (canonical (merged_leaving left g first second)))
+  leaving_measured left top bytes body gone beyond is body_is gone_is = by left gone_is (leaving_text left) where
+    exact : bytes ≡ length (canonical h)
+    exact = counted_whole g first second top bytes none beyond is
+
+    by : (left : SecondVertex) → gone ≡ bytes_leaving left body → length (canonical (merged_leaving left g first second)) + bytes_leaving left (length (body_lines g b)) ≡ length (canonical h)
+        → (gone ≤ bytes) × (bytes - gone ≡ length (canonical (merged_leaving left g first second)))
+    by seconds.Stays gone_is whole = (omega (arith, gone_is), omega (arith, exact, gone_is))
+    by seconds.GivesAway gone_is whole = (omega (arith, exact, whole, is, body_is, gone_is), omega (arith, exact, whole, is, body_is, gone_is))
+
+  -- how many bytes what is left of the second does has
+  pub leaving_body : (left : SecondVertex) (top body gone : ℕ) → body ≡ min (length (body_lines g b)) top → gone ≡ bytes_leaving left body
+      → let result = merged_leaving left g first second in (gone ≤ body) × (body - gone ≡ min (length (body_lines result (vertex_at result second))) top)
+  leaving_body seconds.Stays top body gone is gone_is = let same = ap length second_body in (omega (arith, gone_is), omega (arith, is, same, gone_is))
+  leaving_body seconds.GivesAway top body gone is gone_is =
+      let none = ap length (ap (body_lines (hollowed h second)) (placed-there hollow second h.vertices no_vertex second_there)) in
+      (omega (arith, gone_is), omega (arith, none, gone_is))
 
   -- ---- single urgent
 
-  pub moved_single : single_urgent (hollowed h second) ≡ true
-  moved_single = apart_placed h hollow second h.vertices refl (merged_single g first second none)
+  pub leaving_single : (left : SecondVertex) → single_urgent (merged_leaving left g first second) ≡ true
+  leaving_single seconds.Stays = merged_single g first second none
+  leaving_single seconds.GivesAway = apart_placed h hollow second h.vertices refl (merged_single g first second none)

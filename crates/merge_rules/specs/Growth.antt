@@ -10,6 +10,8 @@ use Rattle.model_core.specs.Rules.UrgentEdges.{plain_urgent_edge}
 use Rattle.model_core.specs.Rules.Merge.{set_parameters}
 use Rattle.merge_rules.specs.PairStanding.{pair_fits}
 use Rattle.merge_rules.specs.declared.growth.Growth.{Growth}
+use Rattle.merge_rules.specs.declared.taking_over.SecondVertex.{SecondVertex}
+use Rattle.merge_rules.specs.declared.taking_over.SecondVertex.TheVariants as seconds
 
 -- the lines of a vertex's changes and edges
 abbrev pub body_lines : EventGraph → EventVertex → List ℕ
@@ -27,7 +29,7 @@ lines_taken_over g e = lines_set g e ++ body_lines g (vertex_at g e.target)
 abbrev pub bytes_added : EventGraph → ℕ → ℕ
 bytes_added g first = option_map_or (λ e. length (lines_taken_over g e)) (plain_urgent_edge (vertex_at g first)) 0
 
--- how many it adds where the target gives its changes and edges away, whose lines only move then
+-- how many of those give the parameters their values
 abbrev pub bytes_set : EventGraph → ℕ → ℕ
 bytes_set g first = option_map_or (λ e. length (lines_set g e)) (plain_urgent_edge (vertex_at g first)) 0
 
@@ -42,9 +44,10 @@ capped n = min n (2 ^ 64 - 1)
 abbrev pub growth : EventGraph → ℕ → Growth
 growth g first = record { added = capped (bytes_added g first); gone = capped (bytes_gone g first) }
 
--- both numbers where the target gives its changes and edges away
-abbrev pub moved_growth : EventGraph → ℕ → Growth
-moved_growth g first = record { added = capped (bytes_set g first); gone = capped (bytes_gone g first) }
+-- how many of so many bytes of a second vertex's lines go with what it gives away
+abbrev pub bytes_leaving : SecondVertex → ℕ → ℕ
+bytes_leaving seconds.Stays body = 0
+bytes_leaving seconds.GivesAway body = body
 
 -- where the two fit
 abbrev pub pair_growth : EventGraph → ℕ → Option Growth

@@ -5,7 +5,7 @@ ghost use Rattle.model_core.specs.Run.Step.{vertex_at};
 ghost use Rattle.model_core.specs.Rules.Conditions.{first_failed};
 ghost use Rattle.model_core.specs.Rules.Merge.{merge_conditions};
 ghost use Rattle.model_core.specs.Code.Views.{graph_of};
-ghost use Rattle.merge_rules.specs.Growth.{body_lines, capped, growth, moved_growth};
+ghost use Rattle.merge_rules.specs.Growth.{body_lines, capped, growth};
 
 use crate::within_limits::urgent_place;
 use model_core::Model;
@@ -28,30 +28,18 @@ pub(crate) fn body_at(model: &Model, vertex: usize) -> u64
     body_length(&model.vertices.as_slice()[vertex], model)
 }
 
-/// How a merge of the two changes the length, where the second one gives its changes and edges away: their lines only move.
-pub(crate) fn moved_growth(model: &Model, first: usize, second: usize) -> Growth
-    requires holds { first_failed (take 7 (merge_conditions (graph_of model.now) first second)) ≡ None }
-    ensures { result ≡ moved_growth (graph_of model.now) first }
-{
-    let vertices = model.vertices.as_slice();
-    let a = &vertices[first];
-    let edge = &a.edges.as_slice()[urgent_place(a)];
-    let params = vertices[second].params.as_slice();
-    Growth {
-        added: set_length(params, edge.values.as_slice(), model),
-        gone: edge_length(edge, model),
-    }
-}
-
 /// How a merge of the two changes the length, where the lines of the second one's changes and edges have so many bytes.
 pub(crate) fn grows_by(model: &Model, first: usize, second: usize, body: u64) -> Growth
     requires holds { first_failed (take 7 (merge_conditions (graph_of model.now) first second)) ≡ None }
     requires body { body ≡ capped (length (body_lines (graph_of model.now) (vertex_at (graph_of model.now) second))) }
     ensures { result ≡ growth (graph_of model.now) first }
 {
-    let moved = moved_growth(model, first, second);
+    let vertices = model.vertices.as_slice();
+    let a = &vertices[first];
+    let edge = &a.edges.as_slice()[urgent_place(a)];
+    let params = vertices[second].params.as_slice();
     Growth {
-        added: moved.added.saturating_add(body),
-        gone: moved.gone,
+        added: set_length(params, edge.values.as_slice(), model).saturating_add(body),
+        gone: edge_length(edge, model),
     }
 }

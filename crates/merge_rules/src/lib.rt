@@ -11,7 +11,6 @@ mod kept_search;
 mod known;
 mod law;
 mod merging;
-mod moving;
 mod other_edges;
 mod reads_written;
 mod taking_over;
@@ -26,4 +25,4 @@ pub use law::{
     merging_keeps_the_meaning, merging_takes_an_urgent_edge,
 };
 pub use merging::{merge, merge_holding, merge_measured};
-pub use moving::{merge_measured_moving, merge_moving};
+pub use taking_over::SecondVertex;

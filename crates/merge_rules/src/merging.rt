@@ -6,6 +6,8 @@ ghost use Rattle.model_core.specs.Rules.Conditions.{first_failed};
 ghost use Rattle.model_core.specs.Rules.ConditionTold.{TellsCondition};
 ghost use Rattle.model_core.specs.Rules.Merge.{merge_conditions, merged};
 ghost use Rattle.model_core.specs.Code.Views.{graph_of};
+ghost use Rattle.merge_rules.specs.Growth.{bytes_leaving};
+ghost use Rattle.merge_rules.specs.Hollowed.{merged_leaving};
 ghost use Rattle.merge_rules.specs.Known.{IsKnown};
 ghost use Rattle.merge_rules.specs.NothingCounted.{NothingCounted};
 
@@ -13,7 +15,7 @@ use crate::conditions::failed_before_limits;
 use crate::growth::grows_by;
 use crate::known::Known;
 use crate::reads_written::ReadsWritten;
-use crate::taking_over::put_together;
+use crate::taking_over::{SecondVertex, put_together};
 use crate::within_limits::{is_within_limits, merged_length, urgent_place};
 use model_core::{Model, RuleError};
 use sig_base::NoMemory;
@@ -45,6 +47,16 @@ pub(crate) fn failed_merge<R: ReadsWritten>(
     }
 }
 
+/// How many of so many bytes of its changes and edges the second vertex gives away.
+fn bytes_leaving(second: SecondVertex, body: u64) -> u64
+    ensures { result ≡ bytes_leaving second body }
+{
+    match second {
+        SecondVertex::Stays => 0,
+        SecondVertex::GivesAway => body,
+    }
+}
+
 /// Does what `merge_measured` does, where no condition of merge fails.
 pub fn merge_holding(
     alloc: Global,
@@ -52,10 +64,11 @@ pub fn merge_holding(
     known: &mut Known,
     vertex: usize,
     target: usize,
+    second: SecondVertex,
 ) -> Result<(), NoMemory>
     requires known { IsKnown (graph_of model.old) known.old }
     requires holds { first_failed (merge_conditions (graph_of model.old) vertex target) ≡ None }
-    ensures done { OnOk result (graph_of model.new ≡ merged (graph_of model.old) vertex target) }
+    ensures done { OnOk result (graph_of model.new ≡ merged_leaving second (graph_of model.old) vertex target) }
     ensures unchanged { OnErr result (graph_of model.new ≡ graph_of model.old) }
     ensures known { IsKnown (graph_of model.new) known.new }
     ensures told { OnOk result ((known.new.bytes ≡ Some (length (canonical (graph_of model.new)))) × (known.new.single ≡ Some true)) }
@@ -65,15 +78,17 @@ pub fn merge_holding(
     let bytes = merged_length(model, known.bytes, vertex, target, grows);
     let merged_body = known.find_merged_body(model, vertex, target, grows);
     let place = urgent_place(&model.vertices.as_slice()[vertex]);
-    put_together(alloc, model, vertex, place, target)?;
-    known.bytes = Some(bytes);
+    put_together(alloc, model, vertex, place, target, second)?;
+    let gone = bytes_leaving(second, body);
+    known.bytes = Some(bytes - gone);
     known.single = Some(true);
     known.bodies.put(vertex, merged_body);
+    known.bodies.put(target, Some(body - gone));
     Ok(())
 }
 
-/// Does what `merge` does. It may be told what is known of the model, and tells what is known then: of a result how many bytes
-/// its canonical text has, and that it is single urgent. The counts, in which
+/// Does what `merge` does, or leaves of the second vertex what is asked for. It may be told what is known of the model, and tells
+/// what is known then: of a result how many bytes its canonical text has, and that it is single urgent. The counts, in which
 /// nothing is counted, serve to tell what edges read; they are given back as they were.
 pub fn merge_measured(
     alloc: Global,
@@ -82,11 +97,12 @@ pub fn merge_measured(
     counts: &mut UseCounts,
     vertex: usize,
     target: usize,
+    second: SecondVertex,
 ) -> Result<(), RuleError>
     requires known { IsKnown (graph_of model.old) known.old }
     requires counts { NothingCounted (length model.old.vars) counts.old }
     ensures done { OnOk result ((first_failed (merge_conditions (graph_of model.old) vertex target) ≡ None)
-        × (graph_of model.new ≡ merged (graph_of model.old) vertex target)) }
+        × (graph_of model.new ≡ merged_leaving second (graph_of model.old) vertex target)) }
     ensures refused { IfErr result (λ e. TellsCondition e (first_failed (merge_conditions (graph_of model.old) vertex target))) }
     ensures unchanged { OnErr result (graph_of model.new ≡ graph_of model.old) }
     ensures known { IsKnown (graph_of model.new) known.new }
@@ -96,7 +112,7 @@ pub fn merge_measured(
     if let Some(condition) = failed_merge(model, known, counts, vertex, target) {
         return Err(RuleError::Refused { condition });
     }
-    merge_holding(alloc, model, known, vertex, target)?;
+    merge_holding(alloc, model, known, vertex, target, second)?;
     Ok(())
 }
 
@@ -122,5 +138,6 @@ pub fn merge(
         &mut counts,
         vertex,
         target,
+        SecondVertex::Stays,
     )
 }

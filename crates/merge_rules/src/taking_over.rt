@@ -1,22 +1,32 @@
 //! A vertex takes over what another one does: the changes and edges of the other stand in place of its plain urgent edge. The
 //! other one keeps what it does, or gives it away.
 
-ghost use Rattle.std.specs.Prelude.{◌≡◌, ◌+◌, ◌++◌, ◌<◌, ◌≤◌, ◌==◌, Some, [], false, map, length, slice_get, OnOk, OnErr, IfOk};
+ghost use Rattle.std.specs.Prelude.{◌≡◌, ◌+◌, ◌++◌, ◌<◌, ◌≤◌, ◌==◌, Some, [], false, map, length, slice_get, slice_set, OnOk, OnErr, IfOk, IfErr};
 ghost use Rattle.std.specs.Vec.{vec_len, vec_capacity};
 ghost use Rattle.std.specs.List.{remove};
 ghost use Rattle.std.specs.Option.{option_map_or};
 ghost use Rattle.model_core.specs.EventGraph.{EventEdge, scalar_location};
 ghost use Rattle.model_core.specs.Rules.UrgentEdges.{plain_urgent};
 ghost use Rattle.model_core.specs.Rules.PlacedEdges.{with_vertex};
-ghost use Rattle.model_core.specs.Rules.Merge.{set_parameters, merged_with, merged};
+ghost use Rattle.model_core.specs.Rules.Merge.{set_parameters, merged_with};
 ghost use Rattle.model_core.specs.Run.Step.{vertex_at};
 ghost use Rattle.model_core.specs.Code.Views.{graph_of, expression_of, location_of, change_of, edge_of, vertex_of};
-ghost use Rattle.merge_rules.specs.Hollowed.{hollow, hollowed};
+ghost use Rattle.merge_rules.specs.Hollowed.{hollow, second_left, merged_leaving};
 
 use model_core::{Change, Edge, Expr, Model, Target, Vertex, copy_name, copy_vertex};
 use sig_base::{List, NoMemory};
 use std::alloc::Global;
 use std::mem;
+
+/// What is left of the second vertex of a merge.
+#[derive(Clone, Copy)]
+pub enum SecondVertex {
+    /// All of it.
+    Stays,
+    /// A vertex that does nothing: it gives its changes and edges away, so that they aren't copied. This serves where it is
+    /// dropped next.
+    GivesAway,
+}
 
 /// The scalars at these places, as what takes values.
 fn scalar_targets(alloc: Global, vars: &[usize]) -> Result<List<Target>, NoMemory>
@@ -96,38 +106,46 @@ fn put_in_place(
     add_all(edges, more_edges);
 }
 
-/// Makes the vertex, whose plain urgent edge stands at this place, do what the other one does in place of that edge.
+/// Makes the vertex, whose plain urgent edge stands at this place, do what the other one does in place of that edge. All memory
+/// is taken before anything changes: where it is refused the other one is given back.
 fn take_over(
     vertex: &mut Vertex,
     place: usize,
     targets: List<Target>,
     other: Vertex,
-) -> Result<(), NoMemory>
+) -> Result<(), Vertex>
     requires at { plain_urgent (vertex_of vertex.old) ≡ Some place }
     requires targets { map location_of targets ≡ map scalar_location other.params }
     ensures done { OnOk result (vertex_of vertex.new ≡ merged_with (vertex_of other) (vertex_of vertex.old)) }
     ensures unchanged { OnErr result (vertex_of vertex.new ≡ vertex_of vertex.old) }
+    ensures given_back { IfErr result (λ back. vertex_of back ≡ vertex_of other) }
 {
     let changes = vertex.changes.as_mut_vec();
     let edges = vertex.edges.as_mut_vec();
-    make_room(changes, edges, &other)?;
-    put_in_place(changes, edges, place, targets, other);
-    Ok(())
+    match make_room(changes, edges, &other) {
+        Ok(()) => {
+            put_in_place(changes, edges, place, targets, other);
+            Ok(())
+        }
+        Err(NoMemory) => Err(other),
+    }
 }
 
-/// Makes the vertex at the first place, whose plain urgent edge stands at the second, do what the other one does.
+/// Makes the vertex at the first place, whose plain urgent edge stands at the second, do what the other one does, or gives that
+/// back.
 fn take_over_at(
     model: &mut Model,
     first: usize,
     place: usize,
     targets: List<Target>,
     other: Vertex,
-) -> Result<(), NoMemory>
+) -> Result<(), Vertex>
     requires first { first < length model.old.vertices }
     requires at { plain_urgent (vertex_at (graph_of model.old) first) ≡ Some place }
     requires targets { map location_of targets ≡ map scalar_location other.params }
     ensures done { OnOk result (graph_of model.new ≡ with_vertex (merged_with (vertex_of other)) first (graph_of model.old)) }
     ensures unchanged { OnErr result (graph_of model.new ≡ graph_of model.old) }
+    ensures given_back { IfErr result (λ back. vertex_of back ≡ vertex_of other) }
 {
     take_over(
         &mut model.vertices.as_mut_vec()[first],
@@ -135,26 +153,6 @@ fn take_over_at(
         targets,
         other,
     )
-}
-
-/// Makes the vertex at the first place, whose plain urgent edge stands at the second, do what the one at the third does.
-/// All memory is taken before anything changes: where it is refused the model stays as it was.
-pub(crate) fn put_together(
-    alloc: Global,
-    model: &mut Model,
-    first: usize,
-    place: usize,
-    second: usize,
-) -> Result<(), NoMemory>
-    requires first { first < length model.old.vertices }
-    requires second { second < length model.old.vertices }
-    requires at { plain_urgent (vertex_at (graph_of model.old) first) ≡ Some place }
-    ensures done { OnOk result (graph_of model.new ≡ merged (graph_of model.old) first second) }
-    ensures unchanged { OnErr result (graph_of model.new ≡ graph_of model.old) }
-{
-    let other = copy_vertex(alloc, &model.vertices.as_slice()[second])?;
-    let targets = scalar_targets(alloc, other.params.as_slice())?;
-    take_over_at(model, first, place, targets, other)
 }
 
 /// A vertex of the same name and parameters that does nothing.
@@ -169,33 +167,51 @@ fn hollow_copy(alloc: Global, vertex: &Vertex) -> Result<Vertex, NoMemory>
     })
 }
 
-/// Puts a vertex that does nothing in the place of one, which is given.
-fn give_away(model: &mut Model, place: usize, empty: Vertex) -> Vertex
-    requires there { place < length model.old.vertices }
-    requires empty { vertex_of empty ≡ hollow (vertex_at (graph_of model.old) place) }
-    ensures given { vertex_of result ≡ vertex_at (graph_of model.old) place }
-    ensures left { graph_of model.new ≡ hollowed (graph_of model.old) place }
+/// A copy of what is left of a vertex.
+fn copy_left(alloc: Global, vertex: &Vertex, second: SecondVertex) -> Result<Vertex, NoMemory>
+    ensures { IfOk result (λ copy. vertex_of copy ≡ second_left second (vertex_of vertex.now)) }
 {
-    mem::replace(&mut model.vertices.as_mut_vec()[place], empty)
+    match second {
+        SecondVertex::Stays => copy_vertex(alloc, vertex),
+        SecondVertex::GivesAway => hollow_copy(alloc, vertex),
+    }
 }
 
-/// Makes the vertex at the first place, whose plain urgent edge stands at the second, do what the one at the third does, which
-/// gives that away.
-pub(crate) fn put_together_moving(
+/// Puts another vertex in the place of one, which is given.
+fn replace_at(model: &mut Model, place: usize, vertex: Vertex) -> Vertex
+    requires { place < length model.old.vertices }
+    ensures given { vertex_of result ≡ vertex_at (graph_of model.old) place }
+    ensures put { graph_of model.new ≡ record (graph_of model.old) { vertices = slice_set (graph_of model.old).vertices place (vertex_of vertex) } }
+{
+    mem::replace(&mut model.vertices.as_mut_vec()[place], vertex)
+}
+
+/// Makes the vertex at the first place, whose plain urgent edge stands at the second, do what the one at the third does. Where
+/// memory is refused the model stays as it was.
+pub(crate) fn put_together(
     alloc: Global,
     model: &mut Model,
     first: usize,
     place: usize,
-    second: usize,
+    target: usize,
+    second: SecondVertex,
 ) -> Result<(), NoMemory>
     requires first { first < length model.old.vertices }
-    requires second { second < length model.old.vertices }
-    requires apart { (first == second) ≡ false }
+    requires target { target < length model.old.vertices }
+    requires apart { (first == target) ≡ false }
     requires at { plain_urgent (vertex_at (graph_of model.old) first) ≡ Some place }
-    ensures { OnOk result (graph_of model.new ≡ hollowed (merged (graph_of model.old) first second) second) }
+    ensures done { OnOk result (graph_of model.new ≡ merged_leaving second (graph_of model.old) first target) }
+    ensures unchanged { OnErr result (graph_of model.new ≡ graph_of model.old) }
 {
-    let empty = hollow_copy(alloc, &model.vertices.as_slice()[second])?;
-    let targets = scalar_targets(alloc, empty.params.as_slice())?;
-    let other = give_away(model, second, empty);
-    take_over_at(model, first, place, targets, other)
+    let vertex = &model.vertices.as_slice()[target];
+    let targets = scalar_targets(alloc, vertex.params.as_slice())?;
+    let left = copy_left(alloc, vertex, second)?;
+    let other = replace_at(model, target, left);
+    match take_over_at(model, first, place, targets, other) {
+        Ok(()) => Ok(()),
+        Err(other) => {
+            let _left = replace_at(model, target, other);
+            Err(NoMemory)
+        }
+    }
 }

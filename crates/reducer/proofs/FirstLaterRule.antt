@@ -14,7 +14,7 @@ use Rattle.model_core.specs.Rules.Conditions.{first_failed}
 use Rattle.model_core.specs.Rules.MarkedPlaces.{unmarked_places, is_marked}
 use Rattle.model_core.specs.Rules.Settle.{first_settle}
 use Rattle.model_core.specs.Rules.Reached.{reached_marks, unreached}
-use Rattle.model_core.specs.Rules.Drop.{lists_exactly, drop_conditions, dropped}
+use Rattle.model_core.specs.Rules.Drop.{lists_some, lists_exactly, drop_conditions, dropped}
 use Rattle.model_core.specs.Rules.UrgentEdges.{plain_urgent_edge}
 use Rattle.model_core.specs.Rules.Merge.{merge_conditions, merged, merge_at, first_merge}
 use Rattle.model_core.specs.Rules.Needed.{needed_at_once, needed_beside, needed_marks, unneeded}
@@ -114,11 +114,12 @@ exactly_itself : (ks : List ℕ) → lists_exactly ks ks ≡ true
 exactly_itself [] = refl
 exactly_itself (k ∷ ks) = ap (λ b. b && pointwise nat_eq ks ks) (eq-eqb k k refl) ∙ exactly_itself ks
 
--- ---- drop
+-- the conditions of drop and slice hold of exactly those that are wanted
+pub exactly_hold : (ks wanted : List ℕ) → (length ks ≡ 0 → ⊥) → ks ≡ wanted → first_failed (lists_some ks ∷ lists_exactly ks wanted ∷ []) ≡ None
+exactly_hold [] wanted some is = absurd (some refl)
+exactly_hold (v ∷ vs) wanted some is = ap (λ b. first_failed (true ∷ b ∷ [])) (ap (lists_exactly (v ∷ vs)) (sym is) ∙ exactly_itself (v ∷ vs))
 
-pub drop_holds : (g : EventGraph) (ks : List ℕ) → (length ks ≡ 0 → ⊥) → ks ≡ unreached g → first_failed (drop_conditions g ks) ≡ None
-drop_holds g [] some is = absurd (some refl)
-drop_holds g (v ∷ vs) some is = ap (λ b. first_failed (true ∷ b ∷ [])) (ap (lists_exactly (v ∷ vs)) (sym is) ∙ exactly_itself (v ∷ vs))
+-- ---- drop
 
 pub drop_made : (g h : EventGraph) (ks : List ℕ) (before after : List RuleApplication) → IsValid g → (length ks ≡ 0 → ⊥) → ks ≡ unreached g → h ≡ dropped g ks → after ≡ before ++ Drop (map (vertex_name g) ks) ∷ [] → Made (drop_of g (unreached g)) true g h before after
 drop_made g h [] before after valid some is left noted = absurd (some refl)
@@ -129,7 +130,7 @@ drop_made g h (v ∷ vs) before after valid some is left noted =
       Drop (map (vertex_name g) ks),
       ap (drop_of g) (sym is),
       ap (λ (o : Option (List ℕ)). unless_failed (option_map_or (λ vertices. first_failed (drop_conditions g vertices)) o (Some 2)) (option_map_or (λ vertices. dropped g vertices) o g)) named
-          ∙ ap (λ o. unless_failed o (dropped g ks)) (drop_holds g ks some is) ∙ ap (λ (h : EventGraph). Some h) (sym left),
+          ∙ ap (λ o. unless_failed o (dropped g ks)) (exactly_hold ks (unreached g) some is) ∙ ap (λ (h : EventGraph). Some h) (sym left),
       noted,
     )
 
@@ -138,10 +139,6 @@ drop_not_made g h [] before after none is left noted = (ap (drop_of g) (sym is),
 drop_not_made g h (k ∷ ks) before after none is left noted = cc
 
 -- ---- slice
-
-pub slice_holds : (g : EventGraph) (ks : List ℕ) → (length ks ≡ 0 → ⊥) → ks ≡ unneeded g → first_failed (slice_conditions g ks) ≡ None
-slice_holds g [] some is = absurd (some refl)
-slice_holds g (v ∷ vs) some is = ap (λ b. first_failed (true ∷ b ∷ [])) (ap (lists_exactly (v ∷ vs)) (sym is) ∙ exactly_itself (v ∷ vs))
 
 pub slice_made : (g h : EventGraph) (ks : List ℕ) (before after : List RuleApplication) → IsValid g → (length ks ≡ 0 → ⊥) → ks ≡ unneeded g → h ≡ sliced g ks → after ≡ before ++ Slice (map (variable_name g) ks) ∷ [] → Made (slice_of g (unneeded g)) true g h before after
 slice_made g h [] before after valid some is left noted = absurd (some refl)
@@ -152,7 +149,7 @@ slice_made g h (v ∷ vs) before after valid some is left noted =
       Slice (map (variable_name g) ks),
       ap (slice_of g) (sym is),
       ap (λ (o : Option (List ℕ)). unless_failed (option_map_or (λ variables. first_failed (slice_conditions g variables)) o (Some 2)) (option_map_or (λ variables. sliced g variables) o g)) named
-          ∙ ap (λ o. unless_failed o (sliced g ks)) (slice_holds g ks some is) ∙ ap (λ (h : EventGraph). Some h) (sym left),
+          ∙ ap (λ o. unless_failed o (sliced g ks)) (exactly_hold ks (unneeded g) some is) ∙ ap (λ (h : EventGraph). Some h) (sym left),
       noted,
     )
 

@@ -13,17 +13,8 @@ use Rattle.model_core.specs.Rules.Needed.{unneeded}
 use Rattle.model_core.specs.Rules.Slice.{slice_conditions, sliced}
 use Rattle.model_core.specs.Rules.Reduction.{RuleApplication, Prune, Settle, Drop, Merge, Slice, vertices_named, two_vertices_named, variables_named, unless_failed, applied, drop_of, merge_of, slice_of, first_given, first_rule}
 use Rattle.model_core.specs.Text.Canonical.{variable_name, vertex_name}
-use Rattle.reducer.specs.Inner.LaterRules.{NoEdgeRule}
+use Rattle.reducer.specs.Inner.LaterRules.{NoEdgeRule, LeavesEdges}
 use Rattle.reducer.proofs.FirstLaterRule.{later_is_first}
-
--- the laws that a drop, a merge and a slice bring no edge that can be pruned or settled
-pub record LeavesEdges : Type 0 where
-  pub prune_dropped : (g : EventGraph) (vertices : List ℕ) → first_prune g ≡ None → first_prune (dropped g vertices) ≡ None
-  pub settle_dropped : (g : EventGraph) (vertices : List ℕ) → first_settle g ≡ None → first_settle (dropped g vertices) ≡ None
-  pub prune_merged : (g : EventGraph) (first second : ℕ) → first_prune g ≡ None → first_prune (merged g first second) ≡ None
-  pub settle_merged : (g : EventGraph) (first second : ℕ) → first_settle g ≡ None → first_settle (merged g first second) ≡ None
-  pub prune_sliced : (g : EventGraph) (variables : List ℕ) → IsValid g → first_failed (slice_conditions g variables) ≡ None → first_prune (sliced g variables) ≡ first_prune g
-  pub settle_sliced : (g : EventGraph) (variables : List ℕ) → IsValid g → first_failed (slice_conditions g variables) ≡ None → first_settle (sliced g variables) ≡ first_settle g
 
 module _ (leaves : LeavesEdges) (g : EventGraph) (none : NoEdgeRule g) where
   none-dropped : (ks : List ℕ) → NoEdgeRule (dropped g ks)

@@ -9,10 +9,10 @@ use Rattle.model_core.specs.EventGraph.{EventGraph}
 use Rattle.model_core.specs.Static.Reading.{IsValid}
 use Rattle.model_core.specs.Rules.ConditionTold.{TellsCondition}
 use Rattle.model_core.specs.Rules.Reduction.{RuleApplication, applied, first_rule, Strategy}
-use Rattle.reducer.specs.Inner.LaterRules.{NoEdgeRule, Made, MaybeDropped, nothing_more, dropped_too, MadeOn, Finished}
+use Rattle.reducer.specs.Inner.LaterRules.{NoEdgeRule, Made, MaybeDropped, nothing_more, dropped_too, MadeOn, Finished, LeavesEdges}
 use Rattle.reducer.proofs.FirstLaterRule.{drop_is_made}
 use Rattle.reducer.proofs.FirstRules.{AreFirst, are_first-append, are_first-strategy}
-use Rattle.reducer.proofs.NoEdgeRuleAnew.{LeavesEdges, none-applied}
+use Rattle.reducer.proofs.NoEdgeRuleAnew.{none-applied}
 use Rattle.reducer.proofs.StrategyEnds.{measure, MergesTakeOne, applied_leaves_less}
 
 -- first rules led from one graph to another and were noted, and the rules of edges don't apply to this one

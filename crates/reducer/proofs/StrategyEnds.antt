@@ -23,9 +23,9 @@ use Rattle.mark_laws.proofs.ReachedLong.{reached_marks-long}
 use Rattle.model_core.proofs.AllHold.{every-holds}
 use Rattle.model_core.proofs.SomeOfAList.{some-few, some-marked_of}
 use Rattle.merge_rules.specs.UrgentVertices.{has_plain, plain_count}
-use Rattle.reducer.specs.Inner.LaterRules.{NoEdgeRule, Made}
+use Rattle.reducer.specs.Inner.LaterRules.{NoEdgeRule, Made, LeavesEdges}
 use Rattle.reducer.proofs.FirstLaterRule.{unmarked-within, drop_made, drop_not_made, merge_holds, merge_made, merge_not_made, slice_made, slice_not_made, drop_is_made, merge_is_made, slice_is_made}
-use Rattle.reducer.proofs.NoEdgeRuleAnew.{LeavesEdges, later_kept, none-applied}
+use Rattle.reducer.proofs.NoEdgeRuleAnew.{later_kept, none-applied}
 
 -- ---- the measure
 

@@ -10,11 +10,10 @@ use Rattle.run_laws.proofs.EdgesAlike.{with_vertices}
 use Rattle.model_core.proofs.NoEdgePasses.{first_edge-none}
 use Rattle.edge_pruning.specs.declared.finding.EdgeRule.TheVariants as rules
 use Rattle.reducer.specs.Inner.Sweep.{swept_vertex, applied_to_all}
-use Rattle.reducer.specs.Inner.LaterRules.{NoEdgeRule, Finished}
+use Rattle.reducer.specs.Inner.LaterRules.{NoEdgeRule, Finished, LeavesEdges}
 use Rattle.reducer.proofs.PlacesByName.{vertices_distinct}
 use Rattle.reducer.proofs.FirstRules.{AreFirst, are_first-chain, are_first-strategy}
 use Rattle.reducer.proofs.SweepRules.{IsReady, AreReady, swept-none, swept-ready, sweep_rules}
-use Rattle.reducer.proofs.NoEdgeRuleAnew.{LeavesEdges}
 use Rattle.reducer.proofs.StrategyEnds.{MergesTakeOne, later_rules_end}
 
 edges_ready : (g : EventGraph) (es : List EventEdge) → AllByRecursion (IsReady rules.Prune g) es

@@ -17,19 +17,18 @@ ghost use Rattle.reducer.specs.Inner.Underway.{drop_rule, merge_rule, slice_rule
 use crate::naming::{Declared, name_at, names_at};
 use crate::progress::{Progress, is_left_alone};
 use crate::strategy::Reduced;
+use crate::strategy_law::later_rules_leave_edges;
 use edge_pruning::{
-    drop_unreached, dropping_brings_no_rule_of_edges, dropping_keeps_the_meaning,
-    dropping_takes_no_notice_of_the_vertex, unreached,
+    drop_unreached, dropping_keeps_the_meaning, dropping_takes_no_notice_of_the_vertex, unreached,
 };
 use merge_rules::{
-    KeptPairs, merge_holding, merge_moving, merging_brings_no_rule_of_edges,
-    merging_keeps_the_meaning, merging_takes_an_urgent_edge,
+    KeptPairs, SecondVertex, merge_holding, merging_keeps_the_meaning, merging_takes_an_urgent_edge,
 };
 use model_core::{Application, Model, was_made};
 use reduction_cert::{chains_keep_the_meaning, know_without};
 use sig_base::{List, NoMemory};
 use std::alloc::Global;
-use var_slicing::{slice, slicing_leaves_the_rules_of_edges, unneeded};
+use var_slicing::{slice, unneeded};
 
 /// A model while rules are applied to it, the applications that were noted, and what is known of it.
 #[derive(Drop)]
@@ -51,10 +50,8 @@ pub(crate) fn apply_later_rules(
     ensures { IfOk result (λ r. Finished (graph_of model) (graph_of r.model) (map application_of applications.items) (map application_of r.applications)) }
 {
     chains_keep_the_meaning();
-    dropping_brings_no_rule_of_edges();
-    merging_brings_no_rule_of_edges();
+    later_rules_leave_edges();
     merging_takes_an_urgent_edge();
-    slicing_leaves_the_rules_of_edges();
     let progress = Progress::begin(alloc, &model)?;
     let mut underway = Underway {
         model,
@@ -196,7 +193,8 @@ impl Underway {
     {
         self.progress.all_reached = true;
         let known = &mut self.progress.known;
-        merge_holding(alloc, &mut self.model, known, first, second)
+        let left = SecondVertex::Stays;
+        merge_holding(alloc, &mut self.model, known, first, second, left)
     }
 
     /// The same, where the second one alone can't be reached then: it gives away what it does, and is dropped.
@@ -212,7 +210,9 @@ impl Underway {
         let gone = List::from_vec(Vec::from_elem(alloc, second, 1)?);
         let progress = &mut self.progress;
         progress.pairs.tell_drop_behind(&self.model, first, second);
-        merge_moving(alloc, &mut self.model, &mut progress.known, first, second)?;
+        let known = &mut progress.known;
+        let left = SecondVertex::GivesAway;
+        merge_holding(alloc, &mut self.model, known, first, second, left)?;
         note_drop(alloc, &self.model, &mut self.applications, &gone)?;
         know_without(&self.model, &mut progress.known, gone.as_slice());
         progress.all_reached = true;

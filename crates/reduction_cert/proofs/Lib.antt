@@ -8,4 +8,4 @@ pub mod FewerVariables
 pub mod ToldByRules
 pub mod LengthLeft
 pub mod BodiesLeft
-pub mod MovedMerges
+pub mod SameBehindDrop

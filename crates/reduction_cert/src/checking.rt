@@ -1,23 +1,23 @@
 //! The checker: whether a list of applications leads from one model to another.
 
-ghost use Rattle.std.specs.Prelude.{◌≡◌, true, map, drop, length, cond, Ok, Some, None, OnOk, IfOk};
+ghost use Rattle.std.specs.Prelude.{◌≡◌, map, drop, length, cond, Ok, Some, None, OnOk, IfOk};
 ghost use Rattle.model_core.specs.EventGraph.{EventGraph};
 ghost use Rattle.model_core.specs.Code.Views.{graph_of, application_of};
-ghost use Rattle.model_core.specs.Rules.Reduction.{Prune, Settle, Drop, Merge, Slice, applied, first_bad};
+ghost use Rattle.model_core.specs.Rules.Reduction.{Prune, Settle, Drop, Slice, applied, first_bad};
 ghost use Rattle.model_core.specs.Rules.Verdict.{graph_reached, verdict};
 ghost use Rattle.merge_rules.specs.Known.{IsKnown};
 ghost use Rattle.merge_rules.specs.NothingCounted.{NothingCounted};
 ghost use Rattle.reduction_cert.specs.VerdictView.{verdict_of};
 ghost use Rattle.model_read.specs.NamesPlaced.{HasPlaces, names_of_vertices};
 ghost use Rattle.reduction_cert.specs.Inner.DroppingOnes.{is_drop};
-ghost use Rattle.reduction_cert.specs.Inner.MovedMerges.{MadeFor, GivenAway};
+ghost use Rattle.reduction_cert.specs.Inner.MovedMerges.{MadeFor, MergedLeaving};
 
 use crate::by_name::{all_named, edge_named, two_vertices_named};
 use crate::chain_law::applications_add_no_variables;
 use crate::looking_ahead::drops_alone;
 use crate::without_vertices::know_without;
 use edge_pruning::{drop_vertices, dropping_takes_no_notice_of_the_vertex, prune, settle};
-use merge_rules::{Known, merge_measured, merge_measured_moving};
+use merge_rules::{Known, SecondVertex, merge_measured};
 use model_core::{Application, Model, copy_model, same_model, was_made};
 use model_read::Places;
 use sig_base::{List, Name, NoMemory};
@@ -151,13 +151,16 @@ fn apply_before(
     requires known { IsKnown (graph_of model.old) known.old }
     requires counts { NothingCounted (length model.old.vars) counts.old }
     ensures made { IfOk result (λ made. MadeFor (map application_of (drop next applications.now)) (graph_of model.old) (application_of application.now) made (graph_of model.new)) }
-    ensures known { IfOk result (λ made. made ≡ true → IsKnown (graph_of model.new) known.new) }
+    ensures known { OnOk result (IsKnown (graph_of model.new) known.new) }
     ensures counts { OnOk result (counts.new ≡ counts.old) }
 {
     dropping_takes_no_notice_of_the_vertex();
     if let Application::Merge { vertex, target } = application {
         if drops_alone(applications, next, target) {
-            return apply_merge_moving(alloc, model, known, counts, vertices, vertex, target);
+            let second = SecondVertex::GivesAway;
+            return apply_merge(
+                alloc, model, known, counts, vertices, vertex, target, second,
+            );
         }
     }
     apply(alloc, model, known, counts, vertices, application)
@@ -193,7 +196,10 @@ fn apply(
             apply_drop(alloc, model, known, vertices, names.as_slice())
         }
         Application::Merge { vertex, target } => {
-            apply_merge(alloc, model, known, counts, vertices, vertex, target)
+            let second = SecondVertex::Stays;
+            apply_merge(
+                alloc, model, known, counts, vertices, vertex, target, second,
+            )
         }
         Application::Slice { vars } => {
             *known = Known::begin(alloc);
@@ -248,7 +254,7 @@ fn apply_drop(
     Ok(true)
 }
 
-/// Merges two vertices, and says whether they could be.
+/// Merges two vertices, leaving this of the second one, and says whether they could be.
 fn apply_merge(
     alloc: Global,
     model: &mut Model,
@@ -257,41 +263,19 @@ fn apply_merge(
     vertices: &Places,
     vertex: &Name,
     target: &Name,
+    second: SecondVertex,
 ) -> Result<bool, NoMemory>
     requires listed { HasPlaces (names_of_vertices (graph_of model.old).vertices) vertices.now }
     requires known { IsKnown (graph_of model.old) known.old }
     requires counts { NothingCounted (length model.old.vars) counts.old }
-    ensures made { IfOk result (λ made. applied (graph_of model.old) (Merge vertex.now target.now) ≡ cond made (Some (graph_of model.new)) None) }
+    ensures made { IfOk result (λ made. MergedLeaving second (graph_of model.old) vertex.now target.now made (graph_of model.new)) }
     ensures known { OnOk result (IsKnown (graph_of model.new) known.new) }
     ensures counts { OnOk result (counts.new ≡ counts.old) }
 {
     let Some((vertex, target)) = two_vertices_named(vertices, vertex, target) else {
         return Ok(false);
     };
-    was_made(merge_measured(alloc, model, known, counts, vertex, target))
-}
-
-/// The same, but the second vertex gives away what it does.
-fn apply_merge_moving(
-    alloc: Global,
-    model: &mut Model,
-    known: &mut Known,
-    counts: &mut UseCounts,
-    vertices: &Places,
-    vertex: &Name,
-    target: &Name,
-) -> Result<bool, NoMemory>
-    requires listed { HasPlaces (names_of_vertices (graph_of model.old).vertices) vertices.now }
-    requires known { IsKnown (graph_of model.old) known.old }
-    requires counts { NothingCounted (length model.old.vars) counts.old }
-    ensures made { IfOk result (λ made. GivenAway (graph_of model.old) vertex.now target.now made (graph_of model.new)) }
-    ensures known { IfOk result (λ made. made ≡ true → IsKnown (graph_of model.new) known.new) }
-    ensures counts { OnOk result (counts.new ≡ counts.old) }
-{
-    let Some((vertex, target)) = two_vertices_named(vertices, vertex, target) else {
-        return Ok(false);
-    };
-    was_made(merge_measured_moving(alloc, model, known, counts, vertex, target))
+    was_made(merge_measured(alloc, model, known, counts, vertex, target, second))
 }
 
 /// Slices variables away, and says whether they could be.

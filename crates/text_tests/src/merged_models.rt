@@ -1,7 +1,7 @@
 //! Why vertices of a model may not be merged, and the text of a merged model.
 
 use crate::static_rules::checked;
-use merge_rules::{Known, merge, merge_measured};
+use merge_rules::{Known, SecondVertex, merge, merge_measured};
 use model_core::{Model, RuleError};
 use model_print::{print, printed_length};
 use sig_base::NoMemory;
@@ -132,7 +132,8 @@ end
 fn merged_and_measured(alloc: Global, model: &mut Model) -> Result<Known, RuleError> {
     let mut known = Known::begin(alloc);
     let mut counts = UseCounts::begin(alloc, model)?;
-    merge_measured(alloc, model, &mut known, &mut counts, 0, 1)?;
+    let second = SecondVertex::Stays;
+    merge_measured(alloc, model, &mut known, &mut counts, 0, 1, second)?;
     Ok(known)
 }
 

@@ -1,10 +1,15 @@
 -- The rules behind those of edges, one application at a time: what the code makes of a model, and what it notes of that.
 use Rattle.std.specs.Prelude.{◌≡◌, ℕ, Bool, true, false, List, [], ◌∷◌, ◌++◌, Option, Some, None}
 use Rattle.model_core.specs.EventGraph.{EventGraph}
+use Rattle.model_core.specs.Static.Reading.{IsValid}
 use Rattle.model_core.specs.Text.Canonical.{variable_name, vertex_name}
 use Rattle.model_core.specs.Rules.Prune.{first_prune}
 use Rattle.model_core.specs.Rules.Settle.{first_settle}
+use Rattle.model_core.specs.Rules.Conditions.{first_failed}
 use Rattle.model_core.specs.Rules.Reached.{unreached}
+use Rattle.model_core.specs.Rules.Drop.{dropped}
+use Rattle.model_core.specs.Rules.Merge.{merged}
+use Rattle.model_core.specs.Rules.Slice.{slice_conditions, sliced}
 use Rattle.model_core.specs.Rules.Reduction.{RuleApplication, applied, drop_of, Strategy}
 use Rattle.reducer.specs.declared.naming.Declared.{Declared}
 use Rattle.reducer.specs.declared.naming.Declared.TheVariants as declarations
@@ -18,6 +23,15 @@ name_at_place declarations.Vertices g k = vertex_name g k
 pub record NoEdgeRule (g : EventGraph) : Type 0 where
   pub refuted : first_prune g ≡ None
   pub settled : first_settle g ≡ None
+
+-- the laws that a drop, a merge and a slice bring no edge that can be pruned or settled
+pub record LeavesEdges : Type 0 where
+  pub prune_dropped : (g : EventGraph) (vertices : List ℕ) → first_prune g ≡ None → first_prune (dropped g vertices) ≡ None
+  pub settle_dropped : (g : EventGraph) (vertices : List ℕ) → first_settle g ≡ None → first_settle (dropped g vertices) ≡ None
+  pub prune_merged : (g : EventGraph) (first second : ℕ) → first_prune g ≡ None → first_prune (merged g first second) ≡ None
+  pub settle_merged : (g : EventGraph) (first second : ℕ) → first_settle g ≡ None → first_settle (merged g first second) ≡ None
+  pub prune_sliced : (g : EventGraph) (variables : List ℕ) → IsValid g → first_failed (slice_conditions g variables) ≡ None → first_prune (sliced g variables) ≡ first_prune g
+  pub settle_sliced : (g : EventGraph) (variables : List ℕ) → IsValid g → first_failed (slice_conditions g variables) ≡ None → first_settle (sliced g variables) ≡ first_settle g
 
 -- The application is made and noted, if there is one: whether it was, the graphs before and after it, and the applications
 -- that were noted before and after it.

@@ -2,10 +2,11 @@
 use Rattle.std.specs.Prelude.{◌≡◌, ℕ, Bool, true, false, List, [], ◌∷◌, length, Some, None}
 use Rattle.model_core.specs.EventGraph.{EventGraph}
 use Rattle.model_core.specs.Rules.Conditions.{first_failed}
-use Rattle.model_core.specs.Rules.Merge.{merge_conditions, merged}
+use Rattle.model_core.specs.Rules.Merge.{merge_conditions}
 use Rattle.model_core.specs.Rules.Reduction.{RuleApplication, Drop, Merge, two_vertices_named, applied, first_bad}
 use Rattle.model_core.specs.Rules.Verdict.{graph_reached}
-use Rattle.merge_rules.specs.Hollowed.{hollowed}
+use Rattle.merge_rules.specs.Hollowed.{merged_leaving}
+use Rattle.merge_rules.specs.declared.taking_over.SecondVertex.{SecondVertex}
 use Rattle.model_read.specs.NamesPlaced.{names_of_vertices}
 
 -- the first of these drops the vertex of this name alone
@@ -24,7 +25,7 @@ abbrev pub MadeFor : List RuleApplication → EventGraph → RuleApplication →
 MadeFor later g a true h = (next : EventGraph) × (applied g a ≡ Some next) × Serves later next h
 MadeFor later g a false h = applied g a ≡ None
 
--- a merge can be made, and h is its result but that the second vertex has given away what it does, or it can't
-abbrev pub GivenAway : EventGraph → List ℕ → List ℕ → Bool → EventGraph → Type 0
-GivenAway g name target true h = (first second : ℕ) × (two_vertices_named g name target ≡ Some (first, second)) × (first_failed (merge_conditions g first second) ≡ None) × (h ≡ hollowed (merged g first second) second)
-GivenAway g name target false h = applied g (Merge name target) ≡ None
+-- a merge can be made, and h is its result with this left of the second vertex, or it can't
+abbrev pub MergedLeaving : SecondVertex → EventGraph → List ℕ → List ℕ → Bool → EventGraph → Type 0
+MergedLeaving second g name target true h = (first last : ℕ) × (two_vertices_named g name target ≡ Some (first, last)) × (first_failed (merge_conditions g first last) ≡ None) × (h ≡ merged_leaving second g first last)
+MergedLeaving second g name target false h = applied g (Merge name target) ≡ None

@@ -9,5 +9,5 @@ pub put_in_place-requires-clause-place : goal.put_in_place-requires-clause-place
 put_in_place-requires-clause-place c =
     let below = plain_within (vertex_of c.args.vertex.now) c.args.place c.requires.at in
     let same = length-map c.args.vertex.now.edges edge_of in
-    let kept = ap length (c.in_ok-make_room.ensures.edges ∙ c.as_mut_vec-edges.ensures.shows) in
+    let kept = ap length (c.in-Ok.ensures.edges ∙ c.as_mut_vec-edges.ensures.shows) in
     omega (arith, below, same, kept, c.make_room.new.edges.ok.0)

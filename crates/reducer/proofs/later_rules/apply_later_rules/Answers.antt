@@ -3,36 +3,17 @@ use Rattle.std.proofs.Common.{List, map, subst, sym}
 use Rattle.model_core.specs.declared.application.Application.{Application}
 use Rattle.model_core.specs.Code.Views.{graph_of, application_of}
 use Rattle.reducer.specs.Inner.LaterRules.{Finished}
-use Rattle.reducer.proofs.NoEdgeRuleAnew.{LeavesEdges}
 use Rattle.reducer.proofs.RuleByRule.{led_further, leaves_less, led_to_the_end}
 use Rattle.reducer.proofs.later_rules.apply_later_rules.Goals as goal
 
 pub loop-underway-smaller : goal.loop-underway-smaller
-loop-underway-smaller c =
-    let leaves : LeavesEdges = record {
-      prune_dropped = c.dropping_brings_no_rule_of_edges.ensures.prune;
-      settle_dropped = c.dropping_brings_no_rule_of_edges.ensures.settle;
-      prune_merged = c.merging_brings_no_rule_of_edges.ensures.prune;
-      settle_merged = c.merging_brings_no_rule_of_edges.ensures.settle;
-      prune_sliced = c.slicing_leaves_the_rules_of_edges.ensures.prune;
-      settle_sliced = c.slicing_leaves_the_rules_of_edges.ensures.settle;
-    } in
-    leaves_less leaves c.chains_keep_the_meaning.ensures.one_valid c.merging_takes_an_urgent_edge.ensures _ _ _ _ _ _ _ c.if-branch.true c.loop-underway.invariant.led c.in_ok-apply_one.ensures.made
+loop-underway-smaller c = leaves_less c.later_rules_leave_edges.ensures c.chains_keep_the_meaning.ensures.one_valid c.merging_takes_an_urgent_edge.ensures _ _ _ _ _ _ _ c.if-branch.true c.loop-underway.invariant.led c.in_ok-apply_one.ensures.made
 
 pub loop-underway-preserved : goal.loop-underway-preserved
-loop-underway-preserved c =
-    let leaves : LeavesEdges = record {
-      prune_dropped = c.dropping_brings_no_rule_of_edges.ensures.prune;
-      settle_dropped = c.dropping_brings_no_rule_of_edges.ensures.settle;
-      prune_merged = c.merging_brings_no_rule_of_edges.ensures.prune;
-      settle_merged = c.merging_brings_no_rule_of_edges.ensures.settle;
-      prune_sliced = c.slicing_leaves_the_rules_of_edges.ensures.prune;
-      settle_sliced = c.slicing_leaves_the_rules_of_edges.ensures.settle;
-    } in
-    record {
-      led = led_further leaves c.chains_keep_the_meaning.ensures.one_valid _ _ _ _ _ _ _ c.if-branch.true c.loop-underway.invariant.led c.in_ok-apply_one.ensures.made;
-      known = c.in_ok-apply_one.ensures.known;
-    }
+loop-underway-preserved c = record {
+  led = led_further c.later_rules_leave_edges.ensures c.chains_keep_the_meaning.ensures.one_valid _ _ _ _ _ _ _ c.if-branch.true c.loop-underway.invariant.led c.in_ok-apply_one.ensures.made;
+  known = c.in_ok-apply_one.ensures.known;
+}
 
 pub returns : goal.returns
 returns c =

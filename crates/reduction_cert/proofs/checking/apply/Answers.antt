@@ -1,4 +1,9 @@
--- Nothing is known behind these.
+-- Nothing is known behind some rules, and a merge whose second vertex stays is the rule's application.
+use Rattle.std.proofs.Common.{◌≡◌, Some, None, cond, sym, ap, subst}
+use Rattle.std.proofs.lemmas.Result.{IfOk-weaker}
+use Rattle.model_core.specs.Code.Views.{graph_of, application_of}
+use Rattle.model_core.specs.Rules.Reduction.{RuleApplication, applied}
+use Rattle.reduction_cert.proofs.SameBehindDrop.{merge_applied}
 use Rattle.reduction_cert.proofs.ToldByRules.{holds_anyway}
 use Rattle.reduction_cert.proofs.checking.apply.Goals as goal
 
@@ -10,3 +15,10 @@ returns-in-Settle-clause-known c = c.begin-in-Settle.ensures _
 
 pub returns-in-Slice-clause-known : goal.returns-in-Slice-clause-known
 returns-in-Slice-clause-known c = holds_anyway c.apply_slice.result (c.begin-in-Slice.ensures _)
+
+pub returns-in-Merge-clause-made : goal.returns-in-Merge-clause-made
+returns-in-Merge-clause-made c =
+    let g = graph_of c.args.model.now in
+    IfOk-weaker c.apply_merge.result _ _
+    (λ made merged. subst (λ (a : RuleApplication). applied g a ≡ cond made (Some (graph_of c.apply_merge.new.model)) None) (sym (ap application_of c.in-Merge.is)) (merge_applied g _ _ made _ merged))
+    c.apply_merge.ensures.made

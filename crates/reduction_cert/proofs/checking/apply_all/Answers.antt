@@ -7,7 +7,7 @@ use Rattle.sig_base.proofs.Lists.{remaining_more}
 use Rattle.model_core.specs.Code.Views.{graph_of, application_of}
 use Rattle.reduction_cert.proofs.OneMore.{left_none, bad_later, reached_later, bad_here, none_bad, all_reached}
 use Rattle.reduction_cert.proofs.FewerVariables.{counts_begin, counts_serve, fewer}
-use Rattle.reduction_cert.proofs.MovedMerges.{was_made, was_refused}
+use Rattle.reduction_cert.proofs.SameBehindDrop.{was_made, was_refused}
 use Rattle.reduction_cert.proofs.checking.apply_all.Goals as goal
 
 pub loop-place-preserved : goal.loop-place-preserved
@@ -20,7 +20,6 @@ loop-place-preserved c =
     let (next, made, serves) = was_made later g a _ (graph_of c.apply_before.new.model) c.if-not-branch.false c.in_ok-apply_before.ensures.made in
     record {
       listed = c.in_ok-list_anew.ensures g next made serves.names c.loop-place.invariant.listed;
-      known = c.in_ok-apply_before.ensures.known c.if-not-branch.false;
       counts = counts_serve c.loop-place.model c.apply_before.new.model _ _ (fewer serves.variables (c.applications_add_no_variables.ensures g next a made)) c.in_ok-apply_before.ensures.counts c.loop-place.invariant.counts;
       bad = bad_later g a left later is next made _ c.loop-place.place c.loop-place.invariant.bad ∙ ap (option_map (λ k. k + (c.loop-place.place + 1))) serves.bad;
       reached = reached_later g a left later is next made _ c.loop-place.invariant.reached ∙ serves.reached;

@@ -1,6 +1,6 @@
 -- The only name is this one.
 use Rattle.std.proofs.Common.{◌≡◌, ◌∙◌, [], ◌∷◌, List, ℕ, ap, rules}
-use Rattle.reduction_cert.proofs.MovedMerges.{only_one}
+use Rattle.reduction_cert.proofs.SameBehindDrop.{only_one}
 use Rattle.reduction_cert.proofs.looking_ahead.is_alone.Goals as goal
 
 pub returns-then-names-eq1 : goal.returns-then-names-eq1

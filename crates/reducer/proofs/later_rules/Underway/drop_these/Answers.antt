@@ -4,7 +4,7 @@ use Rattle.std.proofs.lemmas.Result.{on_ok_weaker}
 use Rattle.model_core.specs.Code.Views.{graph_of}
 use Rattle.model_core.specs.EventGraph.{EventGraph}
 use Rattle.model_core.specs.Rules.Reached.{unreached}
-use Rattle.reducer.proofs.FirstLaterRule.{drop_holds, drop_made}
+use Rattle.reducer.proofs.FirstLaterRule.{exactly_hold, drop_made}
 use Rattle.reducer.proofs.later_rules.Underway.drop_these.Goals as goal
 
 pub returns-clause-made : goal.returns-clause-made
@@ -18,5 +18,5 @@ pub returns-clause-all : goal.returns-clause-all
 returns-clause-all c =
     let g = graph_of c.args.self.now.model in
     on_ok_weaker c.drop_unreached.result
-    (λ done. subst (λ (h : EventGraph). unreached h ≡ []) (sym done) (c.dropping_keeps_the_meaning.ensures.all_reached g c.args.vertices.now c.requires.valid (drop_holds g c.args.vertices.now c.requires.some c.requires.unreached)))
+    (λ done. subst (λ (h : EventGraph). unreached h ≡ []) (sym done) (c.dropping_keeps_the_meaning.ensures.all_reached g c.args.vertices.now c.requires.valid (exactly_hold c.args.vertices.now (unreached g) c.requires.some c.requires.unreached)))
     c.drop_unreached.ensures.done

@@ -13,7 +13,7 @@ use Rattle.model_core.specs.Rules.Reduction.{Drop}
 use Rattle.merge_rules.specs.Known.{IsKnown}
 use Rattle.merge_rules.specs.Hollowed.{hollow, hollowed}
 use Rattle.reducer.specs.Inner.LaterRules.{dropped_too}
-use Rattle.reducer.proofs.FirstLaterRule.{drop_holds, drop_made}
+use Rattle.reducer.proofs.FirstLaterRule.{exactly_hold, drop_made}
 use Rattle.reducer.proofs.KnownBetween.{hollow_named, all_known}
 use Rattle.reducer.proofs.later_rules.Underway.merge_away.Goals as goal
 
@@ -21,7 +21,7 @@ pub drop_unreached-requires : goal.drop_unreached-requires
 drop_unreached-requires c =
     let m = merged (graph_of c.args.self.now.model) c.args.first c.args.second in
     let one : c.from_vec-gone.result ≡ c.args.second ∷ [] = search rules in
-    one ∙ sym (ap unreached c.in_ok-merge_moving.ensures.done ∙ c.dropping_takes_no_notice_of_the_vertex.ensures.unreached m hollow c.args.second c.requires.alone.alone)
+    one ∙ sym (ap unreached c.in_ok-merge_holding.ensures.done ∙ c.dropping_takes_no_notice_of_the_vertex.ensures.unreached m hollow c.args.second c.requires.alone.alone)
 
 pub returns : goal.returns
 returns c =
@@ -33,15 +33,15 @@ returns c =
     let one : vs ≡ ks = search rules in
     let law = c.dropping_takes_no_notice_of_the_vertex.ensures in
     let valid : IsValid m = c.merging_keeps_the_meaning.ensures.valid g c.args.first second c.requires.valid c.requires.merging.holds in
-    let empty : graph_of c.merge_moving.new.model ≡ hollowed m second = c.in_ok-merge_moving.ensures.done in
-    let left : dropped (graph_of c.merge_moving.new.model) vs ≡ dropped m ks = ap (λ (h : EventGraph). dropped h vs) empty ∙ ap (dropped (hollowed m second)) one ∙ law.left m hollow second in
-    let holds : first_failed (drop_conditions m ks) ≡ None = drop_holds m ks (λ e. cc) (sym c.requires.alone.alone) in
-    let holds_there : first_failed (drop_conditions (graph_of c.merge_moving.new.model) vs) ≡ None =
+    let empty : graph_of c.merge_holding.new.model ≡ hollowed m second = c.in_ok-merge_holding.ensures.done in
+    let left : dropped (graph_of c.merge_holding.new.model) vs ≡ dropped m ks = ap (λ (h : EventGraph). dropped h vs) empty ∙ ap (dropped (hollowed m second)) one ∙ law.left m hollow second in
+    let holds : first_failed (drop_conditions m ks) ≡ None = exactly_hold ks (unreached m) (λ e. cc) (sym c.requires.alone.alone) in
+    let holds_there : first_failed (drop_conditions (graph_of c.merge_holding.new.model) vs) ≡ None =
     ap (λ (h : EventGraph). first_failed (drop_conditions h vs)) empty ∙ ap (λ (ks : List ℕ). first_failed (drop_conditions (hollowed m second) ks)) one ∙ ap first_failed (law.conditions m hollow second) ∙ holds in
     let told : IsKnown (dropped m ks) c.know_without.new.known =
     subst (λ (h : EventGraph). IsKnown h c.know_without.new.known) left
-    (subst (λ (ks : List ℕ). first_failed (drop_conditions (graph_of c.merge_moving.new.model) ks) ≡ None → IsKnown (dropped (graph_of c.merge_moving.new.model) ks) c.know_without.new.known) c.as_slice.ensures c.know_without.ensures holds_there) in
-    let names : map (vertex_name (graph_of c.merge_moving.new.model)) vs ≡ vertex_name m second ∷ [] =
+    (subst (λ (ks : List ℕ). first_failed (drop_conditions (graph_of c.merge_holding.new.model) ks) ≡ None → IsKnown (dropped (graph_of c.merge_holding.new.model) ks) c.know_without.new.known) c.as_slice.ensures c.know_without.ensures holds_there) in
+    let names : map (vertex_name (graph_of c.merge_holding.new.model)) vs ≡ vertex_name m second ∷ [] =
     ap (λ (h : EventGraph). map (vertex_name h) vs) empty ∙ ap (map (vertex_name (hollowed m second))) one ∙ ap (λ (name : List ℕ). name ∷ []) (hollow_named m second second) in
     let noted = c.in_ok-note_drop.ensures ∙ ap (λ (names : List (List ℕ)). map application_of c.args.self.now.applications.items ++ Drop names ∷ []) names in
     on_ok_weaker c.drop_unreached.result

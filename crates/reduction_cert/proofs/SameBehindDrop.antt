@@ -1,5 +1,5 @@
 -- A drop of the second vertex of a merge makes the same of the result, whether that vertex has given away what it does or not.
-use Rattle.std.proofs.Common.{◌≡◌, ℕ, suc, Bool, true, false, List, [], ◌∷◌, Option, Some, None, Result, Ok, Err, OnOk, IfOk, IfErr, length, get_or, refl, sym, ap, ap₂, arith, ◌∙◌, subst}
+use Rattle.std.proofs.Common.{◌≡◌, ℕ, suc, Bool, true, false, cond, List, [], ◌∷◌, Option, Some, None, Result, Ok, Err, OnOk, IfOk, IfErr, length, get_or, refl, sym, ap, ap₂, arith, ◌∙◌, subst}
 use Rattle.std.specs.Option.{option_map, option_map_or, option_and_then}
 use Rattle.sig_base.specs.declared.no_memory.NoMemory.{NoMemory}
 use Rattle.model_core.specs.declared.rule_error.RuleError.{RuleError}
@@ -15,10 +15,12 @@ use Rattle.model_core.specs.Rules.Merge.{merge_conditions, merged_with, merged}
 use Rattle.model_core.specs.Rules.Reduction.{RuleApplication, Drop, Merge, place_of_vertex, vertices_named, two_vertices_named, unless_failed, applied, first_bad}
 use Rattle.model_core.specs.Rules.Verdict.{graph_reached}
 use Rattle.model_core.specs.Rules.PlacedEdges.{with_vertex}
-use Rattle.merge_rules.specs.Hollowed.{hollow, hollowed}
-use Rattle.reduction_cert.specs.Inner.MovedMerges.{Serves, MadeFor, GivenAway}
+use Rattle.merge_rules.specs.Hollowed.{hollow, hollowed, merged_leaving}
+use Rattle.merge_rules.specs.declared.taking_over.SecondVertex.{SecondVertex}
+use Rattle.merge_rules.specs.declared.taking_over.SecondVertex.TheVariants as seconds
+use Rattle.reduction_cert.specs.Inner.MovedMerges.{Serves, MadeFor, MergedLeaving}
 use Rattle.reduction_cert.proofs.NamesKept.{placed_kept, merged_name}
-use Rattle.reduction_cert.proofs.ToldByRules.{drop_named, merge_named}
+use Rattle.reduction_cert.proofs.ToldByRules.{told_holds, told_result, drop_named, merge_named}
 
 -- the place of the second name
 second_named : (o p : Option ℕ) (first second : ℕ) → option_and_then {U = ℕ × ℕ} (λ (k : ℕ). option_map (λ (j : ℕ). (k, j)) p) o ≡ Some (first, second) → p ≡ Some second
@@ -53,7 +55,7 @@ module _ (conditions : (g : EventGraph) (f : EventVertex → EventVertex) (gone 
         variables = refl;
       }
 
-  pub made_for : (g : EventGraph) (name target : List ℕ) (later rest : List RuleApplication) (made : Bool) (h : EventGraph) → later ≡ Drop (target ∷ []) ∷ rest → GivenAway g name target made h → MadeFor later g (Merge name target) made h
+  pub made_for : (g : EventGraph) (name target : List ℕ) (later rest : List RuleApplication) (made : Bool) (h : EventGraph) → later ≡ Drop (target ∷ []) ∷ rest → MergedLeaving seconds.GivesAway g name target made h → MadeFor later g (Merge name target) made h
   made_for g name target later rest true h is (first, second, named, holds, same) = (
     merged g first second,
     merge_named g name target first second named ∙ ap (λ o. unless_failed o (merged g first second)) holds,
@@ -63,19 +65,25 @@ module _ (conditions : (g : EventGraph) (f : EventVertex → EventVertex) (gone 
   made_for g name target later rest false h is refused = refused
 
 -- what the rule's answer tells
-pub given_told : (g : EventGraph) (name target : List ℕ) (first second : ℕ) (h : EventGraph) → two_vertices_named g name target ≡ Some (first, second) → (given : Result (Unit {0}) RuleError)
-    → OnOk given ((first_failed (merge_conditions g first second) ≡ None) × (h ≡ hollowed (merged g first second) second))
-    → IfErr given (λ e. TellsCondition e (first_failed (merge_conditions g first second)))
+pub merge_told : (second : SecondVertex) (g : EventGraph) (name target : List ℕ) (first last : ℕ) (h : EventGraph) → two_vertices_named g name target ≡ Some (first, last) → (given : Result (Unit {0}) RuleError)
+    → OnOk given ((first_failed (merge_conditions g first last) ≡ None) × (h ≡ merged_leaving second g first last))
+    → IfErr given (λ e. TellsCondition e (first_failed (merge_conditions g first last)))
     → (answer : Result Bool NoMemory) → (answer ≡ Ok true → given ≡ Ok tt) → (answer ≡ Ok false → (condition : ℕ) × (given ≡ Err (errors.Refused condition)))
-    → IfOk answer (λ made. GivenAway g name target made h)
-given_told g name target first second h named given done tells (Ok true) made refused =
-    let (holds, same) = subst (λ (r : Result (Unit {0}) RuleError). OnOk r ((first_failed (merge_conditions g first second) ≡ None) × (h ≡ hollowed (merged g first second) second))) (made refl) done in
-    (first, second, named, holds, same)
-given_told g name target first second h named given done tells (Ok false) made refused =
+    → IfOk answer (λ made. MergedLeaving second g name target made h)
+merge_told second g name target first last h named given done tells (Ok true) made refused =
+    let result = merged_leaving second g first last in
+    let failed = first_failed (merge_conditions g first last) in
+    (first, last, named, told_holds result h failed given done tells (made refl), told_result result h failed given done tells (made refl))
+merge_told second g name target first last h named given done tells (Ok false) made refused =
     let (condition, is) = refused refl in
-    let told : first_failed (merge_conditions g first second) ≡ Some condition = subst (λ (r : Result (Unit {0}) RuleError). IfErr r (λ e. TellsCondition e (first_failed (merge_conditions g first second)))) is tells in
-    merge_named g name target first second named ∙ ap (λ o. unless_failed o (merged g first second)) told
-given_told g name target first second h named given done tells (Err e) made refused = tt
+    let told : first_failed (merge_conditions g first last) ≡ Some condition = subst (λ (r : Result (Unit {0}) RuleError). IfErr r (λ e. TellsCondition e (first_failed (merge_conditions g first last)))) is tells in
+    merge_named g name target first last named ∙ ap (λ o. unless_failed o (merged g first last)) told
+merge_told second g name target first last h named given done tells (Err e) made refused = tt
+
+-- where the second one stays, that is the rule's application
+pub merge_applied : (g : EventGraph) (name target : List ℕ) (made : Bool) (h : EventGraph) → MergedLeaving seconds.Stays g name target made h → applied g (Merge name target) ≡ cond made (Some h) None
+merge_applied g name target true h (first, last, named, holds, same) = merge_named g name target first last named ∙ ap (λ o. unless_failed o (merged g first last)) holds ∙ ap Some (sym same)
+merge_applied g name target false h refused = refused
 
 -- ---- what stands next
 
@@ -83,13 +91,6 @@ pub only_one : {A : Type 0} (xs : List A) (x : A) → length xs ≡ 1 → x ≡ 
 only_one [] x one at = absurd (omega (arith, one))
 only_one (y ∷ []) x one at = ap (λ z. z ∷ []) (sym at)
 only_one (y ∷ z ∷ xs) x one at = absurd (omega (arith, one))
-
--- ---- answers
-
--- what holds of the rule's answer holds where it says that the application was made
-pub told_if_made : (P : Type 0) (answer : Result Bool NoMemory) (given : Result (Unit {0}) RuleError) → (answer ≡ Ok true → given ≡ Ok tt) → OnOk given P → IfOk answer (λ made. made ≡ true → P)
-told_if_made P (Ok made) given was holds = λ e. subst (λ (r : Result (Unit {0}) RuleError). OnOk r P) (was (ap Ok e)) holds
-told_if_made P (Err e) given was holds = tt
 
 -- ---- whether an application was made
 
