@@ -20,6 +20,7 @@ loop-place-preserved c =
     let (next, made, serves) = was_made later g a _ (graph_of c.apply_before.new.model) c.if-not-branch.false c.in_ok-apply_before.ensures.made in
     record {
       listed = c.in_ok-list_anew.ensures g next made serves.names c.loop-place.invariant.listed;
+      known = c.in_ok-apply_before.ensures.known;
       counts = counts_serve c.loop-place.model c.apply_before.new.model _ _ (fewer serves.variables (c.applications_add_no_variables.ensures g next a made)) c.in_ok-apply_before.ensures.counts c.loop-place.invariant.counts;
       bad = bad_later g a left later is next made _ c.loop-place.place c.loop-place.invariant.bad ∙ ap (option_map (λ k. k + (c.loop-place.place + 1))) serves.bad;
       reached = reached_later g a left later is next made _ c.loop-place.invariant.reached ∙ serves.reached;
