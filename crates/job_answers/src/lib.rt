@@ -1,5 +1,5 @@
-//! What is answered to a text, job by job: the answers, what there is to complain of, how a call may end, and how an answer
-//! gets to the output. The top call stands above it.
+//! What is answered to a text, job by job: how it is read, what is answered to it and what is told of it, and the laws of the
+//! answers. The top call stands above it.
 #![tactic(auto)]
 
 mod acceptance;
