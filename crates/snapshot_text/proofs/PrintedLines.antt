@@ -4,19 +4,13 @@ use Rattle.std.specs.Prelude.{codes, decimal}
 use Rattle.std.proofs.lemmas.List.{take_min, drop_min, drop-drop, length-drop}
 use Rattle.model_core.specs.EventGraph.{EventGraph, Variable}
 use Rattle.model_core.specs.Run.State.{cell_count}
-use Rattle.model_core.specs.Run.Pending.{Entry}
-use Rattle.model_core.specs.Text.Canonical.{vertex_name}
 use Rattle.model_core.specs.Saved.SavedRun.{SavedRun}
-use Rattle.model_core.specs.Text.SnapshotText.{value_lines, carried_text, snapshot_text}
-use Rattle.snapshot_text.specs.Inner.Lines.{value_line, event_line, seed_lines, clock_lines, last_lines}
+use Rattle.model_core.specs.Text.SnapshotText.{value_lines, snapshot_text}
+use Rattle.snapshot_text.specs.Inner.Lines.{value_line, seed_lines, clock_lines, last_lines}
 
 -- the pieces of a line, one after the other, are the line
 pub seed-pieces : (out : List ℕ) (high low : ℕ) → ((((out ++ codes "snapshot\nseed ") ++ decimal high) ++ codes " ") ++ decimal low) ++ codes "\n" ≡ out ++ seed_lines high low
 seed-pieces out high low = simp (append_assoc) refl
-
-pub event-pieces : (g : EventGraph) (ticks : ℕ) (e : Entry) (out : List ℕ)
-    → (((((((out ++ codes "pending ") ++ decimal ticks) ++ codes " ") ++ decimal e.priority) ++ codes " ") ++ vertex_name g e.vertex) ++ carried_text e.values) ++ codes "\n" ≡ out ++ event_line g ticks e
-event-pieces g ticks e out = simp (append_assoc) refl
 
 -- the line of one variable more
 pub one_value_more : (out new : List ℕ) (v : Variable) (vs : List Variable) (values : List ℤ) (from n : ℕ) (total : List ℕ) → n ≡ min (cell_count v) (length values - from)

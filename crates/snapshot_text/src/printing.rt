@@ -13,7 +13,7 @@ use crate::numbers::SEED_PART;
 use crate::snapshot::Snapshot;
 use event_list::Entry;
 use model_core::{Model, Var};
-use sig_base::{List, NoMemory, Text, put_bytes, put_counted, put_signed, put_texts};
+use sig_base::{List, NoMemory, Text, put_bytes, put_counted, put_number, put_signed, put_texts};
 use std::alloc::Global;
 
 /// Adds values, each behind a comma.
@@ -148,9 +148,12 @@ fn put_all_pending(
 fn put_seed(out: &mut Vec<u8>, high: u64, low: u64) -> Result<(), NoMemory>
     ensures { OnOk result (out.new.items ≡ out.old.items ++ seed_lines high low) }
 {
-    put_counted(out, b"snapshot\nseed ", high)?;
-    put_counted(out, b" ", low)?;
-    put_bytes(out, b"\n")
+    put_bytes(out, b"snapshot\nseed ")?;
+    put_number(out, high)?;
+    put_bytes(out, b" ")?;
+    put_number(out, low)?;
+    put_bytes(out, b"\n")?;
+    Ok(())
 }
 
 /// Adds the lines of the clock and the number of events.
