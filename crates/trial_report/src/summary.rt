@@ -10,7 +10,7 @@ ghost use Rattle.trial_report.specs.TrialText.{edges_in, size_line, applications
 use crate::run_measure::RunMeasure;
 use model_core::{Model, Vertex};
 use round_trip::validity_is_by_parts;
-use sig_base::{NoMemory, put_bytes, put_counted, put_texts};
+use sig_base::{NoMemory, put_bytes, put_counted, put_number, put_texts};
 use watch_trace::{Outcome, fault_word};
 
 /// How many edges vertices have, or the last count where they are more.
@@ -49,7 +49,8 @@ pub(crate) fn put_size(out: &mut Vec<u8>, name: &[u8], model: &Model) -> Result<
 pub(crate) fn put_applications(out: &mut Vec<u8>, applications: usize) -> Result<(), NoMemory>
     ensures { OnOk result (out.new.items ≡ out.old.items ++ applications_line applications) }
 {
-    put_counted(out, b"applications ", applications as u64)?;
+    put_bytes(out, b"applications ")?;
+    put_number(out, applications as u64)?;
     put_bytes(out, b"\n")
 }
 
