@@ -17,7 +17,7 @@ use Rattle.model_core.specs.Text.Spellable.{IsName, HasOne, openings_together}
 use Rattle.model_core.specs.Text.Format.{TokenSort, AName, ANumber, AWord, ASymbol, sort_of, sort_as, Yields, Single, Apply, Either, Many, derives, name_bytes, number_value, any_name, any_number, mark, reserved, ◌<*◌, ◌*>◌, maybe, at_least_one, separated}
 use Rattle.model_core.specs.Text.Expressions.{Level, LanguageFormat}
 use Rattle.text_laws.specs.OpeningCount.{deep_from}
-use Rattle.round_trip.proofs.TokensOfTexts.{GoodKind, GoodTokens, IsLiteral}
+use Rattle.round_trip.proofs.TokensOfTexts.{GoodKind, GoodTokens, IsSmallNumber}
 
 -- tokens of a text, where its part may have so many more openings
 pub record Sound (k : ℕ) (tokens : List Lexeme) : Type 0 where
@@ -116,7 +116,7 @@ abbrev pub AWrittenName : ℕ → WrittenName → ℕ → Type 0
 AWrittenName k n j = IsName n.name × (k ≡ j)
 
 abbrev pub AWrittenNumber : ℕ → WrittenNumber → ℕ → Type 0
-AWrittenNumber k n j = IsLiteral n.value × (k ≡ j)
+AWrittenNumber k n j = IsSmallNumber n.value × (k ≡ j)
 
 pub tells-name : {levels : Level → Grammar WrittenExpression} → Tells levels any_name AWrittenName
 tells-name = tells-token AName _ AWrittenName (λ t good same k j s. by-kind t.kind t.from good same k j s)
@@ -130,7 +130,7 @@ tells-name = tells-token AName _ AWrittenName (λ t good same k j s. by-kind t.k
 pub tells-number : {levels : Level → Grammar WrittenExpression} → Tells levels any_number AWrittenNumber
 tells-number = tells-token ANumber _ AWrittenNumber (λ t good same k j s. by-kind t.kind t.from good same k j s)
   where
-    by-kind : (kind : LexemeKind) (from : ℕ) → GoodKind kind → sort_of kind ≡ ANumber → (k j : ℕ) → Taken kind k j → IsLiteral (number_value kind) × (k ≡ j)
+    by-kind : (kind : LexemeKind) (from : ℕ) → GoodKind kind → sort_of kind ≡ ANumber → (k j : ℕ) → Taken kind k j → IsSmallNumber (number_value kind) × (k ≡ j)
     by-kind (NameOf b) from good same k j s = cc
     by-kind (Reserved v) from good same k j s = cc
     by-kind (NumberOf n m) from good same k j s = (good, s)

@@ -4,7 +4,7 @@ use Rattle.std.specs.Prelude.{slice_get}
 use Rattle.std.specs.Option.{option_map_or}
 use Rattle.std.specs.List.{range_with_len}
 use Rattle.sig_base.proofs.Lists.{get-behind}
-use Rattle.model_core.specs.EventGraph.{EventGraph, EventVertex, Watched, watched_variables}
+use Rattle.model_core.specs.EventGraph.{EventGraph, EventVertex, watched_variables}
 use Rattle.model_core.specs.Rules.MarkedPlaces.{is_among}
 use Rattle.model_core.specs.Rules.Uses.{VariableUses, vertex_reads, vertex_writes, places_where}
 use Rattle.use_analysis.specs.UseRows.{use_table}

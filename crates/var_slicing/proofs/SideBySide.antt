@@ -15,8 +15,8 @@ pub record AddedBeside {X Y A B C : Type 0} (f : A × B → List C) (view : X �
   pub so_far : out ++ flat_map f (zip (map view (iter_rest (zip_first s))) (map see (iter_rest (zip_second s)))) ≡ before ++ flat_map f (zip as_ bs)
 
 module _ {X Y A B C : Type 0} {f : A × B → List C} {view : X → A} {see : Y → B} {as_ : List A} {bs : List B} {s : Zip (Iter X) (Iter Y)} {before : List C} where
-  pub none_beside : map view (iter_rest (zip_first s)) ≡ as_ → map see (iter_rest (zip_second s)) ≡ bs → AddedBeside f view see as_ bs s before before
-  none_beside first second = record { so_far = ap₂ (λ (xs : List A) (ys : List B). before ++ flat_map f (zip xs ys)) first second }
+  pub begun_beside : map view (iter_rest (zip_first s)) ≡ as_ → map see (iter_rest (zip_second s)) ≡ bs → AddedBeside f view see as_ bs s before before
+  begun_beside first second = record { so_far = ap₂ (λ (xs : List A) (ys : List B). before ++ flat_map f (zip xs ys)) first second }
 
   module _ {out : List C} (h : AddedBeside f view see as_ bs s before out) {r : Option (Bor X × Bor Y)} where
     -- one more of both lists

@@ -2,11 +2,11 @@
 use Rattle.std.proofs.Common.{◌∙◌, map, ap}
 use Rattle.std.proofs.lemmas.List.{map-id}
 use Rattle.model_core.specs.Code.Views.{expression_of}
-use Rattle.var_slicing.proofs.SideBySide.{none_beside, one_beside, all_beside}
+use Rattle.var_slicing.proofs.SideBySide.{begun_beside, one_beside, all_beside}
 use Rattle.var_slicing.proofs.faults.add_faulting_values.Goals as goal
 
 pub loop-param-init : goal.loop-param-init
-loop-param-init c = none_beside (map-id _ ∙ (cc)) (ap (map expression_of) (cc))
+loop-param-init c = begun_beside (map-id _ ∙ (cc)) (ap (map expression_of) (cc))
 
 pub loop-param-preserved : goal.loop-param-preserved
 loop-param-preserved c = one_beside c.loop-param.invariant c.in-Some.is c.next.ensures.steps c.in_ok-add_faulting_value.ensures

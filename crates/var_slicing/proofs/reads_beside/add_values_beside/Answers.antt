@@ -4,11 +4,11 @@ use Rattle.std.proofs.lemmas.List.{map-id}
 use Rattle.model_core.specs.Rules.Uses.{variables_in}
 use Rattle.model_core.specs.Code.Views.{expression_of}
 use Rattle.var_slicing.proofs.ReadsBeside.{reads-added}
-use Rattle.var_slicing.proofs.SideBySide.{none_beside, one_beside, all_beside}
+use Rattle.var_slicing.proofs.SideBySide.{begun_beside, one_beside, all_beside}
 use Rattle.var_slicing.proofs.reads_beside.add_values_beside.Goals as goal
 
 pub loop-param-init : goal.loop-param-init
-loop-param-init c = none_beside (map-id _ ∙ (cc)) (ap (map expression_of) (cc))
+loop-param-init c = begun_beside (map-id _ ∙ (cc)) (ap (map expression_of) (cc))
 
 pub loop-param-preserved : goal.loop-param-preserved
 loop-param-preserved c =
