@@ -1,4 +1,5 @@
--- What dropping vertices takes from the canonical text: their lines alone, where none of them needs version 2 of a text.
+-- What dropping vertices takes from the canonical text behind the line of its version: their lines alone. And that line stays as
+-- it is where none of them needs version 2 of a text.
 use Rattle.std.proofs.Common.{◌≡◌, inl, inr, ℕ, zero, suc, cond, ◌||◌, ◌+◌, ◌<◌, ◌≤◌, Bool, true, false, not, List, [], ◌∷◌, ◌++◌, map, filter, length, slice_get, slice_index_or, None, refl, sym, ap, ap₂, subst, arith, ◌∙◌, length-append}
 use Rattle.std.specs.Prelude.{codes, nat_lt, Option}
 use Rattle.std.proofs.lemmas.Bool.Decides.{nat_tests}
@@ -183,20 +184,36 @@ module _ (g : EventGraph) (marks : List Bool) (hold : HoldReached g marks) (long
       let gone = ap (list_any has_later_parts) (sym (elements-unmarked no_vertex marks g.vertices long)) ∙ any-mapped has_later_parts at (λ k. has_later_parts (at k)) (λ k. refl) (unmarked_places marks) ∙ none in
       ap (λ later. list_any is_large_array g.variables || later) (any-mapped has_later_parts (vertex_renumbered f) has_later_parts (later-same f) kept ∙ any-parted has_later_parts marks g.vertices long gone)
 
-  text_parted : NoneLater → length (canonical h) + length (flat_map (λ k. vertex_lines g (vertex_at g k)) (unmarked_places marks)) ≡ length (canonical g)
-  text_parted none =
+  front_length : (b c : Bool) (watch : List ℕ) → length (front b watch) + length (version_line c) ≡ length (front c watch) + length (version_line b)
+  front_length true true watch = refl
+  front_length true false watch = omega arith
+  front_length false true watch = omega arith
+  front_length false false watch = refl
+
+  text_parted : length (canonical h) + length (version_line (needs_version_two g)) + length (flat_map (λ k. vertex_lines g (vertex_at g k)) (unmarked_places marks)) ≡ length (canonical g) + length (version_line (needs_version_two h))
+  text_parted =
       let lines_h = flat_map (vertex_lines h) h.vertices in
       let lines_g = flat_map (vertex_lines g) g.vertices in
       let front_h = front (needs_version_two h) (watch_line h) in
       let front_g = front (needs_version_two g) (watch_line g) in
-      let same : length front_h ≡ length front_g = ap (λ b. length (front b (watch_line h))) (needed_same none) ∙ ap (λ w. length (front (needs_version_two g) w)) watch_same in
-      omega (arith, same, vertices_parted, length-append (front_h ++ lines_h) (codes "end\n"), length-append front_h lines_h, length-append (front_g ++ lines_g) (codes "end\n"), length-append front_g lines_g)
+      let version = front_length (needs_version_two h) (needs_version_two g) (watch_line h) in
+      let watch = ap (λ w. length (front (needs_version_two g) w)) watch_same in
+      omega (arith, version, watch, vertices_parted, length-append (front_h ++ lines_h) (codes "end\n"), length-append front_h lines_h, length-append (front_g ++ lines_g) (codes "end\n"), length-append front_g lines_g)
+
+-- a graph has the text of another one without the lines of these vertices
+abbrev TakesLines : EventGraph → EventGraph → List ℕ → Type 0
+TakesLines g h vertices = length (canonical h) + length (version_line (needs_version_two g)) + length (flat_map (λ k. vertex_lines g (vertex_at g k)) vertices) ≡ length (canonical g) + length (version_line (needs_version_two h))
 
 -- where drop's conditions hold, the lines of the vertices go, and nothing else
-pub lines-go : (g : EventGraph) (vertices : List ℕ) → first_failed (drop_conditions g vertices) ≡ None → list_any (λ k. has_later_parts (vertex_at g k)) vertices ≡ false
-    → length (canonical (dropped g vertices)) + length (flat_map (λ k. vertex_lines g (vertex_at g k)) vertices) ≡ length (canonical g)
-lines-go g vertices holds none =
+pub lines-go : (g : EventGraph) (vertices : List ℕ) → first_failed (drop_conditions g vertices) ≡ None
+    → length (canonical (dropped g vertices)) + length (version_line (needs_version_two g)) + length (flat_map (λ k. vertex_lines g (vertex_at g k)) vertices) ≡ length (canonical g) + length (version_line (needs_version_two (dropped g vertices)))
+lines-go g vertices holds =
+    subst (λ (vs : List ℕ). TakesLines g (dropped g vs) vs) (sym (lists_unreached g vertices holds))
+    (subst (λ (h : EventGraph). TakesLines g h (unreached g)) (sym (without_unreached g)) (text_parted g (reached_marks g) (reached_marks-hold g) (reached_marks-long g)))
+
+pub version-stays : (g : EventGraph) (vertices : List ℕ) → first_failed (drop_conditions g vertices) ≡ None → list_any (λ k. has_later_parts (vertex_at g k)) vertices ≡ false → needs_version_two (dropped g vertices) ≡ needs_version_two g
+version-stays g vertices holds none =
     let is = lists_unreached g vertices holds in
-    ap (λ vs. length (canonical (dropped g vs)) + length (flat_map (λ k. vertex_lines g (vertex_at g k)) vs)) is
-    ∙ ap (λ (x : EventGraph). length (canonical x) + length (flat_map (λ k. vertex_lines g (vertex_at g k)) (unreached g))) (without_unreached g)
-    ∙ text_parted g (reached_marks g) (reached_marks-hold g) (reached_marks-long g) (ap (list_any (λ k. has_later_parts (vertex_at g k))) (sym is) ∙ none)
+    ap (λ vs. needs_version_two (dropped g vs)) is
+    ∙ ap needs_version_two (without_unreached g)
+    ∙ needed_same g (reached_marks g) (reached_marks-hold g) (reached_marks-long g) (ap (list_any (λ k. has_later_parts (vertex_at g k))) (sym is) ∙ none)

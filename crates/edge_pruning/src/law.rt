@@ -6,8 +6,8 @@ ghost use Rattle.model_core.specs.EventGraph.{EventGraph, EventVertex};
 ghost use Rattle.model_core.specs.Run.Step.{no_vertex, vertex_at};
 ghost use Rattle.model_core.specs.Run.Same.{Same};
 ghost use Rattle.model_core.specs.Static.Reading.{IsValid};
-ghost use Rattle.model_core.specs.Text.Canonical.{canonical, change_line, edge_line, vertex_lines};
-ghost use Rattle.model_core.specs.Text.VersionNeeded.{has_later_parts};
+ghost use Rattle.model_core.specs.Text.Canonical.{version_line, canonical, change_line, edge_line, vertex_lines};
+ghost use Rattle.model_core.specs.Text.VersionNeeded.{has_later_parts, needs_version_two};
 ghost use Rattle.model_core.specs.Rules.Conditions.{first_failed};
 ghost use Rattle.model_core.specs.Rules.Prune.{prune_conditions, pruned, first_prune};
 ghost use Rattle.model_core.specs.Rules.Settle.{settle_conditions, settled, first_settle};
@@ -63,12 +63,15 @@ pub fn dropping_keeps_the_meaning()
     validity_is_by_parts();
 }
 
-/// A drop takes the lines of its vertices from the canonical text, and nothing else, where none of them has parts that only a
-/// text of version 2 can write.
+/// A drop takes the lines of its vertices from the canonical text behind the line of its version, and nothing else. Where none of
+/// them has parts that only a text of version 2 can write, the result needs one where the model does.
 pub fn dropping_takes_lines()
-    ensures { (g : EventGraph) (vertices : List ℕ) → first_failed (drop_conditions g vertices) ≡ None
+    ensures lines { (g : EventGraph) (vertices : List ℕ) → first_failed (drop_conditions g vertices) ≡ None
+        → length (canonical (dropped g vertices)) + length (version_line (needs_version_two g)) + length (flat_map (λ k. vertex_lines g (vertex_at g k)) vertices)
+        ≡ length (canonical g) + length (version_line (needs_version_two (dropped g vertices))) }
+    ensures version { (g : EventGraph) (vertices : List ℕ) → first_failed (drop_conditions g vertices) ≡ None
         → list_any (λ k. has_later_parts (vertex_at g k)) vertices ≡ false
-        → length (canonical (dropped g vertices)) + length (flat_map (λ k. vertex_lines g (vertex_at g k)) vertices) ≡ length (canonical g) }
+        → needs_version_two (dropped g vertices) ≡ needs_version_two g }
 {}
 
 /// A drop of one vertex alone leaves the others the lines of their changes and edges. Those behind it move up.

@@ -24,7 +24,7 @@ use Rattle.merge_rules.specs.declared.taking_over.SecondVertex.TheVariants as se
 use Rattle.merge_rules.proofs.OneStepForTwo.MergeHolds.{Mergeable, conditions_hold, is_below}
 use Rattle.merge_rules.proofs.SingleUrgentModels.SingleKept.{apart_placed, merged_single}
 use Rattle.merge_rules.proofs.ConditionsAsked.PairsFound.{counted_whole}
-use Rattle.merge_rules.proofs.MergedText.VersionMerged.{same_truth, gained, joined-late, at_place}
+use Rattle.merge_rules.proofs.MergedText.VersionMerged.{same_truth, gained, joined-late, at_place, needed-merged}
 use Rattle.merge_rules.proofs.MergedText.MergedLength.{lines_length, changed_length, body_elsewhere}
 use Rattle.merge_rules.proofs.MergedText.GrownTexts.{there-is}
 use Rattle.merge_rules.proofs.MergedText.LimitsTold.{with_merged}
@@ -119,6 +119,10 @@ module _ (g : EventGraph) (first second : ℕ) (none : first_failed (merge_condi
   needed-stays = ap (λ late. list_any is_large_array g.variables || late) (same_truth (list_any has_later_parts (with_place hollow second h.vertices)) (list_any has_later_parts h.vertices)
       (λ e. elim (gained hollow false second h.vertices (λ v there late. inl (hollow-late v late)) e) [ inl i ↦ i | inr i ↦ cc ])
       (λ e. elim (left-late hollow second h.vertices e) [ inl i ↦ first-late (sym (ap has_later_parts second_stays) ∙ i) | inr i ↦ i ]))
+
+  pub version_left : (left : SecondVertex) → needs_version_two (merged_leaving left g first second) ≡ needs_version_two g
+  version_left seconds.Stays = needed-merged g first second
+  version_left seconds.GivesAway = needed-stays ∙ needed-merged g first second
 
   -- ---- its length
 

@@ -6,3 +6,4 @@ pub mod ConditionsAsked
 pub mod PairsBetweenMerges
 pub mod HollowedText
 pub mod BodiesKept
+pub mod EdgesChanged

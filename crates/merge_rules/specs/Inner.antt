@@ -1,3 +1,4 @@
 -- The code of this crate, restated for its proofs. Nobody has to believe these.
+pub mod LosesBytes
 pub mod PairMoves
 pub mod ReadingEdges

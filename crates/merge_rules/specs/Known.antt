@@ -1,9 +1,11 @@
--- What may be known of a graph beside itself: how long its canonical text is, whether it is single urgent, and how long the
--- lines of what each vertex does are.
-use Rattle.std.specs.Prelude.{◌≡◌, ℕ, Bool, List, Option, Some, None, length, slice_index_or}
+-- What may be known of a graph beside itself: how long its canonical text is behind the line of its version, and whether it
+-- has that line, whether it is single urgent, and how long the lines of what each vertex does are.
+use Rattle.std.specs.Prelude.{◌≡◌, ℕ, ◌+◌, Bool, List, Option, Some, None, length, slice_index_or}
+use Rattle.std.specs.Option.{option_map, option_and_then}
 use Rattle.model_core.specs.EventGraph.{EventGraph}
 use Rattle.model_core.specs.Run.Step.{vertex_at}
-use Rattle.model_core.specs.Text.Canonical.{canonical}
+use Rattle.model_core.specs.Text.Canonical.{version_line, canonical}
+use Rattle.model_core.specs.Text.VersionNeeded.{needs_version_two}
 use Rattle.model_core.specs.Rules.UrgentEdges.{single_urgent}
 use Rattle.merge_rules.specs.Growth.{body_lines, capped}
 use Rattle.merge_rules.specs.declared.known.Known.{Known}
@@ -12,6 +14,16 @@ use Rattle.merge_rules.specs.declared.known.Known.{Known}
 abbrev pub IsMeasured : EventGraph → Option ℕ → Type 0
 IsMeasured g (Some bytes) = bytes ≡ length (canonical g)
 IsMeasured g None = Unit {0}
+
+-- the number of bytes, where there is one, is that of the text behind the line of its version
+abbrev pub TellsLines : EventGraph → Option ℕ → Type 0
+TellsLines g (Some bytes) = length (version_line (needs_version_two g)) + bytes ≡ length (canonical g)
+TellsLines g None = Unit {0}
+
+-- the answer, where there is one, tells whether only a text of version 2 can write the graph
+abbrev pub TellsVersion : EventGraph → Option Bool → Type 0
+TellsVersion g (Some two) = two ≡ needs_version_two g
+TellsVersion g None = Unit {0}
 
 -- the answer, where there is one, tells whether the graph is single urgent
 abbrev pub TellsSingle : EventGraph → Option Bool → Type 0
@@ -29,6 +41,11 @@ AreBodies g bodies = (k : ℕ) → TellsLength (slice_index_or bodies k None) (b
 
 -- what is known is so
 pub record IsKnown (g : EventGraph) (known : Known) : Type 0 where
-  pub measured : IsMeasured g known.bytes
+  pub lines : TellsLines g known.lines
+  pub version : TellsVersion g known.version_two
   pub single : TellsSingle g known.single
   pub bodies : AreBodies g known.bodies
+
+-- how many bytes the canonical text has, where both are known
+abbrev pub text_length : Known → Option ℕ
+text_length known = option_and_then (λ two. option_map (λ bytes. length (version_line two) + bytes) known.lines) known.version_two

@@ -1,10 +1,13 @@
 //! What is known of a model while merges and other rules are applied to it, so that it isn't found again each time.
 
-ghost use Rattle.std.specs.Prelude.{◌≡◌, ℕ, List, ◌<◌, None, length};
+ghost use Rattle.std.specs.Prelude.{◌≡◌, ℕ, List, ◌<◌, Some, None, length};
 ghost use Rattle.model_core.specs.EventGraph.{EventGraph};
 ghost use Rattle.model_core.specs.Run.Step.{vertex_at};
+ghost use Rattle.model_core.specs.Text.Canonical.{version_line};
+ghost use Rattle.model_core.specs.Text.VersionNeeded.{needs_version_two};
 ghost use Rattle.model_core.specs.Rules.Conditions.{first_failed};
 ghost use Rattle.model_core.specs.Rules.Drop.{dropped};
+ghost use Rattle.model_core.specs.Rules.Prune.{pruned};
 ghost use Rattle.model_core.specs.Rules.Merge.{merge_conditions, merged};
 ghost use Rattle.model_core.specs.Rules.UrgentEdges.{single_urgent};
 ghost use Rattle.model_core.specs.Code.Views.{graph_of};
@@ -13,16 +16,25 @@ ghost use Rattle.merge_rules.specs.Known.{IsMeasured, TellsSingle, TellsLength, 
 
 use crate::bodies::Bodies;
 use crate::growth::{Growth, body_at};
-use model_core::Model;
+use model_core::{Model, needs_version_two};
 use model_print::printed_length;
 use range_bounds::single_urgent;
 use std::alloc::Global;
 
+/// How many bytes the line of its version has in a canonical text, which stands in one of version 2 alone.
+pub(crate) fn version_length(version_two: bool) -> u64
+    ensures { result ≡ length (version_line version_two) }
+{
+    if version_two { 11 } else { 0 }
+}
+
 /// What is known of a model beside itself. Nothing is known of where there is None.
 #[derive(Drop)]
 pub struct Known {
-    /// How many bytes its canonical text has.
-    pub bytes: Option<u64>,
+    /// How many bytes its canonical text has behind the line of its version.
+    pub lines: Option<u64>,
+    /// Whether only a text of version 2 can write it, so that its canonical text has that line.
+    pub version_two: Option<bool>,
     /// Whether it is single urgent.
     pub single: Option<bool>,
     /// How many bytes the lines of the changes and edges of each vertex have.
@@ -35,7 +47,8 @@ impl Known {
         ensures { (g : EventGraph) → IsKnown g result }
     {
         Known {
-            bytes: None,
+            lines: None,
+            version_two: None,
             single: None,
             bodies: Bodies::nothing(),
         }
@@ -46,15 +59,18 @@ impl Known {
         ensures { (g : EventGraph) → IsKnown g result }
     {
         Known {
-            bytes: None,
+            lines: None,
+            version_two: None,
             single: None,
             bodies: Bodies::begin(alloc),
         }
     }
 
-    /// Whether it is known that the model is single urgent behind a drop, which is so where it was before.
-    pub fn single_behind_drop(&self) -> Option<bool>
-        ensures { (g : EventGraph) (vertices : List ℕ) → IsKnown g self.now → TellsSingle (dropped g vertices) result }
+    /// Whether it is known that the model is single urgent without some of its vertices, or one of its edges, which it is where it
+    /// was with them.
+    pub fn single_without_parts(&self) -> Option<bool>
+        ensures dropped { (g : EventGraph) (vertices : List ℕ) → IsKnown g self.now → TellsSingle (dropped g vertices) result }
+        ensures pruned { (g : EventGraph) (vertex edge : ℕ) → IsKnown g self.now → TellsSingle (pruned g vertex edge) result }
     {
         match self.single {
             Some(single) if single => Some(single),
@@ -66,8 +82,9 @@ impl Known {
     pub fn behind_drop(&mut self)
         ensures { (g : EventGraph) (vertices : List ℕ) → IsKnown g self.old → IsKnown (dropped g vertices) self.new }
     {
-        self.single = self.single_behind_drop();
-        self.bytes = None;
+        self.single = self.single_without_parts();
+        self.lines = None;
+        self.version_two = None;
         self.bodies.forget();
     }
 
@@ -85,19 +102,51 @@ impl Known {
         single
     }
 
+    /// Whether only a text of version 2 can write the model, which is then known.
+    pub(crate) fn find_version(&mut self, model: &Model) -> bool
+        requires { IsKnown (graph_of model.now) self.old }
+        ensures is { result ≡ needs_version_two (graph_of model.now) }
+        ensures told { self.new.version_two ≡ Some result }
+        ensures known { IsKnown (graph_of model.now) self.new }
+    {
+        if let Some(version_two) = self.version_two {
+            return version_two;
+        }
+        let version_two = needs_version_two(model);
+        self.version_two = Some(version_two);
+        version_two
+    }
+
+    /// How many bytes the canonical text of the model has, or None where that isn't known.
+    pub fn text_length(&self) -> Option<u64>
+        ensures { (g : EventGraph) → IsKnown g self.now → IsMeasured g result }
+    {
+        let version = version_length(self.version_two?);
+        self.lines?.checked_add(version)
+    }
+
+    /// Finds how many bytes the canonical text of the model has, which is then known, unless they are 2^64 - 1 or more.
+    fn measure(&mut self, model: &Model)
+        requires { IsKnown (graph_of model.now) self.old }
+        ensures { IsKnown (graph_of model.now) self.new }
+    {
+        let version = version_length(self.find_version(model));
+        if self.lines.is_none() {
+            let bytes = printed_length(model);
+            if bytes < u64::MAX {
+                self.lines = Some(bytes - version);
+            }
+        }
+    }
+
     /// How many bytes the canonical text of the model has, which is then known, or None where they are 2^64 - 1 or more.
     pub(crate) fn find_bytes(&mut self, model: &Model) -> Option<u64>
         requires { IsKnown (graph_of model.now) self.old }
         ensures is { IsMeasured (graph_of model.now) result }
         ensures known { IsKnown (graph_of model.now) self.new }
     {
-        if self.bytes.is_none() {
-            let bytes = printed_length(model);
-            if bytes < u64::MAX {
-                self.bytes = Some(bytes);
-            }
-        }
-        self.bytes
+        self.measure(model);
+        self.text_length()
     }
 
     /// How many bytes the lines of the changes and edges of the vertex at this place have, or 2^64 - 1 where they have more.

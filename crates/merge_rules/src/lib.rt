@@ -9,6 +9,7 @@ mod growth;
 mod kept_pairs;
 mod kept_search;
 mod known;
+mod known_edges;
 mod law;
 mod merging;
 mod other_edges;
@@ -20,6 +21,7 @@ pub use bodies::Bodies;
 pub use first_pair::first_merge;
 pub use kept_search::KeptPairs;
 pub use known::Known;
+pub use known_edges::{know_pruned, know_settled};
 pub use law::{
     at_most_one_event_is_urgent, merging_adds_the_growth, merging_brings_no_rule_of_edges,
     merging_keeps_the_meaning, merging_takes_an_urgent_edge,

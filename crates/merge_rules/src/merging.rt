@@ -8,12 +8,12 @@ ghost use Rattle.model_core.specs.Rules.Merge.{merge_conditions, merged};
 ghost use Rattle.model_core.specs.Code.Views.{graph_of};
 ghost use Rattle.merge_rules.specs.Growth.{bytes_leaving};
 ghost use Rattle.merge_rules.specs.Hollowed.{merged_leaving};
-ghost use Rattle.merge_rules.specs.Known.{IsKnown};
+ghost use Rattle.merge_rules.specs.Known.{IsKnown, text_length};
 ghost use Rattle.merge_rules.specs.NothingCounted.{NothingCounted};
 
 use crate::conditions::failed_before_limits;
 use crate::growth::grows_by;
-use crate::known::Known;
+use crate::known::{Known, version_length};
 use crate::reads_written::ReadsWritten;
 use crate::taking_over::{SecondVertex, put_together};
 use crate::within_limits::{is_within_limits, merged_length, urgent_place};
@@ -71,16 +71,17 @@ pub fn merge_holding(
     ensures done { OnOk result (graph_of model.new ≡ merged_leaving second (graph_of model.old) vertex target) }
     ensures unchanged { OnErr result (graph_of model.new ≡ graph_of model.old) }
     ensures known { IsKnown (graph_of model.new) known.new }
-    ensures told { OnOk result ((known.new.bytes ≡ Some (length (canonical (graph_of model.new)))) × (known.new.single ≡ Some true)) }
+    ensures told { OnOk result ((text_length known.new ≡ Some (length (canonical (graph_of model.new)))) × (known.new.single ≡ Some true)) }
 {
     let body = known.find_body(model, target);
     let grows = grows_by(model, vertex, target, body);
-    let bytes = merged_length(model, known.bytes, vertex, target, grows);
     let merged_body = known.find_merged_body(model, vertex, target, grows);
+    let version = version_length(known.find_version(model));
+    let bytes = merged_length(model, known.text_length(), vertex, target, grows);
     let place = urgent_place(&model.vertices.as_slice()[vertex]);
     put_together(alloc, model, vertex, place, target, second)?;
     let gone = bytes_leaving(second, body);
-    known.bytes = Some(bytes - gone);
+    known.lines = Some(bytes - gone - version);
     known.single = Some(true);
     known.bodies.put(vertex, merged_body);
     known.bodies.put(target, Some(body - gone));
@@ -106,7 +107,7 @@ pub fn merge_measured(
     ensures refused { IfErr result (λ e. TellsCondition e (first_failed (merge_conditions (graph_of model.old) vertex target))) }
     ensures unchanged { OnErr result (graph_of model.new ≡ graph_of model.old) }
     ensures known { IsKnown (graph_of model.new) known.new }
-    ensures told { OnOk result ((known.new.bytes ≡ Some (length (canonical (graph_of model.new)))) × (known.new.single ≡ Some true)) }
+    ensures told { OnOk result ((text_length known.new ≡ Some (length (canonical (graph_of model.new)))) × (known.new.single ≡ Some true)) }
     ensures counts { counts.new ≡ counts.old }
 {
     if let Some(condition) = failed_merge(model, known, counts, vertex, target) {

@@ -2,18 +2,15 @@
 use Rattle.std.proofs.Common.{◌≡◌, ℕ, ◌+◌, ◌-◌, ◌≤◌, length, Option, Some, None, arith, subst}
 use Rattle.std.specs.Option.{SomeIff}
 use Rattle.model_core.specs.EventGraph.{EventGraph}
-use Rattle.model_core.specs.Text.Canonical.{canonical}
-use Rattle.merge_rules.specs.Known.{IsMeasured}
+use Rattle.model_core.specs.Text.Canonical.{version_line, canonical}
+use Rattle.model_core.specs.Text.VersionNeeded.{needs_version_two}
+use Rattle.merge_rules.specs.Known.{TellsLines}
 
--- what was measured with the lines
-measured_is : (g : EventGraph) (bytes : Option ℕ) (n : ℕ) → bytes ≡ Some n → IsMeasured g bytes → n ≡ length (canonical g)
-measured_is g bytes n is measured = subst (IsMeasured g) is measured
-
-left_over : (h : EventGraph) (total lines : ℕ) (left : Option ℕ) → SomeIff left (lines ≤ total) (total - lines) → length (canonical h) + lines ≡ total → IsMeasured h left
-left_over h total lines None none parted = tt
-left_over h total lines (Some n) taken parted = let is = taken.1 in omega (arith, is, parted)
-
-pub length_left : (g h : EventGraph) (bytes : Option ℕ) (n lines more : ℕ) (left : Option ℕ) → bytes ≡ Some n → IsMeasured g bytes → lines ≡ more → length (canonical h) + more ≡ length (canonical g) → SomeIff left (lines ≤ n) (n - lines) → IsMeasured h left
-length_left g h bytes n lines more left is measured same parted taken =
-    let whole = measured_is g bytes n is measured in
-    left_over h n lines left taken (omega (arith, whole, same, parted))
+pub length_left : (g h : EventGraph) (old : Option ℕ) (n lines more : ℕ) (left : Option ℕ) → old ≡ Some n → TellsLines g old → lines ≡ more
+    → length (canonical h) + length (version_line (needs_version_two g)) + more ≡ length (canonical g) + length (version_line (needs_version_two h)) → SomeIff left (lines ≤ n) (n - lines) → TellsLines h left
+length_left g h old n lines more None is tells same parted taken = tt
+length_left g h old n lines more (Some left) is tells same parted taken =
+    let told : length (version_line (needs_version_two g)) + n ≡ length (canonical g) = subst (TellsLines g) is tells in
+    let within = taken.0 in
+    let rest = taken.1 in
+    omega (arith, told, same, parted, within, rest)

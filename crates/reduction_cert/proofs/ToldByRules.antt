@@ -1,5 +1,5 @@
 -- What a rule's answer tells of its application.
-use Rattle.std.proofs.Common.{◌≡◌, ℕ, Bool, true, false, cond, List, Option, Some, None, Result, Ok, Err, OnOk, IfOk, IfErr, refl, sym, ap, ◌∙◌, subst}
+use Rattle.std.proofs.Common.{◌≡◌, ℕ, Bool, true, false, cond, List, Option, Some, None, Result, Ok, Err, is_err, OnOk, IfOk, IfErr, refl, sym, ap, ◌∙◌, subst}
 use Rattle.std.specs.Option.{option_map_or}
 use Rattle.sig_base.specs.declared.no_memory.NoMemory.{NoMemory}
 use Rattle.model_core.specs.declared.rule_error.RuleError.{RuleError}
@@ -32,6 +32,11 @@ module _ (result h : EventGraph) (failed : Option ℕ) (given : Result (Unit {0}
   told_answer (Ok true) made refused = told_made (made refl)
   told_answer (Ok false) made refused = let (condition, is) = refused refl in told_refused condition is
   told_answer (Err e) made refused = tt
+
+-- what a rule tells of its result holds where it was made
+pub told_ok : {P E : Type 0} (given : Result (Unit {0}) E) → is_err given ≡ false → OnOk given P → P
+told_ok (Ok done) made p = p
+told_ok (Err e) made p = cc
 
 -- where the names of an application name vertices, it gives what the rule gives of these
 pub drop_named : (g : EventGraph) (names : List (List ℕ)) (vertices : List ℕ) → vertices_named g names ≡ Some vertices → applied g (Drop names) ≡ unless_failed (first_failed (drop_conditions g vertices)) (dropped g vertices)

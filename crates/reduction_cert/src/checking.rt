@@ -17,7 +17,7 @@ use crate::chain_law::applications_add_no_variables;
 use crate::looking_ahead::drops_alone;
 use crate::without_vertices::know_without;
 use edge_pruning::{drop_vertices, dropping_takes_no_notice_of_the_vertex, prune, settle};
-use merge_rules::{Known, SecondVertex, merge_measured};
+use merge_rules::{Known, SecondVertex, know_pruned, know_settled, merge_measured};
 use model_core::{Application, Model, copy_model, same_model, was_made};
 use model_read::Places;
 use sig_base::{List, Name, NoMemory};
@@ -185,12 +185,10 @@ fn apply(
 {
     match application {
         Application::Prune { vertex, edge } => {
-            *known = Known::begin(alloc);
-            Ok(apply_prune(model, vertices, vertex, *edge))
+            Ok(apply_prune(model, known, vertices, vertex, *edge))
         }
         Application::Settle { vertex, edge } => {
-            *known = Known::begin(alloc);
-            Ok(apply_settle(model, vertices, vertex, *edge))
+            Ok(apply_settle(model, known, vertices, vertex, *edge))
         }
         Application::Drop { vertices: names } => {
             apply_drop(alloc, model, known, vertices, names.as_slice())
@@ -209,25 +207,51 @@ fn apply(
 }
 
 /// Prunes an edge, and says whether it could be.
-fn apply_prune(model: &mut Model, vertices: &Places, vertex: &Name, edge: u64) -> bool
-    requires { HasPlaces (names_of_vertices (graph_of model.old).vertices) vertices.now }
-    ensures { applied (graph_of model.old) (Prune vertex.now edge) ≡ cond result (Some (graph_of model.new)) None }
+fn apply_prune(
+    model: &mut Model,
+    known: &mut Known,
+    vertices: &Places,
+    vertex: &Name,
+    edge: u64,
+) -> bool
+    requires listed { HasPlaces (names_of_vertices (graph_of model.old).vertices) vertices.now }
+    requires known { IsKnown (graph_of model.old) known.old }
+    ensures made { applied (graph_of model.old) (Prune vertex.now edge) ≡ cond result (Some (graph_of model.new)) None }
+    ensures known { IsKnown (graph_of model.new) known.new }
 {
     let Some((vertex, edge)) = edge_named(vertices, vertex, edge) else {
         return false;
     };
-    prune(model, vertex, edge).is_ok()
+    know_pruned(model, known, vertex, edge);
+    if prune(model, vertex, edge).is_err() {
+        *known = Known::nothing();
+        return false;
+    }
+    true
 }
 
 /// Settles an edge, and says whether it could be.
-fn apply_settle(model: &mut Model, vertices: &Places, vertex: &Name, edge: u64) -> bool
-    requires { HasPlaces (names_of_vertices (graph_of model.old).vertices) vertices.now }
-    ensures { applied (graph_of model.old) (Settle vertex.now edge) ≡ cond result (Some (graph_of model.new)) None }
+fn apply_settle(
+    model: &mut Model,
+    known: &mut Known,
+    vertices: &Places,
+    vertex: &Name,
+    edge: u64,
+) -> bool
+    requires listed { HasPlaces (names_of_vertices (graph_of model.old).vertices) vertices.now }
+    requires known { IsKnown (graph_of model.old) known.old }
+    ensures made { applied (graph_of model.old) (Settle vertex.now edge) ≡ cond result (Some (graph_of model.new)) None }
+    ensures known { IsKnown (graph_of model.new) known.new }
 {
     let Some((vertex, edge)) = edge_named(vertices, vertex, edge) else {
         return false;
     };
-    settle(model, vertex, edge).is_ok()
+    know_settled(model, known, vertex, edge);
+    if settle(model, vertex, edge).is_err() {
+        *known = Known::nothing();
+        return false;
+    }
+    true
 }
 
 /// Drops vertices, and says whether they could be.

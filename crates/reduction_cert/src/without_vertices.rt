@@ -11,7 +11,7 @@ ghost use Rattle.model_core.specs.Text.VersionNeeded.{has_later_parts};
 ghost use Rattle.model_core.specs.Rules.Conditions.{first_failed};
 ghost use Rattle.model_core.specs.Rules.Drop.{drop_conditions, dropped};
 ghost use Rattle.model_core.specs.Code.Views.{graph_of};
-ghost use Rattle.merge_rules.specs.Known.{IsMeasured, AreBodies, IsKnown};
+ghost use Rattle.merge_rules.specs.Known.{TellsLines, TellsVersion, AreBodies, IsKnown};
 
 use edge_pruning::{dropping_one_leaves_lines, dropping_takes_lines};
 use merge_rules::{Bodies, Known};
@@ -57,18 +57,26 @@ fn one_is_later(model: &Model, vertices: &[usize]) -> bool
     false
 }
 
-/// How many bytes the text has behind a drop of these vertices, told before it, or None where that isn't known: where the text
-/// may lose the line of its version.
-fn bytes_without(model: &Model, bytes: Option<u64>, vertices: &[usize]) -> Option<u64>
-    requires measured { IsMeasured (graph_of model.now) bytes }
-    ensures { first_failed (drop_conditions (graph_of model.now) vertices.now) ≡ None → IsMeasured (dropped (graph_of model.now) vertices.now) result }
+/// How many bytes are left of so many without these vertices' lines, or None where that isn't known.
+fn lines_without(model: &Model, lines: Option<u64>, vertices: &[usize]) -> Option<u64>
+    requires { TellsLines (graph_of model.now) lines }
+    ensures { first_failed (drop_conditions (graph_of model.now) vertices.now) ≡ None → TellsLines (dropped (graph_of model.now) vertices.now) result }
 {
     dropping_takes_lines();
-    let bytes = bytes?;
+    lines?.checked_sub(lines_length(model, vertices)?)
+}
+
+/// Whether only a text of version 2 can write the model without these vertices, or None where that isn't known: where one of them
+/// has parts that need one.
+fn version_without(model: &Model, version_two: Option<bool>, vertices: &[usize]) -> Option<bool>
+    requires { TellsVersion (graph_of model.now) version_two }
+    ensures { first_failed (drop_conditions (graph_of model.now) vertices.now) ≡ None → TellsVersion (dropped (graph_of model.now) vertices.now) result }
+{
+    dropping_takes_lines();
     if one_is_later(model, vertices) {
         return None;
     }
-    bytes.checked_sub(lines_length(model, vertices)?)
+    version_two
 }
 
 /// Makes what is known of the lines of what vertices do what is known of them behind a drop of these.
@@ -88,7 +96,8 @@ pub fn know_without(model: &Model, known: &mut Known, vertices: &[usize])
     requires known { IsKnown (graph_of model.now) known.old }
     ensures { first_failed (drop_conditions (graph_of model.now) vertices.now) ≡ None → IsKnown (dropped (graph_of model.now) vertices.now) known.new }
 {
-    known.single = known.single_behind_drop();
-    known.bytes = bytes_without(model, known.bytes, vertices);
+    known.single = known.single_without_parts();
+    known.lines = lines_without(model, known.lines, vertices);
+    known.version_two = version_without(model, known.version_two, vertices);
     keep_bodies_without(&mut known.bodies, vertices);
 }

@@ -1,7 +1,8 @@
 //! Why vertices of a model may not be merged, and the text of a merged model.
 
 use crate::static_rules::checked;
-use merge_rules::{Known, SecondVertex, merge, merge_measured};
+use edge_pruning::{prune, settle};
+use merge_rules::{Known, SecondVertex, know_pruned, know_settled, merge, merge_measured};
 use model_core::{Model, RuleError};
 use model_print::{print, printed_length};
 use sig_base::NoMemory;
@@ -141,7 +142,7 @@ fn merged_and_measured(alloc: Global, model: &mut Model) -> Result<Known, RuleEr
 fn a_merged_model_is_written(rt: HostRuntime) -> Result<(), Fail> {
     let mut model = model_of_text(rt.alloc(), BEFORE)?;
     let outcome = merged_and_measured(rt.alloc(), &mut model).map(|known| (
-        known.bytes,
+        known.text_length(),
         known.bodies.get(0),
         known.bodies.get(1),
     ));
@@ -150,5 +151,27 @@ fn a_merged_model_is_written(rt: HostRuntime) -> Result<(), Fail> {
         Ok((Some(printed_length(&model)), Some(105), Some(39)))
     );
     assert_eq!(rt; print(rt.alloc(), &model)?.as_slice(), AFTER);
+    Ok(())
+}
+
+const TWO_TESTS: &[u8] =
+    b"model M; var N : 0..9 = 0; watch N; vertex RUN { urgent B; } vertex B { set N := 1; schedule B after 1 when N > 9; schedule RUN after 2 when N < 10; } end";
+
+/// Whether it is known how many bytes the text of the model has, and those of the lines of what its first vertex does.
+fn has_lengths(known: &Known, model: &Model, body: u64) -> bool {
+    known.text_length() == Some(printed_length(model)) && known.bodies.get(0) == Some(body)
+}
+
+#[test]
+fn lengths_stay_known_behind_a_prune_and_a_settle(rt: HostRuntime) -> Result<(), Fail> {
+    let mut model = model_of_text(rt.alloc(), TWO_TESTS)?;
+    let mut known = merged_and_measured(rt.alloc(), &mut model).map_err(|_| NoMemory)?;
+    assert!(rt; has_lengths(&known, &model, 83));
+    know_pruned(&model, &mut known, 0, 0);
+    assert_eq!(rt; prune(&mut model, 0, 0), Ok(()));
+    assert!(rt; has_lengths(&known, &model, 50));
+    know_settled(&model, &mut known, 0, 0);
+    assert_eq!(rt; settle(&mut model, 0, 0), Ok(()));
+    assert!(rt; has_lengths(&known, &model, 38));
     Ok(())
 }

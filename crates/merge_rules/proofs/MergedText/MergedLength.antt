@@ -1,5 +1,5 @@
 -- How long the canonical text of the result of a merge is, and the lines of what its first vertex does.
-use Rattle.std.proofs.Common.{◌≡◌, ℕ, ◌+◌, ◌<◌, ◌≤◌, ◌==◌, Bool, false, List, [], ◌∷◌, ◌++◌, map, length, slice_get, Some, refl, sym, ◌∙◌, ap, subst, arith, length-append}
+use Rattle.std.proofs.Common.{◌≡◌, ℕ, ◌+◌, ◌<◌, ◌≤◌, ◌==◌, Bool, true, false, List, [], ◌∷◌, ◌++◌, map, length, slice_get, Some, refl, sym, ◌∙◌, ap, subst, arith, length-append}
 use Rattle.std.specs.Prelude.{codes}
 use Rattle.std.specs.List.{flat_map}
 use Rattle.std.proofs.lemmas.Grind.{flat_map-append}
@@ -23,13 +23,22 @@ use Rattle.merge_rules.proofs.OneStepForTwo.MergeResult.{joined_is}
 use Rattle.merge_rules.proofs.MergedText.ValidMerged.{name_stays}
 use Rattle.merge_rules.proofs.MergedText.VersionMerged.{needed-pruned, needed-merged}
 
+-- the line of the version is a part of the text
+pub version_within : (g : EventGraph) → length (version_line (needs_version_two g)) ≤ length (canonical g)
+version_within g =
+    within (needs_version_two g)
+  where
+    within : (b : Bool) → length (version_line b) ≤ length (version_line b ++ codes "model " ++ g.name ++ codes ";\n" ++ flat_map variable_line g.variables ++ flat_map table_line g.tables ++ watch_line g ++ flat_map (vertex_lines g) g.vertices ++ codes "end\n")
+    within true = omega arith
+    within false = omega arith
+
 abbrev pub total : {A : Type 0} → (A → List ℕ) → List A → ℕ
 total gives xs = length (flat_map gives xs)
 
 total_joined : {A : Type 0} (gives : A → List ℕ) (xs ys : List A) → total gives (xs ++ ys) ≡ total gives xs + total gives ys
 total_joined gives xs ys = ap length (flat_map-append gives xs ys) ∙ length-append (flat_map gives xs) (flat_map gives ys)
 
-total_more : {A : Type 0} (gives : A → List ℕ) (x : A) (xs : List A) → total gives (x ∷ xs) ≡ length (gives x) + total gives xs
+pub total_more : {A : Type 0} (gives : A → List ℕ) (x : A) (xs : List A) → total gives (x ∷ xs) ≡ length (gives x) + total gives xs
 total_more gives x xs = length-append (gives x) (flat_map gives xs)
 
 -- ---- a vertex's lines, by those of its changes and of its edges
@@ -47,7 +56,7 @@ lines_length g v =
     ap (λ n. n + total (edge_line g) v.edges) (length-append (heading g v.name v.parameters) (flat_map (change_line g) v.changes)))
 
 -- the lines of its changes and edges
-body_length : (g : EventGraph) (v : EventVertex) → length (body_lines g v) ≡ total (change_line g) v.changes + total (edge_line g) v.edges
+pub body_length : (g : EventGraph) (v : EventVertex) → length (body_lines g v) ≡ total (change_line g) v.changes + total (edge_line g) v.edges
 body_length g v = length-append (flat_map (change_line g) v.changes) (flat_map (edge_line g) v.edges)
 
 -- ---- a text in which one vertex is changed
@@ -83,16 +92,30 @@ module _ (g : EventGraph) (f : EventVertex → EventVertex) (name_kept : (x : Ev
       length-append (opening needed ++ watch ++ lines) (codes "end\n")
       ∙ ap (λ n. n + length (codes "end\n")) (length-append (opening needed ++ watch) lines ∙ ap (λ n. n + length lines) (length-append (opening needed) watch))
 
-  -- the text has the vertex's new lines in place of its lines
-  pub changed_length : needs_version_two changed ≡ needs_version_two g → (v : EventVertex) → slice_get g.vertices first ≡ Some v → length (canonical changed) + length (vertex_lines g (vertex_at g first)) ≡ length (canonical g) + length (vertex_lines g (f (vertex_at g first)))
-  changed_length needed v there =
+  opening_length : (b c : Bool) → length (opening b) + length (version_line c) ≡ length (opening c) + length (version_line b)
+  opening_length true true = refl
+  opening_length true false = omega arith
+  opening_length false true = omega arith
+  opening_length false false = refl
+
+  -- behind the line of the version, the text has the vertex's new lines in place of its lines
+  pub changed_behind : (v : EventVertex) → slice_get g.vertices first ≡ Some v
+      → length (canonical changed) + length (version_line (needs_version_two g)) + length (vertex_lines g (vertex_at g first)) ≡ length (canonical g) + length (version_line (needs_version_two changed)) + length (vertex_lines g (f (vertex_at g first)))
+  changed_behind v there =
       let new = canonical_length (needs_version_two changed) (watch_line changed) (flat_map (vertex_lines changed) changed.vertices) in
       let old = canonical_length (needs_version_two g) (watch_line g) (flat_map (vertex_lines g) g.vertices) in
-      let version = ap (λ b. length (opening b)) needed in
+      let version = opening_length (needs_version_two changed) (needs_version_two g) in
       let watch = ap length watch_alike in
       let lines = ap length all_lines in
       let placed = lengths_placed (vertex_lines g) f first g.vertices no_vertex v there in
       omega (arith, new, old, version, watch, lines, placed)
+
+  -- and so has the whole text, where it needs that line as before
+  pub changed_length : needs_version_two changed ≡ needs_version_two g → (v : EventVertex) → slice_get g.vertices first ≡ Some v → length (canonical changed) + length (vertex_lines g (vertex_at g first)) ≡ length (canonical g) + length (vertex_lines g (f (vertex_at g first)))
+  changed_length needed v there =
+      let behind = changed_behind v there in
+      let version = ap (λ b. length (version_line b)) needed in
+      omega (arith, behind, version)
 
 module _ (g : EventGraph) (first second : ℕ) (p : PlainEdge (vertex_at g first) second) where
   abbrev a : EventVertex

@@ -57,7 +57,7 @@ module _ (f : EventVertex → EventVertex) (more : Bool) where
     | inr h ↦ second_true (has_later_parts v) (Some_late (with_place f k vs)) (kept k vs keeps h)
   ]
 
-  needed-same : (g : EventGraph) (k : ℕ) → ((v : EventVertex) → slice_get g.vertices k ≡ Some v → Gains v) → ((v : EventVertex) → slice_get g.vertices k ≡ Some v → Keeps v) → (more ≡ true → Some_late g.vertices ≡ true)
+  pub needed-same : (g : EventGraph) (k : ℕ) → ((v : EventVertex) → slice_get g.vertices k ≡ Some v → Gains v) → ((v : EventVertex) → slice_get g.vertices k ≡ Some v → Keeps v) → (more ≡ true → Some_late g.vertices ≡ true)
       → needs_version_two (with_vertex f k g) ≡ needs_version_two g
   needed-same g k gains keeps had =
       ap (λ b. list_any is_large_array g.variables || b)

@@ -28,7 +28,7 @@ module _ (g : EventGraph) where
   both_hold : (a b : Bool) → a ≡ true → b ≡ true → (a && b) ≡ true
   both_hold a b is_a is_b = ap₂ (λ a b. a && b) is_a is_b
 
-  apart_at : (vs : List EventVertex) (k : ℕ) → list_all apart vs ≡ true → apart (slice_index_or vs k no_vertex) ≡ true
+  pub apart_at : (vs : List EventVertex) (k : ℕ) → list_all apart vs ≡ true → apart (slice_index_or vs k no_vertex) ≡ true
   apart_at [] k all = refl
   apart_at (v ∷ vs) zero all = and_first (apart v) (list_all apart vs) all
   apart_at (v ∷ vs) (suc k) all = apart_at vs k (and_second (apart v) (list_all apart vs) all)

@@ -1,16 +1,19 @@
 -- The result's text is within its limit, so its length was counted to the end, and that of the lines given away as well.
-use Rattle.std.proofs.Common.{◌∙◌, ◌-◌, ◌^◌, Some, refl, sym, ap, subst, length, arith}
+use Rattle.std.proofs.Common.{◌≡◌, ◌∙◌, ℕ, ◌+◌, ◌-◌, ◌^◌, ◌≤◌, Bool, Some, refl, sym, ap, subst, length, arith}
+use Rattle.std.specs.Option.{option_and_then}
 use Rattle.model_core.specs.EventGraph.{EventGraph}
-use Rattle.model_core.specs.Text.Canonical.{canonical}
+use Rattle.model_core.specs.Text.Canonical.{version_line, canonical}
+use Rattle.model_core.specs.Text.VersionNeeded.{needs_version_two}
 use Rattle.model_core.specs.Code.Views.{graph_of}
 use Rattle.model_core.specs.Rules.Merge.{merge_conditions, merged}
 use Rattle.merge_rules.proofs.MergedText.LimitsTold.{first_among, second_among, urgent_there, urgent_at}
 use Rattle.model_core.specs.Rules.UrgentEdges.{single_urgent}
 use Rattle.merge_rules.proofs.ConditionsAsked.PairsFound.{front_holds}
-use Rattle.merge_rules.specs.Known.{AreBodies}
+use Rattle.merge_rules.specs.Known.{TellsVersion, AreBodies}
+use Rattle.merge_rules.proofs.MergedText.MergedLength.{version_within}
 use Rattle.merge_rules.proofs.BodiesKept.{are-joined, are-left}
 use Rattle.merge_rules.specs.Hollowed.{merged_leaving}
-use Rattle.merge_rules.proofs.HollowedText.{two_apart, leaving_measured, leaving_body, leaving_single}
+use Rattle.merge_rules.proofs.HollowedText.{two_apart, version_left, leaving_measured, leaving_body, leaving_single}
 use Rattle.merge_rules.proofs.merging.merge_holding.Goals as goal
 
 -- ---- the places and the edge, as the code reads them
@@ -48,9 +51,23 @@ put_together-requires-clause-apart c = two_apart (graph_of c.args.model.now) c.a
 
 -- ---- what is known of the result
 
+-- how many bytes the result's text has behind the line of its version, which the model's text has where the result's has it
+rest_of : (g h : EventGraph) (whole version rest : ℕ) → whole ≡ length (canonical h) → version ≡ length (version_line (needs_version_two g)) → needs_version_two h ≡ needs_version_two g → rest ≡ whole - version
+    → (version ≤ whole) × (length (version_line (needs_version_two h)) + rest ≡ length (canonical h))
+rest_of g h whole version rest is version_is same rest_is =
+    let line = ap (λ b. length (version_line b)) same in
+    let within = version_within h in
+    (omega (arith, is, version_is, line, within), omega (arith, is, version_is, line, within, rest_is))
+
 pub overflow_sub-known : goal.overflow_sub-known
 overflow_sub-known c =
     (leaving_measured (graph_of c.args.model.now) c.args.vertex c.args.target c.requires.holds c.args.second (2 ^ 64 - 1) c.merged_length-bytes.result c.find_body-body.result c.bytes_leaving-gone.result (omega arith) c.merged_length-bytes.ensures c.find_body-body.ensures.is c.bytes_leaving-gone.ensures).0
+
+pub overflow_sub-known-2 : goal.overflow_sub-known-2
+overflow_sub-known-2 c =
+    let g = graph_of c.args.model.now in
+    let measured = leaving_measured g c.args.vertex c.args.target c.requires.holds c.args.second (2 ^ 64 - 1) c.merged_length-bytes.result c.find_body-body.result c.bytes_leaving-gone.result (omega arith) c.merged_length-bytes.ensures c.find_body-body.ensures.is c.bytes_leaving-gone.ensures in
+    (rest_of g (merged_leaving c.args.second g c.args.vertex c.args.target) _ _ _ measured.1 (c.version_length-version.ensures ∙ ap (λ b. length (version_line b)) c.find_version.ensures.is) (version_left g c.args.vertex c.args.target c.requires.holds c.args.second) refl).0
 
 pub returns-clause-known : goal.returns-clause-known
 returns-clause-known c =
@@ -59,22 +76,29 @@ returns-clause-known c =
     let result = merged_leaving c.args.second g c.args.vertex c.args.target in
     let measured = leaving_measured g c.args.vertex c.args.target holds c.args.second (2 ^ 64 - 1) c.merged_length-bytes.result c.find_body-body.result c.bytes_leaving-gone.result (omega arith) c.merged_length-bytes.ensures c.find_body-body.ensures.is c.bytes_leaving-gone.ensures in
     let body = leaving_body g c.args.vertex c.args.target holds c.args.second (2 ^ 64 - 1) c.find_body-body.result c.bytes_leaving-gone.result c.find_body-body.ensures.is c.bytes_leaving-gone.ensures in
-    let joined = are-joined g c.args.vertex c.args.target c.find_merged_body-merged_body.result c.find_merged_body-merged_body.new.self.bodies c.find_merged_body-merged_body.ensures.is c.find_merged_body-merged_body.ensures.known.bodies in
+    let joined = are-joined g c.args.vertex c.args.target c.find_merged_body-merged_body.result c.find_version.new.self.bodies c.find_merged_body-merged_body.ensures.is c.find_version.ensures.known.bodies in
     let bodies = are-left c.args.second g c.args.vertex c.args.target _ c.put.new.self body.1 (subst (AreBodies (merged g c.args.vertex c.args.target)) (sym c.put.ensures) joined) in
     let done = c.in_ok-put_together.ensures.done in
+    let version = version_left g c.args.vertex c.args.target holds c.args.second in
+    let lines = rest_of g result _ _ _ measured.1 (c.version_length-version.ensures ∙ ap (λ b. length (version_line b)) c.find_version.ensures.is) version refl in
     record {
-      measured = measured.1 ∙ ap (λ (h : EventGraph). length (canonical h)) (sym done);
+      lines = subst (λ (h : EventGraph). length (version_line (needs_version_two h)) + (c.merged_length-bytes.result - c.bytes_leaving-gone.result - c.version_length-version.result) ≡ length (canonical h)) (sym done) lines.1;
+      version = subst (λ (h : EventGraph). TellsVersion h c.find_version.new.self.version_two) (sym done) (subst (TellsVersion result) (sym c.find_version.ensures.told) (c.find_version.ensures.is ∙ sym version));
       single = sym (ap single_urgent done ∙ leaving_single g c.args.vertex c.args.target holds c.args.second);
       bodies = subst (λ (h : EventGraph). AreBodies h c.put-2.new.self) (sym done) (subst (AreBodies result) (sym c.put-2.ensures) bodies);
     }
 
 pub returns-clause-told : goal.returns-clause-told
-returns-clause-told c = (
-  ap Some
-      ((leaving_measured (graph_of c.args.model.now) c.args.vertex c.args.target c.requires.holds c.args.second (2 ^ 64 - 1) c.merged_length-bytes.result c.find_body-body.result c.bytes_leaving-gone.result (omega arith) c.merged_length-bytes.ensures c.find_body-body.ensures.is c.bytes_leaving-gone.ensures).1
-      ∙ ap (λ (g : EventGraph). length (canonical g)) (sym c.in_ok-put_together.ensures.done)),
-  refl,
-)
+returns-clause-told c =
+    let g = graph_of c.args.model.now in
+    let result = merged_leaving c.args.second g c.args.vertex c.args.target in
+    let measured = leaving_measured g c.args.vertex c.args.target c.requires.holds c.args.second (2 ^ 64 - 1) c.merged_length-bytes.result c.find_body-body.result c.bytes_leaving-gone.result (omega arith) c.merged_length-bytes.ensures c.find_body-body.ensures.is c.bytes_leaving-gone.ensures in
+    let version = version_left g c.args.vertex c.args.target c.requires.holds c.args.second in
+    let lines = rest_of g result _ _ _ measured.1 (c.version_length-version.ensures ∙ ap (λ b. length (version_line b)) c.find_version.ensures.is) version refl in (
+      ap (option_and_then (λ (two : Bool). Some (length (version_line two) + (c.merged_length-bytes.result - c.bytes_leaving-gone.result - c.version_length-version.result)))) (c.find_version.ensures.told ∙ ap Some (c.find_version.ensures.is ∙ sym version))
+          ∙ ap Some (lines.1 ∙ ap (λ (h : EventGraph). length (canonical h)) (sym c.in_ok-put_together.ensures.done)),
+      refl,
+    )
 
 -- ---- what the calls for its lengths want
 
@@ -83,3 +107,6 @@ find_body-body-requires-clause-there c = second_among c.args.model.now c.args.ve
 
 pub grows_by-grows-requires-clause-holds : goal.grows_by-grows-requires-clause-holds
 grows_by-grows-requires-clause-holds c = front_holds 7 (merge_conditions (graph_of c.args.model.now) c.args.vertex c.args.target) c.requires.holds
+
+pub merged_length-bytes-requires-clause-measured : goal.merged_length-bytes-requires-clause-measured
+merged_length-bytes-requires-clause-measured c = c.text_length.ensures (graph_of c.args.model.now) c.find_version.ensures.known

@@ -1,4 +1,4 @@
--- Nothing is known behind some rules, and a merge whose second vertex stays is the rule's application.
+-- Nothing is known behind a slice, and a merge whose second vertex stays is the rule's application.
 use Rattle.std.proofs.Common.{◌≡◌, Some, None, cond, sym, ap, subst}
 use Rattle.std.proofs.lemmas.Result.{IfOk-weaker}
 use Rattle.model_core.specs.Code.Views.{graph_of, application_of}
@@ -7,14 +7,8 @@ use Rattle.reduction_cert.proofs.SameBehindDrop.{merge_applied}
 use Rattle.reduction_cert.proofs.ToldByRules.{holds_anyway}
 use Rattle.reduction_cert.proofs.checking.apply.Goals as goal
 
-pub returns-in-Prune-clause-known : goal.returns-in-Prune-clause-known
-returns-in-Prune-clause-known c = c.begin.ensures _
-
-pub returns-in-Settle-clause-known : goal.returns-in-Settle-clause-known
-returns-in-Settle-clause-known c = c.begin-in-Settle.ensures _
-
 pub returns-in-Slice-clause-known : goal.returns-in-Slice-clause-known
-returns-in-Slice-clause-known c = holds_anyway c.apply_slice.result (c.begin-in-Slice.ensures _)
+returns-in-Slice-clause-known c = holds_anyway c.apply_slice.result (c.begin.ensures _)
 
 pub returns-in-Merge-clause-made : goal.returns-in-Merge-clause-made
 returns-in-Merge-clause-made c =

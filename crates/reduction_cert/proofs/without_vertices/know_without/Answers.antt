@@ -3,7 +3,8 @@ use Rattle.reduction_cert.proofs.without_vertices.know_without.Goals as goal
 
 pub returns : goal.returns
 returns c = λ holds. record {
-  measured = c.bytes_without-known.ensures holds;
-  single = c.single_behind_drop-known.ensures (graph_of c.args.model.now) c.args.vertices.now c.requires.known;
+  lines = c.lines_without-known.ensures holds;
+  version = c.version_without-known.ensures holds;
+  single = c.single_without_parts-known.ensures.dropped (graph_of c.args.model.now) c.args.vertices.now c.requires.known;
   bodies = c.keep_bodies_without.ensures (graph_of c.args.model.now) c.requires.known.bodies holds;
 }

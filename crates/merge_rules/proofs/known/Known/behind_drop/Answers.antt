@@ -6,7 +6,8 @@ use Rattle.merge_rules.proofs.known.Known.behind_drop.Goals as goal
 
 pub returns : goal.returns
 returns c = λ g vertices is. record {
-  measured = tt;
-  single = c.single_behind_drop-self.ensures g vertices is;
+  lines = tt;
+  version = tt;
+  single = c.single_without_parts-self.ensures.dropped g vertices is;
   bodies = subst (AreBodies (dropped g vertices)) (sym c.forget.ensures) (λ k. tt);
 }

@@ -17,7 +17,8 @@ pub returns-clause-known : goal.returns-clause-known
 returns-clause-known c =
     let g = graph_of c.args.model.now in
     let was = c.requires.known in record {
-      measured = was.measured;
+      lines = was.lines;
+      version = was.version;
       single = was.single;
       bodies =
           subst (AreBodies g) (sym c.put.ensures)

@@ -1,0 +1,98 @@
+//! What is known of a model behind a prune or a settle of one of its edges.
+
+ghost use Rattle.std.specs.Prelude.{◌≡◌, ℕ, ◌+◌, ◌-◌, ◌<◌, ◌^◌, false, Some, None, length};
+ghost use Rattle.std.specs.Option.{option_map, IfSome};
+ghost use Rattle.model_core.specs.EventGraph.{EventGraph};
+ghost use Rattle.model_core.specs.Text.Canonical.{condition_text};
+ghost use Rattle.model_core.specs.Rules.Conditions.{first_failed};
+ghost use Rattle.model_core.specs.Rules.PlacedEdges.{edge_at};
+ghost use Rattle.model_core.specs.Rules.Prune.{prune_conditions, pruned};
+ghost use Rattle.model_core.specs.Rules.Settle.{settle_conditions, settled};
+ghost use Rattle.model_core.specs.Rules.Uses.{has_drawn_delay};
+ghost use Rattle.model_core.specs.Code.Views.{graph_of, edge_of, expression_of};
+ghost use Rattle.merge_rules.specs.Growth.{capped};
+ghost use Rattle.merge_rules.specs.Known.{TellsLines, TellsVersion, TellsSingle, AreBodies, IsKnown};
+ghost use Rattle.merge_rules.specs.Inner.LosesBytes.{LosesBytes};
+
+use crate::known::Known;
+use model_core::{Edge, Expr, Model, has_drawn_delay};
+use model_print::{edge_length, expr_length};
+
+/// The edge at a place of the vertex at a place, if there is one.
+fn edge_at(model: &Model, vertex: usize, edge: usize) -> Option<&Edge>
+    ensures { option_map (λ e. edge_of e.now) result ≡ edge_at (graph_of model.now) vertex edge }
+{
+    let vertex = model.vertices.as_slice().get(vertex)?;
+    vertex.edges.as_slice().get(edge)
+}
+
+/// What is left of so many bytes without these, or None where one of the two isn't known to the last byte.
+fn left_of(bytes: Option<u64>, gone: u64) -> Option<u64>
+    ensures { IfSome result (λ left. (bytes ≡ Some (left + gone)) × (left + gone < 2 ^ 64 - 1)) }
+{
+    let bytes = bytes?;
+    if bytes == u64::MAX {
+        return None;
+    }
+    bytes.checked_sub(gone)
+}
+
+/// How many bytes a condition has in its edge's line, with the word before it, or 2^64 - 1 where it has more.
+fn condition_length(condition: &Expr, model: &Model) -> u64
+    ensures { result ≡ capped (length (condition_text (graph_of model.now) (expression_of condition.now))) }
+{
+    if matches!(condition, Expr::Truth(true)) {
+        return 0;
+    }
+    expr_length(condition, model).saturating_add(6)
+}
+
+/// Whether only a text of version 2 can write a model without this edge, or None where that isn't known: where it draws its delay.
+fn version_without(version_two: Option<bool>, edge: &Edge) -> Option<bool>
+    ensures { IfSome result (λ two. (version_two ≡ Some two) × (has_drawn_delay (edge_of edge.now) ≡ false)) }
+{
+    if has_drawn_delay(edge) {
+        None
+    } else {
+        version_two
+    }
+}
+
+/// Makes what is known of a model what is known of one in which what the vertex at this place does has so many bytes less.
+/// Whether that one needs version 2 of a text, and is single urgent, is known of it already, where it is.
+fn lose(known: &mut Known, vertex: usize, gone: u64)
+    ensures { (g h : EventGraph) (bytes : ℕ) → gone ≡ capped bytes → LosesBytes g h vertex bytes
+        → TellsLines g known.old.lines → AreBodies g known.old.bodies → TellsVersion h known.old.version_two → TellsSingle h known.old.single
+        → IsKnown h known.new }
+{
+    known.lines = left_of(known.lines, gone);
+    let body = left_of(known.bodies.get(vertex), gone);
+    known.bodies.put(vertex, body);
+}
+
+/// Makes what is known of a model what is known of it behind a prune of the edge at a place of the vertex at a place, told before
+/// it.
+pub fn know_pruned(model: &Model, known: &mut Known, vertex: usize, edge: usize)
+    requires known { IsKnown (graph_of model.now) known.old }
+    ensures { first_failed (prune_conditions (graph_of model.now) vertex edge) ≡ None → IsKnown (pruned (graph_of model.now) vertex edge) known.new }
+{
+    let Some(edge) = edge_at(model, vertex, edge) else {
+        return;
+    };
+    known.single = known.single_without_parts();
+    known.version_two = version_without(known.version_two, edge);
+    lose(known, vertex, edge_length(edge, model));
+}
+
+/// Makes what is known of a model what is known of it behind a settle of the edge at a place of the vertex at a place, told before
+/// it. Of edges with their new conditions it isn't known whether the model is single urgent.
+pub fn know_settled(model: &Model, known: &mut Known, vertex: usize, edge: usize)
+    requires known { IsKnown (graph_of model.now) known.old }
+    ensures { first_failed (settle_conditions (graph_of model.now) vertex edge) ≡ None → IsKnown (settled (graph_of model.now) vertex edge) known.new }
+{
+    let Some(edge) = edge_at(model, vertex, edge) else {
+        return;
+    };
+    known.single = None;
+    lose(known, vertex, condition_length(&edge.condition, model));
+}
