@@ -154,6 +154,10 @@ pub version-settled : (g : EventGraph) (vertex edge : ℕ) (two : Option Bool) �
 version-settled g vertex edge None tells = tt
 version-settled g vertex edge (Some two) tells = tells ∙ sym (needed-settled g vertex edge)
 
+-- where the urgent edges of its vertex exclude each other with the new condition
+pub settled_single : (g : EventGraph) (vertex edge : ℕ) → single_urgent g ≡ true → each_pair (exclusive g) (urgent_conditions (with_place unconditional edge (vertex_at g vertex).edges)) ≡ true → single_urgent (settled g vertex edge) ≡ true
+settled_single g vertex edge single here = apart_placed g (with_settled edge) vertex g.vertices here single
+
 -- ---- what is known
 
 -- of numbers that are known to the last byte, what is left

@@ -17,6 +17,7 @@ ghost use Rattle.merge_rules.specs.Inner.LosesBytes.{LosesBytes};
 use crate::known::Known;
 use model_core::{Edge, Expr, Model, has_drawn_delay};
 use model_print::{edge_length, expr_length};
+use range_bounds::may_take_any_condition;
 
 /// The edge at a place of the vertex at a place, if there is one.
 fn edge_at(model: &Model, vertex: usize, edge: usize) -> Option<&Edge>
@@ -84,15 +85,29 @@ pub fn know_pruned(model: &Model, known: &mut Known, vertex: usize, edge: usize)
     lose(known, vertex, edge_length(edge, model));
 }
 
+/// Whether it is known that the model is single urgent behind a settle of the edge at a place of the vertex at a place: where it
+/// was, and that edge may take any condition.
+fn single_settled(model: &Model, single: Option<bool>, vertex: usize, edge: usize) -> Option<bool>
+    requires { TellsSingle (graph_of model.now) single }
+    ensures { TellsSingle (settled (graph_of model.now) vertex edge) result }
+{
+    let edges = model.vertices.as_slice().get(vertex)?.edges.as_slice();
+    if single? && may_take_any_condition(model, edges, edge) {
+        Some(true)
+    } else {
+        None
+    }
+}
+
 /// Makes what is known of a model what is known of it behind a settle of the edge at a place of the vertex at a place, told before
-/// it. Of edges with their new conditions it isn't known whether the model is single urgent.
+/// it.
 pub fn know_settled(model: &Model, known: &mut Known, vertex: usize, edge: usize)
     requires known { IsKnown (graph_of model.now) known.old }
     ensures { first_failed (settle_conditions (graph_of model.now) vertex edge) ≡ None → IsKnown (settled (graph_of model.now) vertex edge) known.new }
 {
-    let Some(edge) = edge_at(model, vertex, edge) else {
+    let Some(settled) = edge_at(model, vertex, edge) else {
         return;
     };
-    known.single = None;
-    lose(known, vertex, condition_length(&edge.condition, model));
+    known.single = single_settled(model, known.single, vertex, edge);
+    lose(known, vertex, condition_length(&settled.condition, model));
 }

@@ -10,13 +10,13 @@ ghost use Rattle.range_bounds.specs.Near.{IsNear, both_meet, one_beside_meets};
 use crate::expressions::refuted;
 use model_core::{Expr, Model, Op, same_expr};
 
-fn is_same(a: &Expr, b: &Expr) -> bool
+pub(crate) fn is_same(a: &Expr, b: &Expr) -> bool
     ensures { result ≡ same_expression (expression_of a.now) (expression_of b.now) }
 {
     same_expr(a, b)
 }
 
-fn is_comparison(op: Op) -> bool
+pub(crate) fn is_comparison(op: Op) -> bool
     ensures { result ≡ is_comparison (operator_of op) }
 {
     matches!(op, Op::Eq | Op::Ne | Op::Lt | Op::Le | Op::Gt | Op::Ge)
@@ -86,7 +86,7 @@ fn one_beside_meets(p: Op, m: i128, q: Op, n: i128, at: i128) -> bool
     both_meet(p, m, q, n, at - 1) || this_or_next_meets(p, m, q, n, at)
 }
 
-fn some_meets_both(p: Op, m: i128, q: Op, n: i128) -> bool
+pub(crate) fn some_meets_both(p: Op, m: i128, q: Op, n: i128) -> bool
     requires first { IsNear m }
     requires second { IsNear n }
     ensures { result ≡ (one_beside_meets (operator_of p) m (operator_of q) n m || one_beside_meets (operator_of p) m (operator_of q) n n) }

@@ -2,6 +2,7 @@
 //! stores, changes and edges that never fault. The rows of the table of bounds are public, for bounds under other ranges.
 #![tactic(auto)]
 
+mod alike;
 mod branches;
 mod choices;
 mod ends;
@@ -26,4 +27,4 @@ pub use soundness::{
     values_lie_in_bounds_under_any_guard,
 };
 pub use truth_rows::opposite;
-pub use urgency::{plain_urgent, single_urgent};
+pub use urgency::{may_take_any_condition, plain_urgent, single_urgent};

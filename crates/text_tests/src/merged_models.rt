@@ -1,5 +1,9 @@
 //! Why vertices of a model may not be merged, and the text of a merged model.
 
+ghost use Rattle.std.specs.Prelude.{IfOk};
+ghost use Rattle.model_core.specs.Code.Views.{graph_of};
+ghost use Rattle.merge_rules.specs.Known.{IsKnown};
+
 use crate::static_rules::checked;
 use edge_pruning::{prune, settle};
 use merge_rules::{Known, SecondVertex, know_pruned, know_settled, merge, merge_measured};
@@ -130,7 +134,9 @@ end
 ";
 
 /// Merges the first two vertices of a model, and gives what is known of the result.
-fn merged_and_measured(alloc: Global, model: &mut Model) -> Result<Known, RuleError> {
+fn merged_and_measured(alloc: Global, model: &mut Model) -> Result<Known, RuleError>
+    ensures { IfOk result (λ known. IsKnown (graph_of model.new) known) }
+{
     let mut known = Known::begin(alloc);
     let mut counts = UseCounts::begin(alloc, model)?;
     let second = SecondVertex::Stays;
@@ -163,15 +169,22 @@ fn has_lengths(known: &Known, model: &Model, body: u64) -> bool {
 }
 
 #[test]
-fn lengths_stay_known_behind_a_prune_and_a_settle(rt: HostRuntime) -> Result<(), Fail> {
+fn lengths_stay_known_behind_a_prune(rt: HostRuntime) -> Result<(), Fail> {
     let mut model = model_of_text(rt.alloc(), TWO_TESTS)?;
     let mut known = merged_and_measured(rt.alloc(), &mut model).map_err(|_| NoMemory)?;
     assert!(rt; has_lengths(&known, &model, 83));
     know_pruned(&model, &mut known, 0, 0);
     assert_eq!(rt; prune(&mut model, 0, 0), Ok(()));
     assert!(rt; has_lengths(&known, &model, 50));
-    know_settled(&model, &mut known, 0, 0);
-    assert_eq!(rt; settle(&mut model, 0, 0), Ok(()));
-    assert!(rt; has_lengths(&known, &model, 38));
+    Ok(())
+}
+
+#[test]
+fn lengths_stay_known_behind_a_settle(rt: HostRuntime) -> Result<(), Fail> {
+    let mut model = model_of_text(rt.alloc(), TWO_TESTS)?;
+    let mut known = merged_and_measured(rt.alloc(), &mut model).map_err(|_| NoMemory)?;
+    know_settled(&model, &mut known, 0, 1);
+    assert_eq!(rt; settle(&mut model, 0, 1), Ok(()));
+    assert!(rt; has_lengths(&known, &model, 71));
     Ok(())
 }

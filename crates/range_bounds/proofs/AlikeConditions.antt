@@ -1,0 +1,177 @@
+-- Urgent edges whose conditions are refuted exclude all others, and those that compare the same with numbers are told apart by
+-- these.
+use Rattle.std.proofs.Common.{◌≡◌, ℤ, Bool, true, false, not, ◌&&◌, ◌||◌, cond, List, [], ◌∷◌, ◌++◌, ℕ, zero, suc, map, filter, take, drop, get_or, Some, None, option_map, refl, sym, ◌∙◌, ap, ap₂}
+use Rattle.std.specs.List.{list_all, list_any}
+use Rattle.model_core.specs.Rules.PlacedEdges.{with_place}
+use Rattle.model_core.specs.EventGraph.{EventGraph, EventEdge, Operator, Expression, Number, Truth, Clock, Scalar, Cell, Negative, Not, Binary, If}
+use Rattle.model_core.specs.Rules.BoundsOf.{bounds_of, refuted}
+use Rattle.model_core.specs.Rules.Exclusive.{same_expression, is_comparison, literal_number, Comparison, comparison_of, some_meets_both, is_negation_of, compare_apart, exclusive}
+use Rattle.model_core.specs.Rules.UrgentEdges.{is_urgent, each_pair, urgent_conditions}
+use Rattle.model_core.proofs.SameExpressions.{same_itself, same_told}
+use Rattle.range_bounds.specs.declared.alike.Compared.{Compared}
+use Rattle.range_bounds.specs.Inner.AlikeConditions.{is_live, live_conditions, compared, apart, AreCompared}
+
+-- ---- conditions that are refuted
+
+module _ (g : EventGraph) where
+  abbrev never : Expression → Bool
+  never c = refuted (bounds_of g c)
+
+  or_true : (a : Bool) → (a || true) ≡ true
+  or_true true = refl
+  or_true false = refl
+
+  -- such a one excludes any other, on both sides
+  first_never : (a b : Expression) → never a ≡ true → exclusive g a b ≡ true
+  first_never a b is = ap (λ n. (is_negation_of a b || is_negation_of b a) || (n || never b) || compare_apart (comparison_of a) (comparison_of b)) is ∙ ap (λ r. r || compare_apart (comparison_of a) (comparison_of b)) (or_true (is_negation_of a b || is_negation_of b a))
+
+  second_never : (a b : Expression) → never b ≡ true → exclusive g a b ≡ true
+  second_never a b is =
+      ap (λ n. (is_negation_of a b || is_negation_of b a) || (never a || n) || compare_apart (comparison_of a) (comparison_of b)) is
+      ∙ ap (λ r. (is_negation_of a b || is_negation_of b a) || r || compare_apart (comparison_of a) (comparison_of b)) (or_true (never a))
+      ∙ ap (λ r. r || compare_apart (comparison_of a) (comparison_of b)) (or_true (is_negation_of a b || is_negation_of b a))
+
+  pub all_excluded : (a : Expression) (cs : List Expression) → never a ≡ true → list_all (exclusive g a) cs ≡ true
+  all_excluded a [] is = refl
+  all_excluded a (c ∷ cs) is = ap₂ (λ x y. x && y) (first_never a c is) (all_excluded a cs is)
+
+  all_live : (a : Expression) (es : List EventEdge) → list_all (exclusive g a) (urgent_conditions es) ≡ list_all (exclusive g a) (live_conditions g es)
+  all_live a [] = refl
+  all_live a (e ∷ es) = by (is_urgent e) (never e.condition) refl (all_live a es) where
+    by : (urgent never_true : Bool) → never e.condition ≡ never_true → list_all (exclusive g a) (urgent_conditions es) ≡ list_all (exclusive g a) (live_conditions g es)
+        → list_all (exclusive g a) (map (λ (e : EventEdge). e.condition) (cond urgent (e ∷ filter is_urgent es) (filter is_urgent es))) ≡ list_all (exclusive g a) (map (λ (e : EventEdge). e.condition) (cond (urgent && not never_true) (e ∷ filter (is_live g) es) (filter (is_live g) es)))
+    by false n is rest = rest
+    by true false is rest = ap (λ r. exclusive g a e.condition && r) rest
+    by true true is rest = ap (λ x. x && list_all (exclusive g a) (urgent_conditions es)) (second_never a e.condition is) ∙ rest
+
+  pub pairs_live : (es : List EventEdge) → each_pair (exclusive g) (urgent_conditions es) ≡ each_pair (exclusive g) (live_conditions g es)
+  pairs_live [] = refl
+  pairs_live (e ∷ es) = by (is_urgent e) (never e.condition) refl (pairs_live es) where
+    by : (urgent never_true : Bool) → never e.condition ≡ never_true → each_pair (exclusive g) (urgent_conditions es) ≡ each_pair (exclusive g) (live_conditions g es)
+        → each_pair (exclusive g) (map (λ (e : EventEdge). e.condition) (cond urgent (e ∷ filter is_urgent es) (filter is_urgent es))) ≡ each_pair (exclusive g) (map (λ (e : EventEdge). e.condition) (cond (urgent && not never_true) (e ∷ filter (is_live g) es) (filter (is_live g) es)))
+    by false n is rest = rest
+    by true false is rest = ap₂ (λ x y. x && y) (all_live e.condition es) rest
+    by true true is rest = ap (λ x. x && each_pair (exclusive g) (urgent_conditions es)) (all_excluded e.condition (urgent_conditions es) is) ∙ rest
+
+  -- ---- conditions that compare the same with numbers
+
+  -- a comparison is the negation of none
+  no_negation : (a b : Expression) (c : Comparison) → comparison_of a ≡ Some c → is_negation_of a b ≡ false
+  no_negation (Number n) b c is = refl
+  no_negation (Truth t) b c is = refl
+  no_negation Clock b c is = refl
+  no_negation (Scalar v) b c is = refl
+  no_negation (Cell v i) b c is = refl
+  no_negation (Negative a) b c is = refl
+  no_negation (Not a) b c is = cc
+  no_negation (Binary op x y) b c is = refl
+  no_negation (If t x y) b c is = refl
+
+  told_apart : (left : Expression) (a b : Expression) (x y : Compared) → never a ≡ false → never b ≡ false → comparison_of a ≡ Some (compared left x) → comparison_of b ≡ Some (compared left y) → exclusive g a b ≡ apart x y
+  told_apart left a b x y a_lives b_lives is_x is_y =
+      ap₂ (λ p q. (p || q) || (never a || never b) || compare_apart (comparison_of a) (comparison_of b)) (no_negation a b (compared left x) is_x) (no_negation b a (compared left y) is_y)
+      ∙ ap₂ (λ p q. (p || q) || compare_apart (comparison_of a) (comparison_of b)) a_lives b_lives
+      ∙ ap₂ compare_apart is_x is_y
+      ∙ ap (λ same. same && not (some_meets_both (compared left x) (compared left y))) (same_itself left)
+
+  -- these conditions live
+  abbrev Live : List Expression → Type 0
+  Live cs = map never cs ≡ map (λ c. false) cs
+
+  abbrev Alike : Expression → List Expression → List Compared → Type 0
+  Alike left cs all = map comparison_of cs ≡ map (λ (c : Compared). Some (compared left c)) all
+
+  first_of : {A : Type 0} {x y : A} {xs ys : List A} → (x ∷ xs) ≡ (y ∷ ys) → x ≡ y
+  first_of e = cc
+
+  rest_of : {A : Type 0} {x y : A} {xs ys : List A} → (x ∷ xs) ≡ (y ∷ ys) → xs ≡ ys
+  rest_of e = cc
+
+  all_told : (left a : Expression) (x : Compared) → never a ≡ false → comparison_of a ≡ Some (compared left x) → (cs : List Expression) (all : List Compared) → Live cs → Alike left cs all → list_all (exclusive g a) cs ≡ list_all (apart x) all
+  all_told left a x lives is [] [] live alike = refl
+  all_told left a x lives is [] (y ∷ all) live alike = cc
+  all_told left a x lives is (c ∷ cs) [] live alike = cc
+  all_told left a x lives is (c ∷ cs) (y ∷ all) live alike = ap₂ (λ p q. p && q) (told_apart left a c x y lives (first_of live) is (first_of alike)) (all_told left a x lives is cs all (rest_of live) (rest_of alike))
+
+  pairs_told : (left : Expression) (cs : List Expression) (all : List Compared) → Live cs → Alike left cs all → each_pair (exclusive g) cs ≡ each_pair apart all
+  pairs_told left [] [] live alike = refl
+  pairs_told left [] (y ∷ all) live alike = cc
+  pairs_told left (c ∷ cs) [] live alike = cc
+  pairs_told left (c ∷ cs) (y ∷ all) live alike = ap₂ (λ p q. p && q) (all_told left c y (first_of live) (first_of alike) cs all (rest_of live) (rest_of alike)) (pairs_told left cs all (rest_of live) (rest_of alike))
+
+  lives : (es : List EventEdge) → Live (live_conditions g es)
+  lives [] = refl
+  lives (e ∷ es) = by (is_urgent e) (never e.condition) refl (lives es) where
+    by : (urgent never_true : Bool) → never e.condition ≡ never_true → Live (live_conditions g es) → Live (map (λ (e : EventEdge). e.condition) (cond (urgent && not never_true) (e ∷ filter (is_live g) es) (filter (is_live g) es)))
+    by false n is rest = rest
+    by true false is rest = ap₂ (λ b bs. b ∷ bs) is rest
+    by true true is rest = rest
+
+  -- where all live edges compare one and the same with numbers, these tell whether any two exclude each other
+  pub alike_told : (left : Expression) (es : List EventEdge) (all : List Compared) → AreCompared g left es all → each_pair apart all ≡ each_pair (exclusive g) (urgent_conditions es)
+  alike_told left es all alike = sym (pairs_told left (live_conditions g es) all (lives es) alike) ∙ sym (pairs_live es)
+
+  -- one more edge
+  pub one_more : (left : Expression) (e : EventEdge) (es : List EventEdge) (x : Compared) (all : List Compared) → is_live g e ≡ true → comparison_of e.condition ≡ Some (compared left x)
+      → map (λ (c : Compared). Some (compared left c)) (all ++ x ∷ []) ++ map comparison_of (live_conditions g es) ≡ map (λ (c : Compared). Some (compared left c)) all ++ map comparison_of (live_conditions g (e ∷ es))
+  one_more left e es x [] live is =
+      ap (λ c. c ∷ map comparison_of (live_conditions g es)) (sym is)
+      ∙ sym (ap (λ (b : Bool). map comparison_of (map (λ (e : EventEdge). e.condition) (cond b (e ∷ filter (is_live g) es) (filter (is_live g) es)))) live)
+  one_more left e es x (y ∷ all) live is = ap (λ cs. Some (compared left y) ∷ cs) (one_more left e es x all live is)
+
+  -- an edge that isn't live excludes all others
+  pub behind_none : (e : EventEdge) (es : List EventEdge) → is_live g e ≡ false → each_pair (exclusive g) (urgent_conditions (e ∷ es)) ≡ each_pair (exclusive g) (urgent_conditions es)
+  behind_none e es live = by (is_urgent e) (never e.condition) refl live where
+    by : (urgent never_true : Bool) → never e.condition ≡ never_true → (urgent && not never_true) ≡ false
+        → each_pair (exclusive g) (map (λ (e : EventEdge). e.condition) (cond urgent (e ∷ filter is_urgent es) (filter is_urgent es))) ≡ each_pair (exclusive g) (urgent_conditions es)
+    by false n is live = refl
+    by true false is live = cc
+    by true true is live = ap (λ x. x && each_pair (exclusive g) (urgent_conditions es)) (all_excluded e.condition (urgent_conditions es) is)
+
+  -- ---- an edge that gets another condition
+
+  abbrev given : Expression → EventEdge → EventEdge
+  given c e = record e { condition = c }
+
+  -- where it isn't urgent, the conditions of those that are stay as they are
+  pub calm_given : (c : Expression) (es : List EventEdge) (k : ℕ) (d : EventEdge) → is_urgent (get_or es k d) ≡ false → urgent_conditions (with_place (given c) k es) ≡ urgent_conditions es
+  calm_given c [] k d calm = refl
+  calm_given c (x ∷ es) zero d calm =
+      ap (λ (b : Bool). map (λ (e : EventEdge). e.condition) (cond b (given c x ∷ filter is_urgent es) (filter is_urgent es))) calm
+      ∙ sym (ap (λ (b : Bool). map (λ (e : EventEdge). e.condition) (cond b (x ∷ filter is_urgent es) (filter is_urgent es))) calm)
+  calm_given c (x ∷ es) (suc k) d calm = one (is_urgent x) (calm_given c es k d calm) where
+    one : (b : Bool) → urgent_conditions (with_place (given c) k es) ≡ urgent_conditions es
+        → map (λ (e : EventEdge). e.condition) (cond b (x ∷ filter is_urgent (with_place (given c) k es)) (filter is_urgent (with_place (given c) k es))) ≡ map (λ (e : EventEdge). e.condition) (cond b (x ∷ filter is_urgent es) (filter is_urgent es))
+    one true same = ap (λ cs. x.condition ∷ cs) same
+    one false same = same
+
+  neither : (a b : Bool) → (a || b) ≡ false → (a ≡ false) × (b ≡ false)
+  neither true b e = cc
+  neither false b e = (refl, e)
+
+  none_live : (es : List EventEdge) → list_any (is_live g) es ≡ false → live_conditions g es ≡ []
+  none_live [] none = refl
+  none_live (e ∷ es) none =
+      let (here, later) = neither (is_live g e) (list_any (is_live g) es) none in
+      ap (λ (b : Bool). map (λ (e : EventEdge). e.condition) (cond b (e ∷ filter (is_live g) es) (filter (is_live g) es))) here ∙ none_live es later
+
+  -- where no other one is live, it excludes them
+  pub aside_given : (c : Expression) (es : List EventEdge) (k : ℕ) → list_any (is_live g) (take k es) ≡ false → list_any (is_live g) (drop (suc k) es) ≡ false → each_pair (exclusive g) (urgent_conditions (with_place (given c) k es)) ≡ true
+  aside_given c [] k before behind = refl
+  aside_given c (x ∷ es) zero before behind = by (is_urgent x) where
+    pairs : each_pair (exclusive g) (urgent_conditions es) ≡ true
+    pairs = pairs_live es ∙ ap (each_pair (exclusive g)) (none_live es behind)
+
+    by : (b : Bool) → each_pair (exclusive g) (map (λ (e : EventEdge). e.condition) (cond b (given c x ∷ filter is_urgent es) (filter is_urgent es))) ≡ true
+    by true = ap₂ (λ p q. p && q) (all_live c es ∙ ap (list_all (exclusive g c)) (none_live es behind)) pairs
+    by false = pairs
+  aside_given c (x ∷ es) (suc k) before behind =
+      let (here, later) = neither (is_live g x) (list_any (is_live g) (take k es)) before in
+      behind_none x (with_place (given c) k es) here ∙ aside_given c es k later behind
+
+-- a comparison of the same with a number
+pub comparison_told : (op : Operator) (operand left number : Expression) (n : ℤ) → is_comparison op ≡ true → same_expression operand left ≡ true → literal_number number ≡ Some n → comparison_of (Binary op operand number) ≡ Some (record { left = left; operator = op; number = n })
+comparison_told op operand left number n compares same is =
+    ap (λ b. cond b (option_map (λ n. record { left = operand; operator = op; number = n }) (literal_number number)) None) compares
+    ∙ ap (option_map (λ n. record { left = operand; operator = op; number = n })) is
+    ∙ ap (λ e. Some (record { left = e; operator = op; number = n })) (same_told operand left same)
