@@ -188,3 +188,31 @@ fn lengths_stay_known_behind_a_settle(rt: HostRuntime) -> Result<(), Fail> {
     assert!(rt; has_lengths(&known, &model, 71));
     Ok(())
 }
+
+const FOUR_URGENT: &[u8] =
+    b"model M; var N : 0..9 = 0; watch N; vertex RUN { urgent B; } vertex B { set N := 1; schedule C after 1; } vertex C { urgent RUN when N < 10; urgent D when N > 9; } vertex D { urgent RUN when N < 5; urgent C when N >= 5; } end";
+
+/// What is known of whether the model with four such edges beside a merged one takes at most one at once, behind a settle of an
+/// edge.
+fn single_behind_settle(
+    alloc: Global,
+    vertex: usize,
+    edge: usize,
+) -> Result<Option<bool>, RuleError> {
+    let mut model = model_of_text(alloc, FOUR_URGENT)?;
+    let mut known = merged_and_measured(alloc, &mut model)?;
+    know_settled(&model, &mut known, vertex, edge);
+    Ok(known.single)
+}
+
+#[test]
+fn edges_that_stand_alone_may_be_settled(rt: HostRuntime) {
+    for (vertex, edge, single) in [
+        (0, 0, Some(true)),
+        (2, 0, Some(true)),
+        (2, 1, None),
+        (3, 0, None),
+    ] {
+        assert_eq!(rt; single_behind_settle(rt.alloc(), vertex, edge), Ok(single));
+    }
+}
