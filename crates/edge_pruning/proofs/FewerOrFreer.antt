@@ -3,14 +3,13 @@ use Rattle.std.proofs.Common.{◌≡◌, ℕ, ◌≤◌, ◌+◌, Bool, true, fa
 use Rattle.std.specs.Prelude.{codes}
 use Rattle.std.specs.List.{remove}
 use Rattle.std.specs.Option.{option_map_or, option_and_then}
-use Rattle.model_core.specs.EventGraph.{EventGraph, EventVertex, EventEdge, Variable}
+use Rattle.model_core.specs.EventGraph.{EventGraph, EventVertex, EventEdge, Variable, has_drawn_delay}
 use Rattle.model_core.specs.Text.Canonical.{edge_line, edge_word, vertex_name, in_parentheses, expression_texts, timing_text, condition_text}
 use Rattle.model_core.specs.Text.Spellable.{Extent, SpellableEdge, expression_openings, values_openings, kind_openings}
 use Rattle.model_core.specs.Static.OwnRules.{KeepsEdge, KeepsVertex, parameters_of, KeepsParts}
 use Rattle.model_core.specs.Rules.Conditions.{first_failed}
 use Rattle.model_core.specs.Rules.BoundsOf.{bounds_of, refuted, proved}
 use Rattle.model_core.specs.Rules.PlacedEdges.{edge_at, with_place}
-use Rattle.model_core.specs.Rules.Uses.{has_drawn_delay}
 use Rattle.model_core.specs.Rules.Prune.{has_refuted_condition, prune_conditions}
 use Rattle.model_core.specs.Rules.Settle.{is_conditional, has_proved_condition, settle_conditions, unconditional}
 use Rattle.static_laws.proofs.StaticTwins.DeclaredNames.{every_item}

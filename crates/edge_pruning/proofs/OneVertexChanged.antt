@@ -4,13 +4,12 @@ use Rattle.std.proofs.Common.{◌≡◌, ℕ, ◌≤◌, true, List, [], ◌++�
 use Rattle.std.specs.Prelude.{codes}
 use Rattle.std.specs.List.{AllByRecursion, flat_map, list_any, IsDistinct}
 use Rattle.sig_base.specs.declared.limits.TheConstants.{VERTICES_MAX}
-use Rattle.model_core.specs.EventGraph.{EventVertex, EventEdge, Variable, WeightTable, EventGraph}
+use Rattle.model_core.specs.EventGraph.{EventVertex, EventEdge, Variable, WeightTable, EventGraph, has_drawn_delay}
 use Rattle.model_core.specs.Text.Lexing.{same_bytes}
 use Rattle.model_core.specs.Text.Canonical.{variable_name, vertex_lines, change_line, edge_line, in_parentheses, variable_line, table_line, watched_name, watch_names_line, watch_line, canonical}
 use Rattle.model_core.specs.Text.Spellable.{Extent, extent, SpellableEdge, SpellableVertex, SpellableWatched, IsSpellable}
 use Rattle.model_core.specs.Static.OwnRules.{KeepsEdge, KeepsVertex, IsWatchable, parameters_of, KeepsParts, KeepsStaticRules}
 use Rattle.model_core.specs.Rules.PlacedEdges.{with_vertex}
-use Rattle.model_core.specs.Rules.Uses.{has_drawn_delay}
 use Rattle.model_core.proofs.SameNames.{SameNames, map_alike, watched_alike, vertex_alike}
 use Rattle.model_core.proofs.PlacesChanged.{shown_placed, map_placed, length_placed, has_one_placed}
 use Rattle.edge_pruning.proofs.ListsChanged.{all_with_place}

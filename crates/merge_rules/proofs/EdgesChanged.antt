@@ -4,7 +4,7 @@ use Rattle.std.specs.Prelude.{codes}
 use Rattle.std.specs.List.{list_all, list_any, remove}
 use Rattle.std.specs.Option.{option_map_or, option_and_then}
 use Rattle.sig_base.specs.declared.limits.TheConstants.{PARAMETERS_MAX_VERSION_1}
-use Rattle.model_core.specs.EventGraph.{EventGraph, EventVertex, EventEdge, Expression}
+use Rattle.model_core.specs.EventGraph.{EventGraph, EventVertex, EventEdge, Expression, has_drawn_delay}
 use Rattle.model_core.specs.Run.Step.{vertex_at, no_vertex}
 use Rattle.model_core.specs.Text.Canonical.{vertex_name, expression_texts, in_parentheses, edge_word, timing_text, condition_text, change_line, edge_line, version_line, canonical}
 use Rattle.model_core.specs.Text.VersionNeeded.{has_many_targets, has_later_parts, needs_version_two}
@@ -13,7 +13,6 @@ use Rattle.model_core.specs.Rules.PlacedEdges.{edge_at, with_place, with_vertex}
 use Rattle.model_core.specs.Rules.Prune.{without_edge, pruned}
 use Rattle.model_core.specs.Rules.Settle.{unconditional, with_settled, settled}
 use Rattle.model_core.specs.Rules.UrgentEdges.{is_urgent, each_pair, urgent_conditions, single_urgent}
-use Rattle.model_core.specs.Rules.Uses.{has_drawn_delay}
 use Rattle.model_core.proofs.BothTrue.{and_first, and_second}
 use Rattle.merge_rules.specs.Growth.{body_lines, capped}
 use Rattle.merge_rules.specs.Known.{TellsLines, TellsLength, TellsVersion}

@@ -4,12 +4,11 @@ use Rattle.std.specs.List.{list_any, flat_map}
 use Rattle.std.proofs.lemmas.Bool.{not-true}
 use Rattle.std.proofs.lemmas.List.{set-get_or}
 use Rattle.sig_base.specs.declared.limits.TheConstants.{TEXT_MAX, PARAMETERS_MAX_VERSION_1}
-use Rattle.model_core.specs.EventGraph.{EventGraph, EventVertex}
+use Rattle.model_core.specs.EventGraph.{EventGraph, EventVertex, has_drawn_delay}
 use Rattle.model_core.specs.Run.Step.{vertex_at, no_vertex}
 use Rattle.model_core.specs.Text.Canonical.{canonical, change_line, edge_line}
 use Rattle.model_core.specs.Text.VersionNeeded.{is_large_array, has_many_targets, has_later_parts, needs_version_two}
 use Rattle.model_core.specs.Rules.Conditions.{first_failed}
-use Rattle.model_core.specs.Rules.Uses.{has_drawn_delay}
 use Rattle.model_core.specs.Rules.PlacedEdges.{with_place}
 use Rattle.model_core.specs.Rules.UrgentEdges.{single_urgent}
 use Rattle.model_core.specs.Rules.Merge.{values_at_once, merged_with, merged, merge_conditions}

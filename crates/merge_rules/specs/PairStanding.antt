@@ -3,11 +3,11 @@
 use Rattle.std.specs.Prelude.{ℕ, ◌==◌, nat_lt, Bool, false, not, ◌&&◌, ◌||◌, List, [], ◌∷◌, length, Option, is_none}
 use Rattle.std.specs.List.{list_all, list_any}
 use Rattle.std.specs.Option.{option_map, option_map_or}
-use Rattle.model_core.specs.EventGraph.{EventGraph, EventVertex, EventEdge}
+use Rattle.model_core.specs.EventGraph.{EventGraph, EventVertex, EventEdge, has_drawn_delay}
 use Rattle.model_core.specs.Run.Step.{vertex_at}
 use Rattle.model_core.specs.Rules.BoundsOfParts.{quiet_change, quiet_edge}
 use Rattle.model_core.specs.Rules.Conditions.{first_failed}
-use Rattle.model_core.specs.Rules.Uses.{vertex_writes, has_drawn_delay}
+use Rattle.model_core.specs.Rules.Uses.{vertex_writes}
 use Rattle.model_core.specs.Rules.UrgentEdges.{plain_urgent, plain_urgent_edge}
 use Rattle.model_core.specs.Rules.Merge.{cancels, is_watched_vertex, reads_none_of, is_unwatched, happens_unseen, values_at_once, other_edges, has_few_parts, merged_with}
 

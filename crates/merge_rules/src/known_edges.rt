@@ -2,13 +2,12 @@
 
 ghost use Rattle.std.specs.Prelude.{◌≡◌, ℕ, ◌+◌, ◌-◌, ◌<◌, ◌^◌, false, Some, None, length};
 ghost use Rattle.std.specs.Option.{option_map, IfSome};
-ghost use Rattle.model_core.specs.EventGraph.{EventGraph};
+ghost use Rattle.model_core.specs.EventGraph.{EventGraph, has_drawn_delay};
 ghost use Rattle.model_core.specs.Text.Canonical.{condition_text};
 ghost use Rattle.model_core.specs.Rules.Conditions.{first_failed};
 ghost use Rattle.model_core.specs.Rules.PlacedEdges.{edge_at};
 ghost use Rattle.model_core.specs.Rules.Prune.{prune_conditions, pruned};
 ghost use Rattle.model_core.specs.Rules.Settle.{settle_conditions, settled};
-ghost use Rattle.model_core.specs.Rules.Uses.{has_drawn_delay};
 ghost use Rattle.model_core.specs.Code.Views.{graph_of, edge_of, expression_of};
 ghost use Rattle.merge_rules.specs.Growth.{capped};
 ghost use Rattle.merge_rules.specs.Known.{TellsLines, TellsVersion, TellsSingle, AreBodies, IsKnown};

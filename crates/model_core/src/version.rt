@@ -3,7 +3,7 @@
 ghost use Rattle.std.specs.Prelude.{◌≡◌, map};
 ghost use Rattle.std.specs.List.{list_any};
 ghost use Rattle.model_core.specs.Text.VersionNeeded.{is_large_array, has_many_targets, has_later_parts, needs_version_two};
-ghost use Rattle.model_core.specs.Rules.Uses.{is_drawn, has_drawn_delay};
+ghost use Rattle.model_core.specs.EventGraph.{is_drawn, has_drawn_delay};
 ghost use Rattle.model_core.specs.Code.Views.{graph_of, variable_of, change_of, edge_delay_of, edge_of, vertex_of};
 
 use crate::model::{Model, Var};

@@ -7,10 +7,9 @@ use Rattle.std.specs.List.{flat_map, list_any, remove}
 use Rattle.std.specs.Option.{option_map_or}
 use Rattle.std.proofs.Math.Bool.{or_comm}
 use Rattle.sig_base.specs.declared.limits.TheConstants.{PARAMETERS_MAX_VERSION_1}
-use Rattle.model_core.specs.EventGraph.{EventGraph, EventVertex}
+use Rattle.model_core.specs.EventGraph.{EventGraph, EventVertex, has_drawn_delay}
 use Rattle.model_core.specs.Text.Canonical.{variable_line, table_line, watched_name, watch_names_line, version_line}
 use Rattle.model_core.specs.Text.VersionNeeded.{is_large_array, has_many_targets, has_later_parts, needs_version_two}
-use Rattle.model_core.specs.Rules.Uses.{has_drawn_delay}
 use Rattle.model_core.specs.Rules.Drop.{edge_renumbered, vertex_renumbered}
 use Rattle.model_core.specs.Rules.Fuse.{fused_place, fused}
 use Rattle.model_core.specs.Rules.Merge.{is_watched_vertex}

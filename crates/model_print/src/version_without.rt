@@ -5,7 +5,7 @@ ghost use Rattle.std.specs.List.{list_any, remove};
 ghost use Rattle.std.specs.Option.{option_map_or};
 ghost use Rattle.model_core.specs.Text.VersionNeeded.{is_large_array, has_later_parts, needs_version_two};
 ghost use Rattle.model_core.specs.Rules.Prune.{without_edge, pruned};
-ghost use Rattle.model_core.specs.Rules.Uses.{has_drawn_delay};
+ghost use Rattle.model_core.specs.EventGraph.{has_drawn_delay};
 ghost use Rattle.model_core.specs.Code.Views.{graph_of, variable_of, edge_of, vertex_of};
 
 use model_core::{

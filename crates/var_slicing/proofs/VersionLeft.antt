@@ -6,10 +6,9 @@ use Rattle.std.proofs.lemmas.List.{length-map}
 use Rattle.std.proofs.lemmas.List.Sums.{sum_by-cons}
 use Rattle.std.specs.Option.{option_map_or}
 use Rattle.sig_base.specs.declared.limits.TheConstants.{PARAMETERS_MAX_VERSION_1, TARGETS_MAX_VERSION_1}
-use Rattle.model_core.specs.EventGraph.{EventGraph, EventVertex, EventEdge, Expression, Location, StateChange, Set, Draw, Delay, Fixed, Drawn, EdgeKind, Schedule, Urgent, CancelNext, CancelEqual, CancelAll, Variable, delay_given}
+use Rattle.model_core.specs.EventGraph.{EventGraph, EventVertex, EventEdge, Expression, Location, StateChange, Set, Draw, Delay, Fixed, Drawn, EdgeKind, Schedule, Urgent, CancelNext, CancelEqual, CancelAll, Variable, delay_given, is_drawn, has_drawn_delay}
 use Rattle.model_core.specs.Text.VersionNeeded.{is_large_array, has_many_targets, has_later_parts}
 use Rattle.model_core.specs.Rules.MarkedPlaces.{rank, is_marked}
-use Rattle.model_core.specs.Rules.Uses.{is_drawn, has_drawn_delay}
 use Rattle.model_core.specs.Rules.Slice.{location_renumbered, values_left, parameters_left, targets_left, set_or_nothing, change_left, delay_renumbered, kind_left, edge_left, vertex_left, of_marked_variables}
 use Rattle.model_core.proofs.SomeOfAList.{SomeOf, nothing, with_it, without, some-marked_of, some-kept_beside, some-few}
 use Rattle.round_trip.proofs.VersionsKept.{NeedsNoMore, either_kept, needed-by, any-some, any-image, any-left}

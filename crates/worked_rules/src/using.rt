@@ -1,7 +1,8 @@
 //! Who uses a variable, by a model in which each variable is used in one way, and the numbers of users.
 
 ghost use Rattle.std.specs.Prelude.{◌≡◌, ◌++◌, ◌∷◌, [], true, false, codes, map};
-ghost use Rattle.model_core.specs.Rules.Uses.{variables_in, vertex_streams, has_drawn_delay};
+ghost use Rattle.model_core.specs.EventGraph.{has_drawn_delay};
+ghost use Rattle.model_core.specs.Rules.Uses.{variables_in, vertex_streams};
 ghost use Rattle.use_analysis.specs.UsesText.{uses_text};
 ghost use Rattle.use_analysis.specs.UseNumbers.{raised_at, lowered_at, no_numbers, CanRaise, CanLower};
 ghost use Rattle.worked_runs.specs.Building.{urgent, whole};

@@ -1,9 +1,8 @@
 -- The other edges stand aside where they are calm and none of them reads what is written.
 use Rattle.std.proofs.Common.{◌≡◌, Bool, true, false, ◌&&◌, not, ◌||◌, List, [], ◌∷◌, ◌++◌, ℕ, refl, sym, ◌∙◌, ap, ap₂}
 use Rattle.std.specs.List.{list_any, list_all}
-use Rattle.model_core.specs.EventGraph.{EventGraph, EventEdge}
+use Rattle.model_core.specs.EventGraph.{EventGraph, EventEdge, has_drawn_delay}
 use Rattle.model_core.specs.Rules.BoundsOfParts.{quiet_edge}
-use Rattle.model_core.specs.Rules.Uses.{has_drawn_delay}
 use Rattle.model_core.specs.Rules.Merge.{reads_none_of}
 use Rattle.merge_rules.specs.Inner.ReadingEdges.{reads_one_of, is_calm}
 

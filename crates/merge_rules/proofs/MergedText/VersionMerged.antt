@@ -5,10 +5,9 @@ use Rattle.std.specs.Option.{option_map_or}
 use Rattle.std.proofs.lemmas.List.{length-map}
 use Rattle.std.proofs.lemmas.List.Folds.{list_any-append}
 use Rattle.sig_base.specs.declared.limits.TheConstants.{PARAMETERS_MAX_VERSION_1, TARGETS_MAX_VERSION_1}
-use Rattle.model_core.specs.EventGraph.{EventGraph, EventVertex, EventEdge, Expression, scalar_location}
+use Rattle.model_core.specs.EventGraph.{EventGraph, EventVertex, EventEdge, Expression, scalar_location, has_drawn_delay}
 use Rattle.model_core.specs.Run.Step.{vertex_at, no_vertex}
 use Rattle.model_core.specs.Text.VersionNeeded.{is_large_array, has_many_targets, has_later_parts, needs_version_two}
-use Rattle.model_core.specs.Rules.Uses.{has_drawn_delay}
 use Rattle.model_core.specs.Rules.Merge.{set_parameters, merged_vertex, merged_with, values_at_once, merged}
 use Rattle.model_core.specs.Rules.PlacedEdges.{with_place, with_vertex}
 use Rattle.model_core.specs.Rules.Prune.{without_edge, pruned}

@@ -5,13 +5,13 @@ use Rattle.std.specs.List.{AllByRecursion, AllZip, list_any, list_all, position_
 use Rattle.std.proofs.lemmas.List.{length-map}
 use Rattle.sig_base.specs.declared.limits.TheConstants.{PARAMETERS_MAX}
 use Rattle.model_core.specs.declared.model.Kind.{Kind}
-use Rattle.model_core.specs.EventGraph.{EventGraph, Variable, EventVertex, EventEdge, EdgeKind, Schedule, Urgent, CancelNext, CancelEqual, CancelAll, Expression, scalar_location}
+use Rattle.model_core.specs.EventGraph.{EventGraph, Variable, EventVertex, EventEdge, EdgeKind, Schedule, Urgent, CancelNext, CancelEqual, CancelAll, Expression, scalar_location, has_drawn_delay}
 use Rattle.model_core.specs.Run.Step.{vertex_at, no_vertex}
 use Rattle.model_core.specs.Static.HasKind.{IsVariable, HasKind}
 use Rattle.model_core.specs.Static.OwnRules.{TakesKind, TakeCarried, KeepsEdge, KeepsChange, KeepsVertex, KeepsParts, parameters_of}
 use Rattle.model_core.specs.Rules.BoundsOfParts.{quiet_edge}
 use Rattle.model_core.specs.Rules.Conditions.{first_failed}
-use Rattle.model_core.specs.Rules.Uses.{vertex_writes, has_drawn_delay}
+use Rattle.model_core.specs.Rules.Uses.{vertex_writes}
 use Rattle.model_core.specs.Rules.UrgentEdges.{is_urgent_kind, single_urgent}
 use Rattle.model_core.specs.Rules.Merge.{merge_conditions, cancels, is_cancelling, is_watched_vertex, reads_none_of, happens_unseen, set_parameters, values_at_once, other_edges, is_within_limits, merged}
 use Rattle.model_core.proofs.BothTrue.{and_first, and_second}

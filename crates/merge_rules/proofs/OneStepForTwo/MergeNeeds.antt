@@ -5,7 +5,7 @@ use Rattle.std.specs.Prelude.{position}
 use Rattle.std.specs.List.{AllByRecursion, list_all}
 use Rattle.std.proofs.lemmas.Iterator.Adapters.{position_from-zero}
 use Rattle.sig_base.specs.declared.fault.FaultKind.{FaultKind}
-use Rattle.model_core.specs.EventGraph.{EventGraph, EventVertex, EventEdge, StateChange, Watched, WatchedVariable, WatchedVertex}
+use Rattle.model_core.specs.EventGraph.{EventGraph, EventVertex, EventEdge, StateChange, Watched, WatchedVariable, WatchedVertex, has_drawn_delay}
 use Rattle.model_core.specs.Run.State.{State, in_range}
 use Rattle.model_core.specs.Run.Value.{OrFault, ◌>>=◌, each, in_turn, value_of}
 use Rattle.model_core.specs.Run.Changes.{Changed, make_change}
@@ -16,7 +16,7 @@ use Rattle.model_core.specs.Run.History.{watches}
 use Rattle.model_core.specs.Static.OwnRules.{KeepsEdge, KeepsChange, KeepsParts, parameters_of}
 use Rattle.model_core.specs.Rules.BoundsOfParts.{quiet_change, quiet_edge}
 use Rattle.model_core.specs.Rules.MarkedPlaces.{is_among}
-use Rattle.model_core.specs.Rules.Uses.{edge_reads, vertex_writes, has_drawn_delay}
+use Rattle.model_core.specs.Rules.Uses.{edge_reads, vertex_writes}
 use Rattle.model_core.specs.Rules.UrgentEdges.{is_urgent}
 use Rattle.model_core.specs.Rules.Merge.{cancels, is_watched_vertex, reads_none_of, is_unwatched, happens_unseen, set_parameters, values_at_once, other_edges}
 use Rattle.model_core.proofs.BothTrue.{and_first, and_second}

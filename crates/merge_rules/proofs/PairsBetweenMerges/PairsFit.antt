@@ -4,12 +4,12 @@ use Rattle.std.specs.Prelude.{slice_get, filter_map}
 use Rattle.std.specs.List.{list_all, list_any, range_with_len, cons_option}
 use Rattle.std.specs.Option.{option_map, option_map_or}
 use Rattle.sig_base.specs.declared.limits.TheConstants.{TEXT_MAX}
-use Rattle.model_core.specs.EventGraph.{EventGraph, EventVertex, EventEdge}
+use Rattle.model_core.specs.EventGraph.{EventGraph, EventVertex, EventEdge, has_drawn_delay}
 use Rattle.model_core.specs.Run.Step.{no_vertex, vertex_at}
 use Rattle.model_core.specs.Text.Canonical.{canonical}
 use Rattle.model_core.specs.Rules.BoundsOfParts.{quiet_edge}
 use Rattle.model_core.specs.Rules.Conditions.{first_failed}
-use Rattle.model_core.specs.Rules.Uses.{vertex_writes, has_drawn_delay}
+use Rattle.model_core.specs.Rules.Uses.{vertex_writes}
 use Rattle.model_core.specs.Rules.UrgentEdges.{plain_urgent, plain_urgent_edge, single_urgent}
 use Rattle.model_core.specs.Rules.Merge.{leads_to, cancels, is_watched_vertex, reads_none_of, happens_unseen, values_at_once, other_edges, has_few_parts, merged_with, merged, merge_conditions, merge_at, first_merge}
 use Rattle.model_core.proofs.PlacesChanged.{same_number}

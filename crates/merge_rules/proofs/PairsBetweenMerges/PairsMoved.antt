@@ -7,14 +7,14 @@ use Rattle.std.specs.Option.{option_map, option_map_or, option_and_then}
 use Rattle.std.proofs.lemmas.List.{map-append, length-map}
 use Rattle.std.proofs.lemmas.List.Sums.{sum_by-cons}
 use Rattle.sig_base.specs.declared.limits.TheConstants.{CHANGES_MAX, EDGES_MAX}
-use Rattle.model_core.specs.EventGraph.{EventGraph, EventVertex, EventEdge, EdgeKind, Schedule, Urgent, CancelNext, CancelEqual, CancelAll, Fixed, Drawn, Uniform, ByTable, StateChange, Set, Draw, Expression, Watched, WatchedVariable, WatchedVertex, delay_given}
+use Rattle.model_core.specs.EventGraph.{EventGraph, EventVertex, EventEdge, EdgeKind, Schedule, Urgent, CancelNext, CancelEqual, CancelAll, Fixed, Drawn, Uniform, ByTable, StateChange, Set, Draw, Expression, Watched, WatchedVariable, WatchedVertex, delay_given, has_drawn_delay}
 use Rattle.model_core.specs.Run.Step.{vertex_at}
 use Rattle.model_core.specs.Run.History.{watches}
 use Rattle.model_core.specs.Rules.BoundsOf.{bounds_of}
 use Rattle.model_core.specs.Rules.BoundsOfParts.{quiet_change, quiet_edge, quiet_delay}
 use Rattle.model_core.specs.Rules.Conditions.{first_failed}
 use Rattle.model_core.specs.Rules.Drop.{edge_renumbered, vertex_renumbered, watched_renumbered}
-use Rattle.model_core.specs.Rules.Uses.{vertex_writes, has_drawn_delay}
+use Rattle.model_core.specs.Rules.Uses.{vertex_writes}
 use Rattle.model_core.specs.Rules.UrgentEdges.{is_urgent, is_plain, plain_urgent, plain_urgent_edge}
 use Rattle.model_core.specs.Rules.Merge.{cancels, is_cancelling, is_watched_vertex, reads_none_of, is_unwatched, happens_unseen, set_parameters, values_at_once, other_edges, merged_vertex, has_few_parts, merged_with}
 use Rattle.model_core.proofs.Images.{map-remove}

@@ -4,9 +4,8 @@ use Rattle.std.specs.Prelude.{count_by}
 use Rattle.std.proofs.lemmas.List.Sums.{sum_by-cons, sum_by-append}
 use Rattle.std.specs.List.{AllByRecursion, remove, position_from}
 use Rattle.std.specs.Option.{option_map_or, option_and_then}
-use Rattle.model_core.specs.EventGraph.{EventVertex, EventEdge, EdgeKind, Urgent, Expression, Truth, delay_given}
+use Rattle.model_core.specs.EventGraph.{EventVertex, EventEdge, EdgeKind, Urgent, Expression, Truth, delay_given, has_drawn_delay, is_drawn}
 use Rattle.model_core.specs.Rules.Settle.{is_literal_true}
-use Rattle.model_core.specs.Rules.Uses.{has_drawn_delay, is_drawn}
 use Rattle.model_core.specs.Rules.UrgentEdges.{is_urgent, is_urgent_kind, is_plain, plain_urgent, plain_urgent_edge}
 use Rattle.model_core.specs.Rules.Merge.{leads_to, values_at_once, other_edges}
 use Rattle.model_core.proofs.BothTrue.{and_first, and_second}

@@ -1,10 +1,10 @@
 -- Edges that read variables: one by one, and counted.
 use Rattle.std.specs.Prelude.{ℕ, Bool, nat_lt, not, cond, ◌&&◌, ◌||◌, List, [], ◌∷◌, slice_index}
 use Rattle.std.specs.List.{list_any}
-use Rattle.model_core.specs.EventGraph.{EventGraph, EventEdge}
+use Rattle.model_core.specs.EventGraph.{EventGraph, EventEdge, has_drawn_delay}
 use Rattle.model_core.specs.Rules.BoundsOfParts.{quiet_edge}
 use Rattle.model_core.specs.Rules.MarkedPlaces.{is_among}
-use Rattle.model_core.specs.Rules.Uses.{edge_reads, has_drawn_delay}
+use Rattle.model_core.specs.Rules.Uses.{edge_reads}
 use Rattle.use_analysis.specs.UseNumbers.{raised_at, lowered_at}
 
 -- an edge reads this variable, or one of these

@@ -2,8 +2,7 @@
 use Rattle.std.specs.Prelude.{Bool, false, ◌||◌, nat_lt, length}
 use Rattle.std.specs.List.{list_any}
 use Rattle.sig_base.specs.declared.limits.TheConstants.{ARRAY_CELLS_MAX_VERSION_1, PARAMETERS_MAX_VERSION_1, TARGETS_MAX_VERSION_1}
-use Rattle.model_core.specs.EventGraph.{EventGraph, EventVertex, Variable, StateChange, Set, Draw}
-use Rattle.model_core.specs.Rules.Uses.{has_drawn_delay}
+use Rattle.model_core.specs.EventGraph.{EventGraph, EventVertex, Variable, StateChange, Set, Draw, has_drawn_delay}
 
 -- an array has more cells than one of version 1
 abbrev pub is_large_array : Variable → Bool

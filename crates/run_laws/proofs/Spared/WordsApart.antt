@@ -3,12 +3,12 @@ use Rattle.std.proofs.Common.{◌≡◌, ℕ, ◌+◌, Bool, true, false, cond, 
 use Rattle.std.specs.List.{AllByRecursion}
 use Rattle.std.specs.Option.{option_map_or}
 use Rattle.sig_base.specs.Stream.{word}
-use Rattle.model_core.specs.EventGraph.{EventGraph, EventEdge, Delay, Fixed, Drawn, EdgeKind, Schedule, Urgent, CancelNext, CancelEqual, CancelAll, delay_given}
+use Rattle.model_core.specs.EventGraph.{EventGraph, EventEdge, Delay, Fixed, Drawn, EdgeKind, Schedule, Urgent, CancelNext, CancelEqual, CancelAll, delay_given, is_drawn, has_drawn_delay}
 use Rattle.model_core.specs.Run.State.{State}
 use Rattle.model_core.specs.Run.Value.{OrFault, ◌>>=◌, value_of, is_one}
 use Rattle.model_core.specs.Run.Changes.{taken_from, picked}
 use Rattle.model_core.specs.Run.Edges.{Planned, Waiting, delay_ticks, delay_of, carried_values, scheduled, act, treat}
-use Rattle.model_core.specs.Rules.Uses.{delay_streams, edge_streams, is_drawn, has_drawn_delay}
+use Rattle.model_core.specs.Rules.Uses.{delay_streams, edge_streams}
 use Rattle.run_laws.proofs.Spared.InTurn.{result_by, bind-after, bind-within}
 
 -- a change of the words taken that leaves this stream as it is, before and after a word of it is taken

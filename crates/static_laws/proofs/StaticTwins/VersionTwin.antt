@@ -10,12 +10,11 @@ use Rattle.std.proofs.lemmas.Option.{same_Some}
 use Rattle.sig_base.specs.declared.limits.TheConstants.{ARRAY_CELLS_MAX, ARRAY_CELLS_MAX_VERSION_1, CELLS_MAX, PARAMETERS_MAX_VERSION_1, TARGETS_MAX_VERSION_1}
 use Rattle.model_core.specs.declared.static_kind.StaticKind.TheVariants as rules
 use Rattle.model_core.specs.EventGraph as graph
-use Rattle.model_core.specs.EventGraph.{EventGraph, EventVertex, EventEdge, Delay, EdgeKind, delay_given, StateChange, Variable, WeightTable, Watched}
+use Rattle.model_core.specs.EventGraph.{EventGraph, EventVertex, EventEdge, Delay, EdgeKind, delay_given, StateChange, Variable, WeightTable, Watched, is_drawn, has_drawn_delay}
 use Rattle.model_core.specs.Text.Written as written
 use Rattle.model_core.specs.Text.Written.{WrittenName, WrittenNumber, WrittenVariable, WrittenTarget, WrittenChange, WrittenDelay, WrittenEdgeKind, WrittenEdge, WrittenVertex, WrittenModel}
 use Rattle.model_core.specs.Text.Numbering as numbering
 use Rattle.model_core.specs.Text.Numbering.{◌>>=◌, each_numbered, written_or, declared_place, Declared, declared_by, natural_of, natural, numbered}
-use Rattle.model_core.specs.Rules.Uses.{is_drawn, has_drawn_delay}
 use Rattle.model_core.specs.Text.VersionNeeded.{is_large_array, has_many_targets, has_later_parts, needs_version_two}
 use Rattle.model_core.specs.Static.FaultOrder.{StaticFault, fault_where}
 use Rattle.model_core.specs.Static.RuleTable.{is_between, certain_value, size_outside, too_many}

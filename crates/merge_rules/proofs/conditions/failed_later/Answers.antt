@@ -2,10 +2,10 @@ use Rattle.std.proofs.Common.{◌≡◌, ℕ, refl, sym, ◌∙◌, ap, ap₂, B
 use Rattle.std.specs.List.{list_any, list_all}
 use Rattle.model_core.specs.declared.vertex.Edge.{Edge}
 use Rattle.model_core.specs.declared.vertex.Vertex.{Vertex}
-use Rattle.model_core.specs.EventGraph.{EventGraph, EventVertex}
+use Rattle.model_core.specs.EventGraph.{EventGraph, EventVertex, has_drawn_delay}
 use Rattle.model_core.specs.Run.Step.{vertex_at}
 use Rattle.model_core.specs.Rules.BoundsOfParts.{quiet_edge}
-use Rattle.model_core.specs.Rules.Uses.{vertex_writes, has_drawn_delay}
+use Rattle.model_core.specs.Rules.Uses.{vertex_writes}
 use Rattle.model_core.specs.Rules.Conditions.{first_failed}
 use Rattle.model_core.specs.Rules.Merge.{merge_conditions, cancels, is_watched_vertex, reads_none_of, happens_unseen, values_at_once, other_edges}
 use Rattle.model_core.specs.Code.Views.{graph_of, edge_of, vertex_of}

@@ -1,6 +1,6 @@
 use Rattle.std.proofs.Common.{◌≡◌, map, drop}
 use Rattle.std.specs.List.{list_any}
-use Rattle.model_core.specs.Rules.Uses.{has_drawn_delay}
+use Rattle.model_core.specs.EventGraph.{has_drawn_delay}
 use Rattle.model_core.specs.Code.Views.{edge_of}
 use Rattle.model_core.proofs.version.one_has_drawn_delay.Given as goal
 

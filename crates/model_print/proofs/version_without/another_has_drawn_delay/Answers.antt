@@ -1,7 +1,7 @@
 -- one before the place, or else one behind it
 use Rattle.std.proofs.Common.{◌+◌, arith}
 use Rattle.std.proofs.lemmas.List.{take_rest}
-use Rattle.model_core.specs.Rules.Uses.{has_drawn_delay}
+use Rattle.model_core.specs.EventGraph.{has_drawn_delay}
 use Rattle.model_core.specs.Code.Views.{edge_of}
 use Rattle.model_print.proofs.VersionLines.{any_before, any_behind}
 use Rattle.model_print.proofs.version_without.another_has_drawn_delay.Goals as goal
