@@ -169,9 +169,10 @@ impl<'m, P: Pending> Run<'m, P> {
         }
     }
 
-    /// The parts of the run, of which `from_parts` makes it again.
+    /// The parts of the run, from which `from_parts` builds a run again. That the run has faulted isn't among them.
     pub fn into_parts(self) -> Parts<P>
         ensures now { record { clock = result.clock; state = result.state; taken = result.streams.taken; pending = P.entries result.pending } ≡ self.entry.now }
+        ensures possible { PossibleModel (graph_of self.entry.model) }
         ensures inside { IsTrue (in_range (graph_of self.entry.model) result.state) }
         ensures seed { result.streams.seed ≡ self.entry.seed }
         ensures words { FewWords result.streams.taken result.turns }

@@ -1,6 +1,7 @@
 //! Tables of weighted values, and the values that an event carries.
 
 ghost use Rattle.std.specs.Prelude.{◌≡◌, ℕ, ◌*◌, ◌/◌, ◌-◌, ◌<◌, ◌≤◌, ◌^◌, length, map, min, sum, slice_index_or, IfOk};
+ghost use Rattle.std.specs.Int.{leading_zeros, w32};
 ghost use Rattle.sig_base.specs.Stream.{share, weighted_pick};
 ghost use Rattle.sig_base.specs.RunningSums.{running_sums, AtMostBefore, StartsAt};
 
@@ -100,7 +101,8 @@ fn start_for(starts: &[usize], shift: u32, word: u32) -> usize
 /// How many bits of a word are left out of the number of its part: so many that there are four to eight parts for each row, and
 /// at most 65,536.
 fn shift_for(rows: usize) -> u32
-    ensures { result < 32 }
+    ensures below { result < 32 }
+    ensures number { result ≡ leading_zeros w32 (min rows 16383) - 2 }
 {
     (rows.min(16_383) as u32).leading_zeros().saturating_sub(2)
 }

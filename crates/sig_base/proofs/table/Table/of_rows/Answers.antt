@@ -12,6 +12,6 @@ invariant_of-result c =
       totalled = λ few. let last : slice_index_or c.as_slice-2.result.now (length c.as_slice-2.result.now - 1) 0 ≡ sum weights = last_is_sum weights c.as_slice-2.result.now (c.as_slice-2.ensures ∙ are few) in omega (arith, c.total-total.ensures.value, last, few);
       summed = are;
       small = c.total-total.ensures.small;
-      shifted = c.shift_for-shift.ensures;
+      shifted = c.shift_for-shift.ensures.below;
       started = rw c.as_slice-3.ensures at c.in_ok-starts.ensures;
     }
