@@ -43,7 +43,17 @@ type Case = (
     &'static [u8],
 );
 
-const CASES: [Case; 17] = [
+/// The model uses a name that isn't declared, and the snapshot ends before it is whole.
+const UNKNOWN_CUT_OFF: &[u8] = b"model M; vertex A { set X := 1; } end snapshot seed 0 42 end";
+
+/// The same model, with a snapshot that no run of a model with a pending event leaves.
+const UNKNOWN_BAD: &[u8] =
+    b"model M; vertex A { set X := 1; } end snapshot seed 0 4294967296 clk 0 events 0 end";
+
+/// And a byte that begins no token, behind all else.
+const UNKNOWN_BYTE: &[u8] = b"model M; vertex A { set X := 1; } end snapshot seed 0 42 end $";
+
+const CASES: [Case; 20] = [
     (
         "save --until 12 --seed 42 --events 2",
         CLOCK,
@@ -121,6 +131,28 @@ const CASES: [Case; 17] = [
         Status::Refused,
         b"",
         b"sigma: byte 125: unexpected\n",
+    ),
+    // a byte that begins no token before the grammar of the whole, that before the static rules, and these before a bad snapshot
+    (
+        "resume --until 12 --events 9",
+        UNKNOWN_BYTE,
+        Status::Refused,
+        b"",
+        b"sigma: byte 61: bad byte\n",
+    ),
+    (
+        "resume --until 12 --events 9",
+        UNKNOWN_CUT_OFF,
+        Status::Refused,
+        b"",
+        b"sigma: byte 57: unexpected\n",
+    ),
+    (
+        "resume --until 12 --events 9",
+        UNKNOWN_BAD,
+        Status::Refused,
+        b"",
+        b"sigma: byte 24: unknown name\n",
     ),
     (
         "save --until 12 --seed 42 --events 2",
