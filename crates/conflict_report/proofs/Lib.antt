@@ -15,4 +15,5 @@ pub mod BitsOfSets
 pub mod NumbersNoted
 pub mod ListsTouched
 pub mod PrioritiesHeld
+pub mod OwnPriorities
 pub mod TablesNoted

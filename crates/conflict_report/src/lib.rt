@@ -15,7 +15,7 @@ mod touched;
 mod two_vertices;
 mod vertex_set;
 
-pub use law::events_without_conflict_commute;
+pub use law::{events_without_conflict_commute, pending_events_have_own_priorities};
 pub use model_core::{Pair, Reasons};
 pub use pairs::conflict_list;
 pub use text::conflict_text;
