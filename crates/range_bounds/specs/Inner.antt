@@ -1,2 +1,2 @@
 -- The code of this crate, restated for its proofs. Nobody has to believe these.
-pub mod AlikeConditions
+pub mod ComparedAlike

@@ -29,4 +29,4 @@ returns-then-may_take_any_condition c =
     let edges : map edge_of c.as_slice-edges.result.now ≡ (vertex_at g c.args.vertex).edges = ap (map edge_of) c.as_slice-edges.ensures ∙ ap (λ (v : EventVertex). v.edges) (sym there) in
     let pairs : each_pair (exclusive g) (urgent_conditions (map edge_of c.as_slice-edges.result.now)) ≡ true = ap (λ es. each_pair (exclusive g) (urgent_conditions es)) edges ∙ apart_at g g.vertices c.args.vertex single in
     sym (settled_single g c.args.vertex c.args.edge single
-    (ap (λ es. each_pair (exclusive g) (urgent_conditions (with_place unconditional c.args.edge es))) (sym edges) ∙ c.may_take_any_condition.ensures c.if-may_take_any_condition.true (Truth true) pairs))
+    (ap (λ es. each_pair (exclusive g) (urgent_conditions (with_place unconditional c.args.edge es))) (sym edges) ∙ c.may_take_any_condition.ensures.serves c.if-may_take_any_condition.true (Truth true) pairs))

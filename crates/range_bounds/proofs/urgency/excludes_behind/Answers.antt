@@ -3,7 +3,7 @@ use Rattle.std.proofs.Common.{◌∙◌, ◌&&◌, not, map, sym, ap}
 use Rattle.model_core.specs.Rules.Exclusive.{exclusive}
 use Rattle.model_core.specs.Rules.UrgentEdges.{each_pair, urgent_conditions}
 use Rattle.model_core.specs.Code.Views.{graph_of, edge_of}
-use Rattle.range_bounds.proofs.AlikeConditions.{behind_none}
+use Rattle.range_bounds.proofs.ToldByNumbers.{behind_none}
 use Rattle.range_bounds.proofs.urgency.excludes_behind.Goals as goal
 
 pub returns-then-not-is_live : goal.returns-then-not-is_live

@@ -1,7 +1,15 @@
 -- Urgent edges whose conditions are refuted exclude all others, and those that compare the same with numbers are told apart by
 -- these.
-use Rattle.std.proofs.Common.{◌≡◌, ℤ, Bool, true, false, not, ◌&&◌, ◌||◌, cond, List, [], ◌∷◌, ◌++◌, ℕ, zero, suc, map, filter, take, drop, get_or, Some, None, option_map, refl, sym, ◌∙◌, ap, ap₂}
-use Rattle.std.specs.List.{list_all, list_any}
+use Rattle.std.proofs.Common.{◌≡◌, ℤ, Bool, true, false, not, ◌&&◌, ◌||◌, cond, List, [], ◌∷◌, ◌++◌, ℕ, zero, suc, map, filter, take, drop, slice_get, length, ◌+◌, ◌≤◌, Option, Some, None, option_map, arith, refl, sym, ◌∙◌, ap, ap₂}
+use Rattle.std.specs.List.{list_all, list_any, remove}
+use Rattle.std.specs.Option.{option_map_or, option_and_then}
+use Rattle.std.proofs.lemmas.List.{take-map, drop-map}
+use Rattle.std.proofs.lemmas.Bool.{le-leb}
+use Rattle.sig_base.specs.declared.limits.TheConstants.{EDGES_MAX}
+use Rattle.model_core.specs.declared.vertex.Edge.{Edge}
+use Rattle.model_core.specs.Code.Views.{edge_of}
+use Rattle.model_core.specs.Rules.BoundsTable.{fits}
+use Rattle.std.proofs.lemmas.List.Folds.{list_any-append}
 use Rattle.model_core.specs.Rules.PlacedEdges.{with_place}
 use Rattle.model_core.specs.EventGraph.{EventGraph, EventEdge, Operator, Expression, Number, Truth, Clock, Scalar, Cell, Negative, Not, Binary, If}
 use Rattle.model_core.specs.Rules.BoundsOf.{bounds_of, refuted}
@@ -9,7 +17,8 @@ use Rattle.model_core.specs.Rules.Exclusive.{same_expression, is_comparison, lit
 use Rattle.model_core.specs.Rules.UrgentEdges.{is_urgent, each_pair, urgent_conditions}
 use Rattle.model_core.proofs.SameExpressions.{same_itself, same_told}
 use Rattle.range_bounds.specs.declared.alike.Compared.{Compared}
-use Rattle.range_bounds.specs.Inner.AlikeConditions.{is_live, live_conditions, compared, apart, AreCompared}
+use Rattle.range_bounds.specs.LiveEdges.{is_live, may_take_any_condition}
+use Rattle.range_bounds.specs.Inner.ComparedAlike.{live_conditions, comparison_with, compares_this, all_compare_this, never_both, AreCompared}
 
 -- ---- conditions that are refuted
 
@@ -67,19 +76,19 @@ module _ (g : EventGraph) where
   no_negation (Binary op x y) b c is = refl
   no_negation (If t x y) b c is = refl
 
-  told_apart : (left : Expression) (a b : Expression) (x y : Compared) → never a ≡ false → never b ≡ false → comparison_of a ≡ Some (compared left x) → comparison_of b ≡ Some (compared left y) → exclusive g a b ≡ apart x y
+  told_apart : (left : Expression) (a b : Expression) (x y : Compared) → never a ≡ false → never b ≡ false → comparison_of a ≡ Some (comparison_with left x) → comparison_of b ≡ Some (comparison_with left y) → exclusive g a b ≡ never_both x y
   told_apart left a b x y a_lives b_lives is_x is_y =
-      ap₂ (λ p q. (p || q) || (never a || never b) || compare_apart (comparison_of a) (comparison_of b)) (no_negation a b (compared left x) is_x) (no_negation b a (compared left y) is_y)
+      ap₂ (λ p q. (p || q) || (never a || never b) || compare_apart (comparison_of a) (comparison_of b)) (no_negation a b (comparison_with left x) is_x) (no_negation b a (comparison_with left y) is_y)
       ∙ ap₂ (λ p q. (p || q) || compare_apart (comparison_of a) (comparison_of b)) a_lives b_lives
       ∙ ap₂ compare_apart is_x is_y
-      ∙ ap (λ same. same && not (some_meets_both (compared left x) (compared left y))) (same_itself left)
+      ∙ ap (λ same. same && not (some_meets_both (comparison_with left x) (comparison_with left y))) (same_itself left)
 
   -- these conditions live
   abbrev Live : List Expression → Type 0
   Live cs = map never cs ≡ map (λ c. false) cs
 
   abbrev Alike : Expression → List Expression → List Compared → Type 0
-  Alike left cs all = map comparison_of cs ≡ map (λ (c : Compared). Some (compared left c)) all
+  Alike left cs all = map comparison_of cs ≡ map (λ (c : Compared). Some (comparison_with left c)) all
 
   first_of : {A : Type 0} {x y : A} {xs ys : List A} → (x ∷ xs) ≡ (y ∷ ys) → x ≡ y
   first_of e = cc
@@ -87,13 +96,13 @@ module _ (g : EventGraph) where
   rest_of : {A : Type 0} {x y : A} {xs ys : List A} → (x ∷ xs) ≡ (y ∷ ys) → xs ≡ ys
   rest_of e = cc
 
-  all_told : (left a : Expression) (x : Compared) → never a ≡ false → comparison_of a ≡ Some (compared left x) → (cs : List Expression) (all : List Compared) → Live cs → Alike left cs all → list_all (exclusive g a) cs ≡ list_all (apart x) all
+  all_told : (left a : Expression) (x : Compared) → never a ≡ false → comparison_of a ≡ Some (comparison_with left x) → (cs : List Expression) (all : List Compared) → Live cs → Alike left cs all → list_all (exclusive g a) cs ≡ list_all (never_both x) all
   all_told left a x lives is [] [] live alike = refl
   all_told left a x lives is [] (y ∷ all) live alike = cc
   all_told left a x lives is (c ∷ cs) [] live alike = cc
   all_told left a x lives is (c ∷ cs) (y ∷ all) live alike = ap₂ (λ p q. p && q) (told_apart left a c x y lives (first_of live) is (first_of alike)) (all_told left a x lives is cs all (rest_of live) (rest_of alike))
 
-  pairs_told : (left : Expression) (cs : List Expression) (all : List Compared) → Live cs → Alike left cs all → each_pair (exclusive g) cs ≡ each_pair apart all
+  pairs_told : (left : Expression) (cs : List Expression) (all : List Compared) → Live cs → Alike left cs all → each_pair (exclusive g) cs ≡ each_pair never_both all
   pairs_told left [] [] live alike = refl
   pairs_told left [] (y ∷ all) live alike = cc
   pairs_told left (c ∷ cs) [] live alike = cc
@@ -108,16 +117,16 @@ module _ (g : EventGraph) where
     by true true is rest = rest
 
   -- where all live edges compare one and the same with numbers, these tell whether any two exclude each other
-  pub alike_told : (left : Expression) (es : List EventEdge) (all : List Compared) → AreCompared g left es all → each_pair apart all ≡ each_pair (exclusive g) (urgent_conditions es)
+  pub alike_told : (left : Expression) (es : List EventEdge) (all : List Compared) → AreCompared g left es all → each_pair never_both all ≡ each_pair (exclusive g) (urgent_conditions es)
   alike_told left es all alike = sym (pairs_told left (live_conditions g es) all (lives es) alike) ∙ sym (pairs_live es)
 
   -- one more edge
-  pub one_more : (left : Expression) (e : EventEdge) (es : List EventEdge) (x : Compared) (all : List Compared) → is_live g e ≡ true → comparison_of e.condition ≡ Some (compared left x)
-      → map (λ (c : Compared). Some (compared left c)) (all ++ x ∷ []) ++ map comparison_of (live_conditions g es) ≡ map (λ (c : Compared). Some (compared left c)) all ++ map comparison_of (live_conditions g (e ∷ es))
+  pub one_more : (left : Expression) (e : EventEdge) (es : List EventEdge) (x : Compared) (all : List Compared) → is_live g e ≡ true → comparison_of e.condition ≡ Some (comparison_with left x)
+      → map (λ (c : Compared). Some (comparison_with left c)) (all ++ x ∷ []) ++ map comparison_of (live_conditions g es) ≡ map (λ (c : Compared). Some (comparison_with left c)) all ++ map comparison_of (live_conditions g (e ∷ es))
   one_more left e es x [] live is =
       ap (λ c. c ∷ map comparison_of (live_conditions g es)) (sym is)
       ∙ sym (ap (λ (b : Bool). map comparison_of (map (λ (e : EventEdge). e.condition) (cond b (e ∷ filter (is_live g) es) (filter (is_live g) es)))) live)
-  one_more left e es x (y ∷ all) live is = ap (λ cs. Some (compared left y) ∷ cs) (one_more left e es x all live is)
+  one_more left e es x (y ∷ all) live is = ap (λ cs. Some (comparison_with left y) ∷ cs) (one_more left e es x all live is)
 
   -- an edge that isn't live excludes all others
   pub behind_none : (e : EventEdge) (es : List EventEdge) → is_live g e ≡ false → each_pair (exclusive g) (urgent_conditions (e ∷ es)) ≡ each_pair (exclusive g) (urgent_conditions es)
@@ -134,12 +143,12 @@ module _ (g : EventGraph) where
   given c e = record e { condition = c }
 
   -- where it isn't urgent, the conditions of those that are stay as they are
-  pub calm_given : (c : Expression) (es : List EventEdge) (k : ℕ) (d : EventEdge) → is_urgent (get_or es k d) ≡ false → urgent_conditions (with_place (given c) k es) ≡ urgent_conditions es
-  calm_given c [] k d calm = refl
-  calm_given c (x ∷ es) zero d calm =
+  calm_given : (c : Expression) (es : List EventEdge) (k : ℕ) → option_map_or is_urgent (slice_get es k) false ≡ false → urgent_conditions (with_place (given c) k es) ≡ urgent_conditions es
+  calm_given c [] k calm = refl
+  calm_given c (x ∷ es) zero calm =
       ap (λ (b : Bool). map (λ (e : EventEdge). e.condition) (cond b (given c x ∷ filter is_urgent es) (filter is_urgent es))) calm
       ∙ sym (ap (λ (b : Bool). map (λ (e : EventEdge). e.condition) (cond b (x ∷ filter is_urgent es) (filter is_urgent es))) calm)
-  calm_given c (x ∷ es) (suc k) d calm = one (is_urgent x) (calm_given c es k d calm) where
+  calm_given c (x ∷ es) (suc k) calm = one (is_urgent x) (calm_given c es k calm) where
     one : (b : Bool) → urgent_conditions (with_place (given c) k es) ≡ urgent_conditions es
         → map (λ (e : EventEdge). e.condition) (cond b (x ∷ filter is_urgent (with_place (given c) k es)) (filter is_urgent (with_place (given c) k es))) ≡ map (λ (e : EventEdge). e.condition) (cond b (x ∷ filter is_urgent es) (filter is_urgent es))
     one true same = ap (λ cs. x.condition ∷ cs) same
@@ -156,7 +165,7 @@ module _ (g : EventGraph) where
       ap (λ (b : Bool). map (λ (e : EventEdge). e.condition) (cond b (e ∷ filter (is_live g) es) (filter (is_live g) es))) here ∙ none_live es later
 
   -- where no other one is live, it excludes them
-  pub aside_given : (c : Expression) (es : List EventEdge) (k : ℕ) → list_any (is_live g) (take k es) ≡ false → list_any (is_live g) (drop (suc k) es) ≡ false → each_pair (exclusive g) (urgent_conditions (with_place (given c) k es)) ≡ true
+  aside_given : (c : Expression) (es : List EventEdge) (k : ℕ) → list_any (is_live g) (take k es) ≡ false → list_any (is_live g) (drop (suc k) es) ≡ false → each_pair (exclusive g) (urgent_conditions (with_place (given c) k es)) ≡ true
   aside_given c [] k before behind = refl
   aside_given c (x ∷ es) zero before behind = by (is_urgent x) where
     pairs : each_pair (exclusive g) (urgent_conditions es) ≡ true
@@ -169,9 +178,42 @@ module _ (g : EventGraph) where
       let (here, later) = neither (is_live g x) (list_any (is_live g) (take k es)) before in
       behind_none x (with_place (given c) k es) here ∙ aside_given c es k later behind
 
+  -- the urgent edges still exclude each other, whatever condition that one gets
+  pub any_condition_serves : (es : List EventEdge) (k : ℕ) → may_take_any_condition g es k ≡ true → (c : Expression) → each_pair (exclusive g) (urgent_conditions es) ≡ true → each_pair (exclusive g) (urgent_conditions (with_place (given c) k es)) ≡ true
+  any_condition_serves es k may c pairs = by (option_map_or is_urgent (slice_get es k) false) (list_any (is_live g) (remove es k)) refl refl may where
+    by : (urgent live : Bool) → option_map_or is_urgent (slice_get es k) false ≡ urgent → list_any (is_live g) (remove es k) ≡ live → (not urgent || not live) ≡ true → each_pair (exclusive g) (urgent_conditions (with_place (given c) k es)) ≡ true
+    by false live is others may = ap (each_pair (exclusive g)) (calm_given c es k is) ∙ pairs
+    by true true is others may = cc
+    by true false is others may =
+        let (before, behind) = neither (list_any (is_live g) (take k es)) (list_any (is_live g) (drop (suc k) es)) (sym (list_any-append (is_live g) (take k es) (drop (suc k) es)) ∙ others) in
+        aside_given c es k before behind
+
 -- a comparison of the same with a number
 pub comparison_told : (op : Operator) (operand left number : Expression) (n : ℤ) → is_comparison op ≡ true → same_expression operand left ≡ true → literal_number number ≡ Some n → comparison_of (Binary op operand number) ≡ Some (record { left = left; operator = op; number = n })
 comparison_told op operand left number n compares same is =
     ap (λ b. cond b (option_map (λ n. record { left = operand; operator = op; number = n }) (literal_number number)) None) compares
     ∙ ap (option_map (λ n. record { left = operand; operator = op; number = n })) is
     ∙ ap (λ e. Some (record { left = e; operator = op; number = n })) (same_told operand left same)
+
+-- such a number is that of the literal
+pub short_told : (o : Option ℤ) (n : ℤ) → Some n ≡ option_and_then (λ n. cond (fits n) (Some n) None) o → (o ≡ Some n) × (fits n ≡ true)
+short_told None n e = cc
+short_told (Some m) n e = by (fits m) refl e where
+  by : (b : Bool) → fits m ≡ b → Some n ≡ cond b (Some m) None → (Some m ≡ Some n) × (fits n ≡ true)
+  by false is e = cc
+  by true is e = let same : n ≡ m = cc in (sym e, ap fits same ∙ is)
+
+-- where no edge is left, all that are live compare the expression, and there are no more than were counted
+pub all_compared : (left : Expression) (live rest : List Expression) (n : ℕ) → rest ≡ [] → list_all (compares_this left) rest ≡ list_all (compares_this left) live → n + length rest ≡ length live → n ≤ EDGES_MAX → true ≡ all_compare_this left live
+all_compared left live rest n none compared counted within =
+    let all : list_all (compares_this left) live ≡ true = sym compared ∙ ap (list_all (compares_this left)) none in
+    let empty : length rest ≡ 0 = ap length none in
+    let few : length live ≤ EDGES_MAX = omega (arith, empty, counted, within) in
+    sym (ap₂ (λ a b. a && b) all (le-leb (length live) EDGES_MAX few))
+
+-- the others are those before the place and those behind it
+pub another_told : (p : EventEdge → Bool) (es : List Edge) (k : ℕ) → list_any p (remove (map edge_of es) k) ≡ (list_any p (map edge_of (take k es)) || list_any p (map edge_of (drop (k + 1) es)))
+another_told p es k =
+    let next : suc k ≡ k + 1 = omega arith in
+    list_any-append p (take k (map edge_of es)) (drop (suc k) (map edge_of es))
+    ∙ ap₂ (λ a b. a || b) (ap (list_any p) (take-map edge_of k es)) (ap (list_any p) (ap (λ n. drop n (map edge_of es)) next ∙ drop-map edge_of (k + 1) es))
