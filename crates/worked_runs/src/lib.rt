@@ -173,6 +173,7 @@ pub use static_rules::names_are_short;
 pub use static_rules::numbers_are_within_limits;
 pub use static_rules::numbers_beyond_are_compared;
 pub use static_rules::operators_have_kinds;
+pub use static_rules::rules_have_rows;
 pub use static_rules::the_least_place_is_told;
 pub use static_rules::values_are_counted;
 pub use stream::stream_gives;

@@ -2,10 +2,11 @@
 //! The texts stand beside the models in `specs/WrittenModels.antt`.
 
 ghost use Rattle.std.specs.Prelude.{◌≡◌, Some, None, [], ◌∷◌, map, codes, replicate};
+ghost use Rattle.std.specs.List.{range_with_len};
 ghost use Rattle.model_core.specs.declared.model.Kind.TheVariants as kinds;
 ghost use Rattle.model_core.specs.declared.static_kind.StaticKind.TheVariants as rules;
 ghost use Rattle.model_core.specs.Text.Numbering.{numbered};
-ghost use Rattle.model_core.specs.Static.FaultOrder.{earliest_fault};
+ghost use Rattle.model_core.specs.Static.FaultOrder.{rule_row, earliest_fault};
 ghost use Rattle.model_core.specs.Static.Kinds.{operand_kind, result_kind};
 ghost use Rattle.model_core.specs.Static.RuleTable.{name_too_long, literal_too_large, stream_outside, draw_outside, too_many};
 ghost use Rattle.model_core.specs.Static.PartFaults.{size_faults, priority_faults};
@@ -134,6 +135,21 @@ pub fn numbers_beyond_are_compared()
     ensures uniform_told { told_fault texts.far_uniform ≡ Some (static_fault rules.DrawOutside 57) }
     ensures size { size_faults (huge 15) ≡ static_fault rules.LiteralTooLarge 15 ∷ static_fault rules.SizeOutside 15 ∷ [] }
     ensures size_told { earliest_fault None (size_faults (huge 15)) ≡ Some (static_fault rules.LiteralTooLarge 15) }
+{}
+
+/// Each rule has its row, and of two faults at one place the one of the earlier row is told, whichever is found first.
+// pairs that can meet at one place, in both orders: a number too large beside an empty range, and beside a weight; an item
+// beyond a limit that is unknown, that is declared twice, and that needs a version; a stream outside beside such a delay.
+pub fn rules_have_rows()
+    ensures rows { map rule_row (rules.NameTooLong ∷ rules.UnknownName ∷ rules.DuplicateName ∷ rules.WrongUse ∷ rules.KindMismatch ∷ rules.ValueCount ∷ rules.LiteralTooLarge ∷ rules.EmptyRange ∷ rules.InitialOutside ∷ rules.SizeOutside ∷ rules.PriorityOutside ∷ rules.StreamOutside ∷ rules.DrawOutside ∷ rules.WeightOutside ∷ rules.VersionUnknown ∷ rules.VersionNeeded ∷ rules.TooMany ∷ rules.ModelTooLong ∷ []) ≡ range_with_len 0 18 }
+    ensures pairs { map (λ (a, b). earliest_fault None (static_fault a 7 ∷ static_fault b 7 ∷ []))
+        ((rules.LiteralTooLarge, rules.EmptyRange) ∷ (rules.EmptyRange, rules.LiteralTooLarge) ∷ (rules.LiteralTooLarge, rules.WeightOutside) ∷ (rules.WeightOutside, rules.LiteralTooLarge)
+        ∷ (rules.TooMany, rules.UnknownName) ∷ (rules.UnknownName, rules.TooMany) ∷ (rules.TooMany, rules.DuplicateName) ∷ (rules.DuplicateName, rules.TooMany)
+        ∷ (rules.VersionNeeded, rules.TooMany) ∷ (rules.TooMany, rules.VersionNeeded) ∷ (rules.StreamOutside, rules.VersionNeeded) ∷ (rules.VersionNeeded, rules.StreamOutside) ∷ [])
+        ≡ map (λ k. Some (static_fault k 7))
+        (rules.LiteralTooLarge ∷ rules.LiteralTooLarge ∷ rules.LiteralTooLarge ∷ rules.LiteralTooLarge ∷ rules.UnknownName ∷ rules.UnknownName ∷ rules.DuplicateName ∷ rules.DuplicateName
+        ∷ rules.VersionNeeded ∷ rules.VersionNeeded ∷ rules.StreamOutside ∷ rules.StreamOutside ∷ []) }
+    ensures before_the_row_the_place { earliest_fault None (static_fault rules.NameTooLong 8 ∷ static_fault rules.ModelTooLong 7 ∷ []) ≡ Some (static_fault rules.ModelTooLong 7) }
 {}
 
 /// Of several faults the one with the least place is told.
