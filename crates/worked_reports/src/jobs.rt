@@ -3,8 +3,17 @@
 
 ghost use Rattle.std.specs.Prelude.{◌≡◌, pos, neg_ℤ, [], ◌∷◌, Some, None, codes};
 ghost use Rattle.command_words.specs.declared.job.Job.TheVariants as jobs;
+ghost use Rattle.command_words.specs.declared.run_options.TheConstants.{ROOM_MAX, ROOM_USUAL};
+ghost use Rattle.command_words.specs.declared.trial_options.TheConstants.{VERTICES_MADE_MAX};
 ghost use Rattle.command_words.specs.Jobs.{job_of};
 ghost use Rattle.worked_reports.specs.CommandLines.{asked, a_run};
+
+/// What a command line may ask for at most, and the room that it asks for where it says nothing of that.
+pub fn limits_of_jobs_have_these_numbers()
+    ensures room { ROOM_MAX ≡ 4_194_304 }
+    ensures usual_room { ROOM_USUAL ≡ 4_096 }
+    ensures vertices_made { VERTICES_MADE_MAX ≡ 500 }
+{}
 
 /// Nine commands have no option.
 pub fn plain_commands_are_jobs()

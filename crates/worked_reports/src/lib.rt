@@ -23,8 +23,9 @@ pub use arguments::{
 };
 pub use descriptions::models_are_described;
 pub use jobs::{
-    other_words_are_no_job, plain_commands_are_jobs, replications_are_asked_for,
-    resumed_runs_are_asked_for, runs_are_asked_for, saved_runs_are_asked_for, trials_are_asked_for,
+    limits_of_jobs_have_these_numbers, other_words_are_no_job, plain_commands_are_jobs,
+    replications_are_asked_for, resumed_runs_are_asked_for, runs_are_asked_for,
+    saved_runs_are_asked_for, trials_are_asked_for,
 };
 pub use made_models::{numbers_make_models, vertices_have_forms, words_make_vertices};
 pub use readings::{jobs_read_so, options_keep_limits, readings_have_limits};

@@ -1,6 +1,6 @@
 -- Models whose vertices touch the same things two by two, for the pairs that are in conflict.
-use Rattle.std.specs.Prelude.{ℕ, pos, List, [], ◌∷◌, map, codes}
-use Rattle.model_core.specs.EventGraph.{EventGraph, Fixed, Drawn, Uniform, Schedule, CancelNext, CancelEqual, CancelAll, EventEdge, EventVertex}
+use Rattle.std.specs.Prelude.{ℕ, pos, false, List, [], ◌∷◌, ◌++◌, map, codes}
+use Rattle.model_core.specs.EventGraph.{EventGraph, Truth, Binary, And, Fixed, Drawn, Uniform, Schedule, CancelNext, CancelEqual, CancelAll, EventEdge, EventVertex}
 use Rattle.worked_runs.specs.Building.{ranged, whole, set, draw, plain_edge, urgent, only_if, event, positive}
 
 -- a model of the variables with these letters, in which RUN has these edges, and then come these vertices
@@ -84,6 +84,23 @@ of_priorities =
 -- RUN sets A too
 abbrev pub run_sets : EventGraph → EventGraph
 run_sets g = record g { vertices = map (λ (v : EventVertex). record v { changes = set 0 (whole 1) ∷ [] }) g.vertices }
+
+-- ---- edges that are never taken
+
+abbrev pub never : EventEdge → EventEdge
+never e = only_if (Truth false) e
+
+-- RUN never schedules LATE, which then has its priority, 7, all the same; DREW comes after a drawn delay, with priority 8. CUT
+-- never cancels GOAL, and ASK never looks at A
+abbrev pub never_taken : EventGraph
+never_taken =
+    meeting (codes "ABC")
+    (each_at_5 (1 ∷ 2 ∷ 3 ∷ 4 ∷ []) ++ never (at_priority 7 5) ∷ at_priority 7 6 ∷ plain_edge (Schedule (Drawn 52 (Uniform (pos 1) (pos 6))) 8) 7 [] ∷ at_priority 8 8 ∷ [])
+    (event (codes "CUT") [] (never (cancel 2) ∷ []) ∷ event (codes "GOAL") [] [] ∷
+    event (codes "ASK") [] (only_if (Binary And (Truth false) (positive 0)) (urgent 9) ∷ []) ∷ sets (codes "SETA") 0 ∷
+    sets (codes "LATE") 1 ∷ sets (codes "OTHER") 1 ∷
+    sets (codes "DREW") 2 ∷ sets (codes "MATE") 2 ∷
+    sets (codes "NOW") 2 ∷ [])
 
 -- ---- reasons that hold together
 

@@ -3,7 +3,7 @@ use Rattle.std.specs.Prelude.{ℕ, ℤ, pos, neg_ℤ, Bool, true, false, List, [
 use Rattle.model_core.specs.declared.bounds.Bounds.{Bounds}
 use Rattle.model_core.specs.declared.incoming.Incoming.{Incoming}
 use Rattle.model_core.specs.declared.var_range.VarRange.{VarRange}
-use Rattle.model_core.specs.EventGraph.{EventGraph, Variable, Expression, Scalar, Clock, Truth, Binary, Operator, If, Divide, Equal, Above, Below, And, Or, Set, Draw, ByTable, Urgent, CancelNext, CancelEqual, CancelAll, EdgeKind, EventEdge}
+use Rattle.model_core.specs.EventGraph.{EventGraph, Variable, Expression, Scalar, Cell, Clock, Truth, Binary, Operator, If, Add, Divide, Equal, Above, Below, And, Or, Set, Draw, ByTable, Urgent, CancelNext, CancelEqual, CancelAll, EdgeKind, EventEdge}
 use Rattle.model_core.specs.Rules.BoundsTable.{number_bounds}
 use Rattle.model_core.specs.Rules.BoundsOf.{ranged_at}
 use Rattle.model_core.specs.Ranges.OtherRanges.{declared_range}
@@ -93,6 +93,10 @@ fed = record {
       [];
 }
 
+-- N and M alone, with their ranges
+abbrev pub n_and_m : List Variable
+n_and_m = bounded_by (codes "N") (pos 0) (pos 9) ∷ bounded_by (codes "M") (neg_ℤ (pos 5)) (pos 7) ∷ []
+
 -- the variable takes what lies between these
 abbrev pub takes_in : ℕ → ℤ → ℤ → Incoming
 takes_in v lo hi = record { variable = v; bounds = number_bounds lo hi true }
@@ -150,6 +154,18 @@ needing_all = record {
 -- nothing that it keeps
 abbrev pub ranges_of_all : ℤ → ℕ → ℕ → List VarRange
 ranges_of_all down up turn = span 0 50 ∷ span 0 1 ∷ span 0 1 ∷ span 4 7 ∷ span 0 turn ∷ span 2 3 ∷ range down (pos 0) ∷ span 0 up ∷ span 3 5 ∷ span 3 3 ∷ []
+
+-- ---- a cell that grows
+
+-- the first cell of an array in 0..50 grows by 1, and the second stays 0
+abbrev pub growing_cell : EventGraph
+growing_cell = record {
+  name = codes "CELLS";
+  variables = array 2 (beginning_as (codes "A") (pos 0) (pos 50) (pos 0)) ∷ [];
+  tables = [];
+  watch = [];
+  vertices = event (codes "RUN") (Set (at_cell 0 (whole 0) ∷ []) (Binary Add (Cell 0 (whole 0)) (whole 1) ∷ []) ∷ []) [] ∷ [];
+}
 
 -- ---- a model with a variable for each half of what ranges are checked for
 

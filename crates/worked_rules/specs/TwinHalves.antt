@@ -1,7 +1,7 @@
 -- Models with vertices that do the same, and others that differ from them in one thing.
-use Rattle.std.specs.Prelude.{ℕ, List, [], ◌∷◌, codes, replicate}
-use Rattle.model_core.specs.EventGraph.{EventGraph, Scalar, Fixed, Schedule, Urgent, EventEdge, EventVertex, Watched, WatchedVariable, WatchedVertex}
-use Rattle.worked_runs.specs.Building.{ranged, clipped, whole, set, plain_edge, event, takes, plus_one}
+use Rattle.std.specs.Prelude.{ℕ, pos, false, List, [], ◌∷◌, ◌++◌, map, take, drop, codes, replicate}
+use Rattle.model_core.specs.EventGraph.{EventGraph, Truth, Scalar, Uniform, ByTable, StateChange, Set, Draw, Fixed, Drawn, Schedule, Urgent, CancelNext, CancelEqual, CancelAll, EventEdge, EventVertex, Watched, WatchedVariable, WatchedVertex}
+use Rattle.worked_runs.specs.Building.{ranged, clipped, array, whole, at_variable, at_cell, set, draw, plain_edge, urgent, only_if, event, takes, plus_one, positive}
 
 -- after 1 tick, with these places
 abbrev pub to : ℕ → EventEdge
@@ -57,6 +57,77 @@ one_that_takes =
 -- the last vertex cancels those of one in this way
 abbrev pub cut_by_the_last : EventEdge → EventGraph
 cut_by_the_last cut = apart_twins last_and_mid (0 ∷ 1 ∷ []) (cut ∷ [])
+
+-- ---- two with each feature of the language, of which GONE has these changes and these edges
+
+-- a draw from a range, one from a table into a cell, and a `set` of a cell and a scalar
+abbrev pub rich_changes : List StateChange
+rich_changes =
+    draw 0 54 1 6 ∷
+    Draw (at_cell 2 (Scalar 0)) 53 (ByTable 0) ∷
+    Set (at_cell 2 (whole 1) ∷ at_variable 1 ∷ []) (plus_one 0 ∷ Scalar 1 ∷ []) ∷
+    []
+
+-- after a delay that is drawn so, where this variable is above 0, with this value
+abbrev pub drawn_to_last : ℕ → ℕ → ℕ → ℕ → ℕ → ℕ → EventEdge
+drawn_to_last stream lo hi priority v value = only_if (positive v) (plain_edge (Schedule (Drawn stream (Uniform (pos lo) (pos hi))) priority) 3 (whole value ∷ []))
+
+-- the events of LAST: the next, those that carry 2, and all; and at once, but never
+abbrev pub cuts_and_never : List EventEdge
+cuts_and_never = plain_edge CancelNext 3 [] ∷ plain_edge CancelEqual 3 (whole 2 ∷ []) ∷ plain_edge CancelAll 3 [] ∷ only_if (Truth false) (urgent 3) ∷ []
+
+abbrev pub rich_edges : List EventEdge
+rich_edges = drawn_to_last 52 1 6 3 0 7 ∷ cuts_and_never
+
+abbrev pub rich_twins : List StateChange → List EventEdge → EventGraph
+rich_twins changes edges = record {
+  name = codes "RICH";
+  variables = clipped (ranged (codes "N") 0 9 0) ∷ clipped (ranged (codes "M") 0 9 0) ∷ array 3 (clipped (ranged (codes "A") 0 9 0)) ∷ [];
+  tables = record { name = codes "T"; rows = record { value = pos 1; weight = 1 } ∷ [] } ∷ [];
+  watch = [];
+  vertices =
+      event (codes "RUN") [] (to 1 ∷ to 2 ∷ []) ∷
+      event (codes "KEEP") rich_changes rich_edges ∷
+      event (codes "GONE") changes edges ∷
+      takes (1 ∷ []) (event (codes "LAST") [] []) ∷
+      [];
+}
+
+-- RUN schedules KEEP twice, and LAST is the third vertex
+abbrev pub one_rich : EventGraph
+one_rich = record (rich_twins [] []) {
+  vertices =
+      event (codes "RUN") [] (to 1 ∷ to 1 ∷ []) ∷
+      event (codes "KEEP") rich_changes
+      (only_if (positive 0) (plain_edge (Schedule (Drawn 52 (Uniform (pos 1) (pos 6))) 3) 2 (whole 7 ∷ [])) ∷
+      plain_edge CancelNext 2 [] ∷ plain_edge CancelEqual 2 (whole 2 ∷ []) ∷ plain_edge CancelAll 2 [] ∷ only_if (Truth false) (urgent 2) ∷ []) ∷
+      takes (1 ∷ []) (event (codes "LAST") [] []) ∷
+      [];
+}
+
+-- the changes of which one is another one
+abbrev pub changes_apart_by_one : List (List StateChange)
+changes_apart_by_one =
+    map (λ change. change ∷ drop 1 rich_changes) (draw 0 53 1 6 ∷ draw 0 54 0 6 ∷ draw 0 54 1 5 ∷ draw 1 54 1 6 ∷ [])
+    ++ map (λ change. draw 0 54 1 6 ∷ change ∷ drop 2 rich_changes)
+    (Draw (at_cell 2 (Scalar 1)) 53 (ByTable 0) ∷ Draw (at_variable 2) 53 (ByTable 0) ∷ Draw (at_cell 2 (Scalar 0)) 52 (ByTable 0) ∷ Draw (at_cell 2 (Scalar 0)) 53 (ByTable 1) ∷ Draw (at_cell 2 (Scalar 0)) 53 (Uniform (pos 0) (pos 0)) ∷ [])
+    ++ map (λ change. take 2 rich_changes ++ change ∷ [])
+    (Set (at_cell 2 (whole 2) ∷ at_variable 1 ∷ []) (plus_one 0 ∷ Scalar 1 ∷ []) ∷
+    Set (at_cell 2 (whole 1) ∷ at_variable 0 ∷ []) (plus_one 0 ∷ Scalar 1 ∷ []) ∷
+    Set (at_cell 2 (whole 1) ∷ []) (plus_one 0 ∷ []) ∷
+    Set (at_cell 2 (whole 1) ∷ at_variable 1 ∷ []) (plus_one 1 ∷ Scalar 1 ∷ []) ∷
+    Set (at_cell 2 (whole 1) ∷ at_variable 1 ∷ []) (plus_one 0 ∷ Scalar 0 ∷ []) ∷ [])
+
+-- the edges of which one is another one
+abbrev pub edges_apart_by_one : List (List EventEdge)
+edges_apart_by_one =
+    map (λ edge. edge ∷ cuts_and_never)
+    (drawn_to_last 51 1 6 3 0 7 ∷ drawn_to_last 52 0 6 3 0 7 ∷ drawn_to_last 52 1 5 3 0 7 ∷ drawn_to_last 52 1 6 4 0 7 ∷ drawn_to_last 52 1 6 3 1 7 ∷ drawn_to_last 52 1 6 3 0 8 ∷
+    only_if (positive 0) (plain_edge (Schedule (Fixed (whole 1)) 3) 3 (whole 7 ∷ [])) ∷ only_if (positive 0) (plain_edge (Schedule (Drawn 52 (ByTable 0)) 3) 3 (whole 7 ∷ [])) ∷ [])
+    ++ map (λ edge. drawn_to_last 52 1 6 3 0 7 ∷ edge ∷ drop 1 cuts_and_never) (plain_edge CancelAll 3 [] ∷ plain_edge CancelEqual 3 [] ∷ plain_edge Urgent 3 [] ∷ plain_edge CancelNext 0 [] ∷ [])
+    ++ map (λ edge. take 2 rich_edges ++ edge ∷ drop 2 cuts_and_never) (plain_edge CancelNext 3 (whole 2 ∷ []) ∷ plain_edge CancelEqual 3 (whole 3 ∷ []) ∷ plain_edge CancelEqual 3 [] ∷ [])
+    ++ map (λ edge. take 3 rich_edges ++ edge ∷ drop 3 cuts_and_never) (plain_edge CancelNext 3 [] ∷ [])
+    ++ map (λ edge. take 4 rich_edges ++ edge ∷ []) (urgent 3 ∷ only_if (Truth false) (urgent 0) ∷ only_if (Truth false) (to 3) ∷ [])
 
 -- ---- four that count N or M, two by two
 

@@ -2,7 +2,7 @@
 #![tactic(auto, unfolding(model_core::specs::Rules::BoundsTable::exact_bounds))]
 
 ghost use Rattle.std.specs.Prelude.{◌≡◌, ◌∷◌, [], pos, neg_ℤ, true, false, map, Some, None, is_some};
-ghost use Rattle.model_core.specs.EventGraph.{Truth, Negative, Not, Binary, Divide, Equal, Below, AtMost, Above, AtLeast, CancelNext, CancelEqual, CancelAll};
+ghost use Rattle.model_core.specs.EventGraph.{Truth, Clock, Cell, Negative, Not, Binary, Divide, Equal, Below, AtMost, Above, AtLeast, CancelNext, CancelEqual, CancelAll};
 ghost use Rattle.model_core.specs.Rules.Exclusive.{exclusive, comparison_of, literal_number};
 ghost use Rattle.model_core.specs.Rules.UrgentEdges.{plain_urgent, plain_urgent_edge, single_urgent};
 ghost use Rattle.worked_runs.specs.Building.{whole, minus, schedule, urgent, only_if, event, plain_edge, positive};
@@ -13,7 +13,8 @@ ghost use Rattle.worked_rules.specs.UrgentModels.{compared_with, when_y_is, foll
 /// Each comparison of Y with a number beside each with the same number, the next and the one before: `=`, `<>`, `<`, `<=`,
 /// `>` and `>=`.
 // `<>` with 2 beside `>` with 1 is met by 3 alone, which stands behind the number of the first; beside `<` the number before
-// it is; and so the other way round. A number itself is what `=` and a far `<=` meet.
+// it is; and so the other way round. A number itself is what `=` and a far `<=` meet. A cell and the clock are compared as a
+// variable is: with itself, and not with a cell at another index or of another array. X, which is 0 to 3, is never 5.
 pub fn comparisons_exclude_one_another()
     ensures with_the_same { compared_with 1 1
         ≡ (false ∷ true ∷ true ∷ false ∷ true ∷ false ∷ [])
@@ -39,6 +40,10 @@ pub fn comparisons_exclude_one_another()
         ∷ (true ∷ false ∷ true ∷ true ∷ false ∷ false ∷ [])
         ∷ (true ∷ false ∷ true ∷ true ∷ false ∷ false ∷ [])
         ∷ [] }
+    ensures of_one_cell { map (λ q. exclusive bounded (Binary Equal (Cell 4 x) (whole 1)) (Binary Equal q (whole 2))) (Cell 4 x ∷ Cell 4 (whole 0) ∷ Cell 3 x ∷ x ∷ [])
+        ≡ true ∷ false ∷ false ∷ false ∷ [] }
+    ensures of_the_clock { map (λ q. exclusive bounded (Binary Below Clock (whole 5)) (Binary AtLeast q (whole 5))) (Clock ∷ x ∷ y ∷ []) ≡ true ∷ true ∷ false ∷ [] }
+    ensures of_the_clock_and_one_more { exclusive bounded (Binary AtMost Clock (whole 5)) (Binary AtLeast Clock (whole 5)) ≡ false }
     ensures far { exclusive bounded (Binary Equal y (whole 1)) (Binary AtMost y (whole 5)) ≡ false }
     ensures far_turned { exclusive bounded (Binary AtMost y (whole 5)) (Binary Equal y (whole 1)) ≡ false }
     ensures of_another { exclusive bounded (Binary Equal x (whole 1)) (Binary Equal y (whole 2)) ≡ false }

@@ -6,8 +6,10 @@ ghost use Rattle.model_core.specs.EventGraph.{Truth, Clock, Scalar, Cell, Not, B
 ghost use Rattle.model_core.specs.Rules.BoundsOf.{bounds_of};
 ghost use Rattle.model_core.specs.Rules.BoundsTable.{number_bounds, truth_bounds};
 ghost use Rattle.model_core.specs.Ranges.BoundsIn.{bounds_in};
+ghost use Rattle.model_core.specs.Ranges.Refined.{refined};
 ghost use Rattle.model_core.specs.Ranges.OtherRanges.{with_ranges, range_at};
-ghost use Rattle.worked_runs.specs.Building.{whole, minus};
+ghost use Rattle.worked_runs.specs.Building.{clipped, array, whole, minus};
+ghost use Rattle.worked_runs.specs.BoundedModel.{bounded_by};
 ghost use Rattle.worked_runs.specs.NarrowModel.{range};
 ghost use Rattle.worked_rules.specs.RangedModels.{span, comparison, five_kinds, declared_ones, left_where, left_at, guarded, ten_over_x, equals_one, above_zero, equals_zero};
 
@@ -33,6 +35,27 @@ pub fn comparisons_leave_ranges()
         ≡ span 4 4 ∷ span 4 4 ∷ span 4 4 ∷ span 4 4 ∷ span 4 4 ∷ span 4 4 ∷ [] }
     ensures negative_literals { map (λ op. left_at 1 true (comparison op 1 (minus 3))) (Below ∷ AtMost ∷ Above ∷ AtLeast ∷ Equal ∷ [])
         ≡ range (neg_ℤ (pos 5)) (neg_ℤ (pos 4)) ∷ range (neg_ℤ (pos 5)) (neg_ℤ (pos 3)) ∷ range (neg_ℤ (pos 2)) (pos 7) ∷ range (neg_ℤ (pos 3)) (pos 7) ∷ range (neg_ℤ (pos 3)) (neg_ℤ (pos 3)) ∷ [] }
+{}
+
+/// A comparison takes up what the one on its left leaves, at both ends.
+// 5 alone; 5 and above; 5 and below; last, numbers at the ends of 64 bits.
+pub fn comparisons_take_up_what_is_left()
+    ensures of_one { map (λ op. left_at 0 true (Binary And (comparison Equal 0 (whole 5)) (comparison op 0 (whole 5)))) (Below ∷ AtMost ∷ Above ∷ AtLeast ∷ Equal ∷ NotEqual ∷ [])
+        ≡ span 5 5 ∷ span 5 5 ∷ span 5 5 ∷ span 5 5 ∷ span 5 5 ∷ span 5 5 ∷ [] }
+    ensures from_five { map (λ op. left_at 0 true (Binary And (comparison AtLeast 0 (whole 5)) (comparison op 0 (whole 5)))) (Below ∷ AtMost ∷ Above ∷ AtLeast ∷ Equal ∷ NotEqual ∷ [])
+        ≡ span 5 9 ∷ span 5 5 ∷ span 6 9 ∷ span 5 9 ∷ span 5 5 ∷ span 6 9 ∷ [] }
+    ensures up_to_five { map (λ op. left_at 0 true (Binary And (comparison AtMost 0 (whole 5)) (comparison op 0 (whole 5)))) (Below ∷ AtMost ∷ Above ∷ AtLeast ∷ Equal ∷ NotEqual ∷ [])
+        ≡ span 0 4 ∷ span 0 5 ∷ span 0 5 ∷ span 5 5 ∷ span 5 5 ∷ span 0 4 ∷ [] }
+    ensures with_the_greatest { map (λ op. left_at 0 true (comparison op 0 (whole 9223372036854775807))) (Below ∷ AtMost ∷ Above ∷ AtLeast ∷ Equal ∷ NotEqual ∷ [])
+        ≡ span 0 9 ∷ span 0 9 ∷ span 0 9 ∷ span 0 9 ∷ span 0 9 ∷ span 0 9 ∷ [] }
+    ensures with_the_least { map (λ op. left_at 0 true (comparison op 0 (minus 9223372036854775807))) (Below ∷ AtMost ∷ Above ∷ AtLeast ∷ Equal ∷ NotEqual ∷ [])
+        ≡ span 0 9 ∷ span 0 9 ∷ span 0 9 ∷ span 0 9 ∷ span 0 9 ∷ span 0 9 ∷ [] }
+{}
+
+/// A variable that clips is told of as any other, and goes on to clip; an array isn't.
+pub fn clipped_variables_are_told_of()
+    ensures scalar { refined (comparison Below 0 (whole 5)) true (clipped (bounded_by [] (pos 0) (pos 9)) ∷ []) ≡ clipped (bounded_by [] (pos 0) (pos 4)) ∷ [] }
+    ensures array { refined (comparison Below 0 (whole 5)) true (array 3 (clipped (bounded_by [] (pos 0) (pos 9))) ∷ []) ≡ array 3 (clipped (bounded_by [] (pos 0) (pos 9))) ∷ [] }
 {}
 
 /// The variable on the left alone takes what a comparison tells, and only a scalar of numbers, where the right side is a

@@ -31,12 +31,13 @@ pub use edge_halves::{
     vertices_are_reached_as_far_as_edges_go,
 };
 pub use guards::{
-    comparisons_leave_ranges, conditions_are_told_together, other_conditions_leave_all,
-    other_ranges_are_taken, parts_are_bounded_under_guards,
+    clipped_variables_are_told_of, comparisons_leave_ranges, comparisons_take_up_what_is_left,
+    conditions_are_told_together, other_conditions_leave_all, other_ranges_are_taken,
+    parts_are_bounded_under_guards,
 };
 pub use meeting_vertices::{
-    reasons_are_told_together, some_cancel_the_other, some_draw_from_a_stream, some_meet,
-    some_touch_a_variable,
+    edges_that_are_never_taken_count, reasons_are_told_together, some_cancel_the_other,
+    some_draw_from_a_stream, some_meet, some_touch_a_variable,
 };
 pub use merge_halves::{
     each_half_of_meeting_at_once_fails_alone, each_other_edge_reads_nothing_written,
@@ -47,7 +48,9 @@ pub use need_halves::{
     faults_are_needed_one_by_one, needed_ones_are_made_of_needed_ones, parts_are_sliced,
     slices_list_all, some_are_needed_at_once, streams_are_needed_one_by_one,
 };
-pub use needed_rounds::{ranges_are_found, ranges_grow, rounds_end, some_ranges_stay};
+pub use needed_rounds::{
+    cells_grow_in_rounds, ranges_are_found, ranges_grow, rounds_end, some_ranges_stay,
+};
 pub use performing::{
     entries_are_counted, events_have_places, faults_are_of_both, orders_may_differ,
 };
@@ -57,11 +60,14 @@ pub use rows_of_bounds::{
     parts_of_changes_are_quiet, parts_of_edges_are_quiet, quiet_conditions_are_decided,
     truths_are_put_together,
 };
-pub use taken_values::{values_are_taken_side_by_side, variables_keep_some, variables_take_values};
+pub use taken_values::{
+    values_are_carried_in_time, values_are_taken_side_by_side, variables_keep_some,
+    variables_take_values,
+};
 pub use twin_parts::{graphs_are_equal_in_all_parts, parts_are_equal_to_themselves};
 pub use twins::{
     each_half_of_fuse_fails_alone, fused_models_have_texts, fusing_goes_on, lists_are_the_same,
-    the_first_pair_is_taken, two_become_one,
+    rich_vertices_are_fused_where_they_are_equal, the_first_pair_is_taken, two_become_one,
 };
 pub use using::{
     numbers_are_moved, numbers_have_room, streams_are_drawn_from, variables_are_used_in_each_way,

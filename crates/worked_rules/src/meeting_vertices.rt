@@ -3,8 +3,9 @@
 ghost use Rattle.std.specs.Prelude.{◌≡◌, ◌++◌, ◌∷◌, [], true, false, codes};
 ghost use Rattle.model_core.specs.Conflicts.Priorities.{priorities_of};
 ghost use Rattle.model_core.specs.Conflicts.Conflict.{reasons_of};
+ghost use Rattle.use_analysis.specs.UsesText.{uses_text};
 ghost use Rattle.conflict_report.specs.ConflictText.{conflict_text};
-ghost use Rattle.worked_rules.specs.MeetingModels.{over_variables_alone, over_streams_alone, over_cancels_alone, of_priorities, run_sets, reasons_together};
+ghost use Rattle.worked_rules.specs.MeetingModels.{over_variables_alone, over_streams_alone, over_cancels_alone, of_priorities, run_sets, never_taken, reasons_together};
 
 /// One of the two sets what the other reads (the first, the second), or both set it. Two that read it are in no conflict.
 // SETA ASKA: the first writes what the second reads; ASKB SETB: the second what the first reads; SETC PUTC: both write it;
@@ -81,6 +82,31 @@ pub fn some_meet()
     ensures apart { reasons_of of_priorities 8 9 ≡ record { meet = false; variables = true; streams = false; cancels = true } }
     ensures apart_alone { reasons_of of_priorities 0 8 ≡ record { meet = false; variables = false; streams = false; cancels = false } }
     ensures met_alone { reasons_of of_priorities 0 0 ≡ record { meet = true; variables = false; streams = false; cancels = false } }
+{}
+
+/// An edge that is never taken counts all the same: it gives its priority, cancels, and reads. And a drawn delay gives the
+/// priority of its edge.
+// LATE, NOW: 7, and 0, by an edge that is never taken alone; CUT GOAL, CUT CUT and RUN CUT: by one that never cancels; ASK
+// SETA: by what a condition reads that is never true; DREW MATE: 8, after a drawn delay.
+pub fn edges_that_are_never_taken_count()
+    ensures conflicts { conflict_text never_taken
+        ≡ codes "RUN RUN streams\n"
+        ++ codes "RUN CUT cancels\n"
+        ++ codes "CUT CUT cancels\n"
+        ++ codes "CUT GOAL cancels\n"
+        ++ codes "ASK SETA variables\n"
+        ++ codes "SETA SETA variables\n"
+        ++ codes "LATE LATE variables\n"
+        ++ codes "LATE OTHER variables\n"
+        ++ codes "OTHER OTHER variables\n"
+        ++ codes "DREW DREW variables\n"
+        ++ codes "DREW MATE variables\n"
+        ++ codes "MATE MATE variables\n"
+        ++ codes "NOW NOW variables\n" }
+    ensures uses { uses_text never_taken
+        ≡ codes "A readers ASK writers SETA watched no\n"
+        ++ codes "B readers - writers LATE,OTHER watched no\n"
+        ++ codes "C readers - writers DREW,MATE,NOW watched no\n" }
 {}
 
 /// All reasons that hold are told, in their order, with commas.

@@ -1,11 +1,11 @@
 //! Merge, half by half: each part of a condition fails alone, and the result has each part in its place.
 #![tactic(auto, unfolding(model_core::specs::Rules::BoundsTable::exact_bounds))]
 
-ghost use Rattle.std.specs.Prelude.{◌≡◌, ◌∷◌, [], map, Some, None};
-ghost use Rattle.model_core.specs.EventGraph.{WatchedVariable, WatchedVertex, Scalar, CancelNext, CancelEqual, CancelAll};
+ghost use Rattle.std.specs.Prelude.{◌≡◌, ◌∷◌, [], pos, map, Some, None, codes};
+ghost use Rattle.model_core.specs.EventGraph.{WatchedVariable, WatchedVertex, Scalar, Uniform, Drawn, Schedule, CancelNext, CancelEqual, CancelAll};
 ghost use Rattle.model_core.specs.Rules.Conditions.{first_failed};
 ghost use Rattle.model_core.specs.Rules.Merge.{merge_conditions, merged, first_merge};
-ghost use Rattle.worked_runs.specs.Building.{whole, set, schedule, urgent, only_if, positive, event, plain_edge, one_over_zero};
+ghost use Rattle.worked_runs.specs.Building.{whole, set, draw, schedule, urgent, only_if, positive, event, plain_edge, one_over_zero};
 ghost use Rattle.worked_runs.specs.MergingModels.{giving};
 ghost use Rattle.worked_rules.specs.UrgentModels.{followed, first_event, both_events, in_four, run_then, sets_z, with_many_edges};
 
@@ -36,13 +36,18 @@ pub fn each_half_of_meeting_at_once_fails_alone()
 
 /// The sixth condition is about the other edges of the first, each of them, and what the second writes.
 // a value, a condition and a delay read what a change writes; the second of two does; what the plain edge carries may; an
-// edge of the second may; an edge may fault as the second of two; what is given may where nothing is watched.
+// edge of the second may; an edge may fault as the second of two; a drawn delay is refused, also of one number, and beside one
+// of the second, which may have one; draws of both may be; what is given may fault where nothing is watched.
 pub fn each_other_edge_reads_nothing_written()
     ensures value { first_failed (merge_conditions (run_then [] (record (schedule 2 (whole 1)) { values = Scalar 1 ∷ [] } ∷ []) sets_z) 0 1) ≡ Some 6 }
     ensures condition { first_failed (merge_conditions (run_then [] (only_if (positive 1) (schedule 2 (whole 1)) ∷ []) sets_z) 0 1) ≡ Some 6 }
     ensures condition_of_another { first_failed (merge_conditions (run_then [] (only_if (positive 0) (schedule 2 (whole 1)) ∷ []) sets_z) 0 1) ≡ None }
     ensures second_delay { first_failed (merge_conditions (run_then [] (schedule 2 (Scalar 0) ∷ schedule 2 (Scalar 1) ∷ []) sets_z) 0 1) ≡ Some 6 }
     ensures second_fault { first_failed (merge_conditions (run_then [] (schedule 2 (Scalar 0) ∷ schedule 2 one_over_zero ∷ []) sets_z) 0 1) ≡ Some 6 }
+    ensures drawn_delay { map (λ choice. first_failed (merge_conditions (run_then [] (schedule 2 (whole 1) ∷ plain_edge (Schedule (Drawn 54 choice) 5) 2 [] ∷ []) sets_z) 0 1)) (Uniform (pos 1) (pos 6) ∷ Uniform (pos 3) (pos 3) ∷ []) ≡ Some 6 ∷ Some 6 ∷ [] }
+    ensures drawn_delay_of_the_second { first_failed (merge_conditions (run_then [] [] (event [] (set 1 (whole 1) ∷ []) (plain_edge (Schedule (Drawn 54 (Uniform (pos 1) (pos 6))) 5) 2 [] ∷ []))) 0 1) ≡ None }
+    ensures drawn_delays_of_both { first_failed (merge_conditions (run_then [] (plain_edge (Schedule (Drawn 53 (Uniform (pos 1) (pos 6))) 5) 2 [] ∷ []) (event [] [] (plain_edge (Schedule (Drawn 54 (Uniform (pos 1) (pos 6))) 5) 2 [] ∷ []))) 0 1) ≡ Some 6 }
+    ensures draws_of_both { first_failed (merge_conditions (followed [] (event (codes "RUN") (draw 0 54 1 6 ∷ []) (urgent 1 ∷ []) ∷ event (codes "NEXT") (draw 1 54 1 6 ∷ []) [] ∷ [])) 0 1) ≡ None }
     ensures given { first_failed (merge_conditions (giving (Scalar 0) [] []) 0 1) ≡ None }
     ensures given_a_fault { first_failed (merge_conditions (giving one_over_zero [] []) 0 1) ≡ None }
     ensures of_the_second { first_failed (merge_conditions (run_then [] [] (event [] (set 1 (whole 1) ∷ []) (schedule 2 (Scalar 1) ∷ []))) 0 1) ≡ None }

@@ -2,11 +2,11 @@
 #![tactic(auto, unfolding(model_core::specs::Rules::BoundsTable::exact_bounds))]
 
 ghost use Rattle.std.specs.Prelude.{◌≡◌, ◌∷◌, [], true, false, map, pos, Some, None};
-ghost use Rattle.model_core.specs.EventGraph.{Scalar, Set, Draw, Uniform, Urgent, CancelNext, CancelEqual, CancelAll, Fixed, Drawn, Schedule, WatchedVariable, WatchedVertex};
+ghost use Rattle.model_core.specs.EventGraph.{Truth, Scalar, Set, Draw, Uniform, Urgent, CancelNext, CancelEqual, CancelAll, Fixed, Drawn, Schedule, WatchedVariable, WatchedVertex};
 ghost use Rattle.model_core.specs.Rules.Conditions.{first_failed};
 ghost use Rattle.model_core.specs.Rules.Needed.{unneeded};
-ghost use Rattle.model_core.specs.Rules.Slice.{slice_conditions, change_left, sliced};
-ghost use Rattle.worked_runs.specs.Building.{whole, at_variable, at_cell, set, only_if, positive, plain_edge, schedule, one_over_zero, x_watched};
+ghost use Rattle.model_core.specs.Rules.Slice.{slice_conditions, change_left, edge_left, sliced};
+ghost use Rattle.worked_runs.specs.Building.{whole, at_variable, at_cell, set, draw, only_if, positive, plain_edge, schedule, one_over_zero, x_watched};
 ghost use Rattle.worked_rules.specs.NeedHalves.{four_clipped, taken_over, drawn_of, giving_edge, one_strict, before_slice, behind_slice};
 
 /// What is needed at once, by one of U, V, W and X each time.
@@ -54,12 +54,15 @@ pub fn needed_ones_are_made_of_needed_ones()
 /// What is drawn from the stream of a needed one is needed, wherever it is drawn; and where a delay is drawn from the
 /// stream.
 // before and behind; through a third; of another stream; what is drawn twice, from two streams; a delay of the stream, and
-// of another.
+// of another; where one number alone can be drawn; of a delay that is never drawn.
 pub fn streams_are_needed_one_by_one()
     ensures before { unneeded (four_clipped x_watched [] (drawn_of 1 54 ∷ drawn_of 0 54 ∷ drawn_of 2 53 ∷ []) []) ≡ 2 ∷ 3 ∷ [] }
     ensures behind { unneeded (four_clipped x_watched [] (drawn_of 0 54 ∷ drawn_of 1 54 ∷ drawn_of 2 53 ∷ []) []) ≡ 2 ∷ 3 ∷ [] }
     ensures through_a_third { unneeded (four_clipped x_watched [] (drawn_of 3 53 ∷ drawn_of 1 53 ∷ drawn_of 1 54 ∷ drawn_of 0 54 ∷ []) []) ≡ 2 ∷ [] }
     ensures none { unneeded (four_clipped [] [] (drawn_of 0 54 ∷ drawn_of 1 54 ∷ []) []) ≡ 0 ∷ 1 ∷ 2 ∷ 3 ∷ [] }
+    ensures of_a_delay_of_one_number { unneeded (four_clipped [] [] (drawn_of 0 54 ∷ drawn_of 1 53 ∷ []) (plain_edge (Schedule (Drawn 53 (Uniform (pos 3) (pos 3))) 5) 0 [] ∷ [])) ≡ 0 ∷ 2 ∷ 3 ∷ [] }
+    ensures of_a_draw_of_one_number { unneeded (four_clipped x_watched [] (draw 0 54 3 3 ∷ draw 1 54 3 3 ∷ []) []) ≡ 2 ∷ 3 ∷ [] }
+    ensures of_an_edge_that_is_never_taken { unneeded (four_clipped [] [] (drawn_of 1 53 ∷ []) (only_if (Truth false) (plain_edge (Schedule (Drawn 53 (Uniform (pos 1) (pos 6))) 5) 0 []) ∷ [])) ≡ 0 ∷ 2 ∷ 3 ∷ [] }
     ensures of_a_delay { unneeded (four_clipped [] [] (drawn_of 0 54 ∷ drawn_of 1 53 ∷ drawn_of 2 52 ∷ []) (plain_edge (Schedule (Drawn 53 (Uniform (pos 1) (pos 6))) 5) 0 [] ∷ [])) ≡ 0 ∷ 2 ∷ 3 ∷ [] }
 {}
 
@@ -77,9 +80,14 @@ pub fn slices_list_all()
 // the watch list: a variable behind, a vertex, a variable ahead; parameters; a `set` of four, of which the first and the
 // last go with their sides; one that goes whole and one that stays; a draw that goes, and one into a cell, whose index is
 // numbered anew; values that edges carry, of each kind; a delay and a condition, of each form of expression; a drawn delay
-// and a table, which stay.
+// and a table, which stay; edges with no values, with fewer, of the one variable and of the other, and to a vertex that takes
+// none.
 pub fn parts_are_sliced()
     ensures whole { sliced before_slice (1 ∷ []) ≡ behind_slice }
+    ensures without_values { map (edge_left before_slice (true ∷ false ∷ true ∷ true ∷ [])) (plain_edge Urgent 1 [] ∷ plain_edge CancelEqual 1 [] ∷ plain_edge Urgent 1 (whole 7 ∷ []) ∷ plain_edge CancelEqual 1 (whole 7 ∷ []) ∷ [])
+        ≡ plain_edge Urgent 1 [] ∷ plain_edge CancelEqual 1 [] ∷ plain_edge Urgent 1 [] ∷ plain_edge CancelEqual 1 [] ∷ [] }
+    ensures with_values { map (edge_left before_slice (true ∷ true ∷ false ∷ true ∷ [])) (plain_edge Urgent 1 (whole 7 ∷ Scalar 3 ∷ []) ∷ plain_edge CancelEqual 1 (Scalar 1 ∷ whole 8 ∷ []) ∷ plain_edge CancelNext 1 [] ∷ plain_edge CancelNext 2 (Scalar 3 ∷ []) ∷ [])
+        ≡ plain_edge Urgent 1 (whole 7 ∷ []) ∷ plain_edge CancelEqual 1 (Scalar 1 ∷ []) ∷ plain_edge CancelNext 1 [] ∷ plain_edge CancelNext 2 (Scalar 2 ∷ []) ∷ [] }
     ensures more_sides { change_left (true ∷ false ∷ []) (Set (at_variable 1 ∷ []) (whole 1 ∷ whole 2 ∷ [])) ≡ Set [] (whole 2 ∷ []) ∷ [] }
     ensures fewer_sides { change_left (true ∷ false ∷ []) (Set (at_variable 1 ∷ at_variable 0 ∷ []) (whole 1 ∷ [])) ≡ Set (at_variable 0 ∷ []) [] ∷ [] }
 {}

@@ -7,7 +7,7 @@ ghost use Rattle.model_core.specs.EventGraph.{EventGraph};
 ghost use Rattle.model_core.specs.Ranges.Inductive.{is_fixed};
 ghost use Rattle.model_core.specs.Ranges.Inference.{hull, grown_range, ends_moved, first_range, next_range, after_rounds, round, IsInferred};
 ghost use Rattle.worked_runs.specs.NarrowModel.{range};
-ghost use Rattle.worked_rules.specs.RangedModels.{span, fed, takes_in, needing_all, ranges_of_all};
+ghost use Rattle.worked_rules.specs.RangedModels.{span, fed, takes_in, needing_all, ranges_of_all, growing_cell};
 
 /// A range grows at the end that the variable needs, and where it is late, to the declared end.
 // hull: none; the lower end, the upper one, both, neither; a range grows by what its own variable takes, and keeps; ends:
@@ -44,6 +44,12 @@ pub fn ranges_are_found()
     ensures seventeenth { after_rounds needing_all 17 ≡ ranges_of_all (neg_ℤ (pos 50)) 50 5 }
     ensures eighteenth { round needing_all 18 (ranges_of_all (neg_ℤ (pos 50)) 50 5) ≡ ranges_of_all (neg_ℤ (pos 50)) 50 5 }
     ensures found { IsInferred needing_all (ranges_of_all (neg_ℤ (pos 50)) 50 5) }
+{}
+
+/// A cell grows as a scalar does: by as much as it needs up to the 16th round, and in the 17th to the declared end.
+pub fn cells_grow_in_rounds()
+    ensures sixteenth { after_rounds growing_cell 16 ≡ span 0 16 ∷ [] }
+    ensures seventeenth { after_rounds growing_cell 17 ≡ span 0 50 ∷ [] }
 {}
 
 /// The rounds end with the 4,017th at most, which changes nothing.

@@ -2,7 +2,7 @@
 #![tactic(auto, unfolding(model_core::specs::Rules::BoundsTable::exact_bounds, model_core::specs::Rules::BoundsTable::least_of, model_core::specs::Rules::BoundsTable::greatest_of))]
 
 ghost use Rattle.std.specs.Prelude.{◌≡◌, ◌∷◌, [], pos, neg_ℤ, true, false, map};
-ghost use Rattle.model_core.specs.EventGraph.{Truth, Cell, Negative, Not, Binary, If, Add, Subtract, Multiply, Divide, Remainder, Least, Greatest, Equal, NotEqual, Below, AtMost, Above, AtLeast, And, Or, Uniform, ByTable, Set, Draw, Urgent, CancelNext, CancelEqual, CancelAll};
+ghost use Rattle.model_core.specs.EventGraph.{Truth, Cell, Negative, Not, Binary, If, Add, Subtract, Multiply, Divide, Remainder, Least, Greatest, Equal, NotEqual, Below, AtMost, Above, AtLeast, And, Or, Uniform, ByTable, Set, Draw, Drawn, Schedule, Urgent, CancelNext, CancelEqual, CancelAll};
 ghost use Rattle.model_core.specs.Run.State.{variable_at};
 ghost use Rattle.model_core.specs.Rules.BoundsOf.{refuted, proved};
 ghost use Rattle.model_core.specs.Rules.BoundsOfParts.{rows_bounds, choice_bounds, quiet_store, quiet_change, quiet_edge};
@@ -33,6 +33,8 @@ pub fn each_end_counts()
     ensures rest_from_minus_1 { seen_bounds (Binary Remainder (Cell 4 (whole 0)) (whole 4)) ≡ numbers_in (neg_ℤ (pos 1)) (pos 3) }
     ensures rest_to_1 { seen_bounds (Binary Remainder (Binary Subtract (whole 1) x) (whole 4)) ≡ numbers_in (neg_ℤ (pos 2)) (pos 1) }
     ensures rest_below { seen_bounds (Binary Remainder (Negative x) (whole 9)) ≡ numbers_in (neg_ℤ (pos 3)) (pos 0) }
+    ensures rest_of_negatives { map seen_bounds (Binary Remainder (Binary Subtract (minus 5) x) (whole 9) ∷ Binary Remainder (Binary Subtract (minus 5) x) (whole 7) ∷ Binary Remainder (Binary Subtract (minus 5) x) (minus 9) ∷ [])
+        ≡ numbers_in (neg_ℤ (pos 8)) (pos 0) ∷ numbers_in (neg_ℤ (pos 6)) (pos 0) ∷ numbers_in (neg_ℤ (pos 8)) (pos 0) ∷ [] }
     ensures rest_by_a_negative { seen_bounds (Binary Remainder y (minus 4)) ≡ numbers_in (neg_ℤ (pos 3)) (pos 3) }
     ensures rest_by_many { seen_bounds (Binary Remainder y (whole 8)) ≡ numbers_in (neg_ℤ (pos 5)) (pos 7) }
     ensures rest_by_fewer { seen_bounds (Binary Remainder y (whole 7)) ≡ numbers_in (neg_ℤ (pos 5)) (pos 6) }
@@ -108,6 +110,7 @@ pub fn draws_have_bounds()
     ensures tables { map (λ values. rows_bounds (map (λ v. record { value = v; weight = 1 }) values)) ([] ∷ (pos 7 ∷ []) ∷ (pos 1 ∷ pos 2 ∷ pos 3 ∷ []) ∷ (pos 3 ∷ pos 1 ∷ pos 2 ∷ []) ∷ (pos 2 ∷ pos 3 ∷ pos 1 ∷ []) ∷ [])
         ≡ numbers_in (pos 0) (pos 0) ∷ numbers_in (pos 7) (pos 7) ∷ numbers_in (pos 1) (pos 3) ∷ numbers_in (pos 1) (pos 3) ∷ numbers_in (pos 1) (pos 3) ∷ [] }
     ensures uniform { choice_bounds bounded (Uniform (neg_ℤ (pos 4)) (pos 6)) ≡ numbers_in (neg_ℤ (pos 4)) (pos 6) }
+    ensures by_table { choice_bounds bounded (ByTable 0) ≡ numbers_in (neg_ℤ (pos 2)) (pos 9) }
     ensures no_table { choice_bounds bounded (ByTable 1) ≡ numbers_in (pos 0) (pos 0) }
 {}
 
@@ -125,10 +128,13 @@ pub fn parts_of_changes_are_quiet()
 {}
 
 /// Which edges never fault.
-// a delay at 0 and below; one that may fault at 0 or above; edges without one, of each kind, with a value that may fault and
+// a delay at 0 and below; one that may fault at 0 or above; drawn delays from 0 and from below, and from a table whose least
+// value is below 0 and stands in its second row; edges without one, of each kind, with a value that may fault and
 // without.
 pub fn parts_of_edges_are_quiet()
     ensures delays { map (λ delay. quiet_edge bounded (schedule 0 delay)) (x ∷ whole 0 ∷ minus 1 ∷ Binary Subtract x (whole 1) ∷ Binary Greatest five_over_x (whole 1) ∷ []) ≡ true ∷ true ∷ false ∷ false ∷ false ∷ [] }
+    ensures drawn_delays { map (λ choice. quiet_edge bounded (plain_edge (Schedule (Drawn 54 choice) 5) 0 [])) (Uniform (pos 0) (pos 5) ∷ Uniform (neg_ℤ (pos 1)) (pos 5) ∷ Uniform (pos 0) (pos 0) ∷ ByTable 0 ∷ ByTable 1 ∷ [])
+        ≡ true ∷ false ∷ true ∷ false ∷ true ∷ [] }
     ensures kinds { map (λ kind. quiet_edge bounded (plain_edge kind 0 (x ∷ []))) (Urgent ∷ CancelNext ∷ CancelEqual ∷ CancelAll ∷ []) ≡ true ∷ true ∷ true ∷ true ∷ [] }
     ensures values { map (λ kind. quiet_edge bounded (plain_edge kind 0 (five_over_x ∷ x ∷ []))) (Urgent ∷ CancelNext ∷ CancelEqual ∷ CancelAll ∷ []) ≡ false ∷ false ∷ false ∷ false ∷ [] }
 {}

@@ -1,11 +1,11 @@
 //! Fuse, half by half: which condition fails, what it gives, which pair is the first, and where fusing ends.
 
-ghost use Rattle.std.specs.Prelude.{◌≡◌, ◌∷◌, [], true, false, map, Some, None};
+ghost use Rattle.std.specs.Prelude.{◌≡◌, ◌∷◌, [], true, false, map, replicate, Some, None};
 ghost use Rattle.model_core.specs.EventGraph.{EventGraph, WatchedVariable, WatchedVertex, CancelNext, CancelEqual, CancelAll, Fixed, Schedule, Urgent};
 ghost use Rattle.model_core.specs.Rules.Conditions.{first_failed};
 ghost use Rattle.model_core.specs.Rules.Fuse.{fuse_conditions, fused, first_twins, same_changes, same_edges_for, Fused};
 ghost use Rattle.worked_runs.specs.Building.{plain_edge, set, whole, urgent, plus_one};
-ghost use Rattle.worked_rules.specs.TwinHalves.{to, apart_twins, last_and_mid, two_that_take, one_that_takes, cut_by_the_last, two_pairs, three_alike, alone, long_twins};
+ghost use Rattle.worked_rules.specs.TwinHalves.{to, apart_twins, last_and_mid, two_that_take, one_that_takes, cut_by_the_last, rich_changes, rich_edges, rich_twins, one_rich, changes_apart_by_one, edges_apart_by_one, two_pairs, three_alike, alone, long_twins};
 
 /// Two vertices that take values, of which edges carry some to each, are fused: who names the second names the first, and
 /// what stands behind it moves up by one, in edges and in the watch list.
@@ -39,6 +39,18 @@ pub fn each_half_of_fuse_fails_alone()
     ensures changes { first_failed (fuse_conditions two_pairs 1 2) ≡ Some 4 }
     ensures other_edges { first_failed (fuse_conditions (apart_twins [] (0 ∷ 1 ∷ []) []) 2 4) ≡ Some 5 }
     ensures edges_of_another { first_failed (fuse_conditions (cut_by_the_last (urgent 1)) 1 3) ≡ None }
+{}
+
+/// Two vertices with each feature of the language are fused, and are not where one thing of one of them is another.
+// changes: of a draw the stream, both ends and the variable; of one by a table the index, whether there is one, the stream,
+// the table, and a range for a table; of a `set` the index, the second target, one less, each right side. edges: of a drawn
+// delay the stream, both ends, the priority, the condition, the value, a delay that isn't drawn, a table; each cancel as each
+// other one, with other values and without; one that is never taken as one that is, to another vertex, in time.
+pub fn rich_vertices_are_fused_where_they_are_equal()
+    ensures equal { first_failed (fuse_conditions (rich_twins rich_changes rich_edges) 1 2) ≡ None }
+    ensures result { fused (rich_twins rich_changes rich_edges) 1 2 ≡ one_rich }
+    ensures changes { map (λ changes. first_failed (fuse_conditions (rich_twins changes rich_edges) 1 2)) changes_apart_by_one ≡ replicate 14 (Some 4) }
+    ensures edges { map (λ edges. first_failed (fuse_conditions (rich_twins rich_changes edges) 1 2)) edges_apart_by_one ≡ replicate 19 (Some 5) }
 {}
 
 /// Changes are the same one by one, as many and in order. Edges are too, where what names either vertex of the two names

@@ -19,3 +19,11 @@ returns-clause-given_a_fault c = refl
 pub returns-clause-of_the_second : goal.returns-clause-of_the_second
 unfolding digits exact_bounds
 returns-clause-of_the_second c = refl
+
+pub returns-clause-drawn_delay_of_the_second : goal.returns-clause-drawn_delay_of_the_second
+unfolding digits exact_bounds
+returns-clause-drawn_delay_of_the_second c = refl
+
+pub returns-clause-draws_of_both : goal.returns-clause-draws_of_both
+unfolding digits exact_bounds
+returns-clause-draws_of_both c = refl
