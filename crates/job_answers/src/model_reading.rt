@@ -25,6 +25,6 @@ pub fn model_of(alloc: Global, text: &[u8]) -> Result<Model, ReadingError>
     match read_model(alloc, &pieces) {
         Ok(model) => Ok(model),
         Err(NotRead::NoMemory) => Err(ReadingError::NoMemory),
-        Err(NotRead::Unexpected | NotRead::Broken) => read_as_written(alloc, &pieces),
+        Err(NotRead::Unsure) => read_as_written(alloc, &pieces),
     }
 }

@@ -1,6 +1,6 @@
 //! The vertices of a text, as far as others need them before they are read.
 
-ghost use Rattle.std.specs.Prelude.{◌≡◌, map};
+ghost use Rattle.std.specs.Prelude.{◌≡◌, ◌↔◌, map};
 ghost use Rattle.std.specs.Bool.{IsTrue};
 ghost use Rattle.model_core.specs.Code.WrittenViews.{written_name, written_vertex};
 ghost use Rattle.model_read.specs.InText.{AreInText};
@@ -34,14 +34,14 @@ pub(crate) fn beginnings(
 
 /// Whether two names have the same bytes, at the same place.
 fn same_name(a: &RawName, b: &RawName) -> bool
-    ensures { IsTrue result → written_name a.now ≡ written_name b.now }
+    ensures { IsTrue result ↔ written_name a.now ≡ written_name b.now }
 {
     a.at == b.at && a.name.as_slice() == b.name.as_slice()
 }
 
 /// Whether two lists have the same names, at the same places.
 fn same_names(a: &[RawName], b: &[RawName]) -> bool
-    ensures { IsTrue result → map written_name a.now ≡ map written_name b.now }
+    ensures { IsTrue result ↔ map written_name a.now ≡ map written_name b.now }
 {
     if a.len() != b.len() {
         return false;
@@ -56,7 +56,7 @@ fn same_names(a: &[RawName], b: &[RawName]) -> bool
 
 /// Whether two vertices have the same name and parameters, at the same places.
 pub(crate) fn begin_alike(v: &RawVertex, w: &RawVertex) -> bool
-    ensures { IsTrue result → BeginAlike (written_vertex v.now) (written_vertex w.now) }
+    ensures { IsTrue result ↔ BeginAlike (written_vertex v.now) (written_vertex w.now) }
 {
     v.at == w.at && same_name(&v.name, &w.name) && same_names(items(&v.params), items(&w.params))
 }

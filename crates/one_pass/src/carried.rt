@@ -47,7 +47,7 @@ fn given(
         return enclosed(alloc, cursor, names, kinds);
     }
     if kinds.len() != 0 {
-        return Err(NotRead::Broken);
+        return Err(NotRead::Unsure);
     }
     Ok(List::new(alloc))
 }
@@ -60,7 +60,7 @@ fn target(names: &Names, name: Spelling<'_>) -> Result<usize, NotRead>
     let place = spelled_vertex(names, name.bytes, name.at, &mut told);
     match (told.fault(), place) {
         (None, Some(place)) => Ok(place),
-        _ => Err(NotRead::Broken),
+        _ => Err(NotRead::Unsure),
     }
 }
 
@@ -70,7 +70,7 @@ fn taken_at(taken: &[List<Option<Kind>>], place: usize) -> Result<&[Option<Kind>
 {
     match taken.get(place) {
         Some(kinds) => Ok(kinds.as_slice()),
-        None => Err(NotRead::Broken),
+        None => Err(NotRead::Unsure),
     }
 }
 

@@ -86,7 +86,7 @@ fn targets(alloc: Global, cursor: &mut Cursor<'_>, names: &Names) -> Result<Type
     while cursor.begins_symbol(Symbol::Comma) {
         cursor.symbol(Symbol::Comma)?;
         if kinds.len() >= TARGETS_MAX {
-            return Err(NotRead::Broken);
+            return Err(NotRead::Unsure);
         }
         let next = target(alloc, cursor, names)?;
         targets.push(next.part)?;
@@ -139,7 +139,7 @@ fn draw(alloc: Global, cursor: &mut Cursor<'_>, names: &Names) -> Result<Change,
     cursor.word(Word::Draw)?;
     let typed = target(alloc, cursor, names)?;
     if kinds_differ(Some(Kind::Range), typed.kind) {
-        return Err(NotRead::Broken);
+        return Err(NotRead::Unsure);
     }
     let target = Held::of(typed.part);
     let (stream, choice) = source(alloc, cursor, names)?;

@@ -81,7 +81,7 @@ pub(crate) fn expect(wanted: Option<Kind>, operand: &Operand) -> Result<(), NotR
     ensures { OnOk result (kinds.kinds_differ wanted operand.now.kind ≡ false) }
 {
     if kinds_differ(wanted, operand.kind) {
-        return Err(NotRead::Broken);
+        return Err(NotRead::Unsure);
     }
     Ok(())
 }
@@ -480,7 +480,7 @@ fn undivided(
     if cursor.begins_number() {
         let number = cursor.number()?;
         return match number.value {
-            None => Err(NotRead::Broken),
+            None => Err(NotRead::Unsure),
             Some(value) => {
                 *read = Operand {
                     expr: Expr::Int(value),

@@ -10,11 +10,8 @@ use std::alloc::{AllocError, AllocFailed};
 /// Why reading in one pass gives no model.
 #[derive(Clone, Copy, Debug, PartialEq, Eq)]
 pub enum NotRead {
-    /// The reading came to a token that can't stand where it stands, or to the end where a token must come, or some part has
-    /// too many openings.
-    Unexpected,
-    /// The reading came to what breaks a static rule.
-    Broken,
+    /// The reader gave up. Nothing follows from that: not even that the pieces spell no model.
+    Unsure,
     /// Memory was refused.
     NoMemory,
 }
@@ -22,7 +19,7 @@ pub enum NotRead {
 impl From<Stop> for NotRead {
     fn from(stop: Stop) -> NotRead {
         match stop {
-            Stop::Unexpected => NotRead::Unexpected,
+            Stop::Unexpected => NotRead::Unsure,
             Stop::NoMemory => NotRead::NoMemory,
         }
     }

@@ -12,6 +12,6 @@ pub(crate) fn refuse_told(told: &Told) -> Result<(), NotRead>
 {
     match told.fault() {
         None => Ok(()),
-        Some(_) => Err(NotRead::Broken),
+        Some(_) => Err(NotRead::Unsure),
     }
 }

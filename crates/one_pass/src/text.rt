@@ -137,7 +137,7 @@ pub fn read_model(alloc: Global, pieces: &Pieces<'_>) -> Result<Model, NotRead>
     pieces_stand_in_text();
     let list = pieces.list.as_slice();
     if let Some(_) = first_too_deep(list, OPENINGS_MAX) {
-        return Err(NotRead::Unexpected);
+        return Err(NotRead::Unsure);
     }
     let expected = beginnings(alloc, pieces.text, list)?;
     let mut cursor = Cursor::new(pieces.text, list);

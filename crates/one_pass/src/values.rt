@@ -68,7 +68,7 @@ pub(crate) fn values(
         all.push(next(alloc, cursor, names, wanted)?)?;
     }
     if all.len() != kinds.len() {
-        return Err(NotRead::Broken);
+        return Err(NotRead::Unsure);
     }
     Ok(packed(all))
 }

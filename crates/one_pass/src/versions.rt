@@ -1,6 +1,6 @@
 //! Whether a text's version can write the model that is read of it.
 
-ghost use Rattle.std.specs.Prelude.{◌≤◌, IsTrue, OnOk, map, sum_by};
+ghost use Rattle.std.specs.Prelude.{◌≡◌, ◌≤◌, ◌↔◌, IsTrue, OnOk, map, sum_by, nat_le};
 ghost use Rattle.std.specs.Option.{option_map};
 ghost use Rattle.sig_base.specs.declared.limits.TheConstants.{CELLS_MAX as cells_limit};
 ghost use Rattle.model_core.specs.EventGraph.{Variable};
@@ -14,7 +14,7 @@ use sig_base::CELLS_MAX;
 
 /// Whether all arrays together have no more cells than they may have.
 fn has_few_cells(vars: &[Var]) -> bool
-    ensures { IsTrue result → sum_by (λ (v : Variable). v.size) (map variable_of vars.now) ≤ cells_limit }
+    ensures { result ≡ nat_le (sum_by (λ (v : Variable). v.size) (map variable_of vars.now)) cells_limit }
 {
     let mut left = CELLS_MAX;
     for var in vars {
@@ -28,7 +28,7 @@ fn has_few_cells(vars: &[Var]) -> bool
 
 /// Whether a text that says this of its version can write the model.
 fn fits_version(version: Option<RawNumber>, model: &Model) -> bool
-    ensures { IsTrue result → FitsVersion (option_map written_number version) (graph_of model.now) }
+    ensures { IsTrue result ↔ FitsVersion (option_map written_number version) (graph_of model.now) }
 {
     match version {
         None => !needs_version_two(model),
@@ -48,6 +48,6 @@ pub(crate) fn refuse_version(version: Option<RawNumber>, model: &Model) -> Resul
     if has_few_cells(model.vars.as_slice()) && fits_version(version, model) {
         Ok(())
     } else {
-        Err(NotRead::Broken)
+        Err(NotRead::Unsure)
     }
 }

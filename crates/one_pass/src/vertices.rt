@@ -33,7 +33,7 @@ fn known_parameters(
     ensures numbers { IfOk result (λ ps. NumberedAs (meaning_of names.now) (λ d. each_numbered (numbered_parameter d) (written_items (written_vertex begun.now).parameters)) ps) }
 {
     if !begin_alike(begun, expected) {
-        return Err(NotRead::Unexpected);
+        return Err(NotRead::Unsure);
     }
     let mut told = Told::new();
     tell_long_name(&begun.name, &mut told);
@@ -62,7 +62,7 @@ fn body(
     let edges = take_all(alloc, cursor, names, taken)?;
     cursor.symbol(Symbol::CloseBrace)?;
     if changes.len() > CHANGES_MAX || edges.len() > EDGES_MAX {
-        return Err(NotRead::Broken);
+        return Err(NotRead::Unsure);
     }
     Ok(VertexBody { changes, edges })
 }
@@ -109,13 +109,13 @@ pub(crate) fn vertices(
     let mut vertices = Vec::with_capacity(alloc, expected.len())?;
     for begun in expected {
         if !RawVertex::begins(cursor) {
-            return Err(NotRead::Unexpected);
+            return Err(NotRead::Unsure);
         }
         vertices.push(vertex(alloc, cursor, names, taken, begun)?)?;
     }
     let vertices = List::from_vec(vertices);
     if RawVertex::begins(cursor) || vertices.len() == 0 {
-        return Err(NotRead::Unexpected);
+        return Err(NotRead::Unsure);
     }
     Ok(vertices)
 }
