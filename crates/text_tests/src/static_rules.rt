@@ -4,6 +4,7 @@ use model_core::{Model, RawModel, StaticKind, same_model};
 use model_lex::{ParseError, pieces, tokens};
 use model_read::parse;
 use one_pass::read_model;
+use sig_base::NoMemory;
 use sig_types::{StaticError, check};
 use std::alloc::Global;
 use std::test::*;
@@ -25,6 +26,14 @@ pub fn checked(alloc: Global, text: &[u8]) -> Result<Model, StaticError> {
 fn read_at_once(alloc: Global, text: &[u8]) -> Option<Model> {
     let pieces = pieces(alloc, text).ok()?;
     read_model(alloc, &pieces).ok()
+}
+
+/// Whether a text is read in one pass, as the model that it spells.
+fn is_read_at_once(alloc: Global, text: &[u8]) -> bool {
+    match (checked(alloc, text), read_at_once(alloc, text)) {
+        (Ok(model), Some(at_once)) => same_model(&model, &at_once),
+        _ => false,
+    }
 }
 
 /// The fault that is told of a text.
@@ -108,9 +117,44 @@ fn a_model_that_breaks_no_rule_is_accepted(rt: HostRuntime) {
         end";
     let vertices = checked(rt.alloc(), text).map(|model| model.vertices.len());
     assert_eq!(rt; vertices, Ok(2));
-    let same = match (checked(rt.alloc(), text), read_at_once(rt.alloc(), text)) {
-        (Ok(model), Some(at_once)) => same_model(&model, &at_once),
-        _ => false,
-    };
-    assert!(rt; same);
+    assert!(rt; is_read_at_once(rt.alloc(), text));
+}
+
+#[test]
+fn texts_that_say_their_version_are_read_at_once(rt: HostRuntime) {
+    for text in [
+        b"version 1; model M; vertex RUN { } end".as_slice(),
+        b"version 2; model M; vertex RUN { } end",
+        // With nine parameters.
+        b"version 2; model M; var A[4097] : 0..9 = 0; var B : 0..9 = 0; var C : 0..9 = 0; var D : 0..9 = 0; var E : 0..9 = 0;
+            var F : 0..9 = 0; var G : 0..9 = 0; var H : 0..9 = 0; var I : 0..9 = 0; var J : 0..9 = 0;
+            vertex RUN(B, C, D, E, F, G, H, I, J) { } end",
+    ] {
+        assert!(rt; is_read_at_once(rt.alloc(), text));
+    }
+}
+
+/// A text with 256 arrays of 65,536 cells, which is as many as may be, and with this behind them.
+fn with_most_cells(alloc: Global, behind: &[u8]) -> Result<Vec<u8>, NoMemory> {
+    let mut text = Vec::from_slice(alloc, b"version 2; model M; ")?;
+    for first in b'A'..b'Q' {
+        for second in b'A'..b'Q' {
+            text.extend_from_slice(b"var ")?;
+            text.push(first)?;
+            text.push(second)?;
+            text.extend_from_slice(b"[65536] : 0..9 = 0; ")?;
+        }
+    }
+    text.extend_from_slice(behind)?;
+    Ok(text)
+}
+
+#[test]
+fn as_many_cells_as_may_be_are_read_at_once(rt: HostRuntime) -> Result<(), Fail> {
+    let text = with_most_cells(rt.alloc(), b"vertex RUN { } end")?;
+    assert!(rt; is_read_at_once(rt.alloc(), text.as_slice()));
+    // One cell more is one too many.
+    let text = with_most_cells(rt.alloc(), b"var X[1] : 0..9 = 0; vertex RUN { } end")?;
+    assert!(rt; !is_read_at_once(rt.alloc(), text.as_slice()));
+    Ok(())
 }
