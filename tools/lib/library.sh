@@ -1,11 +1,14 @@
 # What the tools share: their manners, and where the program is. Each tool reads it first:
 #
-#     self=$(readlink -f "$0") && tools=$(dirname "$self") && . "$tools/library.sh" || exit 1
+#     self=$(readlink -f "$0") && tools=$(dirname "$self") && . "$tools/lib/library.sh" || exit 1
 #
-# A tool has a status of 0 where it answers, 1 where it has no answer, and 2 where its words are wrong, and one line on the error
-# output that begins with its name. The comment at its head is what `--help` writes.
+# Then it takes its words, by take_options and take_words of words.sh. It has a status of 0 where it answers, 1 where it has no
+# answer, and 2 where its words are wrong, and one line on the error output that begins with its name. The comment at its head is
+# what `--help` writes.
 export LC_ALL=C
 name=${self##*/}
+lib=$tools/lib
+. "$lib/words.sh" || exit 1
 
 # no_answer TEXT: ends with this line.
 no_answer() {
@@ -19,17 +22,20 @@ wrong_words() {
     exit 2
 }
 
-# find_program: sets `program` to the program: that of SIGMA, else `sigma` beside the folder of the tools, else that of PATH. Where
-# that is the launcher of the sources, it is called once, so that it builds, and then what it built is the program.
+# find_program: sets `program` to the program: that of SIGMA, else `sigma` beside the folder of the tools, else that of PATH. Beside
+# the sources it is what ./sigma built there; a tool builds nothing.
 find_program() {
     program=${SIGMA:-${tools%/*}/sigma}
     [ -n "${SIGMA-}" ] || [ -x "$program" ] || program=$(command -v sigma) ||
-        no_answer "no program: SIGMA names none, and sigma stands neither beside $tools nor in PATH"
+        no_answer "no program: SIGMA names none, and sigma is neither beside $tools nor in PATH"
     command -v "$program" >/dev/null || no_answer "no program: $program can't be run"
     [ -z "${SIGMA-}" ] && [ "$program" = "${tools%/*}/sigma" ] && [ -f "${tools%/*}/crates.txt" ] || return 0
-    "$program" check <"${tools%/*}/examples/one.sigma" >/dev/null || exit
     program=${tools%/*}/crates/sigma_cli/out/sigma_cli
+    [ -x "$program" ] || no_answer "not built: ./sigma builds it"
 }
+
+# library: the text of the tools' awk functions, behind which a tool puts its own: awk "$(library)"'..'.
+library() { cat "$lib/library.awk"; }
 
 # needs COMMAND: ends where a command isn't there.
 needs() {
@@ -56,27 +62,6 @@ gathered() {
     done
 }
 
-# take_words WORDS..: sets `seed` and `runs` to what stands behind --seed and --runs, and `others` to the other words of `replicate`.
-# They go through a shell as they are.
-take_words() {
-    seed=
-    runs=
-    others=
-    while [ $# != 0 ]; do
-        case $1 in
-            --seed=*) seed=${1#*=} ;;
-            --runs=*) runs=${1#*=} ;;
-            --seed | --runs)
-                [ "$1" = --seed ] && seed=${2-} || runs=${2-}
-                [ $# = 1 ] || shift
-                ;;
-            *) others="$others $1" ;;
-        esac
-        shift
-    done
-    case $others in *[!a-z0-9,=\ -]*) wrong_words "of$others a word isn't one of replicate" ;; esac
-}
-
 # need_number WHAT VALUE: ends where the value isn't a whole number.
 need_number() {
     case $2 in '' | *[!0-9]*) wrong_words "$1 and a whole number are needed" ;; esac
@@ -101,7 +86,7 @@ quoted() { printf '%s\n' "$1" | sed "s/'/''/g"; }
 
 # seeds FIRST COUNT: that many seeds, one behind the other.
 seeds() {
-    awk -v first="$1" -v count="$2" "$(cat "$tools/library.awk")"'
+    awk -v first="$1" -v count="$2" "$(library)"'
         BEGIN { for (k = 0; k < count; k++) print (k ? seed_behind(first, k) : first) }
     '
 }
@@ -109,7 +94,7 @@ seeds() {
 # parts_of COUNT: a line for each of so many parts of the runs of `seed` and `runs`: the part's first seed, and how many runs it
 # makes. No part is empty, but for that of no run at all, which the program refuses.
 parts_of() {
-    awk -v parts="$1" -v first="$seed" -v wanted="$runs" "$(cat "$tools/library.awk")"'
+    awk -v parts="$1" -v first="$seed" -v wanted="$runs" "$(library)"'
         BEGIN {
             if (parts > wanted + 0) parts = wanted
             if (parts < 1) parts = 1
@@ -143,7 +128,7 @@ histories_begun() { echo "$(($(wc -l <"$room/begun"))) of $runs runs are begun";
 # joined_reports: makes one report of several. The first header stands for all, the rows of a report count on from the runs before
 # it, and the totals are joined item by item. An empty field joined with another one is that other one.
 joined_reports() {
-    awk "$(cat "$tools/library.awk")"'
+    awk "$(library)"'
         function joined(a, b) {
             return a == "" || b == "" ? a b : sum(a, b)
         }
