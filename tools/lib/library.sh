@@ -35,7 +35,7 @@ find_program() {
 }
 
 # library: the text of the tools' awk functions, behind which a tool puts its own: awk "$(library)"'..'.
-library() { cat "$lib/library.awk"; }
+library() { cat "$lib/library.awk" "$lib/numbers.awk" "$lib/means.awk" "$lib/reports.awk" "$lib/histories.awk"; }
 
 # needs COMMAND: ends where a command isn't there.
 needs() {
