@@ -1,0 +1,2 @@
+// What all files of the page share.
+const at = id => document.getElementById(id);
