@@ -46,20 +46,17 @@ function add_row(report, fields) {
   }
 }
 
-// Takes the bytes of a report in pieces. What it keeps of the bytes are the program's own.
+// Takes the bytes of a report in pieces. `row_count` is how many rows of items it has.
 class ReportReader {
   constructor() {
     this.report = empty_report();
-    this.pieces = [];
     this.run = "";
     this.rows = [];
+    this.row_count = 0;
     this.splitter = new LineSplitter((bytes, from, to) => this.read_lines(new TextDecoder().decode(bytes.subarray(from, to))));
   }
 
-  take(bytes) {
-    this.pieces.push(bytes.slice());
-    this.splitter.take(bytes);
-  }
+  take(bytes) { this.splitter.take(bytes); }
 
   read_lines(text) {
     for (const line of text.split("\n")) {
@@ -78,10 +75,15 @@ class ReportReader {
     this.report.outcomes.push(outcome);
     this.report.times.push(Number(time));
     for (const row of this.rows) add_row(this.report, row);
+    this.row_count += this.rows.length;
     this.rows = [];
   }
+}
 
-  bytes() { return joined_bytes(this.pieces); }
+// The text of a report up to its last whole run: what a stopped call leaves.
+function whole_runs_text(text, runs) {
+  const rest = text.indexOf(`\n${runs + 1},`);
+  return rest < 0 ? text : text.slice(0, rest + 1);
 }
 
 function read_report(text) {

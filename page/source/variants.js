@@ -53,6 +53,9 @@ function marked_text(model, marks, watch_line) {
   return lines.join("\n");
 }
 
+// The model with other things watched.
+function watching(model, names) { return marked_text(model, [], `watch ${names.join(", ")};`); }
+
 // Which edges of a vertex an event took, by their places: those without a condition, and those whose mark is true.
 function edges_taken(vertex, marks) {
   let mark = 0;
