@@ -38,7 +38,7 @@ const both_runs = {
     const { same, front, place } = compare_histories(first.history.out, second.history.out);
     const { notes, last } = read_notes(new TextDecoder().decode(first.history.out));
     const lined = lined_up(first.events, second.events, notes, renamed), count = each => each.events.length.toLocaleString("en");
-    const told = same ? `Both show the same ${plural(notes.length, "note").replace(/^\d+/, notes.length.toLocaleString("en"))}, byte for byte`
+    const told = same ? `Both show the same ${counted(notes.length, "note")}, byte for byte`
       : front ? "Both were not played to one end, and the shorter history is the beginning of the longer one"
         : `The histories differ at byte ${place}`;
     app.say("both-status", `${told}. Before: ${count(first)} events; after: ${count(second)}. ${run_tab.told_end(last)}` +

@@ -35,7 +35,7 @@ const experiment_results = {
     const line = document.createElement("p");
     if (!result.report) return line;
     const counts = Object.entries(outcome_counts(result.report)).map(([outcome, count]) => `${count.toLocaleString("en")} ${outcome}`);
-    line.textContent = `${result.label}: ${plural(run_count(result.report), "run")}, ${counts.join(", ")}`;
+    line.textContent = `${result.label}: ${counted(run_count(result.report), "run")}, ${counts.join(", ")}`;
     return line;
   },
 
@@ -92,9 +92,9 @@ const experiment_results = {
     const lists = rows.map(row => row.values), asked = Number(at("exp-bar-width").value), bar = asked > 0 ? asked : bar_width(lists);
     const plot = histogram_plot(lists, rows.map(row => row.label), bar, 420, 180), figure = document.createElement("figure");
     const caption = document.createElement("figcaption");
-    caption.append(`${name}${column === "time" ? "" : `, ${column} of a run`}: `);
+    caption.append(`${name}${column === "time" ? "" : `, ${column} of a run`} `);
     rows.forEach((row, k) => caption.append(Object.assign(document.createElement("span"), { className: `key key${k}`, textContent: row.label }), " "));
-    caption.append(plot ? `bars of ${tick_text(bar)}` : `bars as wide as ${bar} are too many`);
+    caption.append(plot ? `, bars of ${tick_text(bar)}` : `bars as wide as ${bar} are too many`);
     figure.append(caption);
     if (plot) figure.append(plot);
     at("exp-plots").append(figure);

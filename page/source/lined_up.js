@@ -8,21 +8,23 @@ function read_notes(text) {
 }
 
 // Rows { time, before, after, note }: the events of the first run in order, each with the event of the second one that has the same time
-// and name, if there is one; and the notes, an `at` behind the last event of its tick and an `on` at its event. Events are lists of
-// [time, name]; `renamed` maps the names of the first model to those of the second.
+// and name, if there is one; and the notes, an `at` beside the last event of its tick and an `on` beside its event. Events are lists of
+// [time, name]; `renamed` maps names of the first model to those of the second.
 function lined_up(before, after, notes, renamed = new Map()) {
   const rows = [];
   let next = 0, note = 0;
   const put_notes = time => {
-    for (; note < notes.length && notes[note].time < time; note++) rows.push({ time: notes[note].time, note: notes[note].text });
+    for (; note < notes.length && notes[note].time < time; note++) {
+      const last = rows[rows.length - 1];
+      if (last && last.time === notes[note].time && !last.note) last.note = notes[note].text;
+      else rows.push({ time: notes[note].time, note: notes[note].text });
+    }
   };
   for (const [time, name] of before) {
     put_notes(time);
-    const row = { time, before: name };
-    const wanted = renamed.get(name) || name;
+    const row = { time, before: name }, wanted = renamed.get(name) || name;
     if (next < after.length && after[next][0] === time && after[next][1] === wanted) { row.after = wanted; next++; }
-    if (note < notes.length && !notes[note].is_at && notes[note].text.startsWith(`on ${time} ${name} `) ||
-      note < notes.length && notes[note].text === `on ${time} ${name}`) row.note = notes[note++].text;
+    if (note < notes.length && !notes[note].is_at && `${notes[note].text} `.startsWith(`on ${time} ${name} `)) row.note = notes[note++].text;
     rows.push(row);
   }
   put_notes(Infinity);

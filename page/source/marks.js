@@ -16,6 +16,9 @@ function mark_edges(picture, from, places, mark) {
   for (const place of places) graph_edge(picture, from, place)?.classList.add(mark);
 }
 
+// A number and its noun, as 1,000 runs.
+function counted(count, noun) { return plural(count, noun).replace(/^\d+/, count.toLocaleString("en")); }
+
 // What a model watches, as the readers of histories take it.
 function watched_items(model) {
   return model.watch.map(name => {

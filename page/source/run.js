@@ -30,7 +30,7 @@ const run_tab = {
     });
     if (answer.failure || ![0, 6, 7].includes(answer.status)) { app.say("run-status", complaint(answer)); return null; }
     const size = answer.written < 1e5 ? `${answer.written.toLocaleString("en")} bytes` : `${(answer.written / 1e6).toFixed(1)} MB`;
-    app.say("run-status", `${run_tab.told_end(answer.last)} ${plural(answer.notes, "note").replace(/^\d+/, answer.notes.toLocaleString("en"))}, ` +
+    app.say("run-status", `${run_tab.told_end(answer.last)} ${counted(answer.notes, "note")}, ` +
       `${size}, ${Math.round(answer.ms)} ms.`);
     courses.show(answer);
     courses.show_time(0);

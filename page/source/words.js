@@ -1,7 +1,7 @@
 // The words of a run, which the tabs share: stop time, seed, events, and a field for each starting value with its variable and range.
 // What they may be, the program decides: a field is given on as it is.
 const run_words = {
-  model: null,
+  model: null, file: null,
 
   // The fields of the starting values, for the parameters of the first vertex. Values stay where a parameter of that name stays.
   model_changed(model) {
@@ -19,6 +19,14 @@ const run_words = {
       return label;
     }));
     run_words.model = model;
+    if (app.file !== run_words.file) run_words.take_example(app.file || "");
+    run_words.file = app.file;
+  },
+
+  // The words that are stored beside an example, where it is just opened.
+  take_example(file) {
+    const line = at("example-words").textContent.split("\n").find(each => `${each.split(" ")[0]}.sigma` === file);
+    if (line) run_words.take(line.slice(line.indexOf(" ") + 1));
   },
 
   value(id) { return at(id).value.replace(/[\s_]/g, ""); },
