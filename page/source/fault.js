@@ -30,7 +30,7 @@ async function find_fault(words, model, events) {
   const [pending] = snapshot.pending, vertex = model.vertex.get(pending.vertex), parts = parts_of_vertex(vertex);
   const faults = async count => {
     const text = with_first_parts(model, vertex.name, count) + snapshot.text;
-    const answer = await engine.call("fault", ["resume", "--until", words.until, "--events", "1"], text);
+    const answer = await engine.call("fault", ["resume", "--until", LAST_TIME, "--events", "1"], text);
     if (answer.status !== 0 && answer.status !== 6 && answer.status !== 7) throw new Error(complaint(answer));
     return answer.status === 6;
   };
@@ -50,7 +50,7 @@ async function values_at_part(words, model, { snapshot, pending, vertex, part },
   const names = [...new Set(part.match(/[A-Za-z]\w*/g) || [])].filter(name => model.variable.has(name));
   const variant = { text: watching(model, [...names, vertex.name]) };
   const text = with_first_parts(variant, vertex.name, before) + snapshot.text.replace(/^noted .*\n/m, "");
-  const answer = await engine.call("fault", ["resume", "--until", words.until, "--events", "1"], text);
+  const answer = await engine.call("fault", ["resume", "--until", LAST_TIME, "--events", "1"], text);
   const line = answer.out.split("\n").find(each => each.startsWith("on "));
   if (!line) throw new Error(complaint(answer));
   return new Map(line.split(" ").slice(3).map(each => each.split("=")).map(([name, values]) => [name, values.split(",")]));

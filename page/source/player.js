@@ -174,10 +174,13 @@ const pending_events = {
   },
 };
 
-// The run after so many events, as { snapshot }, or { words } where it is over by then.
+// The run after so many events, as { snapshot }, or { words } where nothing is pending by then. The stop time is as late as can be, since a
+// run that stops there still has what is pending.
+const LAST_TIME = String(2 ** 48);
+
 async function saved_run(words, model, events) {
   if (events === 0) return { snapshot: read_snapshot(model.text + first_snapshot(model, words.seed, words.start)) };
-  const answer = await engine.call("save", run_words.words("save", { ...words, events: String(events) }), model.text);
-  if (answer.status === 10) return { words: "the run is over" };
+  const answer = await engine.call("save", run_words.words("save", { ...words, until: LAST_TIME, events: String(events) }), model.text);
+  if (answer.status === 10) return { words: "nothing is pending: the run is over" };
   return answer.status === 0 ? { snapshot: read_snapshot(answer.out) } : { words: complaint(answer) };
 }

@@ -7,10 +7,10 @@ function plot_part(tag, attributes = {}, ...inside) {
   return part;
 }
 
-// Round numbers from low to high, some `count` of them: steps of 1, 2 or 5 times a power of ten.
-function plot_ticks(low, high, count) {
+// Round numbers from low to high, some `count` of them: steps of 1, 2 or 5 times a power of ten, and no smaller than `least_step`.
+function plot_ticks(low, high, count, least_step = 0) {
   if (!(high > low)) return [low];
-  const rough = (high - low) / Math.max(1, count), power = 10 ** Math.floor(Math.log10(rough));
+  const rough = Math.max(least_step, (high - low) / Math.max(1, count)), power = 10 ** Math.floor(Math.log10(rough));
   const step = [1, 2, 5, 10].find(each => each * power >= rough * 0.999) * power, ticks = [];
   for (let k = Math.ceil(low / step - 1e-9); k * step <= high + step * 1e-9; k++) ticks.push(Number((k * step).toPrecision(12)));
   return ticks;
@@ -23,14 +23,14 @@ function tick_text(value) {
 const PLOT_MARGIN = { left: 46, right: 12, top: 8, bottom: 20 };
 
 // An empty plot with its axes: `x(value)` and `y(value)` are places in it, and `value_of_x(place)` is what a place stands for.
-function plot_frame(width, height, x_range, y_range, label) {
+function plot_frame(width, height, x_range, y_range, label, least_step = 1) {
   const { left, right, top, bottom } = PLOT_MARGIN, wide = width - left - right, high = height - top - bottom;
   const x_size = x_range[1] - x_range[0] || 1, y_size = y_range[1] - y_range[0] || 1;
   const x = value => Math.round((left + (value - x_range[0]) / x_size * wide) * 10) / 10;
   const y = value => Math.round((top + high - (value - y_range[0]) / y_size * high) * 10) / 10;
   const picture = plot_part("svg", { class: "plot", width, height, viewBox: `0 0 ${width} ${height}`, role: "img", "aria-label": label });
   picture.append(plot_part("path", { class: "axis", d: `M${left} ${top}V${top + high}H${left + wide}` }));
-  for (const tick of plot_ticks(y_range[0], y_range[1], Math.max(1, Math.floor(high / 26)))) {
+  for (const tick of plot_ticks(y_range[0], y_range[1], Math.max(1, Math.floor(high / 26)), least_step)) {
     picture.append(plot_part("path", { class: "grid", d: `M${left} ${y(tick)}H${left + wide}` }));
     picture.append(plot_part("text", { x: left - 5, y: y(tick) + 3.5, "text-anchor": "end" }, tick_text(tick)));
   }
@@ -118,7 +118,7 @@ function histogram_plot(lists, labels, bar, width, height) {
 // How a mean settles: rows of [tick, mean, smoothed mean], and the tick of the cut.
 function settling_plot(rows, cut, width, height) {
   const highest = rows.reduce((most, [, mean, smooth]) => Math.max(most, mean, smooth), 0);
-  const frame = plot_frame(width, height, [0, rows[rows.length - 1][0]], [0, highest || 1], "how the mean settles");
+  const frame = plot_frame(width, height, [0, rows[rows.length - 1][0]], [0, highest || 1], "how the mean settles", 0);
   const { picture, x, y, foot } = frame;
   const line = column => rows.map((row, k) => `${k ? "L" : "M"}${x(row[0])} ${y(row[column])}`).join("");
   picture.append(plot_part("path", { class: "faint", d: line(1) }), plot_part("path", { class: "course", d: line(2) }));

@@ -67,7 +67,6 @@ class ReportReader {
     }
   }
 
-  // A run counts once all its rows are there, so that a stopped call leaves whole runs.
   end_run() {
     if (!this.rows.length) return;
     const [[, seed, outcome, time]] = this.rows;
@@ -77,6 +76,14 @@ class ReportReader {
     for (const row of this.rows) add_row(this.report, row);
     this.row_count += this.rows.length;
     this.rows = [];
+  }
+
+  // Of a stopped call the last run may lack rows: it counts where it has as many as the others.
+  end(is_stopped) {
+    const runs = run_count(this.report);
+    if (is_stopped && (!runs || this.rows.length < this.row_count / runs)) this.rows = [];
+    this.end_run();
+    return this.report;
   }
 }
 
@@ -89,8 +96,7 @@ function whole_runs_text(text, runs) {
 function read_report(text) {
   const reader = new ReportReader();
   reader.take(new TextEncoder().encode(text));
-  reader.end_run();
-  return reader.report;
+  return reader.end(false);
 }
 
 // What came after the warm-up: times, areas and counts of the late report less those of the early one, run by run. Answers { report } or
