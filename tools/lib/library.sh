@@ -72,8 +72,9 @@ need_size() {
     awk -v x="$2" 'BEGIN { exit !(x ~ /^[0-9]*\.?[0-9]+$/ && x + 0 > 0) }' || wrong_words "$1 is no number above 0: $2"
 }
 
-# take_unit N[=WORD]: sets `unit` to how many ticks a unit of time has, and `in_units` to how that is told.
+# take_unit N[=WORD]: sets `unit` to how many ticks a unit of time has, and `in_units` to how that is told. With % it is 0.01.
 take_unit() {
+    [ "$1" != % ] || set -- "0.01=per cent"
     unit=${1%%=*}
     need_size "--unit" "$unit"
     in_units=" in units of $unit ticks"

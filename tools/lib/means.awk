@@ -22,9 +22,14 @@ function student(degrees,   table, z) {
         (3 * z ^ 7 + 19 * z ^ 5 + 17 * z ^ 3 - 15 * z) / (384 * degrees ^ 3)
 }
 
-# A mean with its error and interval in words, with three decimals, or as many as the error needs.
-function told(middle, off, half,   digits, form) {
-    for (digits = 3; off > 0 && off < 10 ^ -digits && digits < 9; digits++);
+# A mean with its error and interval in words, with three decimals, or as many as the error needs. Where the tool has a `unit`, it is
+# in units of so many, and `in_units` names them.
+function told(middle, off, half) { return told_between(middle, off, middle - half, middle + half) }
+
+function told_between(middle, off, low, high,   digits, form, by) {
+    by = unit ? unit : 1
+    for (digits = 3; off > 0 && off / by < 10 ^ -digits && digits < 9; digits++);
     form = "%." digits "f"
-    return sprintf("mean " form ", standard error " form ", from " form " to " form, middle, off, middle - half, middle + half)
+    return sprintf("mean " form ", standard error " form ", from " form " to " form "%s", \
+        middle / by, off / by, low / by, high / by, by == 1 ? "" : in_units)
 }
