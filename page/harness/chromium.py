@@ -52,11 +52,11 @@ class Chromium(Browser):
             self.connection._send({"id": 0, "method": "Page.handleJavaScriptDialog", "params": {"accept": True}})
 
     def open(self, url):
+        self.errors = []
         self.call("Page.navigate", url=url)
         end = time.time() + 60
         while time.time() < end and self._evaluate("document.readyState + location.href", 60) != "complete" + url:
             time.sleep(0.05)
-        self.errors = []
 
     def _evaluate(self, text, seconds):
         answer = self.call("Runtime.evaluate", seconds, expression=text, awaitPromise=True, returnByValue=True)

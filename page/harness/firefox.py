@@ -5,7 +5,7 @@ import json
 import socket
 
 from browser import KEYS, Browser, Failed
-from connection import Connection
+from connection import Connection, Refused
 
 
 def free_port():
@@ -37,7 +37,7 @@ class Firefox(Browser):
     def quit(self):
         try:
             self.call("browser.close", 10)
-        except (OSError, ConnectionError, Exception):  # it ends before it answers
+        except (OSError, Refused):  # it ends before it answers
             pass
         super().quit()
 
@@ -47,8 +47,8 @@ class Firefox(Browser):
             self.errors.append(params.get("text") or json.dumps(params)[:300])
 
     def open(self, url):
-        self.call("browsingContext.navigate", context=self.context, url=url, wait="complete")
         self.errors = []
+        self.call("browsingContext.navigate", context=self.context, url=url, wait="complete")
 
     def _evaluate(self, text, seconds):
         target = {"context": self.context}
