@@ -61,7 +61,7 @@ for (const size of [1, 50, 4096]) {
 }
 const cut = csv.slice(0, csv.indexOf("4,10,ended") + 20), stopped = fed(new ReportReader(), cut, 9);
 equal("a stopped call leaves whole runs", run_count(stopped.end(true)), 3);
-equal("also where the last row is missing", run_count(fed(new ReportReader(), csv.slice(0, csv.indexOf("4,10,ended,484,CLOSE")), 9).end(true)), 3);
+equal("also where the last row is missing", run_count(fed(new ReportReader(), csv.slice(0, csv.indexOf("4,10,ended,485,CLOSE")), 9).end(true)), 3);
 equal("and their text", whole_runs_text(cut, 3), csv.slice(0, csv.indexOf("4,10,")));
 equal("whole numbers stay exact", [whole("9007199254740991"), whole("9007199254740993") === 9007199254740993n,
   whole_difference(whole("9223372036854775807"), whole("9223372036854775800")), whole_difference(5, 7)], [2 ** 53 - 1, true, 7, -2]);
