@@ -93,7 +93,7 @@ class Chromium(Browser):
     def _key(self, key, held):
         mask = sum(HELD[it] for it in held)
         named = KEYS.get(key)
-        number = named[0] if named else ord(key.upper()) if key.isascii() else 0
+        number = named[0] if named else ord(key.upper()) if key.isascii() and key.isalnum() else 0
         code = key if named else f"Key{key.upper()}" if key.isalpha() and key.isascii() else ""
         said = {"modifiers": mask, "key": key, "code": code, "windowsVirtualKeyCode": number}
         text = "\r" if key == "Enter" else "" if named else key

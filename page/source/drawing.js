@@ -25,6 +25,7 @@ const drawing = {
     if (app.editor.text() !== text) return { refusal: "the text was changed meanwhile: try again" };
     app.editor.write(edits);
     await app.check();
+    app.select_text();
     return { written: true };
   },
 
