@@ -46,7 +46,7 @@ const command_line = {
   start() {
     at("cli").onsubmit = event => { event.preventDefault(); command_line.call(at("cli-words").value); };
     at("cli-stop").onclick = () => engine.stop("cli");
-    at("cli-save").onclick = () => download(command_line.file, "application/octet-stream", command_line.bytes);
+    at("cli-save").onclick = () => files.download(command_line.file, "application/octet-stream", command_line.bytes);
     at("cli-words").oninput = command_line.show_shell_line;
     for (const button of document.querySelectorAll("[data-words]")) button.onclick = () => {
       const words = button.dataset.words;

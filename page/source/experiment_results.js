@@ -43,7 +43,7 @@ const experiment_results = {
     const button = document.createElement("button");
     button.textContent = `${result.label}.csv`;
     button.title = result.cut ? "what came after the warm-up, as sigma-since writes it" : "the program's own bytes";
-    button.onclick = () => download(`${result.label}.csv`, "text/csv", result.csv);
+    button.onclick = () => files.download(`${result.label}.csv`, "text/csv", result.csv);
     return button;
   },
 

@@ -111,12 +111,13 @@ class Picture {
     if (!a || !b) return;
     this.node(first).classList.add("conflict");
     this.node(second).classList.add("conflict");
-    const side = Math.min(a.x - a.rx, b.x - b.rx) - 40 - Math.abs(a.y - b.y) * 0.15, middle = (a.y + b.y) / 2;
-    const line = first === second ? `M${a.x - a.rx} ${a.y}c-40 -30 -40 30 0 0`
-      : `M${a.x - a.rx * 0.9} ${a.y}Q${side} ${middle} ${b.x - b.rx * 0.9} ${b.y}`;
-    const x = first === second ? a.x - a.rx - 34 : (a.x - a.rx * 0.7 + 2 * side + b.x - b.rx * 0.7) / 4;
-    this.layer.append(svg("g", { class: "pair" }, svg("path", { d: line }),
-      svg("text", { x, y: first === second ? a.y - 20 : middle, "text-anchor": "middle" }, text)));
+    // The line goes around what stands between the two.
+    const low = Math.min(a.y, b.y), high = Math.max(a.y, b.y), between = [...this.at.values()].filter(each => each.y >= low && each.y <= high);
+    const edge = Math.min(...between.map(each => each.x - each.rx)), middle = (a.y + b.y) / 2;
+    const from = a.x - a.rx * 0.9, to = b.x - b.rx * 0.9, side = 2 * (edge - 24) - (from + to) / 2;
+    const line = first === second ? `M${a.x - a.rx} ${a.y}c-40 -30 -40 30 0 0` : `M${from} ${a.y}Q${side} ${middle} ${to} ${b.y}`;
+    const x = first === second ? a.x - a.rx - 34 : edge - 32;
+    this.layer.append(svg("g", { class: "pair" }, svg("path", { d: line }), svg("text", { x, y: middle + 4, "text-anchor": "end" }, text)));
   }
   file() { return picture_file(this.layer, this.size); }
 }

@@ -47,6 +47,7 @@ const player = {
 
   // Shows the state after k events.
   show(k) {
+    if (player.frames && app.model !== player.model) player.unload();
     if (!player.frames) return;
     k = Math.max(0, Math.min(player.count, k));
     player.now = k;
