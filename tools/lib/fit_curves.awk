@@ -1,6 +1,4 @@
-# The curves of `fit`: which part of a family lies below a time, the functions that this takes, and how far data may lie from it.
-
-BEGIN { pi = atan2(0, -1) }
+# The curves of `fit`: which part of a family lies below a time, and how far data may lie from it.
 
 function below(kind, t) {
     if (kind == "uniform") return t < a - 0.5 ? 0 : t > b + 0.5 ? 1 : (t - a + 0.5) / (b - a + 1)
@@ -20,43 +18,6 @@ function below(kind, t) {
     return bell((log(t) - log(a) + log(1 + (b / a) ^ 2) / 2) / sqrt(log(1 + (b / a) ^ 2)))
 }
 
-function tiny_exp(t) { return t < -700 ? 0 : exp(t) }
-
-# The normal distribution.
-function bell(z) { return z < 0 ? 0.5 - gamma_below(0.5, z * z / 2) / 2 : 0.5 + gamma_below(0.5, z * z / 2) / 2 }
-
-# The gamma distribution of this shape and scale 1: a series where t is small, else a continued fraction (Lentz).
-function gamma_below(shape, t,   i, term, total, before, after, d, delta) {
-    if (t <= 0) return 0
-    if (t < shape + 1) {
-        term = total = 1 / shape
-        for (i = 1; i < 10000 && term > total * 1e-12; i++) total += term *= t / (shape + i)
-        return total * tiny_exp(shape * log(t) - t - log_gamma(shape))
-    }
-    before = t + 1 - shape
-    after = 1e300
-    d = 1 / before
-    total = d
-    for (i = 1; i < 10000; i++) {
-        before += 2
-        d = 1 / (before - i * (i - shape) * d)
-        after = before - i * (i - shape) / after
-        delta = d * after
-        total *= delta
-        if (delta < 1 + 1e-12 && delta > 1 - 1e-12) break
-    }
-    return 1 - total * tiny_exp(shape * log(t) - t - log_gamma(shape))
-}
-
-# The logarithm of the gamma function, and its slope, by the series of Stirling from 10 on.
-function log_gamma(t,   shift) {
-    for (shift = 0; t < 10; t++) shift += log(t)
-    return (t - 0.5) * log(t) - t + 0.5 * log(2 * pi) + 1 / (12 * t) - 1 / (360 * t ^ 3) + 1 / (1260 * t ^ 5) - shift
-}
-function digamma(t,   shift) {
-    for (shift = 0; t < 10; t++) shift += 1 / t
-    return log(t) - 1 / (2 * t) - 1 / (12 * t ^ 2) + 1 / (120 * t ^ 4) - 1 / (252 * t ^ 6) - shift
-}
 
 # How far the data lie from a family at most (Kolmogorov and Smirnov): a time is anything that is rounded to it.
 function distance(kind,   i, here, far) {

@@ -24,12 +24,12 @@ function student(degrees,   table, z) {
 
 # A mean with its error and interval in words, with three decimals, or as many as the error needs. Where the tool has a `unit`, it is
 # in units of so many, and `in_units` names them.
-function told(middle, off, half) { return told_between(middle, off, middle - half, middle + half) }
+function told(middle, off, half) { return told_between("mean", middle, off, middle - half, middle + half) }
 
-function told_between(middle, off, low, high,   digits, form, by) {
+function told_between(what, middle, off, low, high,   digits, form, by) {
     by = unit ? unit : 1
     for (digits = 3; off > 0 && off / by < 10 ^ -digits && digits < 9; digits++);
     form = "%." digits "f"
-    return sprintf("mean " form ", standard error " form ", from " form " to " form "%s", \
-        middle / by, off / by, low / by, high / by, by == 1 ? "" : in_units)
+    return sprintf("%s " form ", standard error " form ", from " form " to " form "%s", \
+        what, middle / by, off / by, low / by, high / by, by == 1 ? "" : in_units)
 }

@@ -1,18 +1,40 @@
 # Reports of `replicate`. `gathered` of library.sh writes them one behind the other, each design behind a line `design NAME`. A design may
 # have several reports, each with its header. FS is a comma.
 
-# want(ITEM, COLUMN): what is read of each run: a column, or `average`, summed over the parts of the item between its `+`.
-function want(item, column,   parts, count, i) {
+# want(ITEM, COLUMN): what is read of each run: a column, or `average`, summed over the parts of the item between its `+`. Answers the
+# number w of what is wanted: 1, 2 and so on from call to call. An item A/B is a ratio, of one column or of two, as last/count.
+function want(item, column,   sides, count, i, column_of_side) {
     FS = ","
-    wanted_column = column
-    count = split(item, parts, "+")
-    for (i = 1; i <= count; i++) times_wanted[parts[i]]++
-    columns = " least greatest last area count time average "
-    if (!index(columns, " " column " ")) refuse("no column " column "; there are" substr(columns, 1, length(columns) - 1), 2)
+    wanted_item[++wants] = item
+    count = max(1, split(item, sides, "/"))
+    if (count > 2) refuse("an item has one / at most: " item, 2)
+    is_ratio[wants] = count == 2
+    if (split(column, column_of_side, "/") > count) refuse("two columns are for an item that is a ratio", 2)
+    for (i = 1; i <= count; i++) want_side(i, sides[i], i == 2 && !(2 in column_of_side) ? column_of_side[1] : column_of_side[i])
+    return wants
 }
 
-# Takes a line. Afterwards run k of design d has value[d, k], seed[d, k] and outcome[d, k].
-function read_report(   name, here) {
+function want_side(side, item, column,   parts, count, i) {
+    columns = " least greatest last area count time average "
+    if (!index(columns, " " column " ")) refuse("no column " column "; there are" substr(columns, 1, length(columns) - 1), 2)
+    wanted_column[wants, side] = column
+    count = split(item, parts, "+")
+    for (i = 1; i <= count; i++) {
+        times_wanted[parts[i]]++
+        share_of[wants, side, parts[i]]++
+    }
+}
+
+# Adds what a row says of an item to what wants it: value[w, d, k] for run k of design d, and under[w, d, k] below the / of a ratio.
+function take_worth(name,   w) {
+    for (w = 1; w <= wants; w++) {
+        if ((w, 1, name) in share_of) value[w, designs, runs[designs]] += share_of[w, 1, name] * worth(name, wanted_column[w, 1])
+        if ((w, 2, name) in share_of) under[w, designs, runs[designs]] += share_of[w, 2, name] * worth(name, wanted_column[w, 2])
+    }
+}
+
+# Takes a line. Afterwards run k of design d has value[w, d, k], seed[d, k] and outcome[d, k].
+function read_report(   name) {
     if (sub(/^design /, "")) {
         label[++designs] = $0
         begun = NR
@@ -28,9 +50,7 @@ function read_report(   name, here) {
     if (!((designs, name) in has_item)) items_of[designs] = items_of[designs] " " name
     has_item[designs, name]
     if (!(name in times_wanted)) return
-    here = worth(name)
-    if (here == "" && hole[designs] == "") hole[designs] = missing
-    value[designs, runs[designs]] += times_wanted[name] * here
+    take_worth(name)
     found[designs, runs[designs]]++
 }
 
@@ -51,12 +71,17 @@ function begin_run(   k) {
     run_of[designs, seed[designs, k]] = k
     outcome[designs, k] = field("outcome")
     cut[designs, outcome[designs, k]]++
-    value[designs, k] = found[designs, k] = 0
+    found[designs, k] = 0
 }
 
-# What the wanted column says of an item, or nothing, and then `missing` says why.
-function worth(name,   column) {
-    column = wanted_column
+# What a column says of an item. Where it says nothing that is 0, and `hole` says why.
+function worth(name, column,   here) {
+    here = told_of(name, column)
+    if (here == "" && hole[designs] == "") hole[designs] = missing
+    return here
+}
+
+function told_of(name, column) {
     if (column == "time") return field("time")
     missing = name " is an event, which has a count, and no " column
     if (field("count") != "") return column == "count" ? field("count") : ""
