@@ -4,6 +4,7 @@ const keys = {
 
   undo(again) {
     app.editor.cm.execCommand(again ? "redo" : "undo");
+    files.note = "";
     app.check();
   },
 

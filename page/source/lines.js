@@ -77,17 +77,33 @@ function layout_faults(nodes, edges) {
   boxes.forEach((a, i) => { for (const b of boxes.slice(i + 1)) if (meet(a, b, 0)) faults.ellipses++; });
   labels.forEach((a, i) => { for (const b of labels.slice(i + 1)) if (meet(a, b, 2)) faults.labels++; });
   for (const a of labels) for (const b of boxes) if (meet(a, b, 4)) faults.labels_on_ellipses++;
+  const things = near_things([...boxes.map((each, i) => ({ ...each, node: nodes[i], i })), ...labels]);
   for (const edge of edges) {
     const passed = new Set();
     for (const p of along_curve(edge.points)) {
-      nodes.forEach((n, i) => {
-        if (i !== edge.from && i !== edge.to && ((p.x - n.x) / n.rx) ** 2 + ((p.y - n.y) / n.ry) ** 2 < 0.95) passed.add(n);
-      });
-      for (const a of labels) {
-        if (a.edge !== edge && p.x > a.left + 1 && p.x < a.right - 1 && p.y > a.top + 1 && p.y < a.bottom - 1) passed.add(a);
+      for (const thing of things(p)) {
+        if (thing.node ? thing.i !== edge.from && thing.i !== edge.to && inside_ellipse(p, thing.node) : thing.edge !== edge && inside_box(p, thing)) passed.add(thing);
       }
     }
     for (const thing of passed) faults[thing.edge ? "lines_through_labels" : "lines_through_ellipses"]++;
   }
   return faults;
+}
+
+function inside_ellipse(p, { x, y, rx, ry }) { return ((p.x - x) / rx) ** 2 + ((p.y - y) / ry) ** 2 < 0.95; }
+function inside_box(p, box) { return p.x > box.left + 1 && p.x < box.right - 1 && p.y > box.top + 1 && p.y < box.bottom - 1; }
+
+// Boxes by the squares of a grid that they touch: answers those near a point.
+function near_things(boxes, square = 100) {
+  const grid = new Map(), none = [];
+  for (const box of boxes) {
+    for (let x = Math.floor(box.left / square); x <= box.right / square; x++) {
+      for (let y = Math.floor(box.top / square); y <= box.bottom / square; y++) {
+        const key = x * 100003 + y;
+        if (!grid.has(key)) grid.set(key, []);
+        grid.get(key).push(box);
+      }
+    }
+  }
+  return p => grid.get(Math.floor(p.x / square) * 100003 + Math.floor(p.y / square)) || none;
 }

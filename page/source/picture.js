@@ -9,12 +9,13 @@ class Picture {
     start_gestures(this);
   }
 
-  // Lays the model out and draws it. Answers how long that took. `how` is "down" or "right".
+  // Lays the model out and draws it. Answers how long that took, or null where a later one came in between. `how` is "down" or "right".
   async show(model, how) {
     const graph = graph_of(model, width_of);
     const nodes = graph.vertices.map(shape => ({ width: 2 * shape.rx, height: 2 * shape.ry }));
     const edges = graph.edges.map(({ from, to, width, height }) => ({ from, to, width, height }));
     const layout = await layouts.call(this.lane, nodes, edges, how || this.how);
+    if (!layout) return null;
     const since = performance.now(), { parts, places } = model_parts(model, graph, layout);
     // The view stays where the planner put it, while the model is the same one.
     const stays = this.own && this.model && this.model.name === model.name;

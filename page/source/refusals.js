@@ -19,7 +19,7 @@ const RESERVED = ("model var bool clip table watch vertex set draw from in by sc
 // The words that stand before the place, without comments, so that a hint can say what was begun.
 function before_place(text, index) {
   const part = text.slice(Math.max(0, index - 2000), index).replace(/#[^\n]*/g, "");
-  return part.slice(Math.max(part.lastIndexOf(";"), part.lastIndexOf("{"), part.lastIndexOf("}")) + 1).trim();
+  return part.slice(Math.max(part.lastIndexOf(";"), part.lastIndexOf("{"), part.lastIndexOf("}")) + 1).trimStart();
 }
 
 // Of `unexpected` and `bad byte`: what follows at the place, what was begun before it, and the hint. The first that fits is given.
@@ -53,7 +53,7 @@ const HINTS = [
 // The hint for a place, "" where there is none.
 function hint_for(place, text) {
   if (place.what !== "unexpected" && place.what !== "bad byte") return "";
-  const rest = text.slice(place.index, place.index + 200).trimStart(), begun = before_place(text, place.index);
+  const rest = text.slice(place.index, place.index + 200).trimStart(), begun = before_place(text, place.index).trimEnd();
   const word = (/^[A-Za-z]\w*/.exec(rest) || [""])[0];
   if (RESERVED.includes(word) && /\b(var|vertex|table|model|watch|schedule|urgent|cancel|set|draw|all)$/.test(begun)
     && !(begun.endsWith("cancel") && word === "all")) return "it is a reserved word: take another name";

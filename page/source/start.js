@@ -37,7 +37,8 @@ function start_text(text) {
     const comments = (app.editor.text().match(/#/g) || []).length;
     app.editor.cm.setValue(app.model.text);
     app.check();
-    if (comments) at("kept").textContent = `the fixed layout has no comments: Undo brings ${plural(comments, "comment")} back`;
+    files.note = comments ? `the fixed layout has no comments: Undo brings ${plural(comments, "comment")} back` : "";
+    files.keep();
   };
   at("status").onclick = () => {
     if (!app.place) return;
