@@ -12,7 +12,7 @@
 #SBATCH --output=part.%a.log
 . ./study || exit
 part=$SLURM_ARRAY_TASK_ID
-asked=$(sigma-runs_of_part "$part" $parts $words) || exit
+asked=$(sigma-runs-of-part "$part" $parts $words) || exit
 [ -n "$asked" ] || exit 0
 sigma replicate $asked <$model >"part.$part.new"
 ended=$?

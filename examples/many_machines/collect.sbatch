@@ -5,11 +5,11 @@
 set --
 part=1
 while [ "$part" -le "$parts" ]; do
-    asked=$(sigma-runs_of_part "$part" $parts $words) || exit
+    asked=$(sigma-runs-of-part "$part" $parts $words) || exit
     if [ -n "$asked" ]; then
         [ -f "part.$part" ] || { echo "part.$part isn't there"; exit 1; }
         set -- "$@" "part.$part"
     fi
     part=$((part + 1))
 done
-sigma-join_reports "$@" >report.new && mv report.new report.csv
+sigma-join-reports "$@" >report.new && mv report.new report.csv
