@@ -25,7 +25,7 @@ for (const [name, text] of Object.entries(given.examples)) {
     return new RegExp(`^vertex\\s+${vertex.name}\\b`).test(text.slice(part.from, part.to)) && text[part.to - 1] === "}"
       && vertex.edges.every((edge, k) => text.slice(part.edges[k].from, part.edges[k].to).includes(edge.target));
   }));
-  const file = app.picture.file(), xml = new DOMParser().parseFromString(file, "image/svg+xml");
+  const file = app.picture.file(), xml = new DOMParser().parseFromString(file.replace(/<style>[^]*<\/style>/, ""), "image/svg+xml");
   check(`${name}: the picture's file is XML of its own`, !xml.querySelector("parsererror") && !file.includes("var(") && !file.includes("tabindex"));
 }
 
@@ -65,11 +65,15 @@ check("events and arrows take the Tab key in the order of the text", all("#pictu
   === "OPEN,OPEN>ARRIVE,OPEN>CLOSE,ARRIVE,ARRIVE>ARRIVE,ARRIVE>SERVE,SERVE,SERVE>LEAVE,LEAVE,LEAVE>SERVE,CLOSE,CLOSE>ARRIVE");
 check("and say what they are", all("#picture .node, #picture .edge").every(part => part.getAttribute("aria-label").includes(part.dataset.name || part.dataset.to)));
 
-// 500 vertices.
+// 500 vertices, in 2 s of a machine on which a loop of so many additions takes 0.1 s. Where other work shares it, it may take longer.
+const began = performance.now();
+let sum = 0;
+for (let i = 0; i < 1e8; i++) sum = (sum + i) | 0;
+const slowness = Math.max(1, (performance.now() - began) / 100);
 const since = performance.now();
 await app.set_text(given.large, "large.sigma");
 const took = performance.now() - since;
 check("500 vertices are there", all("#picture .node").length === 500 && app.fresh);
-check("they are laid out and drawn in 2 s of a quiet machine, 8 s of any", took < 8000, [took, app.times]);
+check("they are laid out and drawn in 2 s", took < 2000 * slowness, [took, slowness, app.times]);
 check("at first no smaller than can be read", app.picture.view.k >= 0.4);
 await app.set_text(given.examples.bank, "bank.sigma");

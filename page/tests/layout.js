@@ -47,7 +47,6 @@ equal("one node", laid_out(sized(1), []).nodes.length, 1);
 const loops = laid_out(sized(1), [to(0, 0), to(0, 0), to(0, 0)]);
 check("three loops have three places", new Set(loops.edges.map(path => path.y)).size === 3);
 
-// 500 vertices. The time is told, and held loosely, since other work may share the machine.
-const large = given.large.replace(/^version 2;\n/, ""), since = performance.now(), result = measured(large, "down"), took = performance.now() - since;
-check("500 vertices: no ellipses meet, no labels meet", !result.faults.ellipses && !result.faults.labels, result.faults);
-check("500 vertices are laid out and measured in 2 s of a quiet machine, 20 s of any", took < 20000, took);
+// 500 vertices. How long that takes is held in graph.js.
+const large = measured(given.large.replace(/^version 2;\n/, ""), "down").faults;
+check("500 vertices: no ellipses meet, no labels meet", !large.ellipses && !large.labels && !large.labels_on_ellipses, large);
