@@ -10,6 +10,9 @@ function refuse(text, status) {
     exit refused
 }
 
+# Refuses the line of a report or a history that is read: `file` is its name, and `begun` the line before its first one.
+function refuse_line(text, status) { refuse(file ":" NR - begun ": " text, status) }
+
 function max(a, b) { return a > b ? a : b }
 
 function plural(count, noun) { return count " " noun (count == 1 ? "" : "s") }

@@ -35,7 +35,9 @@ find_program() {
 }
 
 # library: the text of the tools' awk functions, behind which a tool puts its own: awk "$(library)"'..'.
-library() { cat "$lib/library.awk" "$lib/numbers.awk" "$lib/means.awk" "$lib/reports.awk" "$lib/histories.awk"; }
+library() {
+    cat "$lib/library.awk" "$lib/numbers.awk" "$lib/means.awk" "$lib/reports.awk" "$lib/histories.awk" "$lib/values.awk"
+}
 
 # needs COMMAND: ends where a command isn't there.
 needs() {
@@ -47,20 +49,31 @@ filled() {
     if grep -q '^# table ' "$1"; then "$tools/tables" --fill "$1" 2>/dev/null; else cat "$1"; fi
 }
 
-# gathered [NAME=]REPORT..: texts one behind the other, each behind a line `design NAME`, and with line feeds alone. `-` is the
-# standard input. What has no name is called as the file, without folder and `.csv`.
+# gathered [NAME=]FILE..: what read_report of reports.awk reads: files one behind the other, each with its name. `-` is the standard
+# input. What has no name is called as the file, without folder and `.csv`.
 gathered() {
     for each in "$@"; do
         file=$each
-        label=$(basename "$file" .csv)
+        label=${file##*/}
+        label=${label%.csv}
         case $each in
             *=*) [ -e "$each" ] || { file=${each#*=} && label=${each%%=*}; } ;;
         esac
         [ "$file" = - ] || { [ -r "$file" ] && [ ! -d "$file" ]; } || no_answer "$file can't be read"
-        echo "design $label"
-        ([ "$file" = - ] || exec <"$file"; exec awk '{ sub(/\r$/, ""); print }') || exit 1
+        (
+            [ "$file" = - ] || exec <"$file"
+            as_design "$label" "$file"
+        ) || exit 1
     done
 }
+
+# as_design NAME FILE: the standard input as a design for read_report, between marks that begin with a byte that is in no text. It is
+# taken out of what is read, and so are NULs, which some awks end a line at. The last mark is not on a line of its own where the last
+# line has no end.
+as_design() { printf '\001design %s\n' "$1" && as_report "$2"; }
+
+# as_report FILE: the standard input as one more report of the design.
+as_report() { printf '\001file %s\n' "$1" && tr '\000\001' '\002\002' && printf '\001end\n'; }
 
 # need_number WHAT VALUE: ends where the value isn't a whole number.
 need_number() {
@@ -108,16 +121,20 @@ parts_of() {
     '
 }
 
-# histories MODEL: the histories of the runs of `seed`, `runs` and `others`, each behind a line `seed SEED`. Where `run` fails, its
-# status stands behind the word failed at the end; where it can't write, its reader has ended and says why.
+# as_history: the standard input as a history for read_note of histories.awk, between marks as those of as_design.
+as_history() { printf '\001history -\n' && tr '\000\001' '\002\002' && printf '\001end\n'; }
+
+# histories MODEL: the histories of the runs of `seed`, `runs` and `others` for read_note, between marks. Where `run` fails, its status
+# is in a mark at the end; where it can't write, its reader has ended and says why.
 histories() {
     seeds "$seed" "$runs" | while read -r each; do
         echo "$each" >>"$room/begun"
-        echo "seed $each"
+        printf '\001seed %s\n' "$each"
         "$program" run --seed "$each" $others <"$1" 2>"$room/errors"
         ended=$?
+        printf '\001'
         case $ended in
-            0 | 6 | 7) ;;
+            0 | 6 | 7) echo end ;;
             4) break ;;
             *) cat "$room/errors" >&2 && echo "failed $ended" && break ;;
         esac
@@ -126,41 +143,30 @@ histories() {
 
 histories_begun() { echo "$(($(wc -l <"$room/begun"))) of $runs runs are begun"; }
 
-# joined_reports: makes one report of several. The first header stands for all, the rows of a report count on from the runs before
-# it, and the totals are joined item by item. An empty field joined with another one is that other one.
+# joined_reports FILE..: makes one report of several. The first header stands for all, the rows of a report count on from the runs
+# before it, and the totals are joined item by item. An empty field joined with another one is that other one.
 joined_reports() {
-    awk "$(library)"'
-        function joined(a, b) {
-            return a == "" || b == "" ? a b : sum(a, b)
-        }
+    printf '\001design %s\n' "$1" >"$room/parts_of_one"
+    for each in "$@"; do as_report "$each" <"$each"; done >>"$room/parts_of_one" || exit
+    awk -v tool="$name" "$(library)"'
+        function joined(a, b) { return a == "" || b == "" ? a b : sum(a, b) }
 
         BEGIN { FS = OFS = "," }
-        $1 == "run" {
-            if (NR == 1) print
-            before = run
-            next
-        }
-        $1 == "total" {
-            item = $5
-            if (!(item in areas)) items[++count] = item
-            if ($6 != "" && (least[item] == "" || is_less($6, least[item]))) least[item] = $6
-            if ($7 != "" && (greatest[item] == "" || is_less(greatest[item], $7))) greatest[item] = $7
-            areas[item] = joined(areas[item], $9)
-            counts[item] = joined(counts[item], $10)
-            next
-        }
-        {
-            run = before + $1
-            $1 = run
-            print
+        { kind = read_report() }
+        kind == "header" && !headers++ { print standard_header }
+        kind == "row" { print runs[1] substr(standard_line(), index(standard_line(), ",")) }
+        kind == "total" {
+            i = totals
+            if (field("least") != "" && (least[i] == "" || is_less(field("least"), least[i]))) least[i] = field("least")
+            if (field("greatest") != "" && (greatest[i] == "" || is_less(greatest[i], field("greatest")))) greatest[i] = field("greatest")
+            areas[i] = joined(areas[i], field("area"))
+            counts[i] = joined(counts[i], field("count"))
         }
         END {
-            for (i = 1; i <= count; i++) {
-                item = items[i]
-                print "total", "", "", "", item, least[item], greatest[item], "", areas[item], counts[item]
-            }
+            if (refused) exit refused
+            for (i = 1; i <= items; i++) print "total", "", "", "", item_of[i], least[i], greatest[i], "", areas[i], counts[i]
         }
-    '
+    ' "$room/parts_of_one"
 }
 
 # make_room: sets `room` to a folder that is gone when the tool ends.

@@ -35,3 +35,39 @@ function seed_behind(seed, count,   answer) {
     answer = sum(seed, count)
     return is_less(answer, "18446744073709551616") ? answer : difference(answer, "18446744073709551616")
 }
+
+# Whether a number is less than another one, both as texts.
+function is_below(a, b) { return length(a) < 15 && length(b) < 15 ? a + 0 < b + 0 : is_less(a "", b "") }
+
+# Adds a number to the sum of this key. Sums are kept in pieces of nine digits, of which the lowest takes what is short.
+function add_exactly(key, x,   sign, k) {
+    if (x + 0 < 1e14 && x + 0 > -1e14) {
+        if ((k = low_piece[key] += x) < 4e15 && k > -4e15) return
+        k = int(k / 1e9)
+        high_piece[key, 1] += k
+        low_piece[key] -= k * 1e9
+        return
+    }
+    x = x ""
+    sign = sub(/^-/, "", x) ? -1 : 1
+    for (k = 0; x != ""; k++) {
+        high_piece[key, k] += sign * substr(x, max(1, length(x) - 8))
+        x = substr(x, 1, max(0, length(x) - 9))
+    }
+    pieces = max(pieces, k)
+}
+
+# The digits of the sum of this key.
+function exact_sum(key,   k, answer, zeros) {
+    answer = sprintf("%.0f", low_piece[key])
+    for (k = 0; k <= max(1, pieces); k++) {
+        if (high_piece[key, k]) answer = sum(answer, sprintf("%.0f", high_piece[key, k]) zeros)
+        zeros = zeros "000000000"
+    }
+    return answer
+}
+
+function clear_sum(key,   k) {
+    delete low_piece[key]
+    for (k = 0; k <= max(1, pieces); k++) delete high_piece[key, k]
+}

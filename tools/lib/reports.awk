@@ -1,5 +1,23 @@
-# Reports of `replicate`. `gathered` of library.sh writes them one behind the other, each design behind a line `design NAME`. A design may
-# have several reports, each with its header. FS is a comma.
+# Reports of `replicate`, which `gathered` of library.sh writes one behind the other. read_report checks each line of them, and ends
+# the tool by the file and the line of the first one that is wrong, so that whatever is counted is of whole reports. What has to hold:
+#
+# - Each field has the form of its column, and runs count from 1 on.
+# - The rows of a run stand together. They have one seed, outcome and time, and the same items in the same order as each other run.
+# - The last value lies between the least and the greatest one, and the area between these times the time.
+# - The totals stand at the end, behind them a line end, and what the rows say adds up to them.
+#
+# A design may have several reports, one behind the other, with the same items and other seeds. FS is a comma.
+
+BEGIN {
+    standard_header = "run,seed,outcome,time,item,least,greatest,last,area,count"
+    column_count = split(standard_header, column_of, ",")
+    whole_form = "(0|[1-9][0-9]*)"
+    number_form = "(0|-?[1-9][0-9]*)"
+    outcome_form = "(ended|stopped|fault|budget)"
+    item_form = "[A-Za-z][A-Za-z0-9_]*(\\[" whole_form "\\])?"
+    row_form = "^" whole_form "," whole_form "," outcome_form "," whole_form "," item_form "," \
+        number_form "?," number_form "?," number_form "?," number_form "?," whole_form "?$"
+}
 
 # want(ITEM, COLUMN): what is read of each run: a column, or `average`, summed over the parts of the item between its `+`. Answers the
 # number w of what is wanted: 1, 2 and so on from call to call. An item A/B is a ratio, of one column or of two, as last/count.
@@ -33,45 +51,216 @@ function take_worth(name,   w) {
     }
 }
 
-# Takes a line. Afterwards run k of design d has value[w, d, k], seed[d, k] and outcome[d, k].
-function read_report(   name) {
-    if (sub(/^design /, "")) {
-        label[++designs] = $0
-        begun = NR
-        runs[designs] = fields = 0
-        return
+# Takes a line, and answers what it is: mark, header, row or total. Afterwards run k of design d has value[w, d, k], seed[d, k] and
+# outcome[d, k].
+function read_report() {
+    if (is_standard && /^[1-9][0-9]*,(0|[1-9][0-9]*),(ended|stopped|fault|budget),(0|[1-9][0-9]*),[A-Za-z][A-Za-z0-9_]*(\[(0|[1-9][0-9]*)\])?,((0|-?[1-9][0-9]*),(0|-?[1-9][0-9]*),(0|-?[1-9][0-9]*),(0|-?[1-9][0-9]*),|,,,,(0|[1-9][0-9]*))$/) {
+        take_row($count_at == "" ? "least greatest last area" : "count")
+        return "row"
     }
-    if ($1 == "run") read_header()
-    if (!fields || NF != fields) refuse(label[designs] " is no report: line " NR - begun " hasn't the fields of its header")
-    if ($1 == "run" || $1 == "total") { last_run = ""; return }
-    if (field("run") "," field("seed") != last_run) begin_run()
-    last_run = field("run") "," field("seed")
-    name = field("item")
-    if (!((designs, name) in has_item)) items_of[designs] = items_of[designs] " " name
-    has_item[designs, name]
-    if (!(name in times_wanted)) return
-    take_worth(name)
-    found[designs, runs[designs]]++
+    if (/^\001/) { read_mark(); return "mark" }
+    if (/\001/) refuse_line("the last line has no line end, so the report is cut off")
+    if (/\r$/) refuse_line("the line ends in CR LF, not in a line feed alone (tr -d '\\r' takes the CR away)")
+    if (NR == begun + 1 && /^(\357\273\277|\376\377|\377\376)/) refuse_line("a byte order mark stands before the report")
+    if (!place["run"] || $1 == "run" || field("run") == "run") { read_header(); return "header" }
+    if (NF != fields) refuse_line("these are " plural(NF, "field") ", and its header has " fields)
+    if (field("run") == "total") { take_total(); return "total" }
+    if (standard_line() !~ row_form) refuse_field()
+    take_row(columns_of_row())
+    return "row"
 }
 
 function field(name) { return $place[name] "" }
 
-function read_header(   header, i) {
+# The line with its columns in their usual order, and no others.
+function standard_line(   line, i) {
+    if (is_standard) return $0
+    line = field("run")
+    for (i = 2; i <= column_count; i++) line = line "," field(column_of[i])
+    return line
+}
+
+# A mark says where a design, one of its reports and the report's end are.
+function read_mark(   i) {
+    if (sub(/^.design /, "")) {
+        label[++designs] = $0
+        clear_reports_sums()
+        runs[designs] = items = 0
+        for (i in item_of) delete item_of[i]
+    } else if (sub(/^.file /, "")) {
+        file = $0
+        begun = NR
+        is_standard = 0
+        for (i in place) delete place[i]
+    } else end_report()
+}
+
+function read_header(   i) {
+    if (place["run"]) end_report()
+    is_standard = $0 == standard_header
     for (i in place) delete place[i]
-    for (i = 1; i <= NF; i++) place[$i] = i
-    split("run seed outcome time item least greatest last area count", header, " ")
-    for (i in header) if (!(header[i] in place)) refuse(label[designs] " is no report: it has no column " header[i])
+    for (i = 1; i <= column_count && index("," $0 ",", "," column_of[i] ","); i++);
+    if (i <= column_count) refuse_line("this is no report: its header has no column " column_of[i])
+    for (i = 1; i <= NF; i++) {
+        if ($i in place) refuse_line("its header has the column " $i " twice")
+        place[$i] = i
+    }
     fields = NF
+    run_at = place["run"]
+    seed_at = place["seed"]
+    outcome_at = place["outcome"]
+    time_at = place["time"]
+    item_at = place["item"]
+    least_at = place["least"]
+    greatest_at = place["greatest"]
+    last_at = place["last"]
+    area_at = place["area"]
+    count_at = place["count"]
+    run_now = position = totals = front_size = 0
+    front = "none"
+    stop_time = ""
+    for (i in least_yet) delete least_yet[i]
+    for (i in greatest_yet) delete greatest_yet[i]
+    clear_reports_sums()
+}
+
+function clear_reports_sums(   i) {
+    for (i = 1; i <= items; i++) { clear_sum(i); clear_sum(-i) }
+}
+
+# Ends with what is wrong in a row.
+function refuse_field(   i, name, form) {
+    for (i = 1; i <= column_count; i++) {
+        name = column_of[i]
+        if (name == "outcome") {
+            if (field(name) !~ "^" outcome_form "$") refuse_line("no outcome is called " field(name))
+        } else if (name == "item") {
+            if (field(name) !~ "^" item_form "$") refuse_line("no item is called " field(name))
+        } else {
+            form = i <= 4 ? whole_form : name == "count" ? whole_form "?" : number_form "?"
+            if (field(name) !~ "^" form "$") refuse_line("the " name " is no whole number: " field(name))
+        }
+    }
+}
+
+# Which of the columns of values a row has.
+function columns_of_row(   i, columns) {
+    for (i = 6; i <= column_count; i++) if (field(column_of[i]) != "") columns = columns (columns == "" ? "" : " ") column_of[i]
+    if (columns == "") refuse_line("the row has no value")
+    return columns
+}
+
+# A row of the standard columns goes on with its run where it begins as the run's first row does.
+function take_row(columns,   name) {
+    if (!is_standard || substr($0, 1, front_size) != front) check_run()
+    name = $item_at
+    if (name != item_of[++position] || columns != shape_of[position]) take_item(name, columns)
+    if (columns == "least greatest last area") {
+        if ($last_at < $least_at || $last_at > $greatest_at) refuse_line("the last value isn't from the least to the greatest one")
+        if ($area_at < $least_at * $time_at || $area_at > $greatest_at * $time_at) check_area()
+    }
+    if (columns == "count") add_exactly(-position, $count_at)
+    else {
+        if ($area_at != "") add_exactly(position, $area_at)
+        if ($least_at != "" && (run_now == 1 || $least_at <= lowest[position])) take_least($least_at)
+        if ($greatest_at != "" && (run_now == 1 || $greatest_at >= highest[position])) take_greatest($greatest_at)
+    }
+    if (times[position]) take_worth(name)
+}
+
+# The least and the greatest value of an item stand as a text, and as a number that may be a little off.
+function take_least(x) {
+    if (run_now > 1 && x == lowest[position] && !is_below(x, least_yet[position])) return
+    least_yet[position] = x ""
+    lowest[position] = x + 0
+}
+function take_greatest(x) {
+    if (run_now > 1 && x == highest[position] && !is_below(greatest_yet[position], x)) return
+    greatest_yet[position] = x ""
+    highest[position] = x + 0
+}
+
+# Products of large numbers are a little off here.
+function check_area(   slack) {
+    slack = 1e-12 * ($area_at < 0 ? -$area_at : $area_at)
+    if ($area_at < $least_at * $time_at - slack || $area_at > $greatest_at * $time_at + slack)
+        refuse_line("the area isn't from the least to the greatest value times the time")
+}
+
+function check_run() {
+    if ($run_at != run_now) begin_run()
+    else if ($seed_at "" != seed_now || $outcome_at != outcome_now || $time_at "" != time_now)
+        refuse_line("run " run_now " has two seeds, outcomes or times")
 }
 
 function begin_run(   k) {
+    if (totals) refuse_line("a row behind the totals")
+    end_run()
+    if ($run_at != run_now + 1) refuse_line("run " $run_at " where run " run_now + 1 " has to be: rows are missing or in another order")
+    run_now = $run_at + 0
+    seed_now = $seed_at ""
+    outcome_now = $outcome_at ""
+    time_now = $time_at ""
+    front = $run_at "," seed_now "," outcome_now "," time_now ","
+    front_size = length(front)
     k = ++runs[designs]
-    seed[designs, k] = field("seed")
-    if ((designs, seed[designs, k]) in run_of) refuse("seed " seed[designs, k] " stands twice in " label[designs])
-    run_of[designs, seed[designs, k]] = k
-    outcome[designs, k] = field("outcome")
-    cut[designs, outcome[designs, k]]++
-    found[designs, k] = 0
+    is_listing = k == 1
+    if (outcome_now == "stopped" && stop_time == "") stop_time = time_now
+    if (outcome_now == "stopped" && time_now != stop_time) refuse_line("run " run_now " stopped at another time than the runs before it")
+    if ((designs, seed_now) in run_of) refuse_line("seed " seed_now " is that of two runs")
+    seed[designs, k] = seed_now
+    run_of[designs, seed_now] = k
+    outcome[designs, k] = outcome_now
+    cut[designs, outcome_now]++
+}
+
+function end_run() {
+    if (run_now && position < items) refuse_line("run " run_now " has no row of " item_of[position + 1])
+    position = 0
+}
+
+# The first run of a design tells the items that each further run has, and which columns they have.
+function take_item(name, columns) {
+    if (is_listing) {
+        if ((designs, name) in has_item) refuse_line("run 1 has " name " twice")
+        has_item[designs, name]
+        items_of[designs] = items_of[designs] " " name
+        item_of[++items] = name
+        shape_of[items] = columns
+        times[items] = times_wanted[name]
+        return
+    }
+    if (name != item_of[position])
+        refuse_line("item " position " of run " run_now " is " name ", and the first run has " (position > items ? "but " items : item_of[position]))
+    refuse_line(name " has " columns " here, and " shape_of[position] " in the first run")
+}
+
+function take_total(   name, columns) {
+    if (!totals) { end_run(); if (!run_now) refuse_line("totals of no run") }
+    name = item_of[++totals]
+    if (field("item") != name) refuse_line("the total of " field("item") ", where that of " (totals > items ? "no item" : name) " has to be")
+    columns = " " shape_of[totals] " "
+    compare_total("seed", "")
+    compare_total("outcome", "")
+    compare_total("time", "")
+    compare_total("least", least_yet[totals])
+    compare_total("greatest", greatest_yet[totals])
+    compare_total("last", "")
+    compare_total("area", index(columns, " area ") ? exact_sum(totals) : "")
+    compare_total("count", index(columns, " count ") ? exact_sum(-totals) : "")
+}
+
+function compare_total(column, here) {
+    if (field(column) == here) return
+    refuse_line("the total " column " of " field("item") " is " (field(column) == "" ? "empty" : field(column)) ", and its rows come to " \
+        (here == "" ? "none" : here) ": rows are missing or changed")
+}
+
+function end_report() {
+    if (!place["run"]) refuse(file " is empty")
+    if (!run_now) refuse_line("it has no run")
+    if (!totals) end_run()
+    if (totals != items) refuse_line(totals ? "the total of " item_of[totals + 1] " is missing" : "the report ends without its totals")
 }
 
 # What a column says of an item. Where it says nothing that is 0, and `hole` says why.
@@ -94,18 +283,10 @@ function told_of(name, column) {
 
 # Ends where what was read has no answer: an item that isn't there, runs that were cut off where `all` isn't set (status 3), and
 # values that aren't there.
-function close_reports(   d, k, name, parts, count) {
+function close_reports(   d, name) {
     if (refused) exit refused
-    for (d = 1; d <= designs; d++) {
-        if (!runs[d]) refuse(label[d] " has no run")
-        for (name in times_wanted) {
-            count++
-            if (!((d, name) in has_item)) refuse("no item " name " in " label[d] "; its items are" items_of[d])
-        }
-        for (k = 1; k <= runs[d]; k++)
-            if (found[d, k] != count) refuse("the run with seed " seed[d, k] " in " label[d] " hasn't each item once")
-        count = 0
-    }
+    for (d = 1; d <= designs; d++) for (name in times_wanted)
+        if (!((d, name) in has_item)) refuse("no item " name " in " label[d] "; its items are" items_of[d])
     for (d = 1; d <= designs; d++) if (cut[d, "fault"] + cut[d, "budget"]) is_cut = is_cut cut_off(d)
     if (is_cut && !all) refuse("values of what was cut off say nothing of whole runs (--all takes them)", 3)
     for (d = 1; d <= designs; d++) if (hole[d] != "") refuse(hole[d])
