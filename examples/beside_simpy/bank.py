@@ -2,7 +2,7 @@
 
     /usr/bin/python3 bank.py SEED RUNS >REPORT
 
-It writes of QUEUE the rows that `sigma replicate` writes, with time and area, so that ../experiments/means reads them. The
+It writes of QUEUE the rows that `sigma replicate` writes, with time and area, so that tools/means reads them. The
 random numbers are Python's own, so the days are others. With a third word, `steps`, it writes how many events SimPy made.
 """
 import random
@@ -62,10 +62,13 @@ class Counted(simpy.Environment):
 
 def main(seed, runs, environment):
     print("run,seed,outcome,time,item,least,greatest,last,area,count")
+    area = 0
     for number in range(runs):
         bank = Bank(seed + number, environment())
         bank.day.run()
+        area += bank.area
         print(f"{number + 1},{seed + number},ended,{bank.end},QUEUE,,,{bank.waiting},{bank.area},")
+    print(f"total,,,,QUEUE,,,,{area},")
 
 
 if sys.argv[3:] == ["steps"]:

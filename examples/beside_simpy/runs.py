@@ -10,11 +10,15 @@ import sys
 def write(run):
     seed, runs = int(sys.argv[1]), int(sys.argv[2])
     print("run,seed,outcome,time,item,least,greatest,last,area,count")
+    totals = {}
     for number in range(runs):
         random.seed(seed + number)
         time, items = run()
         for item, (last, area) in items.items():
             print(f"{number + 1},{seed + number},ended,{time},{item},,,{last},{area},")
+            totals[item] = "" if area == "" else totals.get(item, 0) + area
+    for item, area in totals.items():
+        print(f"total,,,,{item},,,,{area},")
 
 
 class Level:
