@@ -1,4 +1,16 @@
 // The examples as a gallery: a picture of each, drawn by the page, and the question that it answers.
+
+// What a text's head comment begins with: its first sentence, and more where that is short.
+function first_sentence(text) {
+  const head = /^(#[^\n]*\n)+/.exec(text)?.[0].replace(/^# ?/gm, "").replace(/\s+/g, " ") || "";
+  let said = "";
+  for (const sentence of head.match(/.*?[.?!](?= |$)/g) || []) {
+    said += sentence;
+    if (said.length > 40) break;
+  }
+  return said;
+}
+
 const gallery = {
   examples: null, questions: null, pictures: new Map(),
 
@@ -17,9 +29,9 @@ const gallery = {
   rank(name) { return (gallery.questions[name]?.question ? 0 : 100) + Object.keys(gallery.questions).indexOf(name); },
 
   card(name) {
-    const { title, question } = gallery.questions[name] || {};
+    const { title, question } = gallery.questions[name] || {}, said = first_sentence(gallery.examples[name]) || title;
     return html("button", { className: "card", "data-name": name, onclick: () => gallery.choose(name) },
-      html("b", {}, name.replaceAll("_", " ")), question ? html("i", {}, question) : null, html("span", {}, title || ""));
+      html("b", {}, name.replaceAll("_", " ")), question ? html("i", {}, question) : null, html("span", {}, said || ""));
   },
 
   async choose(name) {
