@@ -59,40 +59,46 @@ const designs = {
   row(design, k) {
     const row = document.createElement("li"), line = document.createElement("div"), note = document.createElement("small");
     line.className = "row";
-    const field = (type, label, value, take) => {
-      const input = document.createElement("input");
-      Object.assign(input, { type, ariaLabel: label, title: label });
-      if (type === "checkbox") input.checked = value; else input.value = value;
-      input.onchange = () => { take(type === "checkbox" ? input.checked : input.value.trim()); designs.changed(); };
-      return input;
-    };
-    const button = (text, act) => Object.assign(document.createElement("button"), { type: "button", textContent: text, onclick: act });
-    const name = field("text", "the name of the design", design.name, value => { design.name = value || "design"; });
+    const name = designs.field("the name of the design", design.name, value => { design.name = value || "design"; });
     name.className = "design-name";
-    line.append(field("checkbox", `compare ${design.name}`, design.is_taken, value => { design.is_taken = value; }), name);
-    const has_start = run_words.model && run_words.model.vertices[0].params.length;
-    if (has_start || design.start) {
-      const start = field("text", "starting values, with commas between them", design.start, value => { design.start = value; });
-      start.className = "design-start";
-      start.size = 8;
-      start.placeholder = "as above";
+    line.append(designs.box(design), name);
+    if (design.start || (run_words.model && run_words.model.vertices[0].params.length)) {
+      const start = designs.field("starting values, with commas between them", design.start, value => { design.start = value; });
+      Object.assign(start, { className: "design-start", size: 6, placeholder: "as above" });
       const label = document.createElement("label");
       label.append("start ", start);
       line.append(label);
     }
-    note.textContent = designs.told(design);
-    note.dataset.note = "";
-    line.append(note);
     if (design.text !== null) {
-      line.append(button("Edit", () => designs.edit(row, design)),
-        button("Work on with it", () => app.set_text(design.text)));
+      line.append(designs.button("Edit", "shows the text, to be changed", () => designs.edit(row, design)),
+        designs.button("Open", "puts the text into the editor, in place of what is there", () => app.set_text(design.text)));
     }
-    if (k) line.append(button("Remove", () => designs.remove(k)));
+    if (k) line.append(designs.button("Remove", "", () => designs.remove(k)));
+    note.textContent = designs.told(design);
+    note.className = "design-note";
     const problem = document.createElement("p");
     problem.className = "refusal";
     problem.hidden = true;
-    row.append(line, problem);
+    row.append(line, note, problem);
     return row;
+  },
+
+  field(label, value, take) {
+    const field = document.createElement("input");
+    Object.assign(field, { value, ariaLabel: label, title: label, spellcheck: false });
+    field.onchange = () => { take(field.value.trim()); designs.changed(); };
+    return field;
+  },
+
+  box(design) {
+    const box = document.createElement("input");
+    Object.assign(box, { type: "checkbox", checked: design.is_taken, ariaLabel: `compare ${design.name}`, title: "compare it" });
+    box.onchange = () => { design.is_taken = box.checked; designs.changed(); };
+    return box;
+  },
+
+  button(text, title, act) {
+    return Object.assign(document.createElement("button"), { type: "button", textContent: text, title, onclick: act });
   },
 
   // A field with the text of a kept design, which is taken when the field is left.
@@ -102,7 +108,7 @@ const designs = {
     const field = Object.assign(document.createElement("textarea"), { value: design.text, rows: 12, ariaLabel: `the text of ${design.name}`, spellcheck: false });
     field.onchange = () => {
       design.text = field.value;
-      row.querySelector("[data-note]").textContent = designs.told(design);
+      row.querySelector(".design-note").textContent = designs.told(design);
       designs.changed();
     };
     row.append(field);

@@ -16,11 +16,15 @@ const player = {
     player.show(0);
   },
 
+  unmark() {
+    clear_marks(app.picture, "lit", "taken");
+    app.picture.badges([]);
+  },
+
   unload() {
     player.pause();
-    if (player.frames) clear_marks(app.picture, "lit", "taken");
+    if (player.frames) player.unmark();
     player.frames = null;
-    app.picture?.badges([]);
     at("run-player").hidden = at("run-moment").hidden = true;
   },
 
@@ -157,7 +161,7 @@ const pending_events = {
 
   show({ snapshot, words }) {
     const body = at("run-pending");
-    if (!player.frames || pending_events.wanted !== null) return;
+    if (!player.frames || pending_events.wanted !== null || tabs.open_name !== "run") return;
     const counts = new Map(), list = snapshot ? snapshot.pending : [];
     for (const { vertex } of list) counts.set(vertex, (counts.get(vertex) || 0) + 1);
     app.picture.badges(counts);

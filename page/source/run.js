@@ -154,7 +154,16 @@ tabs.add({
   name: "run",
   title: "Run",
   start: run_tab.start,
-  shown: () => { at("run-words").hidden = false; run_tab.show_shell_line(); },
+  shown() {
+    at("run-words").hidden = false;
+    run_tab.show_shell_line();
+    if (player.frames) player.show(player.now);
+  },
+  // The marks of the moment that is shown are this tab's alone.
+  hidden() {
+    player.pause();
+    if (player.frames) player.unmark();
+  },
   model_changed(model) {
     run_words.model_changed(model);
     run_tab.stop();
