@@ -47,6 +47,7 @@ const both_runs = {
     Object.assign(both_runs, { rows: lined.rows, first, second, notes });
     at("both-from").max = Math.max(0, lined.rows.length - both_runs.ROWS);
     at("both-from").value = 0;
+    at("both-from").hidden = lined.rows.length <= both_runs.ROWS;
     at("both-done").hidden = false;
     both_runs.draw(first, second, notes);
     both_runs.show_rows();

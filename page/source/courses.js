@@ -1,10 +1,10 @@
 // The course of each watched value over the run, and how often watched events occurred.
 const courses = {
-  most: 24, plots: [],
+  most: 24, plots: [], course: null, time: 0, width: 0,
 
   show(course) {
-    const place = at("run-courses"), width = Math.max(260, Math.min(900, place.clientWidth - 130));
-    courses.plots = [];
+    const place = at("run-courses"), width = Math.max(220, Math.min(900, place.clientWidth - 130));
+    Object.assign(courses, { plots: [], course, width });
     const rows = [];
     const add = (name, note, plot) => {
       if (!plot) return;
@@ -33,6 +33,23 @@ const courses = {
 
   note(text) { return Object.assign(document.createElement("p"), { className: "hint", textContent: text }); },
 
-  show_time(time) { for (const plot of courses.plots) plot.show_time(time); },
-  clear() { courses.plots = []; at("run-courses").replaceChildren(); },
+  show_time(time) {
+    courses.time = time;
+    for (const plot of courses.plots) plot.show_time(time);
+  },
+
+  clear() {
+    Object.assign(courses, { plots: [], course: null });
+    at("run-courses").replaceChildren();
+  },
+
+  // Plots are drawn anew where their place has got another width.
+  start() {
+    new ResizeObserver(() => {
+      const wide = at("run-courses").clientWidth;
+      if (!courses.course || !wide || Math.abs(Math.max(220, Math.min(900, wide - 130)) - courses.width) < 20) return;
+      courses.show(courses.course);
+      courses.show_time(courses.time);
+    }).observe(at("run-courses"));
+  },
 };

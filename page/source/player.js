@@ -82,9 +82,11 @@ const player = {
     const vertex = player.vertex(k), time = player.frames.times[k - 1];
     const places = vertex.edges.filter(edge => edge.when).length && !player.variant.marks.length ? null
       : edges_taken(vertex, player.marks(k));
-    mark_vertices(app.picture, [vertex.name], "lit");
-    if (places) mark_edges(app.picture, vertex.name, places, "taken");
-    app.picture.seek(vertex.name);
+    if (tabs.open_name === "run") {
+      mark_vertices(app.picture, [vertex.name], "lit");
+      if (places) mark_edges(app.picture, vertex.name, places, "taken");
+      app.picture.seek(vertex.name);
+    }
     const numbers = `event ${(player.first + k).toLocaleString("en")} of ${last.toLocaleString("en")}`;
     at("run-clock").textContent = `${numbers}: ${vertex.name} at ${time.toLocaleString("en")}`;
     at("run-taken").textContent = places ? player.told_edges(vertex, places) : "which edges it takes isn't known here";

@@ -145,6 +145,7 @@ const run_tab = {
     at("run-slider").oninput = () => { player.pause(); player.show(Number(at("run-slider").value)); };
     at("run-from").onchange = run_tab.run;
     player.shown = courses.show_time;
+    courses.start();
     addEventListener("keydown", run_tab.key);
     for (const name of ["input", "change"]) at("run-words").addEventListener(name, run_tab.show_shell_line);
   },

@@ -18,7 +18,7 @@ const tabs = {
       button.tabIndex = is_open ? 0 : -1;
       at("tab-" + tab.name).hidden = !is_open;
     }
-    tabs.open_name = name;
+    tabs.open_name = document.body.dataset.tab = name;
     const tab = tabs.all.find(each => each.name === name);
     if (tab && tab.shown) tab.shown();
   },

@@ -67,6 +67,10 @@ def compare_means(browser, check, given, folder):
             wanted[line[:cut].strip()] = line[cut + 1:]
         check(f"{item} {column}: as means says it", len(wanted) == 5 and all(page.get(label) == rest for label, rest in wanted.items()),
               [wanted, page])
+    pairs = {row[1]: row[7:] for row in rows_of(table(browser, "average"), "QUEUE") if " - " in row[1]}
+    said, _ = tool(["means", "--all-pairs", "QUEUE", "average", *names], folder)
+    wanted = {line[:line.index(" 200 runs")].strip(): line.split(" from ")[1].split(" to ") for line in said.splitlines() if " - " in line}
+    check("all pairs together, as means --all-pairs says it", len(wanted) == 3 and pairs == wanted, [wanted, pairs])
     said, _ = tool(["means", "QUEUE", "time", "bank.csv"], folder)
     check("the time of the end", told(table(browser, "time")[0])[1] == said.split("   ", 1)[1].strip(), said)
     for item, column in (("CLOSE", "average"), ("QUEUE", "count")):
