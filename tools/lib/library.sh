@@ -44,9 +44,9 @@ needs() {
     command -v "$1" >/dev/null || no_answer "it needs $1, which isn't there"
 }
 
-# filled MODEL: a model text, with its tables filled in where it has placeholders.
+# filled MODEL: a model text, with its tables and values filled in where it has placeholders.
 filled() {
-    if grep -q '^# table ' "$1"; then "$tools/tables" --fill "$1" 2>/dev/null; else cat "$1"; fi
+    if grep -q -e '^# table ' -e '^ *# values ' "$1"; then "$tools/tables" --fill "$1" 2>/dev/null; else cat "$1"; fi
 }
 
 # gathered [NAME=]FILE..: what read_report of reports.awk reads: files one behind the other, each with its name. `-` is the standard

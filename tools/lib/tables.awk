@@ -1,4 +1,5 @@
-# What `tables` does: reads a model text, makes the table that each placeholder asks for, and puts it into its place. With
+# What `tables` does: reads a model text, makes the table that each placeholder asks for, and puts it into its place; array_values.awk
+# has those that ask for the values of an array. With
 # `alone` it writes the tables and no other line. Nothing is written where something is refused.
 
 function refuse(line, text) { stop(line, text, 1) }
@@ -13,11 +14,21 @@ function stop(line, text, status) {
     exit refused
 }
 
-# Reads measured times, one a line, in rising order, and hands them to `cell`. They are as wide as the way to their neighbours.
-function data(line, file, ticks,   quoted, sorted, time, times, count, i, before, after) {
-    quoted = file == "-" ? input : file
+# Where a file is that a model text names: beside the model, which is in `folder`.
+function beside(file) { return file ~ /^\// ? file : folder file }
+
+function is_readable(path,   quoted) {
+    quoted = path
     gsub(/'/, "'\\''", quoted)
-    if (system("test -r '" quoted "' && ! test -d '" quoted "'")) refuse(line, "can't read " file)
+    return !system("test -r '" quoted "' && ! test -d '" quoted "'")
+}
+
+# Reads measured times, one a line, in rising order, and hands them to `cell`. They are as wide as the way to their neighbours.
+function data(line, file, ticks,   file_path, quoted, sorted, time, times, count, i, before, after) {
+    file_path = file == "-" ? input : beside(file)
+    if (!is_readable(file_path)) refuse(line, "can't read " file)
+    quoted = file_path
+    gsub(/'/, "'\\''", quoted)
     sorted = "sort -n <'" quoted "'"
     while ((sorted | getline time) > 0) {
         if (time !~ /^[ \t]*[0-9]+(\.[0-9]+)?[ \t\r]*$/) refuse(line, file " has a line that is no time: " time)
@@ -117,7 +128,8 @@ function replaced(from, name,   i, code, rows) {
 END {
     if (refused) exit refused
     for (i in place) asked = 1
-    if (!asked) refuse(0, "no placeholder `# table NAME DISTRIBUTION NUMBER..;`")
+    for (i in values_of) asked = 1
+    if (!asked) refuse(0, "no placeholder `# table NAME DISTRIBUTION NUMBER..;` or `# values NAME FILE COLUMN;`")
     for (i = 1; i <= NR; i++) {
         from = i
         split(text[i], part, /[ \t{]+/)
@@ -125,6 +137,9 @@ END {
         if (text[i] ~ /^[ \t]*table[ \t]/ && name in table) i = replaced(i, name)
         else if (!alone) print text[i]
         if (from in place && !(place[from] in there)) print table[place[from]]
+        if (!(from in values_of)) continue
+        print values_text[from]
+        while (i < NR && text[i + 1] ~ ("^[ \t]*set[ \t]+" values_of[from] "[ \t]*\\[")) i++
     }
     printf "%s", told | "cat >&2"
     close("cat >&2")
