@@ -29,22 +29,36 @@ function data(line, file, ticks,   file_path, quoted, sorted, time, times, count
     if (!is_readable(file_path)) refuse(line, "can't read " file)
     quoted = file_path
     gsub(/'/, "'\\''", quoted)
-    sorted = "sort -n <'" quoted "'"
+    quoted = "'" quoted "'"
+    check_times(line, file, "tr '\\000' '\\002' <" quoted, "tail -c 1 <" quoted " | wc -l", ticks)
+    sorted = "sort -n <" quoted
     while ((sorted | getline time) > 0) {
-        if (time !~ /^[ \t]*[0-9]+(\.[0-9]+)?[ \t\r]*$/) refuse(line, file " has a line that is no time: " time)
         time *= ticks
-        if (time > 1e12) refuse(line, file " has a time above 1000000000000 ticks")
         if (!count || time != times[count]) times[++count] = time
         often[count]++
     }
     close(sorted)
-    if (!count) refuse(line, file " has no time")
     for (i = 1; i <= count; i++) {
         before = i > 1 ? times[i] - times[i - 1] : 0
         after = i < count ? times[i + 1] - times[i] : 0
         cell(times[i], i == 1 ? after : i == count ? before : (before + after) / 2, often[i])
         often[i] = 0
     }
+}
+
+# Ends at the first line of measured times that is none, and where the last one has no line end.
+function check_times(line, file, reads, ends, ticks,   time, count, end) {
+    while ((reads | getline time) > 0) {
+        count++
+        if (time ~ /\r$/) refuse(line, file ":" count ": the line ends in CR LF, not in a line feed alone (tr -d '\\r' takes the CR away)")
+        if (time !~ /^[0-9]+(\.[0-9]+)?$/) refuse(line, file ":" count ": this is no time: " time)
+        if (time * ticks > 1e12) refuse(line, file ":" count ": this time is above 1000000000000 ticks")
+    }
+    close(reads)
+    if (!count) refuse(line, file " has no time")
+    ends | getline end
+    close(ends)
+    if (!end) refuse(line, file ":" count ": the last line has no line end, so the file is cut off")
 }
 
 # Why the table isn't what was asked for, or nothing: the mean may be off by a thousandth, the deviation by five.
@@ -72,7 +86,7 @@ function made(line, name, count, a, b, c,   wrong, weights) {
     wrong = wrong_numbers(kind, count, a, b, c)
     if (wrong != "") refuse_words(line, kind " " wrong)
     clear()
-    if (kind == "data") data(line, a, count > 1 ? b : 1)
+    if (kind == "data") data(line, alone ? a = ENVIRON["data_file"] : a, count > 1 ? b : 1)
     else distribution(a + 0, b + 0, c + 0)
     moments_of_cells()
     ask(kind, a + 0, b + 0, c + 0)
