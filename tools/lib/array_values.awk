@@ -13,6 +13,7 @@ function split_line(line, parts,   sign, count, i) {
 function read_column(line, file, column,   path, here, row, parts, count, place, i, values) {
     path = beside(file)
     if (!is_readable(path)) refuse(line, "can't read " file)
+    check_end(line, file, path)
     place = column ~ /^[0-9]+$/ ? column + 0 : 0
     while ((getline here < path) > 0) {
         sub(/\r$/, "", here)

@@ -30,7 +30,8 @@ function data(line, file, ticks,   file_path, quoted, sorted, time, times, count
     quoted = file_path
     gsub(/'/, "'\\''", quoted)
     quoted = "'" quoted "'"
-    check_times(line, file, "tr '\\000' '\\002' <" quoted, "tail -c 1 <" quoted " | wc -l", ticks)
+    check_times(line, file, "tr '\\000' '\\002' <" quoted, ticks)
+    check_end(line, file, file_path)
     sorted = "sort -n <" quoted
     while ((sorted | getline time) > 0) {
         time *= ticks
@@ -46,8 +47,8 @@ function data(line, file, ticks,   file_path, quoted, sorted, time, times, count
     }
 }
 
-# Ends at the first line of measured times that is none, and where the last one has no line end.
-function check_times(line, file, reads, ends, ticks,   time, count, end) {
+# Ends at the first line of measured times that is none.
+function check_times(line, file, reads, ticks,   time, count) {
     while ((reads | getline time) > 0) {
         count++
         if (time ~ /\r$/) refuse(line, file ":" count ": the line ends in CR LF, not in a line feed alone (tr -d '\\r' takes the CR away)")
@@ -56,9 +57,15 @@ function check_times(line, file, reads, ends, ticks,   time, count, end) {
     }
     close(reads)
     if (!count) refuse(line, file " has no time")
-    ends | getline end
-    close(ends)
-    if (!end) refuse(line, file ":" count ": the last line has no line end, so the file is cut off")
+}
+
+# Ends where the last line of a file has no line end.
+function check_end(line, file, path,   counts, ends) {
+    gsub(/'/, "'\\''", path)
+    counts = "tail -c 1 <'" path "' | wc -l"
+    counts | getline ends
+    close(counts)
+    if (!(ends + 0)) refuse(line, file ": the last line has no line end, so the file is cut off")
 }
 
 # Why the table isn't what was asked for, or nothing: the mean may be off by a thousandth, the deviation by five.
