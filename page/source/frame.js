@@ -75,6 +75,7 @@ function start_dialogs() {
     dialog.addEventListener("click", event => { if (event.target === dialog && dialog.id !== "loss-dialog") dialog.close(); });
   }
   at("codemirror-version").textContent = CodeMirror.version;
+  at("verdict").textContent = JSON.parse(at("made").textContent).verdict.trim();
 }
 
 // The legend: a sample of each sign, and what it says.
