@@ -67,6 +67,13 @@ function exact_sum(key,   k, answer, zeros) {
     return answer
 }
 
+# The sum as a number, which may be a little off.
+function sum_of_pieces(key,   k, answer) {
+    answer = low_piece[key]
+    for (k = 0; k <= max(1, pieces); k++) answer += high_piece[key, k] * 10 ^ (9 * k)
+    return answer
+}
+
 function clear_sum(key,   k) {
     delete low_piece[key]
     for (k = 0; k <= max(1, pieces); k++) delete high_piece[key, k]

@@ -6,6 +6,8 @@
 # - The last value lies between the least and the greatest one, and the area between these times the time.
 # - The totals stand at the end, behind them a line end, and what the rows say adds up to them.
 #
+# Other programs' reports may leave fields of least and greatest empty, and then have decimal fractions in time, last and area.
+#
 # A design may have several reports, one behind the other, with the same items and other seeds. FS is a comma.
 
 BEGIN {
@@ -15,8 +17,9 @@ BEGIN {
     number_form = "(0|-?[1-9][0-9]*)"
     outcome_form = "(ended|stopped|fault|budget)"
     item_form = "[A-Za-z][A-Za-z0-9_]*(\\[" whole_form "\\])?"
-    row_form = "^" whole_form "," whole_form "," outcome_form "," whole_form "," item_form "," \
-        number_form "?," number_form "?," number_form "?," number_form "?," whole_form "?$"
+    decimal_form = "-?[0-9]+\\.[0-9]+"
+    row_form = "^" whole_form "," whole_form "," outcome_form ",(" whole_form "|" decimal_form ")," item_form "," \
+        number_form "?," number_form "?,(" number_form "|" decimal_form ")?,(" number_form "|" decimal_form ")?," whole_form "?$"
 }
 
 # want(ITEM, COLUMN): what is read of each run: a column, or `average`, summed over the parts of the item between its `+`. Answers the
@@ -53,7 +56,7 @@ function take_worth(name,   w) {
 
 # Takes a line, and answers what it is: mark, header, row or total. Afterwards run k of design d has value[w, d, k], seed[d, k] and
 # outcome[d, k].
-function read_report() {
+function read_report(   columns) {
     if (is_standard && /^[1-9][0-9]*,(0|[1-9][0-9]*),(ended|stopped|fault|budget),(0|[1-9][0-9]*),[A-Za-z][A-Za-z0-9_]*(\[(0|[1-9][0-9]*)\])?,((0|-?[1-9][0-9]*),(0|-?[1-9][0-9]*),(0|-?[1-9][0-9]*),(0|-?[1-9][0-9]*),|,,,,(0|[1-9][0-9]*))$/) {
         take_row($count_at == "" ? "least greatest last area" : "count")
         return "row"
@@ -65,8 +68,9 @@ function read_report() {
     if (!place["run"] || $1 == "run" || field("run") == "run") { read_header(); return "header" }
     if (NF != fields) refuse_line("these are " plural(NF, "field") ", and its header has " fields)
     if (field("run") == "total") { take_total(); return "total" }
-    if (standard_line() !~ row_form) refuse_field()
-    take_row(columns_of_row())
+    columns = columns_of_row()
+    if (standard_line() !~ row_form || columns ~ /least|greatest/ && index(standard_line(), ".")) refuse_field()
+    take_row(columns)
     return "row"
 }
 
@@ -125,7 +129,7 @@ function read_header(   i) {
 }
 
 function clear_reports_sums(   i) {
-    for (i = 1; i <= items; i++) { clear_sum(i); clear_sum(-i) }
+    for (i = 1; i <= items; i++) { clear_sum(i); clear_sum(-i); delete has_fractions[i] }
 }
 
 # Ends with what is wrong in a row.
@@ -162,6 +166,7 @@ function take_row(columns,   name) {
     if (columns == "count") add_exactly(-position, $count_at)
     else {
         if ($area_at != "") add_exactly(position, $area_at)
+        if (index($area_at, ".")) has_fractions[position]
         if ($least_at != "" && (run_now == 1 || $least_at <= lowest[position])) take_least($least_at)
         if ($greatest_at != "" && (run_now == 1 || $greatest_at >= highest[position])) take_greatest($greatest_at)
     }
@@ -251,10 +256,12 @@ function take_total(   name, columns) {
 }
 
 function compare_total(column, here) {
-    if (field(column) == here) return
+    if (field(column) == here || column == "area" && totals in has_fractions && is_nearly(field(column), sum_of_pieces(totals))) return
     refuse_line("the total " column " of " field("item") " is " (field(column) == "" ? "empty" : field(column)) ", and its rows come to " \
         (here == "" ? "none" : here) ": rows are missing or changed")
 }
+
+function is_nearly(a, b) { return (a < b ? b - a : a - b) <= 1e-9 * (a < 0 ? -a : a) }
 
 function end_report() {
     if (!place["run"]) refuse(file " is empty")
