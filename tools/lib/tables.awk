@@ -60,12 +60,13 @@ function check_times(line, file, reads, ticks,   time, count) {
 }
 
 # Ends where the last line of a file has no line end.
-function check_end(line, file, path,   counts, ends) {
+function check_end(line, file, path,   counts, ends, lines) {
     gsub(/'/, "'\\''", path)
-    counts = "tail -c 1 <'" path "' | wc -l"
+    counts = "tail -c 1 <'" path "' | wc -l; wc -l <'" path "'"
     counts | getline ends
+    counts | getline lines
     close(counts)
-    if (!(ends + 0)) refuse(line, file ": the last line has no line end, so the file is cut off")
+    if (!(ends + 0)) refuse(line, file ":" lines + 1 ": the last line has no line end, so the file is cut off")
 }
 
 # Why the table isn't what was asked for, or nothing: the mean may be off by a thousandth, the deviation by five.
