@@ -34,7 +34,8 @@ class Picture {
   }
 
   place() { this.layer.setAttribute("transform", `translate(${this.view.x} ${this.view.y}) scale(${this.view.k})`); }
-  room() { return { width: this.svg.clientWidth || 600, height: (this.svg.clientHeight || 400) - 44 }; }
+  // The room that the picture has: what the buttons leave.
+  room() { return { width: this.svg.clientWidth || 600, height: (this.svg.clientHeight || 400) - at("tools").offsetHeight - 14 }; }
   move(x, y) {
     this.view.x += x;
     this.view.y += y;

@@ -1,0 +1,34 @@
+"""Makes the pictures of docs/page.md where --shots names a folder, and sees that each shows what the page says of it."""
+
+import os
+
+# A picture: its name, its size, how the page gets there, and what must then be so.
+PICTURES = [
+    ("page", 1120, 700, "await app.set_text(given.bank, 'bank.sigma'); app.select('SERVE', undefined, false); app.editor.cm.scrollTo(0, 60);"
+                        " document.getElementById('run-go').click(); while (!document.querySelector('#run-values tr')) await wait(50);"
+                        " document.getElementById('run-slider').value = 40; document.getElementById('run-slider').dispatchEvent(new Event('input')); await wait(400)",
+     "document.querySelectorAll('#run-courses svg').length > 0"),
+    ("page_edge", 1120, 560, "await app.set_text(given.desk, 'desk.sigma'); app.select('ARRIVE', 0)", "document.querySelector('[data-field=how]').value === 'evenly'"),
+    ("page_refused", 1120, 480, "await app.set_text(given.desk.replace('set FREE := true', 'set FREE = true'), 'desk.sigma');"
+                                " app.editor.cm.scrollIntoView({ line: app.place.line, ch: 0 }, 120)", "document.querySelector('.says').textContent.includes('write :=')"),
+    ("page_sideways", 1120, 560, "app.how = 'right'; await app.set_text(given.emergency, 'emergency.sigma'); splitters.set(document.getElementById('split-panel'), 34);"
+                                 " await wait(100); app.picture.fit()", "app.picture.at.get('CALL').x > app.picture.at.get('COME').x"),
+    ("page_gallery", 1000, 600, "app.how = 'down'; await app.set_text(given.bank, 'bank.sigma'); document.getElementById('examples-open').click();"
+                                " while (document.querySelectorAll('#cards .thumb').length < 12) await wait(50)", "document.querySelectorAll('.card').length > 20"),
+]
+
+
+def test(browser, check, given, shots):
+    examples = {name: given["examples"][name] for name in ("bank", "desk", "emergency")}
+    browser.run("theme.set('light')")
+    for name, width, height, how, holds in PICTURES:
+        browser.size(width, height)
+        browser.run("const given = values[0], wait = time => new Promise(done => setTimeout(done, time));"
+                    f" {how}; await wait(300)", examples)
+        check(f"{name} shows what it is for", browser.run(f"return Boolean({holds})"))
+        if shots:
+            file = f"{shots}/{name}.png"
+            browser.shot(file)
+            check(f"{name} is at most 150 KB", os.path.getsize(file) <= 150000, os.path.getsize(file))
+    browser.run("document.querySelector('dialog[open]').close()")
+    browser.size(1400, 900)
