@@ -4,22 +4,24 @@ import os
 
 # A picture: its name, its size, how the page gets there, and what must then be so.
 PICTURES = [
-    ("page", 1120, 700, "await app.set_text(given.bank, 'bank.sigma'); app.select('SERVE', undefined, false); app.editor.cm.scrollTo(0, 60);"
+    ("page", 1060, 660, "await app.set_text(given.bank, 'bank.sigma'); app.select('SERVE', undefined, false); app.editor.cm.scrollTo(0, 300);"
                         " document.getElementById('run-go').click(); while (!document.querySelector('#run-values tr')) await wait(50);"
                         " document.getElementById('run-slider').value = 40; document.getElementById('run-slider').dispatchEvent(new Event('input')); await wait(400)",
      "document.querySelectorAll('#run-courses svg').length > 0"),
     ("page_edge", 1120, 560, "await app.set_text(given.desk, 'desk.sigma'); app.select('ARRIVE', 0)", "document.querySelector('[data-field=how]').value === 'evenly'"),
     ("page_refused", 1120, 480, "await app.set_text(given.desk.replace('set FREE := true', 'set FREE = true'), 'desk.sigma');"
                                 " app.editor.cm.scrollIntoView({ line: app.place.line, ch: 0 }, 120)", "document.querySelector('.says').textContent.includes('write :=')"),
-    ("page_sideways", 1120, 560, "app.how = 'right'; await app.set_text(given.emergency, 'emergency.sigma'); splitters.set(document.getElementById('split-panel'), 34);"
-                                 " await wait(100); app.picture.fit()", "app.picture.at.get('CALL').x > app.picture.at.get('COME').x"),
-    ("page_gallery", 1000, 600, "app.how = 'down'; await app.set_text(given.bank, 'bank.sigma'); document.getElementById('examples-open').click();"
+    ("page_sideways", 1120, 560, "app.how = 'right'; await app.set_text(given.shop, 'shop.sigma'); splitters.set(document.getElementById('split-panel'), 34);"
+                                 " splitters.set(document.getElementById('split-text'), 180); splitters.set(document.getElementById('split-form'), 200);"
+                                 " document.getElementById('legend-open').click(); await wait(200); app.picture.fit()",
+     "app.picture.at.get('LEAVE').x > app.picture.at.get('ARRIVE').x"),
+    ("page_gallery", 1000, 600, "app.how = 'down'; document.getElementById('legend-open').click(); await app.set_text(given.bank, 'bank.sigma'); document.getElementById('examples-open').click();"
                                 " while (document.querySelectorAll('#cards .thumb').length < 12) await wait(50)", "document.querySelectorAll('.card').length > 20"),
 ]
 
 
 def test(browser, check, given, shots):
-    examples = {name: given["examples"][name] for name in ("bank", "desk", "emergency")}
+    examples = {name: given["examples"][name] for name in ("bank", "desk", "shop")}
     browser.run("theme.set('light')")
     for name, width, height, how, holds in PICTURES:
         browser.size(width, height)
