@@ -21,4 +21,4 @@ returns-then-is_err-clause-known c = c.nothing.ensures _
 pub returns-clause-known : goal.returns-clause-known
 returns-clause-known c =
     let (holds, is) = told_ok c.settle.result (sym c.is_err.ensures.value ∙ c.if-is_err.false) c.settle.ensures.done in
-    subst (λ (h : EventGraph). IsKnown h c.know_settled.new.known) (sym is) (c.know_settled.ensures holds)
+    subst (λ (h : EventGraph). IsKnown h c.know_settled.new.known) (sym is) (c.know_settled.ensures.known holds)
