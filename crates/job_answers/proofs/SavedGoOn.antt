@@ -1,5 +1,5 @@
 -- From an answer of `save` that is given to the run that was saved, and to what `resume` answers for it.
-use Rattle.std.proofs.Common.{◌≡◌, inl, inr, ℕ, ◌+◌, ◌<◌, ◌≤◌, ◌^◌, ◌++◌, ℤ, Bool, true, false, cond, List, length, Option, Some, None, refl, sym, ap, ap₂, ◌∙◌, subst, arith, nat_le, nat_lt}
+use Rattle.std.proofs.Common.{◌≡◌, inl, inr, ℕ, ◌+◌, ◌<◌, ◌≤◌, ◌^◌, ◌++◌, ℤ, Bool, true, false, cond, List, length, Option, Some, None, refl, sym, ap, ◌∙◌, subst, arith, nat_le, nat_lt}
 use Rattle.std.specs.Prelude.{IsTrue, ◌↔◌}
 use Rattle.std.proofs.lemmas.Bool.Decides.{nat_tests}
 use Rattle.sig_base.specs.declared.limits.TheConstants.{DOCUMENT_MAX, EVENTS_MAX}
@@ -23,14 +23,13 @@ use Rattle.model_core.specs.Saved.SavedRun.{SavedRun, IsGood, saved, history_fro
 use Rattle.model_core.specs.Saved.GoodSnapshots.{bad_at, saved_run}
 use Rattle.model_core.specs.Saved.Resuming.{Resumes}
 use Rattle.model_core.specs.Saved.GoingOn.{GoesOn}
-use Rattle.answer_delivery.specs.declared.answer.Answer.{Answer}
 use Rattle.answer_delivery.specs.declared.answer.Answer.TheVariants.{Given, Refused}
 use Rattle.answer_delivery.specs.declared.status.End.{End}
 use Rattle.answer_delivery.specs.declared.status.Refusal.TheVariants as refusals
 use Rattle.answer_delivery.specs.AnswerForms.{done}
 use Rattle.job_answers.specs.Answers.{Responds, Answers}
 use Rattle.job_answers.specs.RunAnswer.{told_of, refused_or}
-use Rattle.job_answers.specs.ResumeAnswer.{below_clock_line, too_many_events, resume_refusal, resume_answer}
+use Rattle.job_answers.specs.ResumeAnswer.{below_clock_line, too_many_events, resume_refusal}
 use Rattle.job_answers.specs.SaveAnswer.{snapshot_too_long, saved_document, document_reached, unless_too_long, unless_finished, saving_answer}
 use Rattle.job_answers.specs.SavedAndResumed.{IsResumed, SavesTheRun}
 use Rattle.job_answers.specs.SavedReading.{ReadsSaved}
