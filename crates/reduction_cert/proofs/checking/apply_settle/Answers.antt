@@ -1,5 +1,5 @@
 -- What is known was told before, and holds of the result.
-use Rattle.std.proofs.Common.{rules, ◌≡◌, ◌∙◌, Some, None, cond, sym, ap}
+use Rattle.std.proofs.Common.{rules, ◌∙◌, Some, None, cond, sym, ap}
 use Rattle.model_core.specs.declared.rule_refused.RuleRefused.{RuleRefused}
 use Rattle.model_core.specs.Code.Views.{graph_of}
 use Rattle.model_core.specs.Rules.Conditions.{first_failed}
