@@ -43,7 +43,7 @@ fn are_written(
     Ok(
         print_output.written() == printed
             && reduce_output.written() == reduced
-            && errors.written() == b"",
+            && errors.written().is_empty(),
     )
 }
 
