@@ -1,6 +1,5 @@
-use Rattle.std.proofs.Common.{refl, ap, ◌∙◌}
+use Rattle.std.proofs.Common.{ap}
 use Rattle.command_words.specs.Jobs.{job_of}
-use Rattle.sig_base.specs.Sink.{GrowsBy}
 use Rattle.answer_laws.proofs.TextsApart.{ModelFacts}
 use Rattle.answer_laws.proofs.TwoModels.{shown_by_calls}
 use Rattle.answer_laws.proofs.two_calls.print_and_reduce.Goals as goal
