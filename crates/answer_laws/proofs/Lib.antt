@@ -1,2 +1,5 @@
+mod CutApart
 mod OneAnswer
+mod TextsApart
+mod TwoModels
 mod WhatIsRefused

@@ -1,1 +1,2 @@
 pub mod Unreadable
+pub mod PrintedAndReduced

@@ -1,9 +1,11 @@
-//! Laws of the program's answers: each text has one for each job, which texts are refused, and that there are devices over
-//! which a call comes to it. Nothing that the program runs stands on them.
+//! Laws of the program's answers: each text has one for each job, which texts are refused, that there are devices over
+//! which a call comes to it, and the headline over two calls. Nothing that the program runs stands on them.
 #![tactic(auto)]
 
 mod answer_law;
 mod sure_devices;
+mod two_calls;
 
 pub use answer_law::{answers_are_determined, unreadable_texts_are_refused};
 pub use sure_devices::sure_status;
+pub use two_calls::{canonical_texts_tell_models, print_and_reduce};

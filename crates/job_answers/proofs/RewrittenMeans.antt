@@ -26,10 +26,8 @@ module _ (Becomes : EventGraph → EventGraph → Type 0) (law : KeepsMeaningAs 
       let valid : IsValid g = (text, reads) in
       record {
         original = g;
-        rewritten = r.rewritten;
         reads = reads;
-        becomes = r.becomes;
-        written = r.written;
+        rewrites = r;
         reads_back = subst (λ (bytes : List ℕ). Reads bytes r.rewritten) (sym r.written) (law.reads_back r.rewritten (law.valid g r.rewritten valid r.becomes));
         same = law.same g r.rewritten valid r.becomes;
       }

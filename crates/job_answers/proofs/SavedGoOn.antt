@@ -1,11 +1,10 @@
--- From an answer of `save` that is given to the run that was saved, and to what `resume` answers to it.
-use Rattle.std.proofs.Common.{◌≡◌, inl, inr, ℕ, ◌+◌, ◌<◌, ◌≤◌, ◌^◌, ◌++◌, ℤ, Bool, true, false, cond, List, length, Option, Some, None, refl, sym, ap, ap₂, ◌∙◌, subst, arith, nat_le, nat_lt}
+-- From an answer of `save` that is given to the run that was saved, and to what `resume` answers for it.
+use Rattle.std.proofs.Common.{◌≡◌, inl, inr, ℕ, ◌+◌, ◌<◌, ◌≤◌, ◌^◌, ◌++◌, ℤ, Bool, true, false, cond, List, length, Option, Some, None, refl, sym, ap, ◌∙◌, subst, arith, nat_le, nat_lt}
 use Rattle.std.specs.Prelude.{IsTrue, ◌↔◌}
 use Rattle.std.proofs.lemmas.Bool.Decides.{nat_tests}
 use Rattle.sig_base.specs.declared.limits.TheConstants.{DOCUMENT_MAX, EVENTS_MAX}
 use Rattle.command_words.specs.declared.reading.ModelJob.TheVariants.{Save}
-use Rattle.command_words.specs.declared.reading.Reading.TheVariants.{Model as OfModel, Saved as OfSaved}
-use Rattle.command_words.specs.declared.reading.SavedJob.TheVariants.{Resume}
+use Rattle.command_words.specs.declared.reading.Reading.TheVariants.{Model as OfModel}
 use Rattle.command_words.specs.declared.save_options.SaveOptions.{SaveOptions}
 use Rattle.command_words.specs.KeptLimits.{KeepsLimits}
 use Rattle.model_core.specs.EventGraph.{EventGraph}
@@ -24,18 +23,15 @@ use Rattle.model_core.specs.Saved.SavedRun.{SavedRun, IsGood, saved, history_fro
 use Rattle.model_core.specs.Saved.GoodSnapshots.{bad_at, saved_run}
 use Rattle.model_core.specs.Saved.Resuming.{Resumes}
 use Rattle.model_core.specs.Saved.GoingOn.{GoesOn}
-use Rattle.answer_delivery.specs.declared.answer.Answer.{Answer}
 use Rattle.answer_delivery.specs.declared.answer.Answer.TheVariants.{Given, Refused}
-use Rattle.answer_delivery.specs.declared.complaint.Complaint.{Complaint}
 use Rattle.answer_delivery.specs.declared.status.End.{End}
 use Rattle.answer_delivery.specs.declared.status.Refusal.TheVariants as refusals
 use Rattle.answer_delivery.specs.AnswerForms.{done}
 use Rattle.job_answers.specs.Answers.{Responds, Answers}
 use Rattle.job_answers.specs.RunAnswer.{told_of, refused_or}
-use Rattle.job_answers.specs.ResumeAnswer.{below_clock_line, too_many_events, resume_refusal, resume_answer}
+use Rattle.job_answers.specs.ResumeAnswer.{below_clock_line, too_many_events, resume_refusal}
 use Rattle.job_answers.specs.SaveAnswer.{snapshot_too_long, saved_document, document_reached, unless_too_long, unless_finished, saving_answer}
 use Rattle.job_answers.specs.SavedAndResumed.{IsResumed, SavesTheRun}
-use Rattle.job_answers.specs.SavedComplaints.{IsSavedComplaint}
 use Rattle.job_answers.specs.SavedReading.{ReadsSaved}
 use Rattle.job_answers.specs.StartingValues.{start_refusal}
 use Rattle.job_answers.proofs.GivenAnswers.{given_is_no_refusal, given_bytes}
@@ -48,10 +44,8 @@ pub record SavedFacts : Type 0 where
       → (m : Moment) × GoesOn g seed starts until n m × Resumes g seed starts until n m
   pub reads_back : (g : EventGraph) (s : SavedRun) → KeepsStaticRules g → IsSpellable g → IsGood g s
       → (m : WrittenModel) × (w : WrittenSnapshot) × SpellsSaved (canonical g ++ snapshot_text g s) m w × Accepted m g × (bad_at g w ≡ None) × (saved_run g w ≡ s)
-  pub uncomplained : (text : List ℕ) (c : Complaint) (i : ℕ) (g : EventGraph) (s : SavedRun) → IsSavedComplaint text c i → ReadsSaved text g s → ⊥
-  pub one_reading : (text : List ℕ) (g h : EventGraph) (s t : SavedRun) → ReadsSaved text g s → ReadsSaved text h t → (g ≡ h) × (s ≡ t)
 
--- ---- what `resume` answers to it
+-- ---- what `resume` answers for it
 
 not_refused : (s : SavedRun) (until more : ℕ) → s.clock ≤ until → s.events + more ≤ EVENTS_MAX → resume_refusal s until more ≡ None
 not_refused s until more soon few =
@@ -59,21 +53,8 @@ not_refused s until more soon few =
     let enough : nat_lt EVENTS_MAX (s.events + more) ≡ false = grind (arith, nat_tests, few) in
     ap (λ b. cond b (Some (below_clock_line s.clock)) (cond (nat_lt EVENTS_MAX (s.events + more)) (Some too_many_events) None)) early ∙ ap (λ b. cond b (Some too_many_events) None) enough
 
-module _ (facts : SavedFacts) (document : List ℕ) (g : EventGraph) (s : SavedRun) (reads : ReadsSaved document g s) where
-  resumed_so : (until more : ℕ) → s.clock ≤ until → s.events + more ≤ EVENTS_MAX → resume_answer g s until more ≡ told_of g until more (history_from g s until more)
-  resumed_so until more soon few = ap (λ x. refused_or x (told_of g until more (history_from g s until more))) (not_refused s until more soon few)
-
-  within_resumed : (until more room : ℕ) → s.clock ≤ until → s.events + more ≤ EVENTS_MAX → (a : Answer) → Responds (OfSaved (Resume (record { until = until; events = more; room = room }))) document a
-      → a ≡ told_of g until more (history_from g s until more)
-  within_resumed until more room soon few a (inl h) = absurd (facts.uncomplained document h.what h.at g s h.complaint reads)
-  within_resumed until more room soon few a (inr h) =
-      let same = facts.one_reading document h.model g h.run s h.reads reads in
-      let answer : EventGraph → SavedRun → Answer = λ k t. resume_answer k t until more in
-      h.told ∙ ap₂ answer same.0 same.1 ∙ resumed_so until more soon few
-
-  is_resumed : IsResumed document g s
-  is_resumed until more room soon few a (inl h) = let over = h.0 in let fits = reads.fits in absurd (omega (arith, over, fits))
-  is_resumed until more room soon few a (inr h) = within_resumed until more room soon few a h.1
+is_resumed : (g : EventGraph) (s : SavedRun) → IsResumed g s
+is_resumed g s until more room soon few a is = is ∙ ap (λ x. refused_or x (told_of g until more (history_from g s until more))) (not_refused s until more soon few)
 
 -- ---- from the answer to the run
 
@@ -120,7 +101,7 @@ module _ (facts : SavedFacts) (o : SaveOptions) (limits : KeepsLimits (OfModel (
           written = written;
           reads_back = back;
           goes_on = resumes;
-          resumed = is_resumed facts document g s back;
+          resumed = is_resumed g s;
         }
 
     by_start : (end : End) (refusal : Option (List ℕ)) → start_refusal g o.starts ≡ refusal → Given end document ≡ refused_or refusal (saving_answer g o) → SavesTheRun text document o

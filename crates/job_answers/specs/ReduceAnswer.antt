@@ -17,10 +17,7 @@ pub record Reduces (original : EventGraph) (out : List ℕ) : Type 0 where
 -- What is written for the text spells a model that means the same: it reads back, and the two models are the same.
 pub record KeepsMeaning (text out : List ℕ) : Type 0 where
   pub original : EventGraph
-  pub applications : List RuleApplication
-  pub reduced : EventGraph
   pub reads : Reads text original
-  pub strategy : Strategy original applications reduced
-  pub written : out ≡ canonical reduced ++ certificate applications
-  pub reads_back : Reads (canonical reduced) reduced
-  pub same : Same original reduced
+  pub reduces : Reduces original out
+  pub reads_back : Reads (canonical reduces.reduced) reduces.reduced
+  pub same : Same original reduces.reduced

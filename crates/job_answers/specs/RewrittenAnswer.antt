@@ -14,9 +14,7 @@ pub record Rewrites (Becomes : EventGraph → EventGraph → Type 0) (original :
 -- What is written for the text is that of a model that means the same: it reads back, and the two models are the same.
 pub record RewritesTheSame (Becomes : EventGraph → EventGraph → Type 0) (text out : List ℕ) : Type 0 where
   pub original : EventGraph
-  pub rewritten : EventGraph
   pub reads : Reads text original
-  pub becomes : Becomes original rewritten
-  pub written : out ≡ canonical rewritten
-  pub reads_back : Reads out rewritten
-  pub same : Same original rewritten
+  pub rewrites : Rewrites Becomes original out
+  pub reads_back : Reads out rewrites.rewritten
+  pub same : Same original rewrites.rewritten

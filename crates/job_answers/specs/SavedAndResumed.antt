@@ -1,7 +1,6 @@
 -- What `save` is for: what it writes reads back, and what `resume` writes of that goes on as the whole run does.
 use Rattle.std.specs.Prelude.{◌≡◌, ℕ, ◌+◌, ◌≤◌, List, Some}
 use Rattle.sig_base.specs.declared.limits.TheConstants.{EVENTS_MAX}
-use Rattle.command_words.specs.declared.reading.Reading.TheVariants.{Saved as OfSaved}
 use Rattle.command_words.specs.declared.reading.SavedJob.TheVariants.{Resume}
 use Rattle.command_words.specs.declared.save_options.SaveOptions.{SaveOptions}
 use Rattle.model_core.specs.EventGraph.{EventGraph}
@@ -11,20 +10,20 @@ use Rattle.model_core.specs.Text.HistoryText.{history_text}
 use Rattle.model_core.specs.Saved.SavedRun.{SavedRun, saved, history_from}
 use Rattle.model_core.specs.Saved.Resuming.{Resumes}
 use Rattle.answer_delivery.specs.declared.answer.Answer.{Answer}
-use Rattle.job_answers.specs.Answers.{Answers}
+use Rattle.job_answers.specs.Answers.{AnswersSaved}
 use Rattle.job_answers.specs.RunAnswer.{told_of}
 use Rattle.job_answers.specs.SaveAnswer.{saved_document}
 use Rattle.job_answers.specs.SavedReading.{ReadsSaved}
 
--- Every answer of `resume` to this document, up to a stop time that isn't before the clock and for no more events than a run
+-- What `resume` answers for this model and saved run, up to a stop time that isn't before the clock and for no more events than a run
 -- can have, tells the history of the saved run from there on.
-abbrev pub IsResumed : List ℕ → EventGraph → SavedRun → Type 0
-IsResumed document g s = (until more room : ℕ) → s.clock ≤ until → s.events + more ≤ EVENTS_MAX → (a : Answer)
-    → Answers (OfSaved (Resume (record { until = until; events = more; room = room }))) document a → a ≡ told_of g until more (history_from g s until more)
+abbrev pub IsResumed : EventGraph → SavedRun → Type 0
+IsResumed g s = (until more room : ℕ) → s.clock ≤ until → s.events + more ≤ EVENTS_MAX → (a : Answer)
+    → AnswersSaved (Resume (record { until = until; events = more; room = room })) g s a → a ≡ told_of g until more (history_from g s until more)
 
 -- What is written for the text is the document of its model and of the moment that its run reaches after so many events. It
 -- reads back as these. What the saved run shows from there on, behind the notes so far, is what the whole run shows; and it
--- is what `resume` tells of the document.
+-- is what `resume` tells of what the document reads back as.
 pub record SavesTheRun (text document : List ℕ) (o : SaveOptions) : Type 0 where
   pub model : EventGraph
   pub reads : Reads text model
@@ -34,7 +33,7 @@ pub record SavesTheRun (text document : List ℕ) (o : SaveOptions) : Type 0 whe
   pub written : document ≡ saved_document model (saved o.seed o.events here)
   pub reads_back : ReadsSaved document model (saved o.seed o.events here)
   pub goes_on : Resumes model o.seed o.starts o.until o.events here
-  pub resumed : IsResumed document model (saved o.seed o.events here)
+  pub resumed : IsResumed model (saved o.seed o.events here)
 
 -- Of a document that `save` wrote, the history of its run from there on is written, up to a stop time that isn't before the
 -- clock and for so many further events, of which there are in all no more than a run can have.

@@ -2,11 +2,15 @@
 
 ghost use Rattle.std.specs.Prelude.{◌≡◌, ◌≤◌, ◌⊎◌, ℕ, List, length};
 ghost use Rattle.sig_base.specs.declared.limits.TheConstants.{DOCUMENT_MAX};
+ghost use Rattle.command_words.specs.declared.reading.Reading.TheVariants.{Saved as OfSaved};
+ghost use Rattle.command_words.specs.declared.reading.SavedJob.{SavedJob};
 ghost use Rattle.model_core.specs.EventGraph.{EventGraph};
 ghost use Rattle.model_core.specs.Rules.Reduction.{RuleApplication};
 ghost use Rattle.model_core.specs.Static.Reading.{ReadsDocument};
 ghost use Rattle.model_core.specs.Saved.SavedRun.{SavedRun};
+ghost use Rattle.answer_delivery.specs.declared.answer.Answer.{Answer};
 ghost use Rattle.answer_delivery.specs.declared.complaint.Complaint.{Complaint};
+ghost use Rattle.job_answers.specs.Answers.{AnswersSaved, Answers};
 ghost use Rattle.job_answers.specs.DocumentComplaints.{IsDocumentComplaint};
 ghost use Rattle.job_answers.specs.Complained.{HasDocumentComplaint, HasSavedComplaint};
 ghost use Rattle.job_answers.specs.SavedComplaints.{IsSavedComplaint};
@@ -39,4 +43,11 @@ pub fn saved_documents_have_one_complaint()
 {
     one_fault_is_told();
     snapshots_have_one_reading();
+}
+
+/// What is answered to a document that reads as a model and a saved run is answered for these.
+pub fn read_runs_are_answered()
+    ensures { (job : SavedJob) (text : List ℕ) (g : EventGraph) (s : SavedRun) (a : Answer) → ReadsSaved text g s → Answers (OfSaved job) text a → AnswersSaved job g s a }
+{
+    saved_documents_have_one_complaint();
 }

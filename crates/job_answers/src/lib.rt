@@ -34,7 +34,9 @@ mod written_reading;
 pub use answering::{answer_alone, answer_document, answer_model, answer_saved};
 pub use certifying::sound_documents_mean_the_same;
 pub use complaint_law::{readable_models_are_reduced, texts_have_one_complaint};
-pub use document_law::{documents_have_one_complaint, saved_documents_have_one_complaint};
+pub use document_law::{
+    documents_have_one_complaint, read_runs_are_answered, saved_documents_have_one_complaint,
+};
 pub use job_laws::answers_keep_their_laws;
 pub use model_reading::model_of;
 pub use reading_error::ReadingError;

@@ -19,19 +19,17 @@ ghost use Rattle.job_answers.specs.Answers.{Answers};
 ghost use Rattle.job_answers.specs.PlainKinds.{plain_kinds};
 ghost use Rattle.job_answers.specs.SavedAndResumed.{SavesTheRun};
 
-use crate::document_law::saved_documents_have_one_complaint;
 use round_trip::validity_is_by_parts;
 use run_snapshot::saved_runs_resume;
 use snapshot_text::{saved_documents_read_back, saved_runs_read_back};
 
-/// What `save` writes for a text reads back, and what `resume` writes of that goes on as the whole run does.
+/// What `save` writes for a text reads back, and what `resume` answers for that goes on as the whole run does.
 pub fn saved_runs_are_resumed()
     ensures { (o : Options) (text document : List ℕ) (end : End) → KeepsLimits (OfModel (Save o)) → Answers (OfModel (Save o)) text (Given end document) → SavesTheRun text document o }
 {
     validity_is_by_parts();
     saved_runs_resume();
     saved_documents_read_back();
-    saved_documents_have_one_complaint();
 }
 
 /// The tokens of a good snapshot, behind any others of a text, are those of the text of the saved run that it stands for, wherever

@@ -1,5 +1,5 @@
 -- How many bytes the lines of what each vertex does have stays right where one number is counted, and through a merge.
-use Rattle.std.proofs.Common.{◌≡◌, ℕ, zero, suc, ◌+◌, ◌-◌, ◌≤◌, ◌==◌, Bool, true, false, List, [], ◌∷◌, min, slice_index_or, Option, Some, None, refl, sym, subst, arith}
+use Rattle.std.proofs.Common.{◌≡◌, ℕ, zero, suc, ◌+◌, ◌-◌, ◌≤◌, ◌==◌, Bool, true, false, List, [], ◌∷◌, min, slice_index_or, Option, Some, None, refl, sym, ap, subst, arith}
 use Rattle.model_core.specs.EventGraph.{EventGraph}
 use Rattle.model_core.specs.Run.Step.{vertex_at}
 use Rattle.model_core.specs.Rules.PlacedEdges.{with_place}
@@ -10,6 +10,7 @@ use Rattle.merge_rules.specs.Hollowed.{hollow, hollowed, merged_leaving}
 use Rattle.merge_rules.specs.declared.taking_over.SecondVertex.{SecondVertex}
 use Rattle.merge_rules.specs.declared.taking_over.SecondVertex.TheVariants as seconds
 use Rattle.merge_rules.specs.Known.{TellsLength, AreBodies}
+use Rattle.merge_rules.specs.KnownLess.{bytes_left}
 use Rattle.merge_rules.proofs.PairsBetweenMerges.LedPlaces.{same-numbers}
 use Rattle.merge_rules.proofs.MergedText.ValidMerged.{name_stays}
 use Rattle.merge_rules.proofs.MergedText.MergedLength.{body_elsewhere}
@@ -66,3 +67,9 @@ pub body_sum : (top body gone added whole seen gone_seen added_seen : ℕ) → w
 body_sum top body gone added whole seen gone_seen added_seen is within seen_is short gone_is added_is =
     let exact : seen ≡ body = omega (arith, seen_is, short) in
     omega (arith, is, within, exact, seen_is, gone_is, added_is)
+
+-- where a number loses bytes, it loses them in the list
+pub lost-there : (gone : ℕ) (bodies : List (Option ℕ)) (vertex : ℕ) (left : Option ℕ) → left ≡ bytes_left (slice_index_or bodies vertex None) gone → with_place (λ bytes. left) vertex bodies ≡ with_place (λ bytes. bytes_left bytes gone) vertex bodies
+lost-there gone [] vertex left is = refl
+lost-there gone (b ∷ bodies) zero left is = ap (λ n. n ∷ bodies) is
+lost-there gone (b ∷ bodies) (suc vertex) left is = ap (λ ns. b ∷ ns) (lost-there gone bodies vertex left is)

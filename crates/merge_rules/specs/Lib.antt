@@ -4,5 +4,6 @@ pub mod PairStanding
 pub mod Growth
 pub mod Hollowed
 pub mod Known
+pub mod KnownLess
 pub mod NothingCounted
 pub mod UrgentVertices

@@ -12,7 +12,8 @@ ghost use Rattle.model_core.specs.Rules.Merge.{merge_conditions, merged};
 ghost use Rattle.model_core.specs.Rules.UrgentEdges.{single_urgent};
 ghost use Rattle.model_core.specs.Code.Views.{graph_of};
 ghost use Rattle.merge_rules.specs.Growth.{body_lines, capped, growth};
-ghost use Rattle.merge_rules.specs.Known.{IsMeasured, TellsSingle, TellsLength, IsKnown};
+ghost use Rattle.merge_rules.specs.Known.{IsMeasured, TellsSingle, TellsLength, IsKnown, text_length};
+ghost use Rattle.merge_rules.specs.KnownLess.{in_64_bits, still_single};
 
 use crate::bodies::Bodies;
 use crate::growth::{Growth, body_at};
@@ -69,6 +70,7 @@ impl Known {
     /// Whether it is known that the model is single urgent without some of its vertices, or one of its edges, which it is where it
     /// was with them.
     pub fn single_without_parts(&self) -> Option<bool>
+        ensures is { result ≡ still_single self.now.single }
         ensures dropped { (g : EventGraph) (vertices : List ℕ) → IsKnown g self.now → TellsSingle (dropped g vertices) result }
         ensures pruned { (g : EventGraph) (vertex edge : ℕ) → IsKnown g self.now → TellsSingle (pruned g vertex edge) result }
     {
@@ -117,9 +119,10 @@ impl Known {
         version_two
     }
 
-    /// How many bytes the canonical text of the model has, or None where that isn't known.
+    /// How many bytes the canonical text of the model has, or None where that isn't known or they are 2^64 or more.
     pub fn text_length(&self) -> Option<u64>
-        ensures { (g : EventGraph) → IsKnown g self.now → IsMeasured g result }
+        ensures is { result ≡ in_64_bits (text_length self.now) }
+        ensures measured { (g : EventGraph) → IsKnown g self.now → IsMeasured g result }
     {
         let version = version_length(self.version_two?);
         self.lines?.checked_add(version)

@@ -1,6 +1,6 @@
 //! What is known of a model behind a prune or a settle of one of its edges.
 
-ghost use Rattle.std.specs.Prelude.{◌≡◌, ℕ, ◌+◌, ◌-◌, ◌<◌, ◌^◌, false, Some, None, length};
+ghost use Rattle.std.specs.Prelude.{◌≡◌, ℕ, ◌+◌, ◌-◌, ◌<◌, ◌^◌, false, cond, Some, None, length};
 ghost use Rattle.std.specs.Option.{option_map, IfSome};
 ghost use Rattle.model_core.specs.EventGraph.{EventGraph, has_drawn_delay};
 ghost use Rattle.model_core.specs.Text.Canonical.{condition_text};
@@ -11,6 +11,7 @@ ghost use Rattle.model_core.specs.Rules.Settle.{settle_conditions, settled};
 ghost use Rattle.model_core.specs.Code.Views.{graph_of, edge_of, expression_of};
 ghost use Rattle.merge_rules.specs.Growth.{capped};
 ghost use Rattle.merge_rules.specs.Known.{TellsLines, TellsVersion, TellsSingle, AreBodies, IsKnown};
+ghost use Rattle.merge_rules.specs.KnownLess.{bytes_left, known_less, known_pruned, single_settled, known_settled};
 ghost use Rattle.merge_rules.specs.Inner.LosesBytes.{LosesBytes};
 
 use crate::known::Known;
@@ -28,7 +29,8 @@ fn edge_at(model: &Model, vertex: usize, edge: usize) -> Option<&Edge>
 
 /// What is left of so many bytes without these, or None where one of the two isn't known to the last byte.
 fn left_of(bytes: Option<u64>, gone: u64) -> Option<u64>
-    ensures { IfSome result (λ left. (bytes ≡ Some (left + gone)) × (left + gone < 2 ^ 64 - 1)) }
+    ensures is { result ≡ bytes_left bytes gone }
+    ensures left { IfSome result (λ left. (bytes ≡ Some (left + gone)) × (left + gone < 2 ^ 64 - 1)) }
 {
     let bytes = bytes?;
     if bytes == u64::MAX {
@@ -49,7 +51,8 @@ fn condition_length(condition: &Expr, model: &Model) -> u64
 
 /// Whether only a text of version 2 can write a model without this edge, or None where that isn't known: where it draws its delay.
 fn version_without(version_two: Option<bool>, edge: &Edge) -> Option<bool>
-    ensures { IfSome result (λ two. (version_two ≡ Some two) × (has_drawn_delay (edge_of edge.now) ≡ false)) }
+    ensures is { result ≡ cond (has_drawn_delay (edge_of edge.now)) None version_two }
+    ensures undrawn { IfSome result (λ two. (version_two ≡ Some two) × (has_drawn_delay (edge_of edge.now) ≡ false)) }
 {
     if has_drawn_delay(edge) {
         None
@@ -61,7 +64,8 @@ fn version_without(version_two: Option<bool>, edge: &Edge) -> Option<bool>
 /// Makes what is known of a model what is known of one in which what the vertex at this place does has so many bytes less.
 /// Whether that one needs version 2 of a text, and is single urgent, is known of it already, where it is.
 fn lose(known: &mut Known, vertex: usize, gone: u64)
-    ensures { (g h : EventGraph) (bytes : ℕ) → gone ≡ capped bytes → LosesBytes g h vertex bytes
+    ensures is { known.new ≡ known_less known.old vertex gone }
+    ensures loses { (g h : EventGraph) (bytes : ℕ) → gone ≡ capped bytes → LosesBytes g h vertex bytes
         → TellsLines g known.old.lines → AreBodies g known.old.bodies → TellsVersion h known.old.version_two → TellsSingle h known.old.single
         → IsKnown h known.new }
 {
@@ -74,7 +78,8 @@ fn lose(known: &mut Known, vertex: usize, gone: u64)
 /// it.
 pub fn know_pruned(model: &Model, known: &mut Known, vertex: usize, edge: usize)
     requires known { IsKnown (graph_of model.now) known.old }
-    ensures { first_failed (prune_conditions (graph_of model.now) vertex edge) ≡ None → IsKnown (pruned (graph_of model.now) vertex edge) known.new }
+    ensures is { known.new ≡ known_pruned (graph_of model.now) vertex edge known.old }
+    ensures known { first_failed (prune_conditions (graph_of model.now) vertex edge) ≡ None → IsKnown (pruned (graph_of model.now) vertex edge) known.new }
 {
     let Some(edge) = edge_at(model, vertex, edge) else {
         return;
@@ -88,7 +93,8 @@ pub fn know_pruned(model: &Model, known: &mut Known, vertex: usize, edge: usize)
 /// was, and that edge may take any condition.
 fn single_settled(model: &Model, single: Option<bool>, vertex: usize, edge: usize) -> Option<bool>
     requires { TellsSingle (graph_of model.now) single }
-    ensures { TellsSingle (settled (graph_of model.now) vertex edge) result }
+    ensures is { result ≡ single_settled (graph_of model.now) vertex edge single }
+    ensures tells { TellsSingle (settled (graph_of model.now) vertex edge) result }
 {
     let edges = model.vertices.as_slice().get(vertex)?.edges.as_slice();
     if single? && may_take_any_condition(model, edges, edge) {
@@ -102,7 +108,8 @@ fn single_settled(model: &Model, single: Option<bool>, vertex: usize, edge: usiz
 /// it.
 pub fn know_settled(model: &Model, known: &mut Known, vertex: usize, edge: usize)
     requires known { IsKnown (graph_of model.now) known.old }
-    ensures { first_failed (settle_conditions (graph_of model.now) vertex edge) ≡ None → IsKnown (settled (graph_of model.now) vertex edge) known.new }
+    ensures is { known.new ≡ known_settled (graph_of model.now) vertex edge known.old }
+    ensures known { first_failed (settle_conditions (graph_of model.now) vertex edge) ≡ None → IsKnown (settled (graph_of model.now) vertex edge) known.new }
 {
     let Some(settled) = edge_at(model, vertex, edge) else {
         return;

@@ -5,6 +5,7 @@ use Rattle.model_core.specs.EventGraph.{EventGraph, EventVertex}
 use Rattle.model_core.specs.Run.Step.{no_vertex, vertex_at}
 use Rattle.merge_rules.specs.Growth.{body_lines}
 use Rattle.merge_rules.specs.Known.{TellsLength, AreBodies}
+use Rattle.reduction_cert.specs.KnownWithout.{bodies_without}
 
 -- ---- places of lists that lose one
 
@@ -39,3 +40,9 @@ pub only : (ks : List ℕ) → length ks ≡ 1 → ks ≡ get_or ks 0 0 ∷ []
 only [] one = absurd (omega (arith, one))
 only (k ∷ []) one = refl
 only (k ∷ j ∷ ks) one = absurd (omega (arith, one))
+
+-- none is known where more or fewer than one go
+pub none-without : (bodies : List (Option ℕ)) (ks : List ℕ) → (length ks ≡ 1 → ⊥) → bodies_without bodies ks ≡ []
+none-without bodies [] one = refl
+none-without bodies (k ∷ []) one = absurd (one refl)
+none-without bodies (k ∷ j ∷ ks) one = refl

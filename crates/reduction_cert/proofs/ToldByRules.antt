@@ -1,5 +1,5 @@
 -- What a rule's answer tells of its application.
-use Rattle.std.proofs.Common.{◌≡◌, ℕ, Bool, true, false, cond, List, Option, Some, None, Result, Ok, Err, is_err, OnOk, IfOk, IfErr, refl, sym, ap, ◌∙◌, subst}
+use Rattle.std.proofs.Common.{◌≡◌, ℕ, Bool, true, false, cond, List, Option, Some, None, Result, Ok, Err, is_ok, OnOk, IfOk, IfErr, refl, sym, ap, ◌∙◌, subst}
 use Rattle.std.specs.Option.{option_map_or}
 use Rattle.sig_base.specs.declared.no_memory.NoMemory.{NoMemory}
 use Rattle.model_core.specs.declared.rule_error.RuleError.{RuleError}
@@ -9,7 +9,11 @@ use Rattle.model_core.specs.Rules.Conditions.{first_failed}
 use Rattle.model_core.specs.Rules.ConditionTold.{TellsCondition}
 use Rattle.model_core.specs.Rules.Drop.{drop_conditions, dropped}
 use Rattle.model_core.specs.Rules.Merge.{merge_conditions, merged}
-use Rattle.model_core.specs.Rules.Reduction.{Drop, Merge, vertices_named, two_vertices_named, unless_failed, applied}
+use Rattle.model_core.specs.Rules.Reduction.{Prune, Settle, Drop, Merge, edge_named, vertices_named, two_vertices_named, unless_failed, applied}
+use Rattle.model_core.specs.Rules.Prune.{prune_conditions, pruned}
+use Rattle.model_core.specs.Rules.Settle.{settle_conditions, settled}
+use Rattle.merge_rules.specs.Known.{IsKnown}
+use Rattle.merge_rules.specs.declared.known.Known.{Known}
 
 module _ (result h : EventGraph) (failed : Option ℕ) (given : Result (Unit {0}) RuleError) (done : OnOk given ((failed ≡ None) × (h ≡ result))) (tells : IfErr given (λ e. TellsCondition e failed)) where
   pub told_made : given ≡ Ok tt → unless_failed failed result ≡ Some h
@@ -33,14 +37,32 @@ module _ (result h : EventGraph) (failed : Option ℕ) (given : Result (Unit {0}
   told_answer (Ok false) made refused = let (condition, is) = refused refl in told_refused condition is
   told_answer (Err e) made refused = tt
 
--- what a rule tells of its result holds where it was made
-pub told_ok : {P E : Type 0} (given : Result (Unit {0}) E) → is_err given ≡ false → OnOk given P → P
+-- what a rule of one edge gives
+pub edge_made : {E : Type 0} (result h : EventGraph) (failed : Option ℕ) (condition : E → ℕ) (given : Result (Unit {0}) E) → OnOk given ((failed ≡ None) × (h ≡ result)) → IfErr given (λ e. failed ≡ Some (condition e)) → unless_failed failed result ≡ cond (is_ok given) (Some h) None
+edge_made result h failed condition (Ok done) (holds, same) told = ap (λ o. unless_failed o result) holds ∙ ap Some (sym same)
+edge_made result h failed condition (Err e) held told = ap (λ o. unless_failed o result) told
+
+pub told_ok : {P E : Type 0} (given : Result (Unit {0}) E) → is_ok given ≡ true → OnOk given P → P
 told_ok (Ok done) made p = p
 told_ok (Err e) made p = cc
+
+-- what was told before a rule holds of what it made, and where it made nothing it is forgotten
+pub kept_known : (result h : EventGraph) (failed : Option ℕ) (made : Bool) (told known : Known) → (made ≡ true → (failed ≡ None) × (h ≡ result)) → (failed ≡ None → IsKnown result told)
+    → (made ≡ true → known ≡ told) → (made ≡ false → (g : EventGraph) → IsKnown g known) → IsKnown h known
+kept_known result h failed true told known done is kept forgotten =
+    let (holds, same) = done refl in
+    subst (λ (g : EventGraph). IsKnown g known) (sym same) (subst (IsKnown result) (sym (kept refl)) (is holds))
+kept_known result h failed false told known done is kept forgotten = forgotten refl h
 
 -- where the names of an application name vertices, it gives what the rule gives of these
 pub drop_named : (g : EventGraph) (names : List (List ℕ)) (vertices : List ℕ) → vertices_named g names ≡ Some vertices → applied g (Drop names) ≡ unless_failed (first_failed (drop_conditions g vertices)) (dropped g vertices)
 drop_named g names vertices is = ap (λ o. unless_failed (option_map_or (λ vs. first_failed (drop_conditions g vs)) o (Some 2)) (option_map_or (λ vs. dropped g vs) o g)) is
+
+pub prune_named : (g : EventGraph) (name : List ℕ) (number vertex edge : ℕ) → edge_named g name number ≡ Some (vertex, edge) → applied g (Prune name number) ≡ unless_failed (first_failed (prune_conditions g vertex edge)) (pruned g vertex edge)
+prune_named g name number vertex edge is = ap (λ o. unless_failed (option_map_or (λ (v, e). first_failed (prune_conditions g v e)) o (Some 1)) (option_map_or (λ (v, e). pruned g v e) o g)) is
+
+pub settle_named : (g : EventGraph) (name : List ℕ) (number vertex edge : ℕ) → edge_named g name number ≡ Some (vertex, edge) → applied g (Settle name number) ≡ unless_failed (first_failed (settle_conditions g vertex edge)) (settled g vertex edge)
+settle_named g name number vertex edge is = ap (λ o. unless_failed (option_map_or (λ (v, e). first_failed (settle_conditions g v e)) o (Some 1)) (option_map_or (λ (v, e). settled g v e) o g)) is
 
 pub merge_named : (g : EventGraph) (name target : List ℕ) (first second : ℕ) → two_vertices_named g name target ≡ Some (first, second) → applied g (Merge name target) ≡ unless_failed (first_failed (merge_conditions g first second)) (merged g first second)
 merge_named g name target first second is = ap (λ o. unless_failed (option_map_or (λ (a, b). first_failed (merge_conditions g a b)) o (Some 1)) (option_map_or (λ (a, b). merged g a b) o g)) is

@@ -1,2 +1,3 @@
 pub mod VerdictView
 pub mod Inner
+pub mod KnownWithout

@@ -1,6 +1,6 @@
 //! The checker: whether a list of applications leads from one model to another.
 
-ghost use Rattle.std.specs.Prelude.{◌≡◌, map, drop, length, cond, Ok, Some, None, OnOk, IfOk};
+ghost use Rattle.std.specs.Prelude.{◌≡◌, true, false, map, drop, length, cond, Ok, Some, None, OnOk, IfOk};
 ghost use Rattle.model_core.specs.EventGraph.{EventGraph};
 ghost use Rattle.model_core.specs.Code.Views.{graph_of, application_of};
 ghost use Rattle.model_core.specs.Rules.Reduction.{Prune, Settle, Drop, Slice, applied, first_bad};
@@ -206,6 +206,18 @@ fn apply(
     }
 }
 
+/// Keeps what was told before a rule, where the rule was made. Where it wasn't, nothing is known any more.
+fn keep_where_made(known: &mut Known, made: bool) -> bool
+    ensures is { result ≡ made }
+    ensures kept { made ≡ true → known.new ≡ known.old }
+    ensures forgotten { made ≡ false → (g : EventGraph) → IsKnown g known.new }
+{
+    if !made {
+        *known = Known::nothing();
+    }
+    made
+}
+
 /// Prunes an edge, and says whether it could be.
 fn apply_prune(
     model: &mut Model,
@@ -223,11 +235,8 @@ fn apply_prune(
         return false;
     };
     know_pruned(model, known, vertex, edge);
-    if prune(model, vertex, edge).is_err() {
-        *known = Known::nothing();
-        return false;
-    }
-    true
+    let pruned = prune(model, vertex, edge);
+    keep_where_made(known, pruned.is_ok())
 }
 
 /// Settles an edge, and says whether it could be.
@@ -247,11 +256,8 @@ fn apply_settle(
         return false;
     };
     know_settled(model, known, vertex, edge);
-    if settle(model, vertex, edge).is_err() {
-        *known = Known::nothing();
-        return false;
-    }
-    true
+    let settled = settle(model, vertex, edge);
+    keep_where_made(known, settled.is_ok())
 }
 
 /// Drops vertices, and says whether they could be.
@@ -271,11 +277,8 @@ fn apply_drop(
         return Ok(false);
     };
     know_without(model, known, dropped.as_slice());
-    if !was_made(drop_vertices(alloc, model, &dropped))? {
-        *known = Known::nothing();
-        return Ok(false);
-    }
-    Ok(true)
+    let made = was_made(drop_vertices(alloc, model, &dropped))?;
+    Ok(keep_where_made(known, made))
 }
 
 /// Merges two vertices, leaving this of the second one, and says whether they could be.

@@ -1,6 +1,6 @@
 //! Whether an application drops one vertex alone, so that a merge before it need not keep what that vertex does.
 
-ghost use Rattle.std.specs.Prelude.{◌≡◌, [], ◌∷◌, true, map, drop};
+ghost use Rattle.std.specs.Prelude.{◌≡◌, ◌↔◌, [], ◌∷◌, true, map, drop};
 ghost use Rattle.model_core.specs.Code.Views.{application_of};
 ghost use Rattle.model_core.specs.Rules.Reduction.{Drop};
 ghost use Rattle.reduction_cert.specs.Inner.MovedMerges.{BeginsWithDrop};
@@ -10,14 +10,14 @@ use sig_base::Name;
 
 /// Whether this name is the only one of these.
 fn is_alone(names: &[Name], name: &Name) -> bool
-    ensures { result ≡ true → names.now ≡ name.now ∷ [] }
+    ensures { result ≡ true ↔ names.now ≡ name.now ∷ [] }
 {
     names.len() == 1 && names[0].as_slice() == name.as_slice()
 }
 
 /// Whether the application at this place drops the vertex of this name alone.
 pub(crate) fn drops_alone(applications: &[Application], place: usize, name: &Name) -> bool
-    ensures { result ≡ true → BeginsWithDrop name.now (map application_of (drop place applications.now)) }
+    ensures { result ≡ true ↔ BeginsWithDrop name.now (map application_of (drop place applications.now)) }
 {
     match applications.get(place) {
         Some(application) => is_drop_of(application, name),
@@ -27,10 +27,16 @@ pub(crate) fn drops_alone(applications: &[Application], place: usize, name: &Nam
 
 /// Whether this application does.
 fn is_drop_of(application: &Application, name: &Name) -> bool
-    ensures { result ≡ true → application_of application.now ≡ Drop (name.now ∷ []) }
+    ensures { result ≡ true ↔ application_of application.now ≡ Drop (name.now ∷ []) }
 {
     match application {
         Application::Drop { vertices } => is_alone(vertices.as_slice(), name),
-        _ => false,
+        Application::Prune { vertex: _, edge: _ } => false,
+        Application::Settle { vertex: _, edge: _ } => false,
+        Application::Merge {
+            vertex: _,
+            target: _,
+        } => false,
+        Application::Slice { vars: _ } => false,
     }
 }

@@ -12,6 +12,8 @@ ghost use Rattle.model_core.specs.Rules.Conditions.{first_failed};
 ghost use Rattle.model_core.specs.Rules.Drop.{drop_conditions, dropped};
 ghost use Rattle.model_core.specs.Code.Views.{graph_of};
 ghost use Rattle.merge_rules.specs.Known.{TellsLines, TellsVersion, AreBodies, IsKnown};
+ghost use Rattle.merge_rules.specs.KnownLess.{still_single};
+ghost use Rattle.reduction_cert.specs.KnownWithout.{version_without, bodies_without};
 
 use edge_pruning::{dropping_one_leaves_lines, dropping_takes_lines};
 use merge_rules::{Bodies, Known};
@@ -70,7 +72,8 @@ fn lines_without(model: &Model, lines: Option<u64>, vertices: &[usize]) -> Optio
 /// has parts that need one.
 fn version_without(model: &Model, version_two: Option<bool>, vertices: &[usize]) -> Option<bool>
     requires { TellsVersion (graph_of model.now) version_two }
-    ensures { first_failed (drop_conditions (graph_of model.now) vertices.now) ≡ None → TellsVersion (dropped (graph_of model.now) vertices.now) result }
+    ensures is { result ≡ version_without (graph_of model.now) version_two vertices.now }
+    ensures tells { first_failed (drop_conditions (graph_of model.now) vertices.now) ≡ None → TellsVersion (dropped (graph_of model.now) vertices.now) result }
 {
     dropping_takes_lines();
     if one_is_later(model, vertices) {
@@ -81,7 +84,8 @@ fn version_without(model: &Model, version_two: Option<bool>, vertices: &[usize])
 
 /// Makes what is known of the lines of what vertices do what is known of them behind a drop of these.
 fn keep_bodies_without(bodies: &mut Bodies, vertices: &[usize])
-    ensures { (g : EventGraph) → AreBodies g bodies.old → first_failed (drop_conditions g vertices.now) ≡ None → AreBodies (dropped g vertices.now) bodies.new }
+    ensures is { bodies.new ≡ bodies_without bodies.old vertices.now }
+    ensures are { (g : EventGraph) → AreBodies g bodies.old → first_failed (drop_conditions g vertices.now) ≡ None → AreBodies (dropped g vertices.now) bodies.new }
 {
     dropping_one_leaves_lines();
     if vertices.len() == 1 {
@@ -94,7 +98,10 @@ fn keep_bodies_without(bodies: &mut Bodies, vertices: &[usize])
 /// Makes what is known of a model what is known of it behind a drop of these vertices, told before it.
 pub fn know_without(model: &Model, known: &mut Known, vertices: &[usize])
     requires known { IsKnown (graph_of model.now) known.old }
-    ensures { first_failed (drop_conditions (graph_of model.now) vertices.now) ≡ None → IsKnown (dropped (graph_of model.now) vertices.now) known.new }
+    ensures single { known.new.single ≡ still_single known.old.single }
+    ensures version { known.new.version_two ≡ version_without (graph_of model.now) known.old.version_two vertices.now }
+    ensures bodies { known.new.bodies ≡ bodies_without known.old.bodies vertices.now }
+    ensures known { first_failed (drop_conditions (graph_of model.now) vertices.now) ≡ None → IsKnown (dropped (graph_of model.now) vertices.now) known.new }
 {
     known.single = known.single_without_parts();
     known.lines = lines_without(model, known.lines, vertices);

@@ -1,4 +1,4 @@
-//! Tests of what no clause says of the program, through its top call, and its table of statuses on examples.
+//! Tests of what no clause says of the program, through its top call; its table of statuses on examples; and what its promises give.
 #![tactic(auto)]
 
 #[cfg(test)]
@@ -26,6 +26,8 @@ mod large_inputs;
 mod models;
 #[cfg(test)]
 mod places;
+#[cfg(test)]
+mod printed_and_reduced;
 mod promises;
 #[cfg(test)]
 mod reductions;
@@ -37,8 +39,10 @@ mod rewritten_models;
 mod saved_runs;
 #[cfg(test)]
 mod trials;
+mod two_calls;
 #[cfg(test)]
 mod versions;
 
 pub use endings::{calls_end_so, calls_never_end_so, no_status_ends_otherwise};
 pub use promises::promises_are_of_what_is_written;
+pub use two_calls::written_models_are_the_same;

@@ -19,12 +19,13 @@ ghost use Rattle.job_answers.specs.CertifyAnswer.{Certifies};
 ghost use Rattle.job_answers.specs.ReduceAnswer.{KeepsMeaning};
 ghost use Rattle.job_answers.specs.RewrittenAnswer.{RewritesTheSame};
 ghost use Rattle.job_answers.specs.SavedAndResumed.{SavesTheRun};
-ghost use Rattle.sigma_top.specs.Promises.{IsOfAnswer};
+ghost use Rattle.sigma_top.specs.Promises.{IsOfAnswer, PrintsModel};
 ghost use Rattle.sigma_tests.specs.Devices.{PromisesSo, input_of, output_of};
 
 /// Each promise says of the very bytes that were written what its job is for. That of `resume` stands also where the run ends at a
 /// fault or at its budget.
 pub fn promises_are_of_what_is_written()
+    ensures printed { (text out : List ℕ) → PromisesSo statuses.Done (codes "print" ∷ []) text out → PrintsModel text out }
     ensures reduced { (text out : List ℕ) → PromisesSo statuses.Done (codes "reduce" ∷ []) text out → KeepsMeaning text out }
     ensures fused { (text out : List ℕ) → PromisesSo statuses.Done (codes "fuse" ∷ []) text out → RewritesTheSame Fused text out }
     ensures narrowed { (text out : List ℕ) → PromisesSo statuses.Done (codes "narrow" ∷ []) text out → RewritesTheSame IsNarrowed text out }

@@ -9,7 +9,7 @@ use Rattle.model_core.specs.EventGraph.{EventGraph}
 use Rattle.model_core.specs.Ranges.Narrowed.{IsNarrowed}
 use Rattle.model_core.specs.Rules.Fuse.{Fused}
 use Rattle.model_core.specs.Run.History.{Moment, start}
-use Rattle.model_core.specs.Saved.SavedRun.{SavedRun, saved_moment}
+use Rattle.model_core.specs.Saved.SavedRun.{SavedRun, saved, saved_moment}
 use Rattle.model_core.specs.Static.Reading.{Reads}
 use Rattle.sig_base.specs.Source.{Inlet}
 use Rattle.command_words.specs.declared.job.Job.{Job}
@@ -19,6 +19,8 @@ use Rattle.command_words.specs.declared.reading.ModelJob.{ModelJob}
 use Rattle.command_words.specs.declared.reading.ModelJob.TheVariants as models
 use Rattle.command_words.specs.declared.reading.Reading.{Reading}
 use Rattle.command_words.specs.declared.reading.Reading.TheVariants as readings
+use Rattle.command_words.specs.declared.reading.SavedJob.{SavedJob}
+use Rattle.command_words.specs.declared.reading.SavedJob.TheVariants as saved_jobs
 use Rattle.command_words.specs.Jobs.{job_of}
 use Rattle.command_words.specs.declared.resume_options.ResumeOptions.{ResumeOptions}
 use Rattle.command_words.specs.declared.save_options.SaveOptions.{SaveOptions}
@@ -36,7 +38,7 @@ use Rattle.answer_delivery.specs.declared.status.Failure.{Failure}
 use Rattle.answer_delivery.specs.declared.status.Failure.TheVariants as failures
 use Rattle.answer_delivery.specs.declared.status.Status.{Status}
 use Rattle.answer_delivery.specs.declared.status.Status.TheVariants as statuses
-use Rattle.job_answers.specs.Answers.{Answers, MayStopShort}
+use Rattle.job_answers.specs.Answers.{AnswersSaved, Responds, Answers, MayStopShort}
 use Rattle.job_answers.specs.CertifyAnswer.{Certifies}
 use Rattle.job_answers.specs.ReduceAnswer.{KeepsMeaning}
 use Rattle.job_answers.specs.RewrittenAnswer.{RewritesTheSame}
@@ -46,15 +48,22 @@ use Rattle.job_answers.specs.SavedAndResumed.{SavesTheRun, WritesTheRest}
 use Rattle.job_answers.specs.SavedReading.{ReadsSaved}
 use Rattle.answer_delivery.specs.Statuses.{status_of_answer, bytes_of_answer, status_of_end, status_of_refusal, failure_line}
 use Rattle.answer_delivery.specs.FailureStatus.{status_of_failure}
-use Rattle.sigma_top.specs.Promises.{KeepsPromises}
+use Rattle.sigma_top.specs.Promises.{PrintsModel, KeepsPromises}
 use Rattle.sigma_top.specs.StatusTable.{text_of, Told, WritesAnswer, Refuses, RepliesToInput, HasBegun, LacksMemory, ForJob, Ends}
 use Rattle.sigma_top.specs.Inner.Frame.{Performs, PerformsJobOf}
 
--- ---- what `reduce`, `fuse` and `narrow` give, and what `certify` finds sound
+-- ---- what `print`, `reduce`, `fuse` and `narrow` give, and what `certify` finds sound
 
 -- what a job on a model gives for a text is such
 abbrev pub GivesSuch : ModelJob → (List ℕ → List ℕ → Type 0) → Type 0
 GivesSuch job IsSuch = (text bytes : List ℕ) (end : End) → Answers (readings.Model job) text (Given end bytes) → IsSuch text bytes
+
+prints_model : GivesSuch models.Print PrintsModel
+prints_model text bytes end (inl over) = let e = over.1 in absurd cc
+prints_model text bytes end (inr (within, response)) = by response where
+  by : Responds (readings.Model models.Print) text (Given end bytes) → PrintsModel text bytes
+  by (inl h) = let e = h.told in absurd cc
+  by (inr (g, reads, is)) = (g, reads, ap bytes_of_answer is)
 
 abbrev pub SoundMeansTheSame : Type 0
 SoundMeansTheSame = (text bytes : List ℕ) → Answers (readings.Document documents.Certify) text (Given ends.Done bytes) → Certifies text
@@ -108,6 +117,10 @@ module _ (job : Job) (Fits : List ℕ → Type 0) (never : (text : List ℕ) →
 -- what `save` writes for a text is what `resume` goes on from
 abbrev pub SavesSuch : Type 0
 SavesSuch = (o : SaveOptions) (text document : List ℕ) (end : End) → KeepsLimits (readings.Model (models.Save o)) → Answers (readings.Model (models.Save o)) text (Given end document) → SavesTheRun text document o
+
+-- what is answered to a document that reads as a saved run is answered for that
+abbrev pub AnswersWhatReads : Type 0
+AnswersWhatReads = (job : SavedJob) (text : List ℕ) (g : EventGraph) (s : SavedRun) (a : Answer) → ReadsSaved text g s → Answers (readings.Saved job) text a → AnswersSaved job g s a
 
 -- ---- the answer of the job
 
@@ -283,26 +296,28 @@ module _ {S K E : Type 0} (source : S → Inlet) (sink : K → Outlet) (errors :
     reduces_what_reads law asked read wrote status h = always_reduced law status (source i).left Grows (complete jobs.Reduce asked read wrote status h)
 
     -- of what `save` wrote the rest is written
-    rest_written : (options : ResumeOptions) (status : Status) (left : Option (List ℕ)) → IsComplete (reading_of (jobs.Resume options.until options.events options.room)) status left Grows
+    rest_written : AnswersWhatReads → (options : ResumeOptions) (status : Status) (left : Option (List ℕ)) → IsComplete (reading_of (jobs.Resume options.until options.events options.room)) status left Grows
         → IfSome left (WritesTheRest options.until options.events Grows)
-    rest_written options status None h = tt
-    rest_written options status (Some document) (a, answers, is, grows) =
-        λ text saved_by saves early few. subst Grows (ap bytes_of_answer (saves.resumed options.until options.events options.room early few a answers)) grows
+    rest_written law options status None h = tt
+    rest_written law options status (Some document) (a, answers, is, grows) = λ text saved_by saves early few.
+        let answers_run = law (saved_jobs.Resume options) document saves.model (saved saved_by.seed saved_by.events saves.here) a saves.reads_back answers in
+        subst Grows (ap bytes_of_answer (saves.resumed options.until options.events options.room early few a answers_run)) grows
 
-    goes_on : (options : ResumeOptions) → job_of words ≡ Some (jobs.Resume options.until options.events options.room) → (status : Status) → Ends source sink errors words i j o p e f status
+    goes_on : AnswersWhatReads → (options : ResumeOptions) → job_of words ≡ Some (jobs.Resume options.until options.events options.room) → (status : Status) → Ends source sink errors words i j o p e f status
         → (status ≡ statuses.ReadFault → ⊥) → (status ≡ statuses.WriteFault → ⊥) → (status ≡ statuses.NoMemory → ⊥) → IfSome (source i).left (WritesTheRest options.until options.events Grows)
-    goes_on options asked status h read wrote held =
-        rest_written options status (source i).left (answered (jobs.Resume options.until options.events options.room) asked status h read wrote held)
+    goes_on law options asked status h read wrote held =
+        rest_written law options status (source i).left (answered (jobs.Resume options.until options.events options.room) asked status h read wrote held)
 
     -- all promises, by the laws of what jobs write
     pub promises_kept : GivesSuch models.Reduce KeepsMeaning → GivesSuch models.Fuse (RewritesTheSame Fused) → GivesSuch models.Narrow (RewritesTheSame IsNarrowed)
-        → SavesSuch → ((job : Job) → job_of words ≡ Some job → KeepsLimits (reading_of job)) → SoundMeansTheSame
+        → SavesSuch → AnswersWhatReads → ((job : Job) → job_of words ≡ Some job → KeepsLimits (reading_of job)) → SoundMeansTheSame
         → (status : Status) → Ends source sink errors words i j o p e f status → KeepsPromises (λ s. status ≡ s) words (source i) (sink o) (sink p)
-    promises_kept reduces fuses narrows saves limits sound status h = record {
+    promises_kept reduces fuses narrows saves resumes limits sound status h = record {
+      printed = given_is_such jobs.Print models.Print refl PrintsModel prints_model status h;
       reduced = given_is_such jobs.Reduce models.Reduce refl KeepsMeaning reduces status h;
       fused = given_is_such jobs.Fuse models.Fuse refl (RewritesTheSame Fused) fuses status h;
       narrowed = given_is_such jobs.Narrow models.Narrow refl (RewritesTheSame IsNarrowed) narrows status h;
       saved = λ options. saved_is_such saves limits options status h;
-      resumed = λ options asked. goes_on options asked status h;
+      resumed = λ options asked. goes_on resumes options asked status h;
       certified = certified_means sound status h;
     }

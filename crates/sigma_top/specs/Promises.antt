@@ -2,8 +2,11 @@
 use Rattle.std.specs.Prelude.{◌≡◌, ℕ, List, Some, IfSome}
 use Rattle.sig_base.specs.Sink.{Outlet, GrowsBy}
 use Rattle.sig_base.specs.Source.{Inlet}
+use Rattle.model_core.specs.EventGraph.{EventGraph}
 use Rattle.model_core.specs.Ranges.Narrowed.{IsNarrowed}
 use Rattle.model_core.specs.Rules.Fuse.{Fused}
+use Rattle.model_core.specs.Static.Reading.{Reads}
+use Rattle.model_core.specs.Text.Canonical.{canonical}
 use Rattle.command_words.specs.declared.job.Job.{Job}
 use Rattle.command_words.specs.declared.job.Job.TheVariants as jobs
 use Rattle.command_words.specs.declared.resume_options.ResumeOptions.{ResumeOptions}
@@ -28,6 +31,10 @@ IsOfAnswer reading input status before after =
     IfSome (text_of (limit_of reading) input.left) (λ text. (a : Answer) × Answers reading text a
     × (status ≡ status_of_answer a) × GrowsBy before.written after.written (bytes_of_answer a))
 
+-- what is written for the text is the canonical text of the model as which it reads
+abbrev pub PrintsModel : List ℕ → List ℕ → Type 0
+PrintsModel text out = (g : EventGraph) × Reads text g × (out ≡ canonical g)
+
 -- Of a call with these words this is seen: with which status it ended, the input before it, and the output before and after.
 module _ (EndsWith : Status → Type 0) (words : List (List ℕ)) (input : Inlet) (before after : Outlet) where
   -- where the words ask for this job and it is done, the output grew by bytes that are such for the text of the input
@@ -37,6 +44,8 @@ module _ (EndsWith : Status → Type 0) (words : List (List ℕ)) (input : Inlet
       → IfSome input.left (λ text. (out : List ℕ) × IsSuch text out × GrowsBy before.written after.written out)
 
   pub record KeepsPromises : Type 0 where
+    -- What `print` writes is the canonical text of the model that was read.
+    pub printed : WritesSuch jobs.Print PrintsModel
     -- What `reduce` writes means the same as what it read.
     pub reduced : WritesSuch jobs.Reduce KeepsMeaning
     -- What `fuse` writes is what fusing makes of the model that was read, and means the same.

@@ -27,8 +27,8 @@ use command_words::{ModelJob, Reading, WordsError, jobs_keep_their_limits};
 use job_answers::{
     ReadingError, answer_alone, answer_document, answer_model, answer_saved,
     answers_keep_their_laws, fused_models_mean_the_same, model_of, narrower_models_mean_the_same,
-    readable_models_are_reduced, saved_runs_are_resumed, sound_documents_mean_the_same,
-    written_models_mean_the_same,
+    read_runs_are_answered, readable_models_are_reduced, saved_runs_are_resumed,
+    sound_documents_mean_the_same, written_models_mean_the_same,
 };
 use sig_base::{Sink, Source, put};
 use std::alloc::Global;
@@ -181,7 +181,8 @@ pub fn sigma<S: Source, K: Sink, E: Sink>(
         ((g : EventGraph) (s : SavedRun) → ReadsSaved text g s → ResumedFitsRoom g s until events room)
         → output.new ≡ output.old) }
 
-    // What each job is for: the promises `reduced`, `fused`, `narrowed`, `saved`, `resumed` and `certified`, one field each.
+    // What each job is for: the promises `printed`, `reduced`, `fused`, `narrowed`, `saved`, `resumed` and `certified`, one
+    // field each.
     ensures promises { KeepsPromises (λ status. result ≡ status) (map string_bytes words.now)
         (S.seen input.old) (K.seen output.old) (K.seen output.new) }
 {
@@ -191,6 +192,7 @@ pub fn sigma<S: Source, K: Sink, E: Sink>(
     sound_documents_mean_the_same();
     readable_models_are_reduced();
     saved_runs_are_resumed();
+    read_runs_are_answered();
     jobs_keep_their_limits();
     work(alloc, words, input, output, errors)
 }

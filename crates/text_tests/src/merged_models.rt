@@ -9,6 +9,7 @@ use edge_pruning::{prune, settle};
 use merge_rules::{Known, SecondVertex, know_pruned, know_settled, merge, merge_measured};
 use model_core::{Model, RuleError};
 use model_print::{print, printed_length};
+use reduction_cert::know_without;
 use sig_base::NoMemory;
 use std::alloc::Global;
 use std::test::*;
@@ -215,4 +216,56 @@ fn edges_that_stand_alone_may_be_settled(rt: HostRuntime) {
     ] {
         assert_eq!(rt; single_behind_settle(rt.alloc(), vertex, edge), Ok(single));
     }
+}
+
+const THREE_URGENT: &[u8] =
+    b"model M; var N : 0..9 = 0; watch N; vertex RUN { urgent B; } vertex B { set N := 1; schedule C after 1; } vertex C { urgent RUN when N > 9; urgent RUN when N < 5; urgent D when N >= 5; } vertex D { } end";
+
+/// What is known of whether the model with three such edges takes at most one at once, behind a prune of the first one, or behind a
+/// drop of the vertex that was merged.
+fn single_behind(alloc: Global, drops: bool) -> Result<Option<bool>, RuleError> {
+    let mut model = model_of_text(alloc, THREE_URGENT)?;
+    let mut known = merged_and_measured(alloc, &mut model)?;
+    if drops {
+        know_without(&model, &mut known, &[1]);
+    } else {
+        know_pruned(&model, &mut known, 2, 0);
+    }
+    Ok(known.single)
+}
+
+#[test]
+fn a_model_without_a_part_takes_at_most_one_edge_at_once(rt: HostRuntime) {
+    for drops in [false, true] {
+        assert_eq!(rt; single_behind(rt.alloc(), drops), Ok(Some(true)));
+    }
+}
+
+const TWO_DRAWN_DELAYS: &[u8] =
+    b"version 2; model M; var N : 0..9 = 0; watch N; vertex RUN { urgent B; } vertex B { set N := 1; schedule C after 1; } vertex C { schedule RUN after draw from 3 in 1..4; schedule B after 1 when N > 9; schedule C after draw from 5 in 1..2 when N > 9; } end";
+
+/// Whether a text of version 2 is known to be needed behind a prune of an edge of the third vertex, and by how much the length that
+/// is known of the text then is wrong, if one is known.
+fn version_behind_prune(
+    alloc: Global,
+    edge: usize,
+) -> Result<(Option<bool>, Option<u64>), RuleError> {
+    let mut model = model_of_text(alloc, TWO_DRAWN_DELAYS)?;
+    let mut known = merged_and_measured(alloc, &mut model)?;
+    know_pruned(&model, &mut known, 2, edge);
+    if prune(&mut model, 2, edge).is_err() {
+        return Err(RuleError::NoMemory);
+    }
+    let length = printed_length(&model);
+    Ok((
+        known.version_two,
+        known.text_length().map(|known| length.abs_diff(known)),
+    ))
+}
+
+#[test]
+fn a_version_stays_known_behind_a_prune(rt: HostRuntime) {
+    assert_eq!(rt; version_behind_prune(rt.alloc(), 1), Ok((Some(true), Some(0))));
+    // An edge that draws its delay may have been all that needs version 2.
+    assert_eq!(rt; version_behind_prune(rt.alloc(), 2), Ok((None, None)));
 }

@@ -19,11 +19,8 @@ returns c = λ text out end answers. of_answer text out end answers
         let valid : IsValid original = (text, reads) in
         record {
           original = original;
-          applications = reduces.applications;
-          reduced = reduces.reduced;
           reads = reads;
-          strategy = reduces.strategy;
-          written = reduces.written;
+          reduces = reduces;
           reads_back = c.validity_is_by_parts.ensures.reads_back reduces.reduced (c.strategies_keep_the_meaning.ensures.valid original reduces.applications reduces.reduced valid reduces.strategy);
           same = c.strategies_keep_the_meaning.ensures.same original reduces.applications reduces.reduced valid reduces.strategy;
         }

@@ -3,12 +3,9 @@ use Rattle.job_answers.proofs.saved_law.saved_runs_are_resumed.Goals as goal
 
 pub returns : goal.returns
 returns c =
-    let documents = c.saved_documents_have_one_complaint.ensures in
     let facts : SavedFacts = record {
       by_parts = c.validity_is_by_parts.ensures.by_parts;
       resumes = c.saved_runs_resume.ensures;
       reads_back = c.saved_documents_read_back.ensures;
-      uncomplained = documents.none;
-      one_reading = documents.one_reading;
     } in
     λ o text document end limits answers. saved_goes_on facts o text document end limits answers

@@ -16,8 +16,8 @@ use Rattle.merge_rules.proofs.MergedText.LimitsTold.{seen_at}
 use Rattle.merge_rules.proofs.EdgesChanged.{settled_single}
 use Rattle.merge_rules.proofs.known_edges.single_settled.Goals as goal
 
-pub returns-then-may_take_any_condition : goal.returns-then-may_take_any_condition
-returns-then-may_take_any_condition c =
+pub returns-then-may_take_any_condition-clause-tells : goal.returns-then-may_take_any_condition-clause-tells
+returns-then-may_take_any_condition-clause-tells c =
     let g = graph_of c.args.model.now in
     let vertex = c.in_ok-get.field-0.now in
     let told : c.in_ok-single.field-0 ≡ single_urgent g = subst (TellsSingle g) c.in_ok-single.was c.requires in

@@ -109,4 +109,4 @@ pub grows_by-grows-requires-clause-holds : goal.grows_by-grows-requires-clause-h
 grows_by-grows-requires-clause-holds c = front_holds 7 (merge_conditions (graph_of c.args.model.now) c.args.vertex c.args.target) c.requires.holds
 
 pub merged_length-bytes-requires-clause-measured : goal.merged_length-bytes-requires-clause-measured
-merged_length-bytes-requires-clause-measured c = c.text_length.ensures (graph_of c.args.model.now) c.find_version.ensures.known
+merged_length-bytes-requires-clause-measured c = c.text_length.ensures.measured (graph_of c.args.model.now) c.find_version.ensures.known

@@ -6,7 +6,7 @@ use Rattle.one_pass.proofs.VerticesRead.{begun_surely}
 use Rattle.one_pass.proofs.vertices.known_parameters.Goals as goal
 
 pub returns-clause-alike : goal.returns-clause-alike
-returns-clause-alike c = c.if-not-begin_alike.ensures refl
+returns-clause-alike c = c.if-not-begin_alike.ensures.0 refl
 
 pub returns-clause-named : goal.returns-clause-named
 returns-clause-named c =

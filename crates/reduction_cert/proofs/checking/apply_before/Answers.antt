@@ -12,7 +12,7 @@ returns-then-drops_alone-clause-made c =
     let g = graph_of c.args.model.now in
     let later = map application_of (drop c.args.next c.args.applications.now) in
     let law = c.dropping_takes_no_notice_of_the_vertex.ensures in
-    let (rest, is) = c.drops_alone.ensures c.if-drops_alone.true in
+    let (rest, is) = c.drops_alone.ensures.0 c.if-drops_alone.true in
     IfOk-weaker c.apply_merge.result _ _
     (λ made given. subst (λ (a : RuleApplication). MadeFor later g a made (graph_of c.apply_merge.new.model)) (sym (ap application_of c.in-Merge.is))
     (made_for law.conditions law.left g _ _ later rest made (graph_of c.apply_merge.new.model) is given))

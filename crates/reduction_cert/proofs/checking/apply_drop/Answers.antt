@@ -1,34 +1,38 @@
 -- Dropped are the vertices of these names.
-use Rattle.std.proofs.Common.{◌≡◌, ◌∙◌, ℕ, List, Some, None, Ok, sym, ap, subst}
-use Rattle.model_core.specs.EventGraph.{EventGraph}
+use Rattle.std.proofs.Common.{◌≡◌, ◌∙◌, ℕ, Bool, List, Some, None, cond, Result, Ok, IfOk, sym, ap, subst}
+use Rattle.sig_base.specs.declared.no_memory.NoMemory.{NoMemory}
 use Rattle.model_core.specs.Code.Views.{graph_of}
 use Rattle.model_core.specs.Rules.Conditions.{first_failed}
 use Rattle.model_core.specs.Rules.Drop.{drop_conditions, dropped}
-use Rattle.model_core.specs.Rules.Reduction.{vertices_named}
+use Rattle.model_core.specs.Rules.Reduction.{vertices_named, unless_failed}
 use Rattle.merge_rules.specs.Known.{IsKnown}
 use Rattle.reduction_cert.proofs.PlacesByTable.{all_by_table}
-use Rattle.reduction_cert.proofs.ToldByRules.{told_made, told_holds, told_result, drop_named}
+use Rattle.reduction_cert.proofs.ToldByRules.{told_answer, told_holds, told_result, kept_known, drop_named}
 use Rattle.reduction_cert.proofs.checking.apply_drop.Goals as goal
 
 pub returns-clause-made : goal.returns-clause-made
 returns-clause-made c =
     let g = graph_of c.args.model.now in
+    let h = graph_of c.drop_vertices.new.model in
     let vs = c.in-Some.dropped in
+    let failed = first_failed (drop_conditions g vs) in
     let named : vertices_named g c.args.names.now ≡ Some vs = sym (c.in_ok-dropped.ensures ∙ all_by_table _ _ _ c.requires.listed) ∙ c.in-Some.is in
-    drop_named g c.args.names.now vs named
-    ∙ told_made (dropped g vs) (graph_of c.drop_vertices.new.model) (first_failed (drop_conditions g vs)) c.drop_vertices.result c.drop_vertices.ensures.done c.drop_vertices.ensures.refused
-    (c.was_made.ensures.made (c.in_ok-was_made.was ∙ ap Ok c.if-not-branch.false))
+    let told : unless_failed failed (dropped g vs) ≡ cond c.in_ok-made.made (Some h) None
+    = subst (λ (answer : Result Bool NoMemory). IfOk answer (λ made. unless_failed failed (dropped g vs) ≡ cond made (Some h) None)) c.in_ok-made.was
+    (told_answer (dropped g vs) h failed c.drop_vertices.result c.drop_vertices.ensures.done c.drop_vertices.ensures.refused c.was_made.result c.was_made.ensures.made c.was_made.ensures.refused) in
+    drop_named g c.args.names.now vs named ∙ told ∙ ap (λ made. cond made (Some h) None) (sym c.keep_where_made.ensures.is)
 
 pub returns-clause-known : goal.returns-clause-known
 returns-clause-known c =
     let g = graph_of c.args.model.now in
+    let h = graph_of c.drop_vertices.new.model in
     let vs = c.in-Some.dropped in
-    let made = c.was_made.ensures.made (c.in_ok-was_made.was ∙ ap Ok c.if-not-branch.false) in
-    let holds = told_holds (dropped g vs) (graph_of c.drop_vertices.new.model) (first_failed (drop_conditions g vs)) c.drop_vertices.result c.drop_vertices.ensures.done c.drop_vertices.ensures.refused made in
-    let is = told_result (dropped g vs) (graph_of c.drop_vertices.new.model) (first_failed (drop_conditions g vs)) c.drop_vertices.result c.drop_vertices.ensures.done c.drop_vertices.ensures.refused made in
-    let known : IsKnown (dropped g vs) c.know_without.new.known = subst (λ (vs : List ℕ). first_failed (drop_conditions g vs) ≡ None → IsKnown (dropped g vs) c.know_without.new.known) c.as_slice.ensures c.know_without.ensures holds in
-    subst (λ (h : EventGraph). IsKnown h c.know_without.new.known) (sym is) known
-
--- nothing is known of a model that wasn't to be dropped from
-pub returns-then-not-branch-clause-known : goal.returns-then-not-branch-clause-known
-returns-then-not-branch-clause-known c = c.nothing.ensures _
+    let failed = first_failed (drop_conditions g vs) in
+    let told : failed ≡ None → IsKnown (dropped g vs) c.know_without.new.known = subst (λ (vs : List ℕ). first_failed (drop_conditions g vs) ≡ None → IsKnown (dropped g vs) c.know_without.new.known) c.as_slice.ensures c.know_without.ensures.known in
+    kept_known (dropped g vs) h failed c.in_ok-made.made c.know_without.new.known c.keep_where_made.new.known
+    (λ is.
+    let ok = c.was_made.ensures.made (c.in_ok-made.was ∙ ap Ok is) in (
+      told_holds (dropped g vs) h failed c.drop_vertices.result c.drop_vertices.ensures.done c.drop_vertices.ensures.refused ok,
+      told_result (dropped g vs) h failed c.drop_vertices.result c.drop_vertices.ensures.done c.drop_vertices.ensures.refused ok,
+    ))
+    told c.keep_where_made.ensures.kept c.keep_where_made.ensures.forgotten

@@ -11,7 +11,7 @@ as_before : (g h : EventGraph) (two : Option Bool) → needs_version_two h ≡ n
 as_before g h None same tells = tt
 as_before g h (Some two) same tells = tells ∙ sym same
 
-pub returns : goal.returns
-returns c = λ holds.
+pub returns-clause-tells : goal.returns-clause-tells
+returns-clause-tells c = λ holds.
     as_before (graph_of c.args.model.now) (dropped (graph_of c.args.model.now) c.args.vertices.now) c.args.version_two
     (c.dropping_takes_lines.ensures.version (graph_of c.args.model.now) c.args.vertices.now holds (sym c.one_is_later.ensures ∙ c.if-one_is_later.false)) c.requires

@@ -7,6 +7,7 @@ use Rattle.model_core.specs.Rules.Fuse.{Fused}
 use Rattle.job_answers.specs.ReduceAnswer.{KeepsMeaning}
 use Rattle.job_answers.specs.RewrittenAnswer.{RewritesTheSame}
 use Rattle.job_answers.specs.SavedAndResumed.{SavesTheRun}
+use Rattle.sigma_top.specs.Promises.{PrintsModel}
 use Rattle.sigma_tests.proofs.promises.promises_are_of_what_is_written.Goals as goal
 
 -- an output that had nothing has what it grew by
@@ -16,6 +17,9 @@ all_of_it out piece grows = same_Some out piece grows
 -- what is such is what was written
 of_the_output : (IsSuch : List ℕ → Type 0) (out : List ℕ) → (piece : List ℕ) × IsSuch piece × GrowsBy (Some []) (Some out) piece → IsSuch out
 of_the_output IsSuch out (piece, is, grows) = subst IsSuch (sym (all_of_it out piece grows)) is
+
+pub returns-clause-printed : goal.returns-clause-printed
+returns-clause-printed c = λ text out kept. of_the_output (PrintsModel text) out (kept.printed refl refl)
 
 pub returns-clause-reduced : goal.returns-clause-reduced
 returns-clause-reduced c = λ text out kept. of_the_output (KeepsMeaning text) out (kept.reduced refl refl)

@@ -27,6 +27,7 @@ is_done statuses.TooLarge e = cc
 at_exit : (exit number : ℕ) (status : Status) (words : List (List ℕ)) (input : Inlet) (before after : Outlet) → exit ≡ number → number ≡ exit_status_of status
     → KeepsPromises (λ s. status ≡ s) words input before after → KeepsPromises (λ s. exit ≡ exit_status_of s) words input before after
 at_exit exit number status words input before after is known kept = record {
+  printed = λ asked zero. kept.printed asked (done zero);
   reduced = λ asked zero. kept.reduced asked (done zero);
   fused = λ asked zero. kept.fused asked (done zero);
   narrowed = λ asked zero. kept.narrowed asked (done zero);

@@ -27,5 +27,5 @@ pub returns-clause-promises : goal.returns-clause-promises
 returns-clause-promises g c =
     promises_kept g.S.Source.seen g.K.Sink.seen g.E.Sink.seen (map string_bytes c.args.words.now) c.args.input.now c.work.new.input c.args.output.now c.work.new.output c.args.errors.now c.work.new.errors
     c.written_models_mean_the_same.ensures c.fused_models_mean_the_same.ensures c.narrower_models_mean_the_same.ensures
-    c.saved_runs_are_resumed.ensures (c.jobs_keep_their_limits.ensures (map string_bytes c.args.words.now)) c.sound_documents_mean_the_same.ensures
+    c.saved_runs_are_resumed.ensures c.read_runs_are_answered.ensures (c.jobs_keep_their_limits.ensures (map string_bytes c.args.words.now)) c.sound_documents_mean_the_same.ensures
     c.work.result c.work.ensures

@@ -40,7 +40,7 @@ returns c =
     ap (λ (h : EventGraph). first_failed (drop_conditions h vs)) empty ∙ ap (λ (ks : List ℕ). first_failed (drop_conditions (hollowed m second) ks)) one ∙ ap first_failed (law.conditions m hollow second) ∙ holds in
     let told : IsKnown (dropped m ks) c.know_without.new.known =
     subst (λ (h : EventGraph). IsKnown h c.know_without.new.known) left
-    (subst (λ (ks : List ℕ). first_failed (drop_conditions (graph_of c.merge_holding.new.model) ks) ≡ None → IsKnown (dropped (graph_of c.merge_holding.new.model) ks) c.know_without.new.known) c.as_slice.ensures c.know_without.ensures holds_there) in
+    (subst (λ (ks : List ℕ). first_failed (drop_conditions (graph_of c.merge_holding.new.model) ks) ≡ None → IsKnown (dropped (graph_of c.merge_holding.new.model) ks) c.know_without.new.known) c.as_slice.ensures c.know_without.ensures.known holds_there) in
     let names : map (vertex_name (graph_of c.merge_holding.new.model)) vs ≡ vertex_name m second ∷ [] =
     ap (λ (h : EventGraph). map (vertex_name h) vs) empty ∙ ap (map (vertex_name (hollowed m second))) one ∙ ap (λ (name : List ℕ). name ∷ []) (hollow_named m second second) in
     let noted = c.in_ok-note_drop.ensures ∙ ap (λ (names : List (List ℕ)). map application_of c.args.self.now.applications.items ++ Drop names ∷ []) names in

@@ -1,0 +1,32 @@
+-- From what two calls promise of one text to the two models that their bytes show.
+use Rattle.std.proofs.Common.{◌≡◌, ℕ, List, Option, Some, subst}
+use Rattle.std.specs.Prelude.{IfSome}
+use Rattle.model_core.specs.EventGraph.{EventGraph}
+use Rattle.model_core.specs.Run.Same.{Same}
+use Rattle.model_core.specs.Text.Canonical.{canonical}
+use Rattle.job_answers.specs.ReduceAnswer.{KeepsMeaning}
+use Rattle.sigma_top.specs.Promises.{PrintsModel}
+use Rattle.answer_laws.specs.PrintedAndReduced.{ShowTheSame}
+use Rattle.answer_laws.proofs.TextsApart.{ModelFacts, read_has_text}
+
+module _ (facts : ModelFacts) where
+  shown : (text a b : List ℕ) → PrintsModel text a → KeepsMeaning text b → ShowTheSame a b
+  shown text a b (g, reads, wrote) kept = record {
+    original = g;
+    smaller = kept.reduces.reduced;
+    applications = kept.reduces.applications;
+    original_text = read_has_text facts text g reads;
+    smaller_text = read_has_text facts (canonical kept.reduces.reduced) kept.reduces.reduced kept.reads_back;
+    print_wrote = wrote;
+    reduce_wrote = kept.reduces.written;
+    same = subst (λ (k : EventGraph). Same k kept.reduces.reduced) (facts.one_model text kept.original g kept.reads reads) kept.same;
+  }
+
+  -- where both inputs tell this text, each output grew by what its call promises
+  pub shown_by_calls : (left again : Option (List ℕ)) (text : List ℕ) (Prints Reduces : List ℕ → Type 0) → left ≡ Some text → again ≡ Some text
+      → IfSome left (λ told. (a : List ℕ) × PrintsModel told a × Prints a) → IfSome again (λ told. (b : List ℕ) × KeepsMeaning told b × Reduces b)
+      → (a b : List ℕ) × ShowTheSame a b × Prints a × Reduces b
+  shown_by_calls left again text Prints Reduces first second print reduce =
+      let (a, prints, grown) = subst (λ (o : Option (List ℕ)). IfSome o (λ told. (a : List ℕ) × PrintsModel told a × Prints a)) first print in
+      let (b, reduces, grown_too) = subst (λ (o : Option (List ℕ)). IfSome o (λ told. (b : List ℕ) × KeepsMeaning told b × Reduces b)) second reduce in
+      (a, b, shown text a b prints reduces, grown, grown_too)
