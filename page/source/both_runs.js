@@ -1,4 +1,5 @@
-// The picture of the theorem: the same run of the model before and after, event by event, and the notes, which are the same.
+// The picture of the theorem: the same run of the model before and after, event by event, and the notes, which are
+// the same.
 const both_runs = {
   MOST_EVENTS: 100000, MOST_BYTES: 3e7, ROWS: 60,
   rows: [],
@@ -11,7 +12,8 @@ const both_runs = {
     at("both-done").hidden = true;
     at("reduce-stop").disabled = false;
     try {
-      const [first, second] = await Promise.all([both_runs.run("before", before, words), both_runs.run("after", after, words)]);
+      const [first, second] = await Promise.all([both_runs.run("before", before, words),
+        both_runs.run("after", after, words)]);
       if (first && second) both_runs.show(first, second, both_runs.renamed(lines));
     } catch (problem) {
       app.say("both-status", problem instanceof Superseded ? "stopped" : problem.message);
@@ -27,9 +29,14 @@ const both_runs = {
   // The history of a model, and its events, which a variant that watches the vertices alone shows.
   async run(which, model, words) {
     const vertices = model.vertices.map(vertex => vertex.name), line = run_words.words("run", words);
-    const history = await engine.call(`${which} history`, line, model.text, { want: "bytes", most: both_runs.MOST_BYTES });
-    if (!history.cut && ![0, 6, 7].includes(history.status)) { app.say("both-status", complaint(history)); return null; }
-    const frames = await engine.call(`${which} events`, line, watching(model, vertices), { want: "frames", vertices, most: both_runs.MOST_BYTES });
+    const history = await engine.call(`${which} history`, line, model.text,
+      { want: "bytes", most: both_runs.MOST_BYTES });
+    if (!history.cut && ![0, 6, 7].includes(history.status)) {
+      app.say("both-status", complaint(history));
+      return null;
+    }
+    const frames = await engine.call(`${which} events`, line, watching(model, vertices),
+      { want: "frames", vertices, most: both_runs.MOST_BYTES });
     const events = Array.from(frames.times, (time, k) => [time, vertices[frames.vertices[k]]]);
     return { history, events, is_cut: history.cut || frames.cut };
   },
@@ -37,11 +44,13 @@ const both_runs = {
   show(first, second, renamed) {
     const { same, front, place } = compare_histories(first.history.out, second.history.out);
     const { notes, last } = read_notes(new TextDecoder().decode(first.history.out));
-    const lined = lined_up(first.events, second.events, notes, renamed), count = each => each.events.length.toLocaleString("en");
+    const lined = lined_up(first.events, second.events, notes, renamed),
+      count = each => each.events.length.toLocaleString("en");
     const told = same ? `Both show the same ${counted(notes.length, "note")}, byte for byte`
       : front ? "Both were not played to one end, and the shorter history is the beginning of the longer one"
         : `The histories differ at byte ${place}`;
-    app.say("both-status", `${told}. Before: ${count(first)} events; after: ${count(second)}. ${run_tab.told_end(last)}` +
+    app.say("both-status", `${told}. Before: ${count(first)} events; after: ${count(second)}. ` +
+      `${run_tab.told_end(last)}` +
       (first.is_cut || second.is_cut ? ` Compared are the first ${both_runs.MOST_BYTES / 1e6} MB.` : ""));
     at("both-status").className = same || front ? "good" : "refusal";
     Object.assign(both_runs, { rows: lined.rows, first, second, notes });
@@ -55,13 +64,16 @@ const both_runs = {
 
   // All events of both runs over time, and between them the notes.
   draw(first, second, notes) {
-    const width = Math.max(300, Math.min(1000, at("both-picture").clientWidth - 8)), end = Math.max(1, ...[first, second].map(each => each.events.at(-1)?.[0] || 0));
+    const width = Math.max(300, Math.min(1000, at("both-picture").clientWidth - 8)),
+      end = Math.max(1, ...[first, second].map(each => each.events.at(-1)?.[0] || 0));
     const x = time => Math.round((60 + time / end * (width - 72)) * 10) / 10;
-    const picture = plot_part("svg", { class: "plot", width, height: 74, viewBox: `0 0 ${width} 74`, role: "img", "aria-label": "the events of both runs, and the notes between them" });
+    const picture = plot_part("svg", { class: "plot", width, height: 74, viewBox: `0 0 ${width} 74`, role: "img",
+      "aria-label": "the events of both runs, and the notes between them" });
     const only_before = both_runs.rows.filter(row => row.before && !row.after);
     const ticks = (times, top, size, name) => {
       const seen = new Set(times.map(x));
-      picture.append(plot_part("path", { class: name, d: [...seen].map(place => `M${place} ${top}v${size}`).join("") }));
+      picture.append(plot_part("path", { class: name, d: [...seen].map(place => `M${place} ${top}v${size}`)
+        .join("") }));
     };
     const label = (y, text) => picture.append(plot_part("text", { x: 2, y }, text));
     label(18, "before");
@@ -87,5 +99,7 @@ const both_runs = {
     app.say("both-shown", `lines ${from + 1} to ${from + shown} of ${both_runs.rows.length.toLocaleString("en")}`);
   },
 
-  stop() { for (const which of ["before", "after"]) for (const what of ["history", "events"]) engine.stop(`${which} ${what}`); },
+  stop() {
+    for (const which of ["before", "after"]) for (const what of ["history", "events"]) engine.stop(`${which} ${what}`);
+  },
 };

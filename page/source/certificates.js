@@ -1,5 +1,6 @@
-// Reads what `reduce`, `fuse` and `narrow` write, and follows it on the model that was read: what goes, and why, in the words of
-// docs/reduction.md. Plain functions; nothing here decides whether a rule applies, since the program wrote that it does.
+// Reads what `reduce`, `fuse` and `narrow` write, and follows it on the model that was read: what goes, and why, in
+// the words of docs/reduction.md. Plain functions; nothing here decides whether a rule applies, since the program
+// wrote that it does.
 
 // The reduced model and the lines of the certificate.
 function read_reduction(output) {
@@ -8,10 +9,11 @@ function read_reduction(output) {
   return { text: output.slice(0, at_line), lines: output.slice(at_line).split("\n").slice(1, -2) };
 }
 
-// Follows a certificate. `gone` has the vertices, edges (by their numbers) and variables of the model that go, each with its line, and
-// `sentences` why, a sentence for each line.
+// Follows a certificate. `gone` has the vertices, edges (by their numbers) and variables of the model that go, each
+// with its line, and `sentences` why, a sentence for each line.
 function follow_certificate(model, lines) {
-  const edges = new Map(model.vertices.map(vertex => [vertex.name, vertex.edges.map(edge => ({ ...edge, is_own: true }))]));
+  const edges = new Map(model.vertices.map(vertex => [vertex.name,
+    vertex.edges.map(edge => ({ ...edge, is_own: true }))]));
   const state = { model, edges, gone: { vertices: new Map(), edges: new Map(), variables: new Map() } };
   const sentences = lines.map(line => {
     const [rule, ...names] = line.split(" ");
@@ -29,7 +31,8 @@ function take_edge(state, vertex, place, line) {
 const RULES = {
   prune(state, line, vertex, number) {
     const edge = take_edge(state, vertex, Number(number) - 1, line);
-    return `The edge from ${vertex} to ${edge.target} goes: its condition ${edge.when} never holds${ranges_read(state.model, edge.when)}.`;
+    return `The edge from ${vertex} to ${edge.target} goes: its condition ${edge.when} never ` +
+      `holds${ranges_read(state.model, edge.when)}.`;
   },
   settle(state, line, vertex, number) {
     const edge = state.edges.get(vertex)[Number(number) - 1], condition = edge.when;
@@ -44,17 +47,20 @@ const RULES = {
       state.edges.delete(name);
     }
     const one = names.length === 1;
-    return `${listed(names)} can't be reached: no edge leads there from an event that can be, and ${one ? "it isn't" : "they aren't"} watched.`;
+    return `${listed(names)} can't be reached: no edge leads there from an event that can be, and ` +
+      `${one ? "it isn't" : "they aren't"} watched.`;
   },
   merge(state, line, vertex, target) {
-    const edges = state.edges.get(vertex), place = edges.findIndex(edge => edge.kind === "urgent" && edge.target === target && !edge.when);
+    const edges = state.edges.get(vertex),
+      place = edges.findIndex(edge => edge.kind === "urgent" && edge.target === target && !edge.when);
     if (place >= 0) take_edge(state, vertex, place, line);
     for (const edge of state.edges.get(target)) edges.push({ ...edge, is_own: false });
     return `${vertex} always schedules ${target} at once. So it does what ${target} does as well, in one step.`;
   },
   slice(state, line, ...names) {
     for (const name of names) state.gone.variables.set(name, line);
-    return `Nothing watched depends on ${listed(names)}. So ${names.length === 1 ? "it goes" : "they go"}, with what is stored there.`;
+    return `Nothing watched depends on ${listed(names)}. So ${names.length === 1 ? "it goes" : "they go"}, with ` +
+      `what is stored there.`;
   },
 };
 
@@ -69,8 +75,8 @@ function ranges_read(model, condition) {
   return `, by the declared ranges (${names.map(name => `${name} : ${model.variable.get(name).kind}`).join(", ")})`;
 }
 
-// Of a fused model: which vertices went, and which stands for each. `fuse` only renames what edges lead to, so the edges of a vertex that
-// stayed are the same in number and order.
+// Of a fused model: which vertices went, and which stands for each. `fuse` only renames what edges lead to, so the
+// edges of a vertex that stayed are the same in number and order.
 function follow_fusing(before, after) {
   const stands_for = new Map(), left = new Set(after.vertices.map(vertex => vertex.name));
   for (const vertex of after.vertices)
@@ -85,7 +91,8 @@ function follow_fusing(before, after) {
     for (const edge of vertex.edges) gone.edges.set(edge.id, line);
     lines.push(line);
     sentences.push(stands_for.has(vertex.name)
-      ? `${vertex.name} does the same as ${stands_for.get(vertex.name)}. So ${stands_for.get(vertex.name)} stands for both.`
+      ? `${vertex.name} does the same as ${stands_for.get(vertex.name)}. So ${stands_for.get(vertex.name)} stands ` +
+        `for both.`
       : `${vertex.name} does the same as an event that stands before it, and no edge leads to it.`);
   }
   return { gone, lines, sentences };

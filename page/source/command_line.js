@@ -1,4 +1,5 @@
-// The tab Command line: any words on the text as it is now, and the exact bytes that the program writes, so that nothing is hidden.
+// The tab Command line: any words on the text as it is now, and the exact bytes that the program writes, so that
+// nothing is hidden.
 const command_line = {
   MOST_SHOWN: 200000,
   bytes: null, file: "",
@@ -25,7 +26,8 @@ const command_line = {
     command_line.file = beside_name(app.file || "model.sigma", `.${words[0] || "out"}.txt`);
     const text = new TextDecoder().decode(answer.out.subarray(0, command_line.MOST_SHOWN));
     const more = answer.out.length > command_line.MOST_SHOWN
-      ? `\n… the first ${command_line.MOST_SHOWN.toLocaleString("en")} of ${answer.out.length.toLocaleString("en")} bytes are shown; all of them can be saved` : "";
+      ? `\n… the first ${command_line.MOST_SHOWN.toLocaleString("en")} of ` +
+        `${answer.out.length.toLocaleString("en")} bytes are shown; all of them can be saved` : "";
     at("cli-out").textContent = text + more;
     at("cli-err").textContent = answer.err || "";
     at("cli-save").disabled = !answer.out.length;
@@ -33,15 +35,19 @@ const command_line = {
   },
 
   told_end(answer) {
-    const size = `${answer.out.length.toLocaleString("en")} bytes on the output, ${(answer.err || "").length} on the error output`;
+    const size = `${answer.out.length.toLocaleString("en")} bytes on the output, ${(answer.err || "").length} on ` +
+      `the error output`;
     const time = `${Math.round(answer.ms)} ms`;
     if (answer.stopped) return `stopped: ${size} until then, ${time}`;
-    if (answer.cut) return `cut off at the ${(answer.out.length / 1e6).toFixed(0)} MB that this page keeps of an output, ${time}`;
+    if (answer.cut) return `cut off at the ${(answer.out.length / 1e6).toFixed(0)} MB that this page keeps of an ` +
+      `output, ${time}`;
     if (answer.failure) return complaint(answer);
     return `exit status ${answer.status}; ${size}; ${time}, ${(answer.memory / 1e6).toFixed(0)} MB of memory`;
   },
 
-  show_shell_line() { show_shell_line("cli-shell", shell_line(typed_words(at("cli-words").value), app.file || "model.sigma")); },
+  show_shell_line() {
+    show_shell_line("cli-shell", shell_line(typed_words(at("cli-words").value), app.file || "model.sigma"));
+  },
 
   start() {
     at("cli").onsubmit = event => { event.preventDefault(); command_line.call(at("cli-words").value); };
@@ -51,7 +57,8 @@ const command_line = {
     for (const button of document.querySelectorAll("[data-words]")) button.onclick = () => {
       const words = button.dataset.words;
       at("cli-words").value = ["run", "replicate", "save"].includes(words)
-        ? [...run_words.words(words), ...(words === "replicate" ? ["--runs", experiments.runs()] : [])].join(" ") : words;
+        ? [...run_words.words(words), ...(words === "replicate" ? ["--runs", experiments.runs()] : [])].join(" ")
+          : words;
       command_line.show_shell_line();
       command_line.call(at("cli-words").value);
     };

@@ -1,15 +1,22 @@
-// The tab Conflicts: the pairs of vertices for which the order of two simultaneous events of one priority can matter, and who reads and
-// writes each variable. Both are lists of the program, shown on the graph.
+// The tab Conflicts: the pairs of vertices for which the order of two simultaneous events of one priority can matter,
+// and who reads and writes each variable. Both are lists of the program, shown on the graph.
 const conflicts = {
   MOST: 500, shown_for: null,
 
   async show() {
-    if (!app.fresh) { app.say("conflict-status", `the text is refused: ${app.refusal || "it is being checked"}`); return; }
+    if (!app.fresh) {
+      app.say("conflict-status", `the text is refused: ${app.refusal || "it is being checked"}`);
+      return;
+    }
     const model = app.model;
     if (conflicts.shown_for === model) return;
     try {
-      const pairs = await engine.call("ask", ["conflicts"], model.text), uses = await engine.call("ask", ["uses"], model.text);
-      if (pairs.status !== 0 || uses.status !== 0) { app.say("conflict-status", complaint(pairs.status ? pairs : uses)); return; }
+      const pairs = await engine.call("ask", ["conflicts"], model.text),
+        uses = await engine.call("ask", ["uses"], model.text);
+      if (pairs.status !== 0 || uses.status !== 0) {
+        app.say("conflict-status", complaint(pairs.status ? pairs : uses));
+        return;
+      }
       conflicts.shown_for = model;
       conflicts.show_pairs(read_conflicts(pairs.out), read_uses(uses.out), model);
       conflicts.show_uses(read_uses(uses.out));
@@ -20,18 +27,21 @@ const conflicts = {
 
   show_pairs(pairs, uses, model) {
     app.say("conflict-status", pairs.length
-      ? `For ${plural(pairs.length, "pair")} the order of two events of one time and one priority can matter. A priority on an edge settles it.`
+      ? `For ${plural(pairs.length, "pair")} the order of two events of one time and one priority can matter. A ` +
+        `priority on an edge settles it.`
       : "No two events are in conflict: in whatever order simultaneous events of one priority occur, they commute.");
     const items = pairs.slice(0, conflicts.MOST).map(pair => conflicts.item(pair, told_reasons(pair, model, uses)));
     if (pairs.length > conflicts.MOST)
-      items.push(Object.assign(document.createElement("li"), { textContent: `and ${(pairs.length - conflicts.MOST).toLocaleString("en")} more` }));
+      items.push(Object.assign(document.createElement("li"),
+        { textContent: `and ${(pairs.length - conflicts.MOST).toLocaleString("en")} more` }));
     at("conflict-list").replaceChildren(...items);
   },
 
   item(pair, reasons) {
     const item = document.createElement("li"), button = document.createElement("button");
     button.className = "line";
-    button.append(Object.assign(document.createElement("b"), { textContent: pair.first === pair.second ? `${pair.first} and itself` : `${pair.first} and ${pair.second}` }),
+    button.append(Object.assign(document.createElement("b"),
+      { textContent: pair.first === pair.second ? `${pair.first} and itself` : `${pair.first} and ${pair.second}` }),
       `: ${reasons.join("; ")}`);
     button.onclick = button.onmouseenter = button.onfocus = () => {
       conflicts.clear_graph();
@@ -43,7 +53,8 @@ const conflicts = {
 
   show_uses(uses) {
     at("uses-table").replaceChildren(...uses.map(use => {
-      const row = document.createElement("tr"), head = document.createElement("th"), button = document.createElement("button");
+      const row = document.createElement("tr"), head = document.createElement("th"),
+        button = document.createElement("button");
       button.className = "line";
       button.textContent = use.name;
       head.scope = "row";

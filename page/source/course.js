@@ -1,5 +1,6 @@
-// The course of each watched cell over a run, in memory that doesn't grow with it: the least, greatest and last value of each column of
-// equal time, and the area. A column is one tick wide at first; when the time goes past the last one, two columns become one.
+// The course of each watched cell over a run, in memory that doesn't grow with it: the least, greatest and last value
+// of each column of equal time, and the area. A column is one tick wide at first; when the time goes past the last
+// one, two columns become one.
 class CourseReader {
   // `watched` is a list of { name, cells, is_event }.
   constructor(watched, columns = 2048) {
@@ -10,7 +11,8 @@ class CourseReader {
     for (const item of watched)
       if (item.is_event) this.events.set(item.name, { name: item.name, count: 0, columns: new Float64Array(columns) });
     this.cells = this.names.map(name => ({
-      name, area: 0, least: new Float64Array(columns).fill(Infinity), greatest: new Float64Array(columns).fill(-Infinity),
+      name, area: 0, least: new Float64Array(columns).fill(Infinity), greatest: new Float64Array(columns)
+        .fill(-Infinity),
       last: new Float64Array(columns).fill(NaN),
     }));
     this.now = new Float64Array(this.names.length);
@@ -78,7 +80,8 @@ class CourseReader {
 
   // What there is to show. After a stopped call the last line is missing, and the course goes up to the last note.
   finish() {
-    const ending = ending_of(this.reader.last), end = ending.time === null || !this.reader.last ? this.reader.time : ending.time;
+    const ending = ending_of(this.reader.last), end = ending.time === null || !this.reader.last ? this.reader.time
+      : ending.time;
     this.hold(end);
     this.since = end;
     const used = Math.min(this.columns, Math.floor(end / this.width) + 1);

@@ -8,7 +8,8 @@ const courses = {
     const rows = [];
     const add = (name, note, plot) => {
       if (!plot) return;
-      const row = document.createElement("div"), head = document.createElement("div"), small = document.createElement("small");
+      const row = document.createElement("div"), head = document.createElement("div"),
+        small = document.createElement("small");
       row.className = "plot-row";
       small.textContent = note;
       head.append(Object.assign(document.createElement("b"), { textContent: name }), small);
@@ -22,12 +23,16 @@ const courses = {
       add(cell.name, average, course_plot(cell, course, width, 92));
     }
     for (const event of course.events.slice(0, courses.most - rows.length))
-      add(event.name, event.count === 1 ? "occurred once" : `occurred ${event.count.toLocaleString("en")} times`, count_plot(event, course, width, 64));
+      add(event.name, event.count === 1 ? "occurred once" : `occurred ${event.count.toLocaleString("en")} times`,
+        count_plot(event, course, width, 64));
     const left = course.cells.length + course.events.length - rows.length;
-    if (left > 0) rows.push(courses.note(`${plural(left, "more item")} ${left === 1 ? "isn't" : "aren't"} drawn; watch fewer to see them`));
-    if (course.rounded) rows.push(courses.note("values or areas are above 2^53, so these plots and averages are rounded; the table has the exact values"));
+    if (left > 0) rows.push(courses.note(`${plural(left, "more item")} ${left === 1 ? "isn't" : "aren't"} drawn; ` +
+      `watch fewer to see them`));
+    if (course.rounded) rows.push(courses.note("values or areas are above 2^53, so these plots and averages are " +
+      "rounded; the table has the exact values"));
     if (!course.cells.length && !course.events.length)
-      rows.push(courses.note("The model watches nothing. To see courses, add a line `watch NAME, NAME;` after the variables and tables."));
+      rows.push(courses.note("The model watches nothing. To see courses, add a line `watch NAME, NAME;` after the " +
+        "variables and tables."));
     place.replaceChildren(...rows);
   },
 

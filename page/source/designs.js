@@ -1,7 +1,8 @@
-// The list of designs that an experiment compares. The first one is the text as it is now; others are kept with their texts, or have
-// starting values of their own. The list is kept in the browser.
+// The list of designs that an experiment compares. The first one is the text as it is now; others are kept with their
+// texts, or have starting values of their own. The list is kept in the browser.
 const designs = {
-  // Each { name, text, start, is_taken }: no text is the text as it is now, and no start the starting values of the fields.
+  // Each { name, text, start, is_taken }: no text is the text as it is now, and no start the starting values of the
+  // fields.
   list: [{ name: "now", text: null, start: "", is_taken: true }],
 
   taken() { return designs.list.filter(design => design.is_taken); },
@@ -22,7 +23,8 @@ const designs = {
   },
 
   add_start() {
-    designs.list.push({ name: designs.free_name(`start ${run_words.start()}`), text: null, start: run_words.start(), is_taken: true });
+    designs.list.push({ name: designs.free_name(`start ${run_words.start()}`), text: null, start: run_words.start(),
+      is_taken: true });
     designs.changed();
     at("exp-designs").lastElementChild.querySelector(".design-start").select();
   },
@@ -33,7 +35,8 @@ const designs = {
   },
 
   changed() {
-    try { localStorage.setItem("sigma.designs", JSON.stringify(designs.list)); } catch { /* a full store keeps what it had */ }
+    try { localStorage.setItem("sigma.designs", JSON.stringify(designs.list));
+      } catch { /* a full store keeps what it had */ }
     designs.show();
     experiments.show_shell_line();
   },
@@ -41,7 +44,8 @@ const designs = {
   load() {
     try {
       const list = JSON.parse(localStorage.getItem("sigma.designs") || "null");
-      if (Array.isArray(list) && list.length && list[0].text === null && list.every(each => typeof each.name === "string")) designs.list = list;
+      if (Array.isArray(list) && list.length && list[0].text === null &&
+        list.every(each => typeof each.name === "string")) designs.list = list;
     } catch { /* what was kept isn't a list: the list stays as it is */ }
   },
 
@@ -52,18 +56,22 @@ const designs = {
   // What is said of a design's text.
   told(design) {
     if (design.text === null) return "the text as it is now";
-    const changed = line_difference(app.editor.text().split("\n"), design.text.split("\n")).filter(([sign]) => sign !== " ").length;
-    return changed ? `a kept text, which differs from the text now in ${plural(changed, "line")}` : "a kept text, the same as the text now";
+    const changed = line_difference(app.editor.text().split("\n"), design.text.split("\n"))
+      .filter(([sign]) => sign !== " ").length;
+    return changed ? `a kept text, which differs from the text now in ${plural(changed, "line")}`
+      : "a kept text, the same as the text now";
   },
 
   row(design, k) {
-    const row = document.createElement("li"), line = document.createElement("div"), note = document.createElement("small");
+    const row = document.createElement("li"), line = document.createElement("div"),
+      note = document.createElement("small");
     line.className = "row";
     const name = designs.field("the name of the design", design.name, value => { design.name = value || "design"; });
     name.className = "design-name";
     line.append(designs.box(design), name);
     if (design.start || (run_words.model && run_words.model.vertices[0].params.length)) {
-      const start = designs.field("starting values, with commas between them", design.start, value => { design.start = value; });
+      const start = designs.field("starting values, with commas between them", design.start,
+        value => { design.start = value; });
       Object.assign(start, { className: "design-start", size: 6, placeholder: "as above" });
       const label = document.createElement("label");
       label.append("start ", start);
@@ -71,7 +79,8 @@ const designs = {
     }
     if (design.text !== null) {
       line.append(designs.button("Edit", "shows the text, to be changed", () => designs.edit(row, design)),
-        designs.button("Open", "puts the text into the editor, in place of what is there", () => app.set_text(design.text)));
+        designs.button("Open", "puts the text into the editor, in place of what is there",
+          () => app.set_text(design.text)));
     }
     if (k) line.append(designs.button("Remove", "", () => designs.remove(k)));
     note.textContent = designs.told(design);
@@ -92,7 +101,8 @@ const designs = {
 
   box(design) {
     const box = document.createElement("input");
-    Object.assign(box, { type: "checkbox", checked: design.is_taken, ariaLabel: `compare ${design.name}`, title: "compare it" });
+    Object.assign(box, { type: "checkbox", checked: design.is_taken, ariaLabel: `compare ${design.name}`,
+      title: "compare it" });
     box.onchange = () => { design.is_taken = box.checked; designs.changed(); };
     return box;
   },
@@ -105,7 +115,8 @@ const designs = {
   edit(row, design) {
     const there = row.querySelector("textarea");
     if (there) { there.remove(); return; }
-    const field = Object.assign(document.createElement("textarea"), { value: design.text, rows: 12, ariaLabel: `the text of ${design.name}`, spellcheck: false });
+    const field = Object.assign(document.createElement("textarea"),
+      { value: design.text, rows: 12, ariaLabel: `the text of ${design.name}`, spellcheck: false });
     field.onchange = () => {
       design.text = field.value;
       row.querySelector(".design-note").textContent = designs.told(design);

@@ -1,6 +1,8 @@
-// The difference of two texts, line by line: a longest common subsequence between what is equal at both ends. Plain functions.
+// The difference of two texts, line by line: a longest common subsequence between what is equal at both ends. Plain
+// functions.
 
-// A list of [sign, line], where the sign is a blank for a line of both, and - or + for a line of the first or of the second alone.
+// A list of [sign, line], where the sign is a blank for a line of both, and - or + for a line of the first or of the
+// second alone.
 function line_difference(a, b) {
   let from = 0, a_end = a.length, b_end = b.length;
   while (from < a_end && from < b_end && a[from] === b[from]) from++;
@@ -12,7 +14,8 @@ function line_difference(a, b) {
   ];
 }
 
-// Tables of lengths grow with the product of both, so that of long texts all lines of the first go, and all of the second come.
+// Tables of lengths grow with the product of both, so that of long texts all lines of the first go, and all of the
+// second come.
 const MOST_LENGTHS = 4e6;
 
 function middle_difference(a, b) {

@@ -1,4 +1,5 @@
-// What came of an experiment: how the runs ended, means with their intervals, what each design has more, and how the runs lie.
+// What came of an experiment: how the runs ended, means with their intervals, what each design has more, and how the
+// runs lie.
 const experiment_results = {
   MOST_PLOTS: 8,
   results: null,
@@ -7,7 +8,8 @@ const experiment_results = {
 
   clear() {
     experiment_results.results = null;
-    for (const id of ["exp-outcomes", "exp-table", "exp-plots", "exp-refusals", "exp-reports"]) at(id).replaceChildren();
+    for (const id of ["exp-outcomes", "exp-table", "exp-plots", "exp-refusals", "exp-reports"]) at(id)
+      .replaceChildren();
     at("exp-numbers").hidden = true;
   },
 
@@ -16,7 +18,8 @@ const experiment_results = {
     if (!results) return;
     at("exp-refusals").replaceChildren();
     at("exp-outcomes").replaceChildren(...results.map(experiment_results.outcomes));
-    at("exp-reports").replaceChildren("Reports: ", ...results.filter(result => result.csv).map(experiment_results.report_button));
+    at("exp-reports").replaceChildren("Reports: ", ...results.filter(result => result.csv)
+      .map(experiment_results.report_button));
     at("exp-table").replaceChildren();
     at("exp-plots").replaceChildren();
     at("exp-numbers").hidden = true;
@@ -28,13 +31,15 @@ const experiment_results = {
   },
 
   refuse(lines) {
-    at("exp-refusals").append(...lines.map(line => Object.assign(document.createElement("p"), { className: "refusal", textContent: line })));
+    at("exp-refusals").append(...lines.map(line => Object.assign(document.createElement("p"),
+      { className: "refusal", textContent: line })));
   },
 
   outcomes(result) {
     const line = document.createElement("p");
     if (!result.report) return line;
-    const counts = Object.entries(outcome_counts(result.report)).map(([outcome, count]) => `${count.toLocaleString("en")} ${outcome}`);
+    const counts = Object.entries(outcome_counts(result.report))
+      .map(([outcome, count]) => `${count.toLocaleString("en")} ${outcome}`);
     line.textContent = `${result.label}: ${counted(run_count(result.report), "run")}, ${counts.join(", ")}`;
     return line;
   },
@@ -62,15 +67,20 @@ const experiment_results = {
       const found = compared(results, item, column), name = column === "time" ? "time of the end" : item;
       if (found.refusal) { body.append(experiment_results.row(name, found.refusal)); continue; }
       rounded = rounded || found.rounded;
-      found.rows.forEach((row, k) => body.append(experiment_results.row(k ? "" : name, row.label, told_mean(row.mean), "", pairs > 1)));
-      found.differences.forEach(each => body.append(experiment_results.row("", each.label, told_mean(each.mean, each.together), "difference", pairs > 1)));
+      found.rows.forEach((row, k) => body.append(experiment_results.row(k ? "" : name, row.label, told_mean(row.mean),
+        "", pairs > 1)));
+      found.differences.forEach(each => body.append(experiment_results.row("", each.label,
+        told_mean(each.mean, each.together), "difference", pairs > 1)));
       if (drawn++ < experiment_results.MOST_PLOTS) experiment_results.draw(name, found.rows, column);
     }
-    if (drawn > experiment_results.MOST_PLOTS) at("exp-plots").append(courses.note(`the first ${experiment_results.MOST_PLOTS} items are drawn`));
-    if (rounded) experiment_results.refuse(["some numbers are above 2^53 and are rounded to doubles here; the report has them exactly"]);
+    if (drawn > experiment_results.MOST_PLOTS) at("exp-plots")
+      .append(courses.note(`the first ${experiment_results.MOST_PLOTS} items are drawn`));
+    if (rounded) experiment_results.refuse(["some numbers are above 2^53 and are rounded to doubles here; the " +
+      "report has them exactly"]);
     at("exp-numbers").hidden = false;
     for (const head of document.querySelectorAll("#exp-numbers .together")) head.hidden = pairs < 2;
-    at("exp-together").textContent = pairs < 2 ? "" : `The last two columns hold for all ${pairs} differences together in 95 of 100 experiments (Bonferroni).`;
+    at("exp-together").textContent = pairs < 2 ? ""
+      : `The last two columns hold for all ${pairs} differences together in 95 of 100 experiments (Bonferroni).`;
   },
 
   // A row of the table: the texts of a mean, or words in place of it.
@@ -80,7 +90,8 @@ const experiment_results = {
     head.textContent = item;
     row.className = mark;
     row.append(head);
-    const add = (text, span = 1) => { const cell = document.createElement("td"); cell.textContent = text; cell.colSpan = span; row.append(cell); };
+    const add = (text, span = 1) => { const cell = document.createElement("td"); cell.textContent = text;
+      cell.colSpan = span; row.append(cell); };
     if (!texts) { add(label, 8); row.className = "without"; return row; }
     add(label);
     for (const part of ["runs", "mean", "error", "from", "to"]) add(texts[part]);
@@ -89,11 +100,14 @@ const experiment_results = {
   },
 
   draw(name, rows, column) {
-    const lists = rows.map(row => row.values), asked = Number(at("exp-bar-width").value), bar = asked > 0 ? asked : bar_width(lists);
-    const plot = histogram_plot(lists, rows.map(row => row.label), bar, 420, 180), figure = document.createElement("figure");
+    const lists = rows.map(row => row.values), asked = Number(at("exp-bar-width").value),
+      bar = asked > 0 ? asked : bar_width(lists);
+    const plot = histogram_plot(lists, rows.map(row => row.label), bar, 420, 180),
+      figure = document.createElement("figure");
     const caption = document.createElement("figcaption");
     caption.append(`${name}${column === "time" ? "" : `, ${column} of a run`} `);
-    rows.forEach((row, k) => caption.append(Object.assign(document.createElement("span"), { className: `key key${k}`, textContent: row.label }), " "));
+    rows.forEach((row, k) => caption.append(Object.assign(document.createElement("span"),
+      { className: `key key${k}`, textContent: row.label }), " "));
     caption.append(plot ? `, bars of ${tick_text(bar)}` : `bars as wide as ${bar} are too many`);
     figure.append(caption);
     if (plot) figure.append(plot);

@@ -1,10 +1,12 @@
-// Which event of a run faults, by which change or edge, and with what values. The program is asked: what is saved before the event goes on
-// with a vertex that has only its first changes and edges, and the first part with which it faults is the one.
+// Which event of a run faults, by which change or edge, and with what values. The program is asked: what is saved
+// before the event goes on with a vertex that has only its first changes and edges, and the first part with which it
+// faults is the one.
 
 // The greatest number of events after which the run hasn't faulted yet. `known` is one after which it hasn't.
 async function events_before_fault(words, model, known, is_stopped) {
   const faults = async events => {
-    const answer = await engine.call("fault", run_words.words("run", { ...words, events: String(events) }), model.text, { want: "none" });
+    const answer = await engine.call("fault", run_words.words("run", { ...words, events: String(events) }),
+      model.text, { want: "none" });
     if (answer.status !== 0 && answer.status !== 6 && answer.status !== 7) throw new Error(complaint(answer));
     return answer.status === 6;
   };
@@ -22,8 +24,8 @@ async function events_before_fault(words, model, known, is_stopped) {
   return none;
 }
 
-// The event that faults behind so many events: { snapshot, pending, vertex, part, kind }, where `part` is the text of the change or edge,
-// or "" where it is a value that the event carries.
+// The event that faults behind so many events: { snapshot, pending, vertex, part, kind }, where `part` is the text of
+// the change or edge, or "" where it is a value that the event carries.
 async function find_fault(words, model, events) {
   const { snapshot, words: problem } = await saved_run(words, model, events);
   if (!snapshot) throw new Error(problem);
@@ -43,17 +45,19 @@ async function find_fault(words, model, events) {
   return { ...fault, values: await values_at_part(words, model, fault, some - 1) };
 }
 
-// The values of what a part reads and writes, at the moment at which the program comes to it: those that the event shows when its vertex
-// has only the parts before. Of a value that the event carries it is that value.
+// The values of what a part reads and writes, at the moment at which the program comes to it: those that the event
+// shows when its vertex has only the parts before. Of a value that the event carries it is that value.
 async function values_at_part(words, model, { snapshot, pending, vertex, part }, before) {
-  if (!part) return new Map(vertex.params.map((name, k) => [name, shown_values(model.variable.get(name), [pending.values[k]])]));
+  if (!part) return new Map(vertex.params.map((name, k) => [name,
+    shown_values(model.variable.get(name), [pending.values[k]])]));
   const names = [...new Set(part.match(/[A-Za-z]\w*/g) || [])].filter(name => model.variable.has(name));
   const variant = { text: watching(model, [...names, vertex.name]) };
   const text = with_first_parts(variant, vertex.name, before) + snapshot.text.replace(/^noted .*\n/m, "");
   const answer = await engine.call("fault", ["resume", "--until", LAST_TIME, "--events", "1"], text);
   const line = answer.out.split("\n").find(each => each.startsWith("on "));
   if (!line) throw new Error(complaint(answer));
-  return new Map(line.split(" ").slice(3).map(each => each.split("=")).map(([name, values]) => [name, values.split(",")]));
+  return new Map(line.split(" ").slice(3).map(each => each.split("="))
+    .map(([name, values]) => [name, values.split(",")]));
 }
 
 const FAULT_WORDS = {
@@ -68,16 +72,19 @@ const FAULT_WORDS = {
 function told_values(model, values) {
   return [...values].map(([name, list]) => {
     const shown = list.length > 12 ? list.slice(0, 12).join(", ") + " .." : list.join(", ");
-    return `${name} = ${model.variable.get(name).cells ? `[${shown}]` : shown}, declared ${model.variable.get(name).kind}`;
+    return `${name} = ${model.variable.get(name).cells ? `[${shown}]` : shown}, declared ` +
+      `${model.variable.get(name).kind}`;
   });
 }
 
 // Shows why a run faulted, in a box of the tab.
 function show_fault(model, fault, kind) {
-  const place = at("run-fault"), add = (tag, text) => place.append(Object.assign(document.createElement(tag), { textContent: text }));
+  const place = at("run-fault"), add = (tag, text) =>
+    place.append(Object.assign(document.createElement(tag), { textContent: text }));
   place.replaceChildren();
   place.hidden = false;
-  add("b", `The run faults at event ${(fault.events + 1).toLocaleString("en")}: ${fault.pending.event} at ${fault.pending.time} asks for ` +
+  add("b", `The run faults at event ${(fault.events + 1).toLocaleString("en")}: ${fault.pending.event} at ` +
+    `${fault.pending.time} asks for ` +
     `${FAULT_WORDS[kind] || kind} (${kind}).`);
   add("code", fault.part || `${fault.vertex.name}(${fault.vertex.params.join(", ")})`);
   const values = told_values(model, fault.values);

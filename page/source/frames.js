@@ -1,5 +1,5 @@
-// A history that is shown event by event: where each line `on` begins, with its time and vertex. A line is read when it is shown, so that
-// its values are the program's own text.
+// A history that is shown event by event: where each line `on` begins, with its time and vertex. A line is read when
+// it is shown, so that its values are the program's own text.
 class FrameReader {
   // `vertices` are the names of the vertices, in the order of the model.
   constructor(vertices) {
@@ -25,7 +25,8 @@ class FrameReader {
       } else if (bytes[i] !== LETTER_A) last = decoder.decode(bytes.subarray(from, end));
       i = end + 1;
     }
-    return { bytes, starts: Float64Array.from(starts), times: Float64Array.from(times), vertices: Int32Array.from(vertices), last };
+    return { bytes, starts: Float64Array.from(starts), times: Float64Array.from(times),
+      vertices: Int32Array.from(vertices), last };
   }
 }
 

@@ -1,7 +1,9 @@
 // Marks on a graph: vertices and edges of a picture get a class of panel.css, and lose it again.
 
 function graph_vertex(picture, name) { return picture.layer.querySelector(`.node[data-name="${name}"]`); }
-function graph_edge(picture, from, place) { return picture.layer.querySelector(`.edge[data-from="${from}"][data-place="${place}"]`); }
+function graph_edge(picture, from, place) {
+  return picture.layer.querySelector(`.edge[data-from="${from}"][data-place="${place}"]`);
+}
 function graph_edge_numbered(picture, id) { return picture.layer.querySelector(`.edge[data-id="${id}"]`); }
 
 function clear_marks(picture, ...names) {

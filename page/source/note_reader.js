@@ -1,6 +1,7 @@
-// Reads histories as they come, piece by piece: the notes that `run` and `resume` write. It works on bytes, since a history may have
-// hundreds of megabytes. It runs in the program's worker, in the page and under node.
-const BLANK = 32, LINE_FEED = 10, EQUALS = 61, COMMA = 44, MINUS = 45, ZERO = 48, LETTER_A = 97, LETTER_F = 102, LETTER_N = 110,
+// Reads histories as they come, piece by piece: the notes that `run` and `resume` write. It works on bytes, since a
+// history may have hundreds of megabytes. It runs in the program's worker, in the page and under node.
+const BLANK = 32, LINE_FEED = 10, EQUALS = 61, COMMA = 44, MINUS = 45, ZERO = 48, LETTER_A = 97, LETTER_F = 102,
+  LETTER_N = 110,
   LETTER_O = 111, LETTER_T = 116;
 
 // Takes bytes in pieces that may break off anywhere, and gives whole lines on.
@@ -39,12 +40,14 @@ function watched_cells(watched) {
     item.cells ? Array.from({ length: item.cells }, (_, k) => `${item.name}[${k}]`) : [item.name]);
 }
 
-// Reads notes. `values` has the cells of the last note, truth values as 1 and 0; `take_at(time)` is called for each line `at`, and
-// `take_on(time, bytes, from, to)` for each line `on`, where the name of the event stands in the bytes. The last line, as `ended 490`,
-// is `last` in the end. `rounded` says that a value had more digits than a double counts exactly.
+// Reads notes. `values` has the cells of the last note, truth values as 1 and 0; `take_at(time)` is called for each
+// line `at`, and `take_on(time, bytes, from, to)` for each line `on`, where the name of the event stands in the
+// bytes. The last line, as `ended 490`, is `last` in the end. `rounded` says that a value had more digits than a
+// double counts exactly.
 class NoteReader {
   constructor(cell_count, take_at, take_on) {
-    Object.assign(this, { take_at, take_on, values: new Float64Array(cell_count), notes: 0, time: 0, last: "", rounded: false });
+    Object.assign(this, { take_at, take_on, values: new Float64Array(cell_count), notes: 0, time: 0, last: "",
+      rounded: false });
     this.splitter = new LineSplitter((bytes, from, to) => this.read_lines(bytes, from, to));
   }
 

@@ -1,11 +1,13 @@
-// Shows a run event by event, forwards and backwards: the event that occurs and the edges that it takes on the graph, the values with
-// those that it changed, and what is pending then. All of it is what the program wrote of a variant that watches all.
+// Shows a run event by event, forwards and backwards: the event that occurs and the edges that it takes on the graph,
+// the values with those that it changed, and what is pending then. All of it is what the program wrote of a variant
+// that watches all.
 const player = {
   frames: null, model: null, variant: null, count: 0, now: -1, first: 0, begun: null, timer: 0, rows: [],
   // Called with the time of the event that is shown.
   shown: () => { },
 
-  // `frames` are those of the run `words` (see run_words) of the variant, behind the first `first` events; `begun` are the values then.
+  // `frames` are those of the run `words` (see run_words) of the variant, behind the first `first` events; `begun`
+  // are the values then.
   load(frames, { model, variant, first, begun, start }) {
     player.pause();
     Object.assign(player, { frames, model, variant, first, count: frames.starts.length, now: -1 });
@@ -35,7 +37,8 @@ const player = {
 
   build_table() {
     player.rows = player.variant.variables.flatMap(variable => Array.from({ length: variable.cells || 1 }, (_, k) => {
-      const row = document.createElement("tr"), name = document.createElement("th"), value = document.createElement("td");
+      const row = document.createElement("tr"), name = document.createElement("th"),
+        value = document.createElement("td");
       name.scope = "row";
       name.textContent = variable.cells ? `${variable.name}[${k}]` : variable.name;
       row.append(name, value);
@@ -75,7 +78,8 @@ const player = {
     clear_marks(app.picture, "lit", "taken");
     const last = player.first + player.count;
     if (!k) {
-      at("run-clock").textContent = `before event ${(player.first + 1).toLocaleString("en")} of ${last.toLocaleString("en")}`;
+      at("run-clock").textContent = `before event ${(player.first + 1).toLocaleString("en")} of ` +
+        `${last.toLocaleString("en")}`;
       at("run-taken").textContent = "\u00a0";
       return;
     }
@@ -141,7 +145,8 @@ const player = {
   },
 };
 
-// What is pending after so many events, which `save` says exactly. A moment that is shown meanwhile waits until the answer is there.
+// What is pending after so many events, which `save` says exactly. A moment that is shown meanwhile waits until the
+// answer is there.
 const pending_events = {
   is_asking: false, wanted: null, most: 200,
 
@@ -169,7 +174,8 @@ const pending_events = {
     app.picture.badges(counts);
     body.replaceChildren(...list.slice(0, pending_events.most).map(pending => {
       const row = document.createElement("tr");
-      for (const text of [pending.time, pending.event.replace(/,/g, ", "), pending.priority === "0" ? "urgent" : pending.priority]) {
+      for (const text of [pending.time, pending.event.replace(/,/g, ", "), pending.priority === "0" ? "urgent"
+        : pending.priority]) {
         const cell = document.createElement("td");
         cell.textContent = text;
         row.append(cell);
@@ -177,17 +183,19 @@ const pending_events = {
       return row;
     }));
     const more = list.length - pending_events.most;
-    app.say("run-pending-note", words || (more > 0 ? `and ${more.toLocaleString("en")} more` : list.length ? "" : "nothing is pending"));
+    app.say("run-pending-note", words || (more > 0 ? `and ${more.toLocaleString("en")} more` : list.length ? ""
+      : "nothing is pending"));
   },
 };
 
-// The run after so many events, as { snapshot }, or { words } where nothing is pending by then. The stop time is as late as can be, since a
-// run that stops there still has what is pending.
+// The run after so many events, as { snapshot }, or { words } where nothing is pending by then. The stop time is as
+// late as can be, since a run that stops there still has what is pending.
 const LAST_TIME = String(2 ** 48);
 
 async function saved_run(words, model, events) {
   if (events === 0) return { snapshot: read_snapshot(model.text + first_snapshot(model, words.seed, words.start)) };
-  const answer = await engine.call("save", run_words.words("save", { ...words, until: LAST_TIME, events: String(events) }), model.text);
+  const answer = await engine.call("save",
+    run_words.words("save", { ...words, until: LAST_TIME, events: String(events) }), model.text);
   if (answer.status === 10) return { words: "nothing is pending: the run is over" };
   return answer.status === 0 ? { snapshot: read_snapshot(answer.out) } : { words: complaint(answer) };
 }

@@ -1,4 +1,5 @@
-// Reads reports of `replicate` as they come, and makes a report of what came after a warm-up, as tools/since does. Plain functions.
+// Reads reports of `replicate` as they come, and makes a report of what came after a warm-up, as tools/since does.
+// Plain functions.
 
 // A whole number exactly: a number where a double counts it exactly, else a BigInt.
 function whole(text) {
@@ -53,7 +54,8 @@ class ReportReader {
     this.run = "";
     this.rows = [];
     this.row_count = 0;
-    this.splitter = new LineSplitter((bytes, from, to) => this.read_lines(new TextDecoder().decode(bytes.subarray(from, to))));
+    this.splitter = new LineSplitter((bytes, from, to) => this.read_lines(new TextDecoder()
+      .decode(bytes.subarray(from, to))));
   }
 
   take(bytes) { this.splitter.take(bytes); }
@@ -99,8 +101,8 @@ function read_report(text) {
   return reader.end(false);
 }
 
-// What came after the warm-up: times, areas and counts of the late report less those of the early one, run by run. Answers { report } or
-// { refusal } in the words of tools/since, where `label` and `early_label` name the two.
+// What came after the warm-up: times, areas and counts of the late report less those of the early one, run by run.
+// Answers { report } or { refusal } in the words of tools/since, where `label` and `early_label` name the two.
 function report_since(early, late, label, early_label) {
   const place = new Map(early.seeds.map((seed, k) => [seed, k])), report = empty_report();
   for (let k = 0; k < run_count(late); k++) {

@@ -1,14 +1,18 @@
-// The tab Run: a run as it was asked for, of which the courses of what is watched are shown, and the same run of a variant that watches
-// all, which is played event by event. Both are calls of the program.
+// The tab Run: a run as it was asked for, of which the courses of what is watched are shown, and the same run of a
+// variant that watches all, which is played event by event. Both are calls of the program.
 const run_tab = {
   MOST_EVENTS: 20000, MOST_BYTES: 3e7, MOST_CELLS: 400,
   words: null, is_stopped: false,
 
   async run() {
     const model = app.model;
-    if (!model || !app.fresh) { app.say("run-status", `the text is refused: ${app.refusal || "it is being checked"}`); return; }
+    if (!model || !app.fresh) {
+      app.say("run-status", `the text is refused: ${app.refusal || "it is being checked"}`);
+      return;
+    }
     run_tab.clear();
-    const words = { until: run_words.until(), seed: run_words.seed(), events: run_words.events(), start: run_words.start() };
+    const words = { until: run_words.until(), seed: run_words.seed(), events: run_words.events(),
+      start: run_words.start() };
     run_tab.words = words;
     run_tab.is_stopped = false;
     run_tab.show_running(true);
@@ -28,8 +32,12 @@ const run_tab = {
       want: "course", watched: watched_items(model),
       progress: written => app.say("run-status", `running … ${(written / 1e6).toFixed(1)} MB of history so far`),
     });
-    if (answer.failure || ![0, 6, 7].includes(answer.status)) { app.say("run-status", complaint(answer)); return null; }
-    const size = answer.written < 1e5 ? `${answer.written.toLocaleString("en")} bytes` : `${(answer.written / 1e6).toFixed(1)} MB`;
+    if (answer.failure || ![0, 6, 7].includes(answer.status)) {
+      app.say("run-status", complaint(answer));
+      return null;
+    }
+    const size = answer.written < 1e5 ? `${answer.written.toLocaleString("en")} bytes`
+      : `${(answer.written / 1e6).toFixed(1)} MB`;
     app.say("run-status", `${run_tab.told_end(answer.last)} ${counted(answer.notes, "note")}, ` +
       `${size}, ${Math.round(answer.ms)} ms.`);
     courses.show(answer);
@@ -56,21 +64,29 @@ const run_tab = {
       variant = watching_all(model, run_tab.MOST_CELLS, false);
       answer = await run_tab.played_part(variant, model, words, first);
     }
-    if (answer.failure || ![0, 6, 7].includes(answer.status)) { app.say("run-note", first ? `from event ${first}: ${complaint(answer)}` : ""); return null; }
+    if (answer.failure || ![0, 6, 7].includes(answer.status)) {
+      app.say("run-note", first ? `from event ${first}: ${complaint(answer)}` : "");
+      return null;
+    }
     player.load(answer, { model, variant, first, begun: answer.begun });
     run_tab.show_limits(answer, variant, words, first);
     return { first, count: answer.starts.length, last: answer.last };
   },
 
   async played_part(variant, model, words, first) {
-    const asked = Number(words.events), most = Math.max(200, Math.min(run_tab.MOST_EVENTS, Math.floor(run_tab.MOST_BYTES / 2 / variant.width)));
-    const events = asked - first > most ? String(most) : words.events, wanted = { want: "frames", vertices: model.vertices.map(each => each.name) };
+    const asked = Number(words.events), most = Math.max(200,
+      Math.min(run_tab.MOST_EVENTS, Math.floor(run_tab.MOST_BYTES / 2 / variant.width)));
+    const events = asked - first > most ? String(most) : words.events,
+      wanted = { want: "frames", vertices: model.vertices.map(each => each.name) };
     if (!first) return engine.call("play", run_words.words("run", { ...words, events }), variant.text, wanted);
-    const saved = await engine.call("play", run_words.words("save", { ...words, events: String(first) }), variant.text);
+    const saved = await engine.call("play", run_words.words("save", { ...words, events: String(first) }),
+      variant.text);
     if (saved.status !== 0) return saved;
     const values = read_snapshot(saved.out).values;
-    const answer = await engine.call("play", run_words.words("resume", { until: words.until, events }), saved.out, wanted);
-    return { ...answer, begun: variant.variables.flatMap(variable => shown_values(variable, values.get(variable.name))) };
+    const answer = await engine.call("play", run_words.words("resume", { until: words.until, events }), saved.out,
+      wanted);
+    return { ...answer, begun: variant.variables.flatMap(variable => shown_values(variable,
+      values.get(variable.name))) };
   },
 
   show_limits(answer, variant, words, first) {
@@ -82,7 +98,8 @@ const run_tab = {
   },
 
   async explain(model, words, played, course) {
-    const kind = ending_of(course.last).kind, reached = played && /^fault /.test(played.last) ? played.first + played.count : null;
+    const kind = ending_of(course.last).kind, reached = played && /^fault /.test(played.last)
+      ? played.first + played.count : null;
     app.say("run-note", `${at("run-note").textContent} Looking for the event that faults …`.trim());
     const known = played && reached === null ? played.first + played.count : 0;
     const events = reached ?? await events_before_fault(words, model, known, () => run_tab.is_stopped);

@@ -1,9 +1,11 @@
 // Reads what `save` writes: a model's canonical text, and behind it the snapshot of a run. Plain functions.
 
-// The values by variable, and the pending events in the order in which they are next, with their times as exact numbers.
+// The values by variable, and the pending events in the order in which they are next, with their times as exact
+// numbers.
 function read_snapshot(document_text) {
   const from = document_text.indexOf("\nsnapshot\n") + 1;
-  const snapshot = { model: document_text.slice(0, from), text: document_text.slice(from), clock: 0n, events: 0, values: new Map(), pending: [] };
+  const snapshot = { model: document_text.slice(0, from), text: document_text.slice(from), clock: 0n, events: 0,
+    values: new Map(), pending: [] };
   for (const line of snapshot.text.split("\n")) {
     const words = line.split(" ");
     if (words[0] === "clk") snapshot.clock = BigInt(words[1]);
@@ -23,7 +25,8 @@ function read_pending([, delay, priority, event], clock) {
 
 // The snapshot of a run in which nothing has happened yet: `save` has none, since it makes one event at least.
 function first_snapshot(model, seed, start) {
-  const number = BigInt(seed), lines = ["snapshot", `seed ${number >> 32n} ${number & 0xffffffffn}`, "clk 0", "events 0"];
+  const number = BigInt(seed), lines = ["snapshot", `seed ${number >> 32n} ${number & 0xffffffffn}`, "clk 0",
+    "events 0"];
   for (const variable of model.vars) {
     const value = { true: "1", false: "0" }[variable.initial] || variable.initial;
     lines.push(`value ${variable.name} ${new Array(variable.cells || 1).fill(value).join(",")}`);

@@ -1,10 +1,12 @@
-// Means over runs with their errors and intervals, by the sums of tools/library.awk, so that the page and the tools show the same numbers.
-// Plain functions.
+// Means over runs with their errors and intervals, by the sums of tools/library.awk, so that the page and the tools
+// show the same numbers. Plain functions.
 
 // The 0.975 quantile of Student's t for 1 to 30 degrees of freedom.
 const STUDENT_TABLE = [
-  12.70620, 4.30265, 3.18245, 2.77645, 2.57058, 2.44691, 2.36462, 2.30600, 2.26216, 2.22814, 2.20099, 2.17881, 2.16037, 2.14479,
-  2.13145, 2.11991, 2.10982, 2.10092, 2.09302, 2.08596, 2.07961, 2.07387, 2.06866, 2.06390, 2.05954, 2.05553, 2.05183, 2.04841,
+  12.70620, 4.30265, 3.18245, 2.77645, 2.57058, 2.44691, 2.36462, 2.30600, 2.26216, 2.22814, 2.20099, 2.17881,
+    2.16037, 2.14479,
+  2.13145, 2.11991, 2.10982, 2.10092, 2.09302, 2.08596, 2.07961, 2.07387, 2.06866, 2.06390, 2.05954, 2.05553, 2.05183,
+    2.04841,
   2.04523, 2.04227,
 ];
 
@@ -104,7 +106,8 @@ function fixed(value, digits) {
 
 // The texts of a mean: three decimals, or as many as the error needs.
 function told_mean(mean, together) {
-  if (mean.error === null) return { runs: String(mean.runs), mean: fixed(mean.mean, 3), error: "takes two runs", from: "", to: "" };
+  if (mean.error === null) return { runs: String(mean.runs), mean: fixed(mean.mean, 3), error: "takes two runs",
+    from: "", to: "" };
   let digits = 3;
   while (mean.error > 0 && mean.error < 10 ** -digits && digits < 9) digits++;
   const texts = { runs: String(mean.runs) };

@@ -1,10 +1,12 @@
-// Variants of a model's canonical text, by which the program is asked more about a run than the model watches. Plain functions.
+// Variants of a model's canonical text, by which the program is asked more about a run than the model watches. Plain
+// functions.
 //
-// What is watched changes no run, and neither do variables that nothing reads: so a variant makes the same events at the same times with
-// the same values, and its history shows them all.
+// What is watched changes no run, and neither do variables that nothing reads: so a variant makes the same events at
+// the same times with the same values, and its history shows them all.
 
-// The model with all vertices and variables watched, but arrays that are too long for a table; and with a truth value for each condition
-// of an edge, which the vertex sets behind its changes, so that the program itself says which edges an event takes.
+// The model with all vertices and variables watched, but arrays that are too long for a table; and with a truth value
+// for each condition of an edge, which the vertex sets behind its changes, so that the program itself says which
+// edges an event takes.
 function watching_all(model, most_cells, with_marks = true) {
   const variables = [], left_out = [];
   let cells = 0;
@@ -16,11 +18,13 @@ function watching_all(model, most_cells, with_marks = true) {
   const marks = with_marks ? mark_names(model) : [];
   const names = [...variables.map(each => each.name), ...marks, ...model.vertices.map(each => each.name)];
   const text = marked_text(model, marks, `watch ${names.join(", ")};`);
-  const width = variables.reduce((sum, each) => sum + each.name.length + 2 + 3 * (each.cells || 1), 12 + 9 * marks.length);
+  const width = variables.reduce((sum, each) => sum + each.name.length + 2 + 3 * (each.cells || 1),
+    12 + 9 * marks.length);
   return { text, variables, left_out, marks, width };
 }
 
-// Names for the truth values, as many as the vertex with the most conditions has edges with one. No name of the model is one of them.
+// Names for the truth values, as many as the vertex with the most conditions has edges with one. No name of the model
+// is one of them.
 function mark_names(model) {
   const count = Math.max(0, ...model.vertices.map(vertex => vertex.edges.filter(edge => edge.when).length));
   const used = new Set([...model.vars, ...model.tables, ...model.vertices].map(each => each.name));
@@ -38,14 +42,18 @@ function marked_text(model, marks, watch_line) {
     has_variables = true;
   };
   const set_marks = () => {
-    if (vertex) vertex.edges.filter(edge => edge.when).forEach((edge, k) => lines.push(`  set ${marks[k]} := ${edge.when};`));
+    if (vertex) vertex.edges.filter(edge => edge.when)
+      .forEach((edge, k) => lines.push(`  set ${marks[k]} := ${edge.when};`));
     marked = 1;
   };
   for (const line of model.text.split("\n")) {
     if (/^(table|watch|vertex) /.test(line)) declare();
     if (/^(watch|vertex) /.test(line) && !has_watch) { lines.push(watch_line); has_watch = true; }
     if (line.startsWith("watch ")) continue;
-    if (line.startsWith("vertex ")) { vertex = model.vertices.find(each => each.name === /^vertex (\w+)/.exec(line)[1]); marked = 0; }
+    if (line.startsWith("vertex ")) {
+      vertex = model.vertices.find(each => each.name === /^vertex (\w+)/.exec(line)[1]);
+      marked = 0;
+    }
     else if (vertex && !marked && marks.length && !/^  (set|draw) /.test(line)) set_marks();
     if (line === "}") vertex = null;
     lines.push(line);
@@ -62,7 +70,8 @@ function edges_taken(vertex, marks) {
   return vertex.edges.flatMap((edge, place) => (!edge.when || marks[mark++] === "true" ? [place] : []));
 }
 
-// The model in which a vertex has only its first changes, or all of them and its first edges: to find the one that faults.
+// The model in which a vertex has only its first changes, or all of them and its first edges: to find the one that
+// faults.
 function with_first_parts(model, name, count) {
   const lines = [];
   let is_inside = false, part = 0;

@@ -1,5 +1,6 @@
-// How the mean of an item over many runs settles (Welch), as tools/welch counts it: the area of an item in steps of so many ticks, summed
-// over runs, and the mean again over some steps to either side. Plain functions; the reader runs in the program's worker.
+// How the mean of an item over many runs settles (Welch), as tools/welch counts it: the area of an item in steps of
+// so many ticks, summed over runs, and the mean again over some steps to either side. Plain functions; the reader
+// runs in the program's worker.
 class StepReader {
   // `item` is a cell, or a sum as A[0]+A[1]; `watched` is a list of { name, cells, is_event }.
   constructor(watched, item, step) {
@@ -51,10 +52,12 @@ class Settling {
     if (this.refusal) return { refusal: this.refusal };
     if (this.cut.fault || this.cut.budget) {
       const runs = plural(this.runs, "run");
-      return { refusal: `of ${runs} ${this.cut.fault} ended by a fault and ${this.cut.budget} spent the budget: ${CUT_OFF_REFUSAL}` };
+      return { refusal: `of ${runs} ${this.cut.fault} ended by a fault and ${this.cut.budget} spent the budget: ` +
+        `${CUT_OFF_REFUSAL}` };
     }
     const steps = Math.floor(this.end / step);
-    if (steps < 2 * window + 2) return { refusal: `there are only ${steps} steps, and the window takes ${2 * window + 1}` };
+    if (steps < 2 * window + 2) return { refusal: `there are only ${steps} steps, and the window takes ` +
+      `${2 * window + 1}` };
     const rows = [];
     for (let k = 0; k < steps - window; k++) {
       const wide = Math.min(k, window);

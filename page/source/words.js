@@ -1,17 +1,21 @@
-// The words of a run, which the tabs share: stop time, seed, events, and a field for each starting value with its variable and range.
-// What they may be, the program decides: a field is given on as it is.
+// The words of a run, which the tabs share: stop time, seed, events, and a field for each starting value with its
+// variable and range. What they may be, the program decides: a field is given on as it is.
 const run_words = {
   model: null, file: null,
 
-  // The fields of the starting values, for the parameters of the first vertex. Values stay where a parameter of that name stays.
+  // The fields of the starting values, for the parameters of the first vertex. Values stay where a parameter of that
+  // name stays.
   model_changed(model) {
-    const kept = new Map([...document.querySelectorAll("#start-fields [data-name]")].map(field => [field.dataset.name, field.value]));
+    const kept = new Map([...document.querySelectorAll("#start-fields [data-name]")]
+      .map(field => [field.dataset.name, field.value]));
     const is_same = run_words.model && run_words.model.name === model.name;
     at("start-fields").replaceChildren(...model.vertices[0].params.map(name => {
-      const variable = model.variable.get(name), label = document.createElement("label"), field = document.createElement("input");
+      const variable = model.variable.get(name), label = document.createElement("label"),
+        field = document.createElement("input");
       field.dataset.name = name;
       field.size = 6;
-      field.value = is_same && kept.has(name) ? kept.get(name) : { true: "1", false: "0" }[variable.initial] || variable.initial;
+      field.value = is_same && kept.has(name) ? kept.get(name) : { true: "1", false: "0" }[variable.initial] ||
+        variable.initial;
       field.title = `the starting value of ${name}, declared ${variable.kind}`;
       const range = document.createElement("small");
       range.textContent = ` ${variable.bool ? "0 or 1" : variable.kind}`;
@@ -35,12 +39,16 @@ const run_words = {
   events() { return run_words.value("events"); },
 
   // The starting values with commas between them, "" where the first vertex has no parameter.
-  start() { return [...document.querySelectorAll("#start-fields [data-name]")].map(field => field.value.replace(/\s/g, "")).join(","); },
+  start() {
+    return [...document.querySelectorAll("#start-fields [data-name]")].map(field => field.value.replace(/\s/g, ""))
+      .join(",");
+  },
 
   // The words behind a command; `more` has other values in place of those of the fields, as { events: "20" }.
   words(command, more = {}) {
     const { until, seed, events, start } =
-      { until: run_words.until(), seed: run_words.seed(), events: run_words.events(), start: run_words.start(), ...more };
+      { until: run_words.until(), seed: run_words.seed(), events: run_words.events(), start: run_words.start(),
+        ...more };
     const list = [command, "--until", until];
     if (command !== "resume") list.push("--seed", seed);
     list.push("--events", events);
@@ -54,7 +62,8 @@ const run_words = {
     for (const [name, id] of [["--until", "until"], ["--seed", "seed"], ["--events", "events"]])
       if (words.includes(name)) at(id).value = words[words.indexOf(name) + 1];
     const starts = words.includes("--start") ? words[words.indexOf("--start") + 1].split(",") : [];
-    document.querySelectorAll("#start-fields [data-name]").forEach((field, k) => { if (k in starts) field.value = starts[k]; });
+    document.querySelectorAll("#start-fields [data-name]")
+      .forEach((field, k) => { if (k in starts) field.value = starts[k]; });
   },
 };
 

@@ -1,27 +1,37 @@
-// The tabs Conflicts and Command line: the program's lists, shown on the graph; any words, the exact bytes, Stop and limits.
-const examples = given.examples, text_at = id => at(id).textContent, all = selector => [...document.querySelectorAll(selector)];
-const opened = async (name, text = examples[name]) => { await app.set_text(text, name + ".sigma"); await until(() => app.fresh && app.picture.model === app.model); };
+// The tabs Conflicts and Command line: the program's lists, shown on the graph; any words, the exact bytes, Stop and
+// limits.
+const examples = given.examples, text_at = id => at(id).textContent,
+  all = selector => [...document.querySelectorAll(selector)];
+const opened = async (name, text = examples[name]) => { await app.set_text(text, name + ".sigma");
+  await until(() => app.fresh && app.picture.model === app.model); };
 tabs.open("conflicts");
 for (const name of ["bank", "emergency", "network", "polling", "line", "stock"]) {
   await opened(name);
-  const pairs = read_conflicts((await engine.call("test", ["conflicts"], examples[name])).out), uses = read_uses((await engine.call("test", ["uses"], examples[name])).out);
+  const pairs = read_conflicts((await engine.call("test", ["conflicts"], examples[name])).out),
+    uses = read_uses((await engine.call("test", ["uses"], examples[name])).out);
   await until(() => conflicts.shown_for === app.model);
   equal(`${name}: a line for each pair`, all("#conflict-list b").map(line => line.textContent),
     pairs.map(({ first, second }) => (first === second ? `${first} and itself` : `${first} and ${second}`)));
-  check(`${name}: each with its reasons`, all("#conflict-list li").every((line, k) => line.textContent.length > all("#conflict-list b")[k].textContent.length + 4));
-  check(`${name}: each reason names what it is about`, pairs.every(pair => told_reasons(pair, app.model, uses).every(reason => !/ $/.test(reason))));
-  equal(`${name}: a row for each variable`, [...at("uses-table").rows].map(row => [...row.cells].map(cell => cell.textContent)),
+  check(`${name}: each with its reasons`,
+    all("#conflict-list li").every((line, k) =>
+    line.textContent.length > all("#conflict-list b")[k].textContent.length + 4));
+  check(`${name}: each reason names what it is about`,
+    pairs.every(pair => told_reasons(pair, app.model, uses).every(reason => !/ $/.test(reason))));
+  equal(`${name}: a row for each variable`,
+    [...at("uses-table").rows].map(row => [...row.cells].map(cell => cell.textContent)),
     uses.map(use => [use.name, use.readers.join(", "), use.writers.join(", "), use.watched]));
 }
 await opened("bank");
 await until(() => conflicts.shown_for === app.model);
 all("#conflict-list button")[1].focus();
-equal("a pair on the graph", all("#picture .node.conflict").map(node => node.dataset.name).sort(), ["ARRIVE", "LEAVE"]);
+equal("a pair on the graph", all("#picture .node.conflict").map(node => node.dataset.name).sort(),
+  ["ARRIVE", "LEAVE"]);
 all("#uses-table button")[1].focus();
 equal("who writes IDLE", all("#picture .node.writes").map(node => node.dataset.name).sort(), ["LEAVE", "SERVE"]);
 equal("who reads it", all("#picture .node.reads").map(node => node.dataset.name).sort(), ["ARRIVE", "LEAVE", "SERVE"]);
 tabs.open("run");
-check("leaving the tab takes the marks away", all("#picture .reads, #picture .writes, #picture .conflict").length === 0);
+check("leaving the tab takes the marks away",
+  all("#picture .reads, #picture .writes, #picture .conflict").length === 0);
 
 // The command line.
 tabs.open("cli");
@@ -31,29 +41,38 @@ for (const [file, [words, stored]] of Object.entries(given.stored)) {
   check(`the bytes of ${file}`, await called(words) === stored, text_at("cli-status"));
 }
 await opened("bank");
-equal("what is shown is what was written", [await called("./sigma check < bank.sigma"), text_at("cli-out"), text_at("cli-err")], ["accepted BANK\n", "accepted BANK\n", ""]);
-check("the status is told", text_at("cli-status").startsWith("exit status 0; 14 bytes on the output"), text_at("cli-status"));
+equal("what is shown is what was written",
+  [await called("./sigma check < bank.sigma"), text_at("cli-out"), text_at("cli-err")],
+  ["accepted BANK\n", "accepted BANK\n", ""]);
+check("the status is told", text_at("cli-status").startsWith("exit status 0; 14 bytes on the output"),
+  text_at("cli-status"));
 await called("bogus");
-check("refused words", text_at("cli-err") === "sigma: bad command line\n" && text_at("cli-status").startsWith("exit status 2"), text_at("cli-status"));
+check("refused words", text_at("cli-err") === "sigma: bad command line\n" && text_at("cli-status")
+  .startsWith("exit status 2"), text_at("cli-status"));
 check("nothing to save then", at("cli-save").disabled);
 at("cli-words").value = "run --until 5 --seed 1 --events 9";
 at("cli-words").dispatchEvent(new Event("input"));
-check("the line of a shell", text_at("cli-shell").startsWith("in a shell: sigma run --until 5 --seed 1 --events 9 < bank.sigma"), text_at("cli-shell"));
+check("the line of a shell", text_at("cli-shell")
+  .startsWith("in a shell: sigma run --until 5 --seed 1 --events 9 < bank.sigma"), text_at("cli-shell"));
 
 // 100 MB of output, an endless run, memory that ends.
-const chatty = "model C;\nvar N : 0..9 = 0;\nvar A[100] : 0..9 = 0;\nwatch N, A;\nvertex V {\n  set N := (N + 1) % 10;\n  schedule V after 1;\n}\nend\n";
+const chatty = "model C;\nvar N : 0..9 = 0;\nvar A[100] : 0..9 = 0;\nwatch N, A;\nvertex V {\n  set N := (N + 1) " +
+  "% 10;\n  schedule V after 1;\n}\nend\n";
 await opened("chatty", chatty);
 const big = await called("run --until 281474976710656 --seed 1 --events 480000");
 check("100 MB of output", big.length > 1e8 && big.endsWith("budget 480000\n"), big.length);
-check("the first of it are shown, and it is said", text_at("cli-out").length < 201000 && text_at("cli-out").includes("the first 200,000 of"));
+check("the first of it are shown, and it is said", text_at("cli-out").length < 201000 && text_at("cli-out")
+  .includes("the first 200,000 of"));
 const running = command_line.call("run --until 281474976710656 --seed 1 --events 1099511627776");
 await until(() => /running … [1-9]/.test(text_at("cli-status")), 60000);
 at("cli-stop").click();
 await running;
-check("Stop keeps what came", text_at("cli-status").startsWith("stopped: ") && command_line.bytes.length > 1e6, text_at("cli-status"));
+check("Stop keeps what came", text_at("cli-status").startsWith("stopped: ") && command_line.bytes.length > 1e6,
+  text_at("cli-status"));
 await opened("breeding", `model B;\nvertex V {\n${"  schedule V after 1;\n".repeat(1000)}}\nend\n`);
 await called("run --until 1000 --seed 1 --events 1099511627776");
-check("memory that ends has words", text_at("cli-status").startsWith("exit status 5") && text_at("cli-err").includes("out of memory"), [text_at("cli-status"), text_at("cli-err")]);
+check("memory that ends has words", text_at("cli-status").startsWith("exit status 5") && text_at("cli-err")
+  .includes("out of memory"), [text_at("cli-status"), text_at("cli-err")]);
 await opened("bank");
 await called("check");
 check("and the next call is answered", text_at("cli-out") === "accepted BANK\n");
