@@ -44,6 +44,11 @@ needs() {
     command -v "$1" >/dev/null || no_answer "it needs $1, which isn't there"
 }
 
+# needs_mathematics: ends where awk has no roots, powers and logarithms, before anything is read.
+needs_mathematics() {
+    awk 'BEGIN { exit exp(0) != 1 }' 2>/dev/null || no_answer "this awk has no mathematics: install mawk or gawk"
+}
+
 # filled MODEL: a model text, with its tables and values filled in where it has placeholders.
 filled() {
     if grep -q -e '^# table ' -e '^ *# values ' "$1"; then "$tools/tables" --fill "$1" 2>/dev/null; else cat "$1"; fi
@@ -90,6 +95,7 @@ take_unit() {
     [ "$1" != % ] || set -- "0.01=per cent"
     unit=${1%%=*}
     need_size "--unit" "$unit"
+    # shellcheck disable=SC2034 # the tools use it
     in_units=" in units of $unit ticks"
     [ "$unit" != 1 ] || in_units=" in ticks"
     [ "$1" = "$unit" ] || in_units=" in ${1#*=}"
@@ -130,6 +136,7 @@ histories() {
     seeds "$seed" "$runs" | while read -r each; do
         echo "$each" >>"$room/begun"
         printf '\001seed %s\n' "$each"
+        # shellcheck disable=SC2086 # these are several words
         "$program" run --seed "$each" $others <"$1" 2>"$room/errors"
         ended=$?
         printf '\001'
@@ -147,6 +154,7 @@ histories_begun() { echo "$(($(wc -l <"$room/begun"))) of $runs runs are begun";
 # before it, and the totals are joined item by item. An empty field joined with another one is that other one.
 joined_reports() {
     printf '\001design %s\n' "$1" >"$room/parts_of_one"
+    # shellcheck disable=SC2094 # it is only named
     for each in "$@"; do as_report "$each" <"$each"; done >>"$room/parts_of_one" || exit
     awk -v tool="$name" "$(library)"'
         function joined(a, b) { return a == "" || b == "" ? a b : sum(a, b) }

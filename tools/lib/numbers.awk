@@ -69,9 +69,8 @@ function exact_sum(key,   k, answer, zeros) {
 
 # The sum as a number, which may be a little off.
 function sum_of_pieces(key,   k, answer) {
-    answer = low_piece[key]
-    for (k = 0; k <= max(1, pieces); k++) answer += high_piece[key, k] * 10 ^ (9 * k)
-    return answer
+    for (k = max(1, pieces); k >= 0; k--) answer = answer * 1e9 + high_piece[key, k]
+    return answer + low_piece[key]
 }
 
 function clear_sum(key,   k) {
