@@ -33,7 +33,12 @@ function start_text(text) {
   });
   new ResizeObserver(() => app.editor.cm.refresh()).observe(at("editor"));
   at("print").onclick = () => {
-    if (!app.fresh || app.editor.text() === app.model.text) return;
+    if (!app.fresh) {
+      files.note = "the text is refused: mend it before it is laid out";
+      files.keep();
+      return;
+    }
+    if (app.editor.text() === app.model.text) return;
     const comments = (app.editor.text().match(/#/g) || []).length;
     app.editor.cm.setValue(app.model.text);
     app.check();

@@ -52,6 +52,12 @@ const faults = () => {
   }
   return [...found];
 };
+const faint = html("p", {}, "hardly seen");
+faint.style.color = "#aaa";
+at("left").prepend(faint);
+check("a word that is too faint is seen", faults().some(([what]) => what.includes("hardly seen")), faults());
+faint.remove();
+
 for (const name of ["light", "dark"]) {
   theme.set(name);
   const shown = async what => {
