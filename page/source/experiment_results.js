@@ -108,7 +108,7 @@ const experiment_results = {
     caption.append(`${name}${column === "time" ? "" : `, ${column} of a run`} `);
     rows.forEach((row, k) => caption.append(Object.assign(document.createElement("span"),
       { className: `key key${k}`, textContent: row.label }), " "));
-    caption.append(plot ? `, bars of ${tick_text(bar)}` : `bars as wide as ${bar} are too many`);
+    caption.append(plot ? `(bars of ${tick_text(bar)})` : `bars as wide as ${bar} are too many`);
     figure.append(caption);
     if (plot) figure.append(plot);
     at("exp-plots").append(figure);
