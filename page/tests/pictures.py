@@ -11,7 +11,16 @@ PICTURES = [
     ("page_edge", 1120, 560, "await app.set_text(given.desk, 'desk.sigma'); app.select('ARRIVE', 0)", "document.querySelector('[data-field=how]').value === 'evenly'"),
     ("page_refused", 1120, 480, "await app.set_text(given.desk.replace('set FREE := true', 'set FREE = true'), 'desk.sigma');"
                                 " app.editor.cm.scrollIntoView({ line: app.place.line, ch: 0 }, 120)", "document.querySelector('.says').textContent.includes('write :=')"),
-    ("page_sideways", 1120, 560, "app.how = 'right'; await app.set_text(given.shop, 'shop.sigma'); splitters.set(document.getElementById('split-panel'), 34);"
+    ("page_experiments", 1060, 620, "splitters.set(at('split-text'), 180); splitters.set(at('split-panel'), 400); splitters.set(at('split-form'), 200);"
+                                    " await app.set_text(given.bank.replace('0..2 = 2', '0..3 = 3'), 'bank.sigma'); tabs.open('experiments');"
+                                    " Object.assign(at('until'), { value: 600 }); Object.assign(at('seed'), { value: 1 }); at('exp-runs').value = 1000;"
+                                    " designs.list = [{ name: 'three tellers', text: null, start: '', is_taken: true },"
+                                    " { name: 'two tellers', text: given.bank, start: '', is_taken: true }]; designs.changed(); await experiments.go()",
+     "at('exp-table').textContent.includes('two tellers - three tellers')"),
+    ("page_reduce", 1000, 600, "splitters.set(at('split-panel'), 300); await app.set_text(given.polling, 'polling.sigma'); tabs.open('reduce');"
+                               " await reducing.go('reduce'); document.activeElement.blur()",
+     "document.querySelectorAll('#picture .node.gone').length === 2 && document.getElementById('reduce-verdict').textContent.endsWith('sound')"),
+    ("page_sideways", 1120, 560, "app.how = 'right'; await app.set_text(given.shop, 'shop.sigma'); tabs.open('run'); splitters.set(document.getElementById('split-panel'), 34);"
                                  " splitters.set(document.getElementById('split-text'), 180); splitters.set(document.getElementById('split-form'), 200);"
                                  " document.getElementById('legend-open').click(); await wait(200); app.picture.fit()",
      "app.picture.at.get('LEAVE').x > app.picture.at.get('ARRIVE').x"),
@@ -21,7 +30,7 @@ PICTURES = [
 
 
 def test(browser, check, given, shots):
-    examples = {name: given["examples"][name] for name in ("bank", "desk", "shop")}
+    examples = {name: given["examples"][name] for name in ("bank", "desk", "polling", "shop")}
     browser.run("theme.set('light')")
     for name, width, height, how, holds in PICTURES:
         browser.size(width, height)
