@@ -5,12 +5,12 @@ ghost use Rattle.model_core.specs.Code.Views.{graph_of};
 ghost use Rattle.merge_rules.specs.Known.{IsKnown};
 
 use crate::static_rules::checked;
-use edge_pruning::{prune, settle};
+use edge_pruning::{drop_vertices, prune, settle};
 use merge_rules::{Known, SecondVertex, know_pruned, know_settled, merge, merge_measured};
 use model_core::{Model, RuleError};
 use model_print::{print, printed_length};
 use reduction_cert::know_without;
-use sig_base::NoMemory;
+use sig_base::{List, NoMemory};
 use std::alloc::Global;
 use std::test::*;
 use use_analysis::UseCounts;
@@ -241,6 +241,22 @@ fn a_model_without_a_part_takes_at_most_one_edge_at_once(rt: HostRuntime) {
     }
 }
 
+/// By how much the length that is known of the text is wrong behind a drop of the vertex that was merged, if one is known.
+fn length_behind_drop(alloc: Global) -> Result<Option<u64>, RuleError> {
+    let mut model = model_of_text(alloc, THREE_URGENT)?;
+    let mut known = merged_and_measured(alloc, &mut model)?;
+    let gone = List::of_one(alloc, 1)?;
+    know_without(&model, &mut known, gone.as_slice());
+    drop_vertices(alloc, &mut model, &gone)?;
+    let length = printed_length(&model);
+    Ok(known.text_length().map(|known| length.abs_diff(known)))
+}
+
+#[test]
+fn lengths_stay_known_behind_a_drop(rt: HostRuntime) {
+    assert_eq!(rt; length_behind_drop(rt.alloc()), Ok(Some(0)));
+}
+
 const TWO_DRAWN_DELAYS: &[u8] =
     b"version 2; model M; var N : 0..9 = 0; watch N; vertex RUN { urgent B; } vertex B { set N := 1; schedule C after 1; } vertex C { schedule RUN after draw from 3 in 1..4; schedule B after 1 when N > 9; schedule C after draw from 5 in 1..2 when N > 9; } end";
 
@@ -265,7 +281,10 @@ fn version_behind_prune(
 
 #[test]
 fn a_version_stays_known_behind_a_prune(rt: HostRuntime) {
-    assert_eq!(rt; version_behind_prune(rt.alloc(), 1), Ok((Some(true), Some(0))));
+    assert_eq!(rt;
+        version_behind_prune(rt.alloc(), 1),
+        Ok((Some(true), Some(0)))
+    );
     // An edge that draws its delay may have been all that needs version 2.
     assert_eq!(rt; version_behind_prune(rt.alloc(), 2), Ok((None, None)));
 }
