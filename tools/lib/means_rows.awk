@@ -10,8 +10,12 @@ function row(name, key, what, middle,   half) {
     }
 }
 
-# The quantile of an interval: of one that holds by itself, or of one of `comparisons` that hold together.
-function quantile(degrees) { return comparisons > 1 ? student_beyond(0.025 / comparisons, degrees) : student(degrees) }
+# The quantile of an interval: of one that holds by itself, or of one of `comparisons` that hold together. Welch's degrees of freedom
+# needn't be whole, as those of the table are.
+function quantile(degrees) {
+    if (comparisons > 1 || degrees != int(degrees)) return student_beyond(0.025 / max(1, comparisons), degrees)
+    return student(degrees)
+}
 
 # The difference of two designs with seeds of their own, with the degrees of freedom by Welch.
 function row_apart(name, key, other, what, middle,   a, b, both, half) {
