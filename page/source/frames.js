@@ -10,10 +10,11 @@ class FrameReader {
   take(bytes) { this.pieces.push(bytes.slice()); }
 
   finish() {
-    const bytes = joined_bytes(this.pieces), starts = [], times = [], vertices = [], decoder = new TextDecoder();
+    // Where the output was cut off, what stands behind the last whole line is none.
+    const all = joined_bytes(this.pieces), bytes = all.subarray(0, all.lastIndexOf(LINE_FEED) + 1), starts = [], times = [], vertices = [], decoder = new TextDecoder();
     let last = "";
     for (let i = 0; i < bytes.length;) {
-      const from = i, end = bytes.indexOf(LINE_FEED, i) < 0 ? bytes.length : bytes.indexOf(LINE_FEED, i);
+      const from = i, end = bytes.indexOf(LINE_FEED, i);
       if (bytes[i] === LETTER_O && bytes[i + 1] === LETTER_N && bytes[i + 2] === BLANK) {
         let time = 0;
         for (i += 3; bytes[i] > BLANK; i++) time = time * 10 + bytes[i] - ZERO;

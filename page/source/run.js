@@ -2,8 +2,9 @@
 // variant that watches all, which is played event by event. Both are calls of the program.
 const run_tab = {
   MOST_EVENTS: 20000, MOST_BYTES: 3e7, MOST_CELLS: 400,
-  words: null, is_stopped: false,
+  words: null, is_stopped: false, number: 0,
 
+  // A later run ends the one before, which then has nothing more to say.
   async run() {
     const model = app.model;
     if (!model || !app.fresh) {
@@ -17,13 +18,14 @@ const run_tab = {
     run_tab.is_stopped = false;
     run_tab.show_running(true);
     app.say("run-status", "running …");
+    const number = ++run_tab.number;
     try {
       const [played, course] = await Promise.all([run_tab.play(model, words), run_tab.course(model, words)]);
       if (course && /^fault /.test(course.last)) await run_tab.explain(model, words, played, course);
     } catch (problem) {
-      app.say("run-status", problem instanceof Superseded ? "stopped" : problem.message);
+      if (number === run_tab.number) app.say("run-status", problem instanceof Superseded ? "stopped" : problem.message);
     }
-    run_tab.show_running(false);
+    if (number === run_tab.number) run_tab.show_running(false);
   },
 
   // The run as it was asked for. A stopped call leaves nothing of the course, since the worker has it.
@@ -64,8 +66,8 @@ const run_tab = {
       variant = watching_all(model, run_tab.MOST_CELLS, false);
       answer = await run_tab.played_part(variant, model, words, first);
     }
-    if (answer.failure || ![0, 6, 7].includes(answer.status)) {
-      app.say("run-note", first ? `from event ${first}: ${complaint(answer)}` : "");
+    if (answer.failure || (!answer.cut && ![0, 6, 7].includes(answer.status))) {
+      app.say("run-note", `It isn't played${first ? ` from event ${first}` : ""}: ${complaint(answer)}`);
       return null;
     }
     player.load(answer, { model, variant, first, begun: answer.begun });
@@ -77,7 +79,7 @@ const run_tab = {
     const asked = Number(words.events), most = Math.max(200,
       Math.min(run_tab.MOST_EVENTS, Math.floor(run_tab.MOST_BYTES / 2 / variant.width)));
     const events = asked - first > most ? String(most) : words.events,
-      wanted = { want: "frames", vertices: model.vertices.map(each => each.name) };
+      wanted = { want: "frames", vertices: model.vertices.map(each => each.name), most: run_tab.MOST_BYTES };
     if (!first) return engine.call("play", run_words.words("run", { ...words, events }), variant.text, wanted);
     const saved = await engine.call("play", run_words.words("save", { ...words, events: String(first) }),
       variant.text);
@@ -91,7 +93,7 @@ const run_tab = {
 
   show_limits(answer, variant, words, first) {
     const notes = [], count = answer.starts.length, shown = count.toLocaleString("en");
-    if (answer.status === 7 && first + count < Number(words.events))
+    if (answer.cut || (answer.status === 7 && first + count < Number(words.events)))
       notes.push(`Played are ${shown} events from event ${first + 1} on; for later ones begin at another event.`);
     if (variant.left_out.length) notes.push(`Not in the table, since they are long: ${variant.left_out.join(", ")}.`);
     app.say("run-note", notes.join(" "));

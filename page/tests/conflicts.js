@@ -23,10 +23,10 @@ for (const name of ["bank", "emergency", "network", "polling", "line", "stock"])
 }
 await opened("bank");
 await until(() => conflicts.shown_for === app.model);
-all("#conflict-list button")[1].focus();
+all("#conflict-list button")[1].click();
 equal("a pair on the graph", all("#picture .node.conflict").map(node => node.dataset.name).sort(),
   ["ARRIVE", "LEAVE"]);
-all("#uses-table button")[1].focus();
+all("#uses-table button")[1].click();
 equal("who writes IDLE", all("#picture .node.writes").map(node => node.dataset.name).sort(), ["LEAVE", "SERVE"]);
 equal("who reads it", all("#picture .node.reads").map(node => node.dataset.name).sort(), ["ARRIVE", "LEAVE", "SERVE"]);
 tabs.open("run");

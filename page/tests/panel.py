@@ -15,8 +15,8 @@ STATES = [
     ("reduce", "await app.set_text(given.polling, 'polling.sigma'); tabs.open('reduce'); at('until').value = 300; await reducing.go('reduce')"),
     ("both", "at('both-go').scrollIntoView()"),
     ("conflicts", "await app.set_text(given.bank, 'bank.sigma'); tabs.open('conflicts'); while (conflicts.shown_for !== app.model) await wait(30);"
-                  " document.querySelectorAll('#conflict-list button')[1].focus()"),
-    ("uses", "document.querySelector('#uses-table button').focus()"),
+                  " document.querySelectorAll('#conflict-list button')[1].click()"),
+    ("uses", "document.querySelector('#uses-table button').click()"),
     ("command", "tabs.open('cli'); await command_line.call('run --until 480 --seed 7 --events 100000')"),
 ]
 
