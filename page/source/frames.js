@@ -11,7 +11,8 @@ class FrameReader {
 
   finish() {
     // Where the output was cut off, what stands behind the last whole line is none.
-    const all = joined_bytes(this.pieces), bytes = all.subarray(0, all.lastIndexOf(LINE_FEED) + 1), starts = [], times = [], vertices = [], decoder = new TextDecoder();
+    const all = joined_bytes(this.pieces), bytes = all.subarray(0, all.lastIndexOf(LINE_FEED) + 1);
+    const starts = [], times = [], vertices = [], decoder = new TextDecoder();
     let last = "";
     for (let i = 0; i < bytes.length;) {
       const from = i, end = bytes.indexOf(LINE_FEED, i);

@@ -59,6 +59,8 @@ near("the difference run by run", three.differences[0].mean.mean,
   bank.report.times.reduce((sum, time, k) => sum + 484 * k / time, 0) / 8, 1e-12);
 check("together they are wider", three.differences[0].together.to > three.differences[0].mean.to &&
   three.differences[0].together.from < three.differences[0].mean.from);
+const half = three.differences[0].together.to - three.differences[0].mean.mean;
+near("by the quantile for three pairs", half / three.differences[0].mean.error, 3.1275522742463715, 1e-8);
 check("two designs need none", compared([bank, more], "QUEUE", "average").differences[0].together === null);
 check("other seeds don't pair", compared([bank, { label: "other", report: first_runs(bank.report, 5) }], "QUEUE",
   "average").refusal.includes("do not pair"));
