@@ -3,24 +3,24 @@
 
 # How far the 95 % interval reaches from the part under[SEED] of all values, by the jackknife over the runs; -1 where it takes more runs.
 function reach(total,   seed_of, rest, ratio) {
-    if (runs < 2) return -1
+    if (run_count < 2) return -1
     tally_name = "reach " ++reaches
     for (seed_of in values_of) {
         rest = count - values_of[seed_of]
         if (rest == 0) return -1
-        tally(tally_name, runs * total / count - (runs - 1) * (total - under[seed_of]) / rest)
+        tally(tally_name, run_count * total / count - (run_count - 1) * (total - under[seed_of]) / rest)
     }
     # A run without a value leaves the ratio as it is.
-    for (; taken[tally_name] < runs;) tally(tally_name, total / count)
+    for (; taken[tally_name] < run_count;) tally(tally_name, total / count)
     return half_width(tally_name)
 }
 
-function put_mean(   half, key) {
+function put_mean(   half, key, words) {
     half = reach(sum_of_values)
     key = tally_name
-    printf "%s of %s, %s\n", plural(count, "value"), plural(runs, "run"), half < 0 ? \
-        sprintf("mean %.3f, and no interval, which takes two runs with values", sum_of_values / count / unit) : \
-        told_between("mean", sum_of_values / count, error(key), mean[key] - half, mean[key] + half)
+    if (half < 0) words = sprintf("mean %.3f, and no interval, which takes two runs with values", sum_of_values / count / unit)
+    else words = told_between("mean", sum_of_values / count, error(key), mean[key] - half, mean[key] + half)
+    printf "%s of %s, %s\n", plural(count, "value"), plural(run_count, "run"), words
 }
 
 # The place of a part among so many values in order, from 1 on.

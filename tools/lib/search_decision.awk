@@ -37,7 +37,7 @@ END {
         if (here == 0 && decision == "meets") decision = "more"
         if (here == -1) { decision = "misses"; needed = took; culprit = wanted_item[w]; break }
     }
-    printf "%s %d", decision, decision == "more" ? runs[1] : needed
+    printf "%s %d", decision, (decision == "more" ? runs[1] : needed)
     if (decision == "misses") printf " %s:", culprit
     for (w = 1; w <= wants; w++) {
         if (!((w, 1) in point)) settle(w)
