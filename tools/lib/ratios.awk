@@ -33,3 +33,10 @@ function tally_ratios(key, w, d, first,   k, other, without) {
     }
     return without + 0
 }
+
+# The value of a run, or its ratio.
+function of_run(w, d, k) {
+    if (!is_ratio[w]) return value[w, d, k] + 0
+    if (under[w, d, k] == 0) refuse("the run with seed " seed[d, k] " in " label[d] " has 0 below the / of " wanted_item[w])
+    return value[w, d, k] / under[w, d, k]
+}
