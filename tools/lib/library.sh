@@ -91,11 +91,11 @@ need_size() {
 }
 
 # take_unit N[=WORD]: sets `unit` to how many ticks a unit of time has, and `in_units` to how that is told. With % it is 0.01.
+# shellcheck disable=SC2034 # the tools use in_units
 take_unit() {
     [ "$1" != % ] || set -- "0.01=per cent"
     unit=${1%%=*}
     need_size "--unit" "$unit"
-    # shellcheck disable=SC2034 # the tools use it
     in_units=" in units of $unit ticks"
     [ "$unit" != 1 ] || in_units=" in ticks"
     [ "$1" = "$unit" ] || in_units=" in ${1#*=}"
