@@ -55,7 +55,8 @@ for (const size of [1, 6, 999]) {
     frame_values(frames, 1)],
     [[3, 3], [1, 0], "stopped 9", "on 3 B X=9223372036854775807,2", ["9223372036854775807", "2"]]);
 }
-equal("a line that is cut off is none", [...fed(new FrameReader(["B", "A"]), text.slice(0, 30), 99).finish().times], [3]);
+equal("a line that is cut off is none", [...fed(new FrameReader(["B", "A"]), text.slice(0, 30), 99).finish().times],
+  [3]);
 
 // Reports.
 const csv = given.stored["bank.report"][1];
