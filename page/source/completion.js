@@ -1,4 +1,5 @@
-// Which words can go on from a place: names and reserved words by what was begun before it. A plain function, and its call by the editor.
+// Which words can go on from a place: names and reserved words by what was begun before it. A plain function, and its
+// call by the editor.
 
 const EXPRESSION_WORDS = ["if", "then", "else", "and", "or", "not", "true", "false", "clk", "min", "max"];
 
@@ -8,7 +9,8 @@ function words_at(text, index, names) {
   const first = words[0] || "", last = words[words.length - 1] || "";
   const is_edge = ["schedule", "urgent", "cancel"].includes(first);
   if (last === "by") return names.tables;
-  if (is_edge && (words.length === 1 || last === "all")) return last === "cancel" ? [...names.vertices, "all"] : names.vertices;
+  if (is_edge && (words.length === 1 || last === "all")) return last === "cancel" ? [...names.vertices, "all"]
+    : names.vertices;
   if (first === "watch") return [...names.vars, ...names.vertices];
   if (first === "draw" && words.length === 1) return names.vars;
   if (first === "draw") return ["from", "in", "by"];
@@ -19,7 +21,8 @@ function words_at(text, index, names) {
   if (is_edge && words.includes("when")) return [...names.vars, ...EXPRESSION_WORDS];
   if (is_edge) return ["after", "priority", "when", "draw", "from", "in", "by", ...names.vars, ...EXPRESSION_WORDS];
   const depth = (text.slice(0, index).replace(/#[^\n]*/g, "").match(/[{}]/g) || []).pop();
-  return depth === "{" ? ["set", "draw", "schedule", "urgent", "cancel"] : ["model", "version", "var", "table", "watch", "vertex", "end"];
+  return depth === "{" ? ["set", "draw", "schedule", "urgent", "cancel"]
+    : ["model", "version", "var", "table", "watch", "vertex", "end"];
 }
 
 // The names that a text declares, whether it is accepted or not.
@@ -34,7 +37,8 @@ function completion_hint(cm) {
   const cursor = cm.getCursor(), before = cm.getLine(cursor.line).slice(0, cursor.ch);
   if (before.includes("#")) return null;
   const begun = /[A-Za-z]\w*$/.exec(before)?.[0] || "", text = cm.getValue();
-  const list = words_at(text, cm.indexFromPos(cursor), names_in(text)).filter(word => word.toLowerCase().startsWith(begun.toLowerCase()));
+  const list = words_at(text, cm.indexFromPos(cursor),
+    names_in(text)).filter(word => word.toLowerCase().startsWith(begun.toLowerCase()));
   if (list.length === 1 && list[0] === begun) return null;
   return { list, from: { line: cursor.line, ch: cursor.ch - begun.length }, to: cursor };
 }

@@ -1,9 +1,11 @@
-// Drawing: what the mouse and the forms want is written into the text. Each edit is tried first: the program is asked whether it accepts
+// Drawing: what the mouse and the forms want is written into the text. Each edit is tried first: the program is asked
+// whether it accepts
 // the text that would come of it, and only then the edit is written, as one step of undo.
 const drawing = {
   queue: Promise.resolve(),
 
-  // `make(text)` gives the edits. Answers { written: true }, or { refusal, field } where nothing was written. One edit at a time.
+  // `make(text)` gives the edits. Answers { written: true }, or { refusal, field } where nothing was written. One edit
+  // at a time.
   write(make) {
     const next = drawing.queue.then(() => drawing.try_edit(make)).catch(problem => {
       if (problem instanceof Superseded) return { refusal: "another change came in between: try again" };
@@ -16,7 +18,8 @@ const drawing = {
   async try_edit(make) {
     const text = app.editor.text();
     if (!app.fresh && !is_blank(text)) await app.check();
-    if (!app.fresh && !is_blank(text)) return { refusal: "The text is refused: mend it first. " + at("status").textContent };
+    if (!app.fresh && !is_blank(text)) return { refusal: "The text is refused: mend it first. " +
+      at("status").textContent };
     const edits = make(text);
     if (!edits.length) return { written: true };
     const { text: candidate, placed } = apply_edits(text, edits);
@@ -33,10 +36,12 @@ const drawing = {
   refusal(answer, candidate, placed) {
     const place = place_of(answer.err, candidate);
     if (!place) return { refusal: answer.err.trim() || complaint(answer) };
-    const hint = hint_for(place, candidate), found = placed.find(edit => edit.from <= place.index && place.index <= edit.to);
+    const hint = hint_for(place, candidate),
+      found = placed.find(edit => edit.from <= place.index && place.index <= edit.to);
     const token = (/^(\w+|:=|\.\.|<>|<=|>=|.)/u.exec(candidate.slice(place.index)) || [""])[0];
     const line = candidate.slice(0, place.index).split("\n").length;
-    const where = found && found.field ? `at '${token}'` : `at '${token}' in line ${line} of the text that would come of it`;
+    const where = found && found.field ? `at '${token}'`
+      : `at '${token}' in line ${line} of the text that would come of it`;
     const unknown = place.what === "unknown name" && found ? token : null;
     return { refusal: `${place.what} ${where}${hint ? `: ${hint}` : ""}`, field: found && found.field, unknown };
   },
@@ -65,7 +70,8 @@ const drawing = {
   },
   async remove(name, place) {
     const number = app.model.vertices.findIndex(vertex => vertex.name === name);
-    const answer = await drawing.write(text => place === undefined ? remove_event(text, number) : remove_edge(text, number, place));
+    const answer = await drawing.write(text => place === undefined ? remove_event(text, number)
+      : remove_edge(text, number, place));
     if (answer.refusal) drawing.tell(`${name} stays: ${answer.refusal}`);
     else app.select(place === undefined ? null : name);
   },

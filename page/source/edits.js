@@ -1,9 +1,12 @@
-// Edits of an accepted text, as small as can be: what isn't touched keeps its layout and its comments. An edit is a list of
-// { from, to, text, field }: these characters become that text; `field` names the form's field that it came from. Plain functions.
+// Edits of an accepted text, as small as can be: what isn't touched keeps its layout and its comments. An edit is a
+// list of
+// { from, to, text, field }: these characters become that text; `field` names the form's field that it came from. Plain
+// functions.
 
 // The text after the edits, and of each edit where its text then stands.
 function apply_edits(text, edits) {
-  const sorted = edits.map((edit, number) => ({ ...edit, number })).sort((a, b) => a.from - b.from || a.to - b.to || a.number - b.number);
+  const sorted = edits.map((edit, number) => ({ ...edit, number })).sort((a, b) => a.from - b.from || a.to - b.to
+    || a.number - b.number);
   let answer = "", at = 0;
   const placed = [];
   for (const edit of sorted) {
@@ -24,7 +27,8 @@ function indent_before(text, place) {
   return /^\s*$/.test(before) ? before : null;
 }
 
-// Puts an item on a line of its own next to the place, behind a comment that stands there. Where the line goes on, the item goes
+// Puts an item on a line of its own next to the place, behind a comment that stands there. Where the line goes on, the
+// item goes
 // between what is there.
 function insert_after(text, place, item, indent, field) {
   const rest = /^[^\n]*/.exec(text.slice(place))[0];
@@ -133,7 +137,8 @@ function remove_edge(text, from, place) {
 
 // Moves an edge, or an event, before the one that is before it: their texts change places.
 function swap_parts(text, first, second) {
-  return [replace_part(first, text.slice(second.from, second.to)), replace_part(second, text.slice(first.from, first.to))];
+  return [replace_part(first, text.slice(second.from, second.to)),
+    replace_part(second, text.slice(first.from, first.to))];
 }
 function move_edge_up(text, from, place) {
   const { edges } = parts_of(text).vertices[from];

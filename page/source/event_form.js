@@ -5,25 +5,31 @@ const event_form = {
     const scalars = model.vars.filter(variable => !variable.cells).map(variable => variable.name);
     return [
       html("h2", {}, `Event ${name}`),
-      field("name", { name: "name", value: name, kind: "text", code: true, write: value => event_form.rename(name, value) }),
+      field("name", { name: "name", value: name, kind: "text", code: true,
+        write: value => event_form.rename(name, value) }),
       field("changes, one a line", {
         name: "changes", kind: "area", code: true, rows: Math.min(12, Math.max(3, vertex.changes.length + 1)),
-        value: vertex.changes.map(change_in_form).join("\n"), hint: "QUEUE := QUEUE + 1", write: value => event_form.write_changes(number, value),
+        value: vertex.changes.map(change_in_form).join("\n"), hint: "QUEUE := QUEUE + 1",
+          write: value => event_form.write_changes(number, value),
       }),
       event_form.change_helper(model),
       field("parameters (variables that take what an edge carries)", {
-        name: "params", value: vertex.params.join(", "), code: true, hint: scalars.length ? "none" : "none: no variable is declared",
+        name: "params", value: vertex.params.join(", "), code: true,
+          hint: scalars.length ? "none" : "none: no variable is declared",
         write: value => event_form.write_params(number, value),
       }),
       field("watched: the history shows when it occurs", {
-        name: "watched", kind: "check", value: model.watch.includes(name), write: value => drawing.write(text => set_watched(text, name, value === "true")),
+        name: "watched", kind: "check", value: model.watch.includes(name),
+          write: value => drawing.write(text => set_watched(text, name, value === "true")),
       }),
       html("h3", {}, "Edges from here"),
       event_form.edge_list(model, vertex, number),
       sentences_of(name),
       html("div", { className: "chips" },
-        number ? button("Make it the first event", () => event_form.move_first(number, name), { title: "a run begins with the first event" }) : null,
-        button("Delete event", () => drawing.remove(name), { className: "danger", id: "delete-event", title: "with the edges to it" })),
+        number ? button("Make it the first event", () => event_form.move_first(number, name),
+          { title: "a run begins with the first event" }) : null,
+        button("Delete event", () => drawing.remove(name),
+          { className: "danger", id: "delete-event", title: "with the edges to it" })),
       number ? null : html("p", { className: "hint" }, "It is the first event: a run begins with it, at time 0."),
     ].filter(Boolean);
   },
@@ -56,22 +62,27 @@ const event_form = {
       changed = made.changed;
       return made.edits;
     });
-    if (!answer.refusal && changed) drawing.tell(`${plural(changed, "edge")} to this event ${changed === 1 ? "was" : "were"} changed to carry these values.`);
+    if (!answer.refusal && changed) drawing.tell(
+      `${plural(changed, "edge")} to this event ${changed === 1 ? "was" : "were"} changed to carry these values.`);
     return answer;
   },
 
   // Usual changes, to choose from: each goes into the form as a line.
   change_helper(model) {
-    if (!model.vars.length) return html("p", { className: "hint" }, "A change sets a variable. ", button("New variable", () => model_form.add_number(), { id: "event-add-variable" }));
+    if (!model.vars.length) return html("p", { className: "hint" }, "A change sets a variable. ",
+      button("New variable", () => model_form.add_number(), { id: "event-add-variable" }));
     const groups = model.vars.slice(0, 100).map(variable => {
-      const target = variable.cells ? `${variable.name}[0]` : variable.name, group = html("optgroup", { label: variable.name });
+      const target = variable.cells ? `${variable.name}[0]` : variable.name,
+        group = html("optgroup", { label: variable.name });
       const changes = variable.bool ? [`${target} := true`, `${target} := false`]
-        : [`${target} := ${target} + 1`, `${target} := ${target} - 1`, `draw ${target} from 0 in ${variable.low}..${variable.high}`];
+        : [`${target} := ${target} + 1`, `${target} := ${target} - 1`,
+          `draw ${target} from 0 in ${variable.low}..${variable.high}`];
       if (!variable.bool && model.tables.length) changes.push(`draw ${target} from 0 by ${model.tables[0].name}`);
       group.append(...changes.map(change => new Option(change)));
       return group;
     });
-    const select = html("select", { id: "add-change", "aria-label": "add a change" }, new Option("add a change …", ""), ...groups);
+    const select = html("select", { id: "add-change", "aria-label": "add a change" }, new Option("add a change …", ""),
+      ...groups);
     select.onchange = () => {
       const area = inspector.control("changes"), before = area.value.replace(/\s*$/, "");
       area.value = before ? `${before}\n${select.value}` : select.value;
@@ -84,8 +95,10 @@ const event_form = {
   edge_list(model, vertex, number) {
     const items = vertex.edges.map((edge, place) => html("li", {},
       button(edge_in_form(edge), () => app.select(vertex.name, place), { title: edge_in_form(edge) }),
-      place ? button("↑", () => event_form.move_up(number, place, vertex.name), { "aria-label": `earlier: ${edge_in_form(edge)}`, title: "earlier: edges are followed in order" }) : null));
-    const select = html("select", { "data-field": "edge_to", "aria-label": "new edge to" }, new Option("new edge to …", ""), ...model.vertices.map(each => new Option(each.name)));
+      place ? button("↑", () => event_form.move_up(number, place, vertex.name),
+        { "aria-label": `earlier: ${edge_in_form(edge)}`, title: "earlier: edges are followed in order" }) : null));
+    const select = html("select", { "data-field": "edge_to", "aria-label": "new edge to" },
+      new Option("new edge to …", ""), ...model.vertices.map(each => new Option(each.name)));
     select.onchange = () => { if (select.value) drawing.add_edge(vertex.name, select.value); };
     return html("ul", { className: "list" }, ...items, html("li", {}, select));
   },
@@ -104,5 +117,6 @@ const event_form = {
 // A change and an edge as the forms show them.
 function change_in_form(change) { return change.replace(/^set /, ""); }
 function edge_in_form(edge) {
-  return `${edge.kind} ${edge.target}${edge.values ? `(${edge.values})` : ""}${edge.delay ? ` after ${edge.delay}` : ""}${edge.when ? ` when ${edge.when}` : ""}`;
+  const { kind, target, values, delay, when } = edge;
+  return `${kind} ${target}${values && `(${values})`}${delay && ` after ${delay}`}${when && ` when ${when}`}`;
 }

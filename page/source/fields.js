@@ -1,12 +1,15 @@
-// Fields of the forms. A field is written when it is left or Enter is pressed; where the program refuses what it holds, the words of the
+// Fields of the forms. A field is written when it is left or Enter is pressed; where the program refuses what it holds,
+// the words of the
 // refusal stand below it, and nothing is written.
 
 // What a field may not hold, since it would be more than the field: "" where it is fine. A plain function.
 function field_fault(kind, value) {
   const text = value.trim();
-  if (kind === "name") return /^[A-Za-z]\w*$/.test(text) ? "" : "a name has letters, digits and _, and begins with a letter";
+  if (kind === "name") return /^[A-Za-z]\w*$/.test(text) ? ""
+    : "a name has letters, digits and _, and begins with a letter";
   if (kind === "number") return /^-?\d+$/.test(text) ? "" : "a whole number";
-  if (kind === "names") return /^([A-Za-z]\w*(\s*,\s*[A-Za-z]\w*)*)?$/.test(text) ? "" : "names, with commas between them";
+  if (kind === "names") return /^([A-Za-z]\w*(\s*,\s*[A-Za-z]\w*)*)?$/.test(text) ? ""
+    : "names, with commas between them";
   if (/[;{}#\n]/.test(text)) return "a field holds no ; { } # and is one line";
   let depth = 0;
   for (const letter of text) {
@@ -16,18 +19,21 @@ function field_fault(kind, value) {
   }
   if (depth) return "brackets don't match";
   const words = tokens_of(text).map(token => token.word);
-  const foreign = words.find(word => ["after", "priority", "when", "schedule", "urgent", "cancel", "set", "var", "vertex"].includes(word));
+  const foreign = words.find(word =>
+    ["after", "priority", "when", "schedule", "urgent", "cancel", "set", "var", "vertex"].includes(word));
   if (foreign) return `${foreign} has a field of its own`;
   return "";
 }
 
-// A field with its label. `options`: kind (text, number, area, select, check), name, value, choices, hint, list, code, write(value).
+// A field with its label. `options`: kind (text, number, area, select, check), name, value, choices, hint, list, code,
+// write(value).
 function field(label, { kind = "text", name, value, choices, hint, list, code, rows, write }) {
   const id = `field-${name}`;
   const control = kind === "select" ? html("select", {}, ...choices.map(choice => option(choice)))
     : kind === "area" ? html("textarea", { rows: rows || 3, spellcheck: false })
       : kind === "check" ? html("input", { type: "checkbox" })
-        : html("input", { type: "text", spellcheck: false, autocomplete: "off", inputMode: kind === "number" ? "numeric" : "" });
+        : html("input", { type: "text", spellcheck: false, autocomplete: "off",
+          inputMode: kind === "number" ? "numeric" : "" });
   Object.assign(control, { id, className: code ? "code" : "" });
   if (hint) control.placeholder = hint;
   if (list) control.setAttribute("list", list);
@@ -41,7 +47,8 @@ function field(label, { kind = "text", name, value, choices, hint, list, code, r
       event.preventDefault();
       event.stopPropagation();
       inspector.write_field(control, write);
-    } else if (event.key === "Escape" && kind !== "check" && kind !== "select" && value_of(control) !== control.dataset.written) {
+    } else if (event.key === "Escape" && kind !== "check" && kind !== "select"
+      && value_of(control) !== control.dataset.written) {
       control.value = control.dataset.written;
       inspector.clear_refusal(name);
       event.stopPropagation();
@@ -49,7 +56,8 @@ function field(label, { kind = "text", name, value, choices, hint, list, code, r
   });
   const refusal = html("span", { className: "refusal", id: id + "-refusal", role: "alert" });
   control.setAttribute("aria-describedby", refusal.id);
-  return html("div", { className: kind === "check" ? "field check" : "field" }, html("label", { htmlFor: id }, label), control, refusal);
+  return html("div", { className: kind === "check" ? "field check" : "field" }, html("label", { htmlFor: id }, label),
+    control, refusal);
 }
 
 function option(choice) {
@@ -57,4 +65,5 @@ function option(choice) {
   return new Option(words, value);
 }
 function value_of(control) { return control.type === "checkbox" ? String(control.checked) : control.value; }
-function button(words, act, properties = {}) { return html("button", { type: "button", ...properties, onclick: act }, words); }
+function button(words, act, properties = {}) { return html("button", { type: "button", ...properties, onclick: act },
+  words); }

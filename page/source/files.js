@@ -27,9 +27,11 @@ const files = {
     app.store("name", app.file);
     if (files.saved_text === null) files.saved_text = app.editor.text();
     at("file-name").textContent = app.file + (files.is_changed() ? " (changed)" : "");
-    at("kept").textContent = [files.unkept ? "not kept in this browser: save the file" : "", files.note].filter(Boolean).join("; ");
+    at("kept").textContent = [files.unkept ? "not kept in this browser: save the file" : "",
+      files.note].filter(Boolean).join("; ");
   },
-  is_changed() { return files.saved_text !== null && app.editor.text() !== files.saved_text && !is_blank(app.editor.text()); },
+  is_changed() { return files.saved_text !== null && app.editor.text() !== files.saved_text
+    && !is_blank(app.editor.text()); },
 
   save() {
     const text = app.editor.text();
@@ -60,7 +62,8 @@ const files = {
   // Asks where the text has changes that no file has. Answers whether another may take its place.
   async may_replace() {
     if (!files.is_changed()) return true;
-    at("loss-words").textContent = `${app.file || "The text"} has changes that aren't in a file. Another text takes its place; Undo in the text brings it back while this page is open.`;
+    at("loss-words").textContent = `${app.file || "The text"} has changes that aren't in a file. ` +
+      "Another text takes its place; Undo in the text brings it back while this page is open.";
     at("loss-dialog").returnValue = "stay";
     at("loss-dialog").showModal();
     await new Promise(done => at("loss-dialog").addEventListener("close", done, { once: true }));
@@ -76,11 +79,13 @@ const files = {
   },
 
   async show_link() {
-    const text = app.editor.text(), fragment = await fragment_of(text, app.file), fits = fragment.length <= LONGEST_LINK;
+    const text = app.editor.text(), fragment = await fragment_of(text, app.file),
+      fits = fragment.length <= LONGEST_LINK;
     const link = location.href.replace(/#.*/, "") + fragment;
     at("link-words").textContent = fits
-      ? `Whoever has this page opens the model by this link: ${plural(link.length, "character")}. The model is in the link itself, and is sent nowhere.`
-      : `The model is too long for a link: ${fragment.length} characters, where ${LONGEST_LINK} go. Save it as a file instead.`;
+      ? `Whoever has this page opens the model by this link of ${plural(link.length, "character")}. ` +
+        "The model is in the link itself, and is sent nowhere."
+      : `The model is too long for a link: ${fragment.length} characters, where ${LONGEST_LINK} go. Save it as a file.`;
     at("link-text").parentNode.hidden = !fits;
     at("link-text").value = fits ? link : "";
     at("link-dialog").showModal();
@@ -93,7 +98,8 @@ const files = {
     setTimeout(() => { at("link-copy").textContent = "Copy"; }, 2000);
   },
 
-  // The model of the page's own link, if it has one. The link is then taken off the address, so that a reload keeps what was changed.
+  // The model of the page's own link, if it has one. The link is then taken off the address, so that a reload keeps
+  // what was changed.
   async take_link() {
     let model;
     try { model = await model_of_fragment(location.hash); } catch {

@@ -1,4 +1,5 @@
-// What the forms write into the text: the fields of an edge, an event, a variable or a table, each by an edit of that field alone.
+// What the forms write into the text: the fields of an edge, an event, a variable or a table, each by an edit of that
+// field alone.
 // Each function takes the fields as they are and as they are wanted, and edits where these differ. Plain functions.
 
 // The version line, where the text has none that allows a drawn delay.
@@ -80,7 +81,8 @@ function set_changes(text, number, old, wanted, field) {
       }
     }
     const inline = !text.slice(vertex.open, vertex.close).includes("\n");
-    const indent = vertex.changes.concat(vertex.edges).map(part => indent_before(text, part.from)).find(x => x !== null) ?? "  ";
+    const indent = vertex.changes.concat(vertex.edges).map(part => indent_before(text, part.from)).find(x =>
+      x !== null) ?? "  ";
     if (added.length) {
       const items = added.join(inline ? " " : line_end_of(text) + indent);
       edits.push(add_to_vertex(text, vertex, previous, items, field));
@@ -91,7 +93,8 @@ function set_changes(text, number, old, wanted, field) {
   return edits;
 }
 
-// The parameters of an event, and with them what the edges to it carry: a value goes with its parameter, and a new parameter is
+// The parameters of an event, and with them what the edges to it carry: a value goes with its parameter, and a new
+// parameter is
 // carried the variable that it is. Answers the edits and how many edges are changed.
 function set_parameters(text, number, wanted, field) {
   const parts = parts_of(text), vertex = parts.vertices[number];

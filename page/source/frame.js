@@ -1,4 +1,5 @@
-// The frame of the page: splitters, light and dark, what a small screen shows, dialogs, the legend, and the report on paper.
+// The frame of the page: splitters, light and dark, what a small screen shows, dialogs, the legend, and the report on
+// paper.
 
 // A splitter sizes the part that it names, by the mouse or the arrow keys; the sizes are kept in the browser.
 const splitters = {
@@ -21,7 +22,8 @@ const splitters = {
   },
   start() {
     for (const splitter of document.querySelectorAll(".splitter")) {
-      const { side, sign } = splitters.parts[splitter.id], at_mouse = event => side === "width" ? event.clientX : event.clientY;
+      const { side, sign } = splitters.parts[splitter.id],
+        at_mouse = event => side === "width" ? event.clientX : event.clientY;
       if (app.stored("size." + splitter.id)) splitters.set(splitter, Number(app.stored("size." + splitter.id)));
       splitter.addEventListener("pointerdown", event => {
         const from = at_mouse(event), size = splitters.size(splitter);
@@ -69,10 +71,12 @@ const views = {
 };
 
 function start_dialogs() {
-  for (const [opener, dialog] of [["help", "help-dialog"], ["about", "about-dialog"]]) at(opener).onclick = () => at(dialog).showModal();
+  for (const [opener, dialog] of [["help", "help-dialog"], ["about", "about-dialog"]]) at(opener).onclick = () =>
+    at(dialog).showModal();
   for (const dialog of document.querySelectorAll("dialog")) {
     dialog.querySelector(".close")?.addEventListener("click", () => dialog.close());
-    dialog.addEventListener("click", event => { if (event.target === dialog && dialog.id !== "loss-dialog") dialog.close(); });
+    dialog.addEventListener("click",
+      event => { if (event.target === dialog && dialog.id !== "loss-dialog") dialog.close(); });
   }
   at("codemirror-version").textContent = CodeMirror.version;
   at("verdict").textContent = JSON.parse(at("made").textContent).verdict.trim();
@@ -81,17 +85,23 @@ function start_dialogs() {
 // The legend: a sample of each sign, and what it says.
 function legend_rows() {
   const arrow = (kind, text = "") => {
-    const part = svg("g", { class: "edge " + kind }, svg("path", { class: "line", d: "M4 13H60" }), svg("path", { class: "head", d: "M68 13l-9 -3.6v7.2Z" }));
+    const part = svg("g", { class: "edge " + kind }, svg("path", { class: "line", d: "M4 13H60" }),
+      svg("path", { class: "head", d: "M68 13l-9 -3.6v7.2Z" }));
     if (text) part.append(svg("text", { x: 8, y: 9 }, text));
     return part;
   };
   const ellipse = twice => svg("g", { class: "node" }, svg("ellipse", { cx: 36, cy: 13, rx: 32, ry: 11.5 }),
-    ...twice ? [svg("ellipse", { cx: 36, cy: 13, rx: 28, ry: 8 })] : [], svg("text", { x: 36, y: 17, "text-anchor": "middle" }, "NAME"));
-  const values = svg("g", { class: "edge" }, svg("rect", { class: "values", x: 20, y: 5, width: 32, height: 16 }), svg("text", { x: 25, y: 17 }, "WHO"));
+    ...twice ? [svg("ellipse", { cx: 36, cy: 13, rx: 28, ry: 8 })] : [],
+      svg("text", { x: 36, y: 17, "text-anchor": "middle" }, "NAME"));
+  const values = svg("g", { class: "edge" }, svg("rect", { class: "values", x: 18, y: 5, width: 36, height: 16 }),
+    svg("text", { x: 36, y: 17, "text-anchor": "middle" }, "WHO"));
   return [
-    [ellipse(false), "an event, with the changes that it makes; several in a bracket are made together"], [ellipse(true), "a watched event"],
-    [arrow("schedules", "5"), "schedules an event after a delay, here 5 ticks"], [arrow("urgent"), "brings an event about at once"],
-    [arrow("cancels"), "cancels the next one; 'all' cancels all"], [arrow("schedules", "~ N > 0"), "only if the condition holds"],
+    [ellipse(false), "an event, with the changes that it makes; several in a bracket are made together"],
+      [ellipse(true), "a watched event"],
+    [arrow("schedules", "5"), "schedules an event after a delay, here 5 ticks"],
+      [arrow("urgent"), "brings an event about at once"],
+    [arrow("cancels"), "cancels the next one; 'all' cancels all"],
+      [arrow("schedules", "~ N > 0"), "only if the condition holds"],
     [values, "values carried to the event's parameters, which stand behind its name"],
   ];
 }
@@ -99,7 +109,8 @@ const legend = {
   start() {
     const list = html("dl");
     for (const [sample, words] of legend_rows()) {
-      list.append(html("dt", {}, svg("svg", { width: 72, height: 26, "aria-hidden": "true" }, sample)), html("dd", {}, words));
+      list.append(html("dt", {}, svg("svg", { width: 72, height: 26, "aria-hidden": "true" }, sample)),
+        html("dd", {}, words));
     }
     at("legend").append(list);
     at("legend-open").onclick = () => {
@@ -120,14 +131,18 @@ const report = {
     for (const part of layer.querySelectorAll("[tabindex]")) part.removeAttribute("tabindex");
     for (const part of layer.querySelectorAll(".selected, .lit")) part.classList.remove("selected", "lit");
     const picture = svg("svg", { viewBox: `0 0 ${width} ${height}`, width, height }, layer);
-    const rows = model.vars.map(variable => html("tr", {}, html("td", {}, variable.name + (variable.cells ? `[${variable.cells}]` : "")),
-      html("td", {}, variable.bool ? "true or false" : `${variable.low} to ${variable.high}${variable.clip ? ", clipped" : ""}`),
+    const rows = model.vars.map(variable =>
+      html("tr", {}, html("td", {}, variable.name + (variable.cells ? `[${variable.cells}]` : "")),
+      html("td", {}, range_in_words(variable)),
       html("td", {}, variable.initial), html("td", {}, model.watch.includes(variable.name) ? "watched" : "")));
     const head = html("tr", {}, ...["variable", "range", "starts at", ""].map(words => html("th", {}, words)));
-    const all = await app.told_all(), said = [...all.model, ...[...all.vertices.values()].flatMap(vertex => vertex.all)];
-    at("paper").replaceChildren(html("h1", {}, `Model ${model.name}`), html("p", {}, `${app.file}, ${new Date().toISOString().slice(0, 10)}`), picture,
+    const all = await app.told_all(),
+      said = [...all.model, ...[...all.vertices.values()].flatMap(vertex => vertex.all)];
+    at("paper").replaceChildren(html("h1", {}, `Model ${model.name}`),
+      html("p", {}, `${app.file}, ${new Date().toISOString().slice(0, 10)}`), picture,
       html("h2", {}, "Variables"), html("table", {}, html("thead", {}, head), html("tbody", {}, ...rows)),
-      html("h2", {}, "In words"), ...said.map(words => html("p", {}, words)), html("h2", {}, "Text"), html("pre", {}, app.editor.text()));
+      html("h2", {}, "In words"), ...said.map(words => html("p", {}, words)), html("h2", {}, "Text"),
+        html("pre", {}, app.editor.text()));
   },
   async print() {
     await report.fill();

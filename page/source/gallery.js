@@ -31,7 +31,8 @@ const gallery = {
   card(name) {
     const { title, question } = gallery.questions[name] || {}, said = first_sentence(gallery.examples[name]) || title;
     return html("button", { className: "card", "data-name": name, onclick: () => gallery.choose(name) },
-      html("b", {}, name.replaceAll("_", " ")), question ? html("i", {}, question) : null, html("span", {}, said || ""));
+      html("b", {}, name.replaceAll("_", " ")), question ? html("i", {}, question) : null,
+        html("span", {}, said || ""));
   },
 
   async choose(name) {
@@ -45,11 +46,14 @@ const gallery = {
   async draw(name) {
     if (!gallery.pictures.has(name)) {
       const printed = await engine.call("gallery", ["print"], gallery.examples[name]), model = read_model(printed.out);
-      const graph = graph_of(model, width_of), sizes = graph.vertices.map(shape => ({ width: 2 * shape.rx, height: 2 * shape.ry }));
+      const graph = graph_of(model, width_of),
+        sizes = graph.vertices.map(shape => ({ width: 2 * shape.rx, height: 2 * shape.ry }));
       const layout = laid_out(sizes, graph.edges.map(({ from, to, width, height }) => ({ from, to, width, height })));
-      const picture = svg("svg", { viewBox: `0 0 ${Math.ceil(layout.width)} ${Math.ceil(layout.height)}`, class: "thumb", "aria-hidden": "true" });
+      const picture = svg("svg", { viewBox: `0 0 ${Math.ceil(layout.width)} ${Math.ceil(layout.height)}`,
+        class: "thumb", "aria-hidden": "true" });
       picture.append(model_parts(model, graph, layout).parts);
-      for (const part of picture.querySelectorAll("[tabindex]")) for (const attribute of ["tabindex", "role", "aria-label"]) part.removeAttribute(attribute);
+      for (const part of picture.querySelectorAll("[tabindex]")) for (const attribute of ["tabindex", "role",
+        "aria-label"]) part.removeAttribute(attribute);
       gallery.pictures.set(name, picture);
     }
     return gallery.pictures.get(name);

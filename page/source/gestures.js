@@ -1,5 +1,7 @@
-// What the mouse, fingers and keys do on a picture: move it, zoom it, select a part, draw an edge from event to event, and a new event.
-// A listener has any of: clicked(name, place), hovered(part), edge_drawn(from, to), event_wanted(), opened(name, place), removed(name, place).
+// What the mouse, fingers and keys do on a picture: move it, zoom it, select a part, draw an edge from event to event,
+// and a new event.
+// A listener has any of: clicked(name, place), hovered(part), edge_drawn(from, to), event_wanted(), opened(name,
+// place), removed(name, place).
 
 const LEAST_DRAG = 5;
 
@@ -29,7 +31,8 @@ function start_gestures(picture) {
     pointers.set(event.pointerId, event);
     moved = 0;
     const from = node_name(event.target.closest?.(".node"));
-    if (from && event.button === 0 && picture.listener.edge_drawn && pointers.size === 1) rubber = { from, line: svg("path", { class: "rubber" }) };
+    if (from && event.button === 0 && picture.listener.edge_drawn && pointers.size === 1) rubber = { from,
+      line: svg("path", { class: "rubber" }) };
     else end_rubber();
   });
 
@@ -47,7 +50,8 @@ function start_gestures(picture) {
 
   function draw_rubber(event) {
     if (moved <= LEAST_DRAG) return;
-    const from = picture.at.get(rubber.from), to = picture.point_of(event), start = on_ellipse(from, from.rx, from.ry, to);
+    const from = picture.at.get(rubber.from), to = picture.point_of(event),
+      start = on_ellipse(from, from.rx, from.ry, to);
     if (!rubber.line.parentNode) {
       picture.layer.append(rubber.line);
       element.classList.add("drawing");
@@ -90,7 +94,8 @@ function start_gestures(picture) {
     else picture.listener.event_wanted?.();
   });
   for (const name of ["pointerover", "focusin"]) {
-    element.addEventListener(name, event => picture.listener.hovered?.(pointers.size ? null : event.target.closest?.(".node, .edge") || null));
+    element.addEventListener(name,
+      event => picture.listener.hovered?.(pointers.size ? null : event.target.closest?.(".node, .edge") || null));
   }
   element.addEventListener("pointerleave", () => picture.listener.hovered?.(null));
   element.addEventListener("keydown", event => {
@@ -114,10 +119,13 @@ function picture_key(picture, event) {
   else if (event.key === "-") picture.zoom(1 / 1.2);
   else if (event.key === "0") picture.fit();
   else if (event.key === "n" && listener.event_wanted) listener.event_wanted();
-  else if (part && (event.key === " " || event.key === "Enter") && listener.clicked) listener.clicked(...identity(part));
+  else if (part && (event.key === " " || event.key === "Enter")
+    && listener.clicked) listener.clicked(...identity(part));
   else if (part && event.key === "F2" && listener.opened) listener.opened(...identity(part));
-  else if (part && event.key === "e" && listener.edge_wanted) listener.edge_wanted(part.dataset.name || part.dataset.from);
-  else if (part && (event.key === "Delete" || event.key === "Backspace") && listener.removed) listener.removed(...identity(part));
+  else if (part && event.key === "e" && listener.edge_wanted) listener.edge_wanted(part.dataset.name
+    || part.dataset.from);
+  else if (part && (event.key === "Delete" || event.key === "Backspace")
+    && listener.removed) listener.removed(...identity(part));
   else return false;
   return true;
 }

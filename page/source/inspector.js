@@ -1,4 +1,5 @@
-// The form beside the graph: that of the event or edge that is selected, else that of the model. It is made anew when the model changes;
+// The form beside the graph: that of the event or edge that is selected, else that of the model. It is made anew when
+// the model changes;
 // what one was typing, where the keyboard is, and refusals stay.
 const inspector = {
   refusals: new Map(), of: "", note: "", wanted: null, opened: new Set(),
@@ -23,13 +24,19 @@ const inspector = {
   },
 
   content() {
-    if (!app.model) return [html("h2", {}, "Model"), html("p", { className: "hint" }, app.refusal === "the text is empty"
-      ? "Begin with an event, or with a variable: something that changes while time goes on." : "The text is refused; its form comes when it is mended."),
+    if (!app.model) return [html("h2", {}, "Model"),
+      html("p", { className: "hint" }, app.refusal === "the text is empty"
+      ? "Begin with an event, or with a variable: something that changes while time goes on."
+        : "The text is refused; its form comes when it is mended."),
     ...app.refusal === "the text is empty" ? [model_form.add_buttons()] : []];
     const note = inspector.note ? [html("p", { className: "refusal", role: "alert" }, inspector.note)] : [];
-    const stale = document.body.classList.contains("old") ? [html("p", { className: "hint" }, "The text is refused at the moment: the form shows the last model that was accepted, and writes when the text is mended.")] : [];
+    const stale = document.body.classList.contains("old")
+      ? [html("p", { className: "hint" }, "The text is refused at the moment. The form shows the last model that was " +
+        "accepted, and writes when the text is mended.")]
+      : [];
     const { selected } = app;
-    const form = !selected ? model_form.content() : selected.place === undefined ? event_form.content(selected.name) : edge_form.content(selected.name, selected.place);
+    const form = !selected ? model_form.content() : selected.place === undefined ? event_form.content(selected.name)
+      : edge_form.content(selected.name, selected.place);
     return [...note, ...stale, ...form];
   },
 
@@ -39,7 +46,8 @@ const inspector = {
     if (!at("inspector").contains(element)) return null;
     const name = element.dataset.field;
     if (!name) return element.id ? { id: element.id } : null;
-    return { name, value: value_of(element), written: element.dataset.written, from: element.selectionStart, to: element.selectionEnd };
+    return { name, value: value_of(element), written: element.dataset.written, from: element.selectionStart,
+      to: element.selectionEnd };
   },
   restore({ id, name, value, written, from, to }) {
     const control = id ? at(id) : inspector.control(name);
@@ -107,7 +115,8 @@ const inspector = {
       const control = inspector.control(name);
       if (control) control.dispatchEvent(new Event("change"));
     };
-    note.append(" ", button(`Declare ${unknown} as a number`, () => declare(`var ${unknown} : 0..1000 = 0;`), { id: `declare-${name}` }),
+    note.append(" ", button(`Declare ${unknown} as a number`, () => declare(`var ${unknown} : 0..1000 = 0;`),
+      { id: `declare-${name}` }),
       " ", button("as a truth value", () => declare(`var ${unknown} : bool = false;`)));
   },
 };
@@ -117,7 +126,8 @@ function sentences_of(name, place) {
   const box = html("div", { className: "sentences" });
   app.told_all().then(all => {
     const own = all?.vertices.get(name);
-    if (own) box.replaceChildren(...(place === undefined ? own.all : [own.edges[place]]).slice(0, 100).map(words => html("p", {}, words)));
+    if (own) box.replaceChildren(...(place === undefined ? own.all : [own.edges[place]]).slice(0,
+      100).map(words => html("p", {}, words)));
   }).catch(() => { });
   return html("details", { className: "said", open: true }, html("summary", {}, "In words"), box);
 }

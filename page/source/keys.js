@@ -10,7 +10,9 @@ const keys = {
 
   // F6 goes from part to part.
   next_part(back) {
-    const parts = [() => app.editor.cm, () => at("picture"), () => at("inspector").querySelector("input, select, button"), () => document.querySelector("#tabs [aria-selected=true]")];
+    const parts = [() => app.editor.cm, () => at("picture"),
+      () => at("inspector").querySelector("input, select, button"),
+      () => document.querySelector("#tabs [aria-selected=true]")];
     const holders = [at("left"), at("pictures"), at("inspector"), at("below")];
     const now = holders.findIndex(holder => holder.contains(document.activeElement));
     const next = ((now < 0 ? (back ? 0 : -1) : now) + (back ? -1 : 1) + parts.length) % parts.length;
@@ -36,7 +38,8 @@ const keys = {
     const wanted = at("find").value.trim().toLowerCase();
     if (!wanted || !app.model) return;
     const names = app.model.vertices.map(vertex => vertex.name);
-    const name = names.find(each => each.toLowerCase() === wanted) || names.find(each => each.toLowerCase().startsWith(wanted))
+    const name = names.find(each => each.toLowerCase() === wanted)
+      || names.find(each => each.toLowerCase().startsWith(wanted))
       || names.find(each => each.toLowerCase().includes(wanted));
     at("find").setAttribute("aria-invalid", !name);
     if (!name) return;

@@ -1,4 +1,5 @@
-// Layouts of graphs, each in a worker of its own. A lane makes one at a time: a later one ends the one before, whose answer is null.
+// Layouts of graphs, each in a worker of its own. A lane makes one at a time: a later one ends the one before, whose
+// answer is null.
 const layouts = {
   lanes: new Map(),
   start() { layouts.source = URL.createObjectURL(new Blob([at("layouts").textContent], { type: "text/javascript" })); },

@@ -1,6 +1,8 @@
-// Lines of a picture: a smooth curve through the points of an edge, its ends on the ellipses, and points along it. Plain functions.
+// Lines of a picture: a smooth curve through the points of an edge, its ends on the ellipses, and points along it.
+// Plain functions.
 
-// The pieces of a cubic B-spline that begins and ends at the ends: its first point, and pieces of one point (straight) or three.
+// The pieces of a cubic B-spline that begins and ends at the ends: its first point, and pieces of one point (straight)
+// or three.
 function curve_pieces(points) {
   const last = points.length - 1;
   if (points.length < 3) return [[points[0]], [points[1]]];
@@ -66,11 +68,14 @@ function arrow_points(points, from, to, head) {
   return { points: answer, tip, direction };
 }
 
-// What is wrong with a layout: ellipses that meet, labels on labels or on ellipses, lines through ellipses and through others' labels.
+// What is wrong with a layout: ellipses that meet, labels on labels or on ellipses, lines through ellipses and through
+// others' labels.
 // `nodes` have x, y, rx and ry; `edges` have from, to, points, and x, y, width and height of their label.
 function layout_faults(nodes, edges) {
-  const box = (x, y, width, height) => ({ left: x - width / 2, right: x + width / 2, top: y - height / 2, bottom: y + height / 2 });
-  const meet = (a, b, by) => a.left + by < b.right && b.left + by < a.right && a.top + by < b.bottom && b.top + by < a.bottom;
+  const box = (x, y, width, height) => ({ left: x - width / 2, right: x + width / 2, top: y - height / 2,
+    bottom: y + height / 2 });
+  const meet = (a, b, by) => a.left + by < b.right && b.left + by < a.right && a.top + by < b.bottom
+    && b.top + by < a.bottom;
   const boxes = nodes.map(n => box(n.x, n.y, 2 * n.rx, 2 * n.ry));
   const labels = edges.filter(e => e.width && e.height).map(e => ({ edge: e, ...box(e.x, e.y, e.width, e.height) }));
   const faults = { ellipses: 0, labels: 0, labels_on_ellipses: 0, lines_through_ellipses: 0, lines_through_labels: 0 };
@@ -82,7 +87,8 @@ function layout_faults(nodes, edges) {
     const passed = new Set();
     for (const p of along_curve(edge.points)) {
       for (const thing of things(p)) {
-        if (thing.node ? thing.i !== edge.from && thing.i !== edge.to && inside_ellipse(p, thing.node) : thing.edge !== edge && inside_box(p, thing)) passed.add(thing);
+        if (thing.node ? thing.i !== edge.from && thing.i !== edge.to
+          && inside_ellipse(p, thing.node) : thing.edge !== edge && inside_box(p, thing)) passed.add(thing);
       }
     }
     for (const thing of passed) faults[thing.edge ? "lines_through_labels" : "lines_through_ellipses"]++;
@@ -91,7 +97,8 @@ function layout_faults(nodes, edges) {
 }
 
 function inside_ellipse(p, { x, y, rx, ry }) { return ((p.x - x) / rx) ** 2 + ((p.y - y) / ry) ** 2 < 0.95; }
-function inside_box(p, box) { return p.x > box.left + 1 && p.x < box.right - 1 && p.y > box.top + 1 && p.y < box.bottom - 1; }
+function inside_box(p, box) { return p.x > box.left + 1 && p.x < box.right - 1 && p.y > box.top + 1
+  && p.y < box.bottom - 1; }
 
 // Boxes by the squares of a grid that they touch: answers those near a point.
 function near_things(boxes, square = 100) {

@@ -1,4 +1,5 @@
-// A model in a link: `#model=` and the text as gzip and base64url, and where it has a name `&name=` and that. A shell writes the same by
+// A model in a link: `#model=` and the text as gzip and base64url, and where it has a name `&name=` and that. A shell
+// writes the same by
 //
 //     printf '#model=%s' "$(gzip -9nc MODEL | base64 -w 0 | tr '+/' '-_' | tr -d =)"
 //
@@ -23,6 +24,8 @@ async function model_of_fragment(fragment) {
   const found = /^#model=([^&]*)(?:&name=([^&]*))?/.exec(fragment);
   if (!found) return null;
   const letters = atob(found[1].replaceAll("-", "+").replaceAll("_", "/"));
-  const bytes = await through(new DecompressionStream("gzip"), Uint8Array.from(letters, letter => letter.charCodeAt(0)));
-  return { text: new TextDecoder("utf-8", { ignoreBOM: true }).decode(bytes), name: found[2] ? decodeURIComponent(found[2]) : "" };
+  const bytes = await through(new DecompressionStream("gzip"),
+    Uint8Array.from(letters, letter => letter.charCodeAt(0)));
+  return { text: new TextDecoder("utf-8", { ignoreBOM: true }).decode(bytes),
+    name: found[2] ? decodeURIComponent(found[2]) : "" };
 }

@@ -1,15 +1,18 @@
-// A model as a picture in the page: drawn, moved, zoomed, and with what is shown on it (selected, lit, counted, in conflict).
+// A model as a picture in the page: drawn, moved, zoomed, and with what is shown on it (selected, lit, counted, in
+// conflict).
 
 class Picture {
   // `lane` is that of the layout's worker; `listener` has any of the calls that gestures.js makes.
   constructor(element, lane, listener) {
-    Object.assign(this, { svg: element, lane, listener, view: { x: 0, y: 0, k: 1 }, size: null, model: null, at: new Map(), own: false });
+    Object.assign(this, { svg: element, lane, listener, view: { x: 0, y: 0, k: 1 }, size: null, model: null,
+      at: new Map(), own: false });
     this.layer = svg("g");
     this.svg.append(this.layer);
     start_gestures(this);
   }
 
-  // Lays the model out and draws it. Answers how long that took, or null where a later one came in between. `how` is "down" or "right".
+  // Lays the model out and draws it. Answers how long that took, or null where a later one came in between. `how` is
+  // "down" or "right".
   async show(model, how) {
     const graph = graph_of(model, width_of);
     const nodes = graph.vertices.map(shape => ({ width: 2 * shape.rx, height: 2 * shape.ry }));
@@ -35,7 +38,8 @@ class Picture {
 
   place() { this.layer.setAttribute("transform", `translate(${this.view.x} ${this.view.y}) scale(${this.view.k})`); }
   // The room that the picture has: what the buttons leave.
-  room() { return { width: this.svg.clientWidth || 600, height: (this.svg.clientHeight || 400) - at("tools").offsetHeight - 14 }; }
+  room() { return { width: this.svg.clientWidth || 600,
+    height: (this.svg.clientHeight || 400) - at("tools").offsetHeight - 14 }; }
   move(x, y) {
     this.view.x += x;
     this.view.y += y;
@@ -54,8 +58,10 @@ class Picture {
   least() { return this.model && this.model.vertices.length > 30 ? 0.4 : 0; }
   fit(least = 0) {
     if (!this.size) return;
-    const { width, height } = this.room(), k = Math.max(least, Math.min(1.4, width / this.size.width, height / this.size.height));
-    const first = this.at.get(this.model.vertices[0].name), wide = this.size.width * k > width, high = this.size.height * k > height;
+    const { width, height } = this.room(),
+      k = Math.max(least, Math.min(1.4, width / this.size.width, height / this.size.height));
+    const first = this.at.get(this.model.vertices[0].name), wide = this.size.width * k > width,
+      high = this.size.height * k > height;
     this.view = {
       k, x: wide ? width / 2 - first.x * k : (width - this.size.width * k) / 2,
       y: high ? Math.min(0, height / 2 - first.y * k) : (height - this.size.height * k) / 2,
@@ -78,7 +84,8 @@ class Picture {
   // A place of the screen as one of the picture.
   point_of(event) {
     const box = this.svg.getBoundingClientRect();
-    return { x: (event.clientX - box.left - this.view.x) / this.view.k, y: (event.clientY - box.top - this.view.y) / this.view.k };
+    return { x: (event.clientX - box.left - this.view.x) / this.view.k,
+      y: (event.clientY - box.top - this.view.y) / this.view.k };
   }
 
   node(name) { return this.layer.querySelector(`.node[data-name="${name}"]`); }
@@ -114,12 +121,15 @@ class Picture {
     this.node(first).classList.add("conflict");
     this.node(second).classList.add("conflict");
     // The line goes around what stands between the two.
-    const low = Math.min(a.y, b.y), high = Math.max(a.y, b.y), between = [...this.at.values()].filter(each => each.y >= low && each.y <= high);
+    const low = Math.min(a.y, b.y), high = Math.max(a.y, b.y),
+      between = [...this.at.values()].filter(each => each.y >= low && each.y <= high);
     const edge = Math.min(...between.map(each => each.x - each.rx)), middle = (a.y + b.y) / 2;
     const from = a.x - a.rx * 0.9, to = b.x - b.rx * 0.9, side = 2 * (edge - 24) - (from + to) / 2;
-    const line = first === second ? `M${a.x - a.rx} ${a.y}c-40 -30 -40 30 0 0` : `M${from} ${a.y}Q${side} ${middle} ${to} ${b.y}`;
+    const line = first === second ? `M${a.x - a.rx} ${a.y}c-40 -30 -40 30 0 0`
+      : `M${from} ${a.y}Q${side} ${middle} ${to} ${b.y}`;
     const x = first === second ? a.x - a.rx - 34 : edge - 32;
-    this.layer.append(svg("g", { class: "pair" }, svg("path", { d: line }), svg("text", { x, y: middle + 4, "text-anchor": "end" }, text)));
+    this.layer.append(svg("g", { class: "pair" }, svg("path", { d: line }),
+      svg("text", { x, y: middle + 4, "text-anchor": "end" }, text)));
   }
   file() { return picture_file(this.layer, this.size); }
 }

@@ -1,5 +1,7 @@
-// The parts of a picture as SVG: an ellipse is an event with its changes, a thin arrow schedules, a thick one is urgent, a dashed one
-// cancels; at an arrow stand the delay, the priority, behind a tilde the condition, and in a box the values that are carried.
+// The parts of a picture as SVG: an ellipse is an event with its changes, a thin arrow schedules, a thick one is
+// urgent, a dashed one
+// cancels; at an arrow stand the delay, the priority, behind a tilde the condition, and in a box the values that are
+// carried.
 
 const SVG = "http://www.w3.org/2000/svg";
 
@@ -36,22 +38,29 @@ function edge_class(kind) { return { urgent: "urgent", schedule: "schedules" }[k
 
 // What an edge does, in a line, for those who don't see it.
 function edge_label(edge) {
-  const kind = { schedule: "schedules", urgent: "brings about at once", cancel: "cancels the next", "cancel all": "cancels all" }[edge.kind];
-  return `edge: ${edge.from} ${kind} ${edge.target}${edge.delay ? ` after ${edge.delay}` : ""}` +
-    `${edge.priority ? `, priority ${edge.priority}` : ""}${edge.when ? `, if ${edge.when}` : ""}${edge.values ? `, with ${edge.values}` : ""}`;
+  const kind = { schedule: "schedules", urgent: "brings about at once", cancel: "cancels the next",
+    "cancel all": "cancels all" }[edge.kind];
+  const clauses = [
+    edge.delay && ` after ${edge.delay}`, edge.priority && `, priority ${edge.priority}`,
+    edge.when && `, if ${edge.when}`, edge.values && `, with ${edge.values}`,
+  ];
+  return `edge: ${edge.from} ${kind} ${edge.target}${clauses.filter(Boolean).join("")}`;
 }
 
 // `shape` is that of shapes.js; `place` is the middle of the ellipse.
 function node_part(vertex, shape, place) {
-  const label = `event ${vertex.name}${shape.title}${shape.is_watched ? ", watched" : ""}${vertex.changes.length ? ": " + vertex.changes.join("; ") : ""}`;
+  const changes = vertex.changes.length ? `: ${vertex.changes.join("; ")}` : "";
+  const label = `event ${vertex.name}${shape.title}${shape.is_watched ? ", watched" : ""}${changes}`;
   const part = svg("g", { class: "node", tabindex: 0, role: "button", "aria-label": label, "data-name": vertex.name });
   part.append(svg("ellipse", { cx: place.x, cy: place.y, rx: shape.rx, ry: shape.ry }));
   if (shape.is_watched) {
     part.append(svg("ellipse", { cx: place.x, cy: place.y, rx: shape.rx - 4, ry: shape.ry - 4, class: "inner" }));
   }
   const top = place.y - LINE * (shape.lines.length + 1) / 2 + 11.5;
-  part.append(svg("text", { x: place.x, y: top, "text-anchor": "middle" }, svg("tspan", { class: "name" }, vertex.name), shape.title));
-  shape.lines.forEach((line, i) => part.append(svg("text", { x: place.x - shape.line_width / 2, y: top + LINE * (i + 1) }, line)));
+  part.append(svg("text", { x: place.x, y: top, "text-anchor": "middle" },
+    svg("tspan", { class: "name" }, vertex.name), shape.title));
+  shape.lines.forEach((line, i) =>
+    part.append(svg("text", { x: place.x - shape.line_width / 2, y: top + LINE * (i + 1) }, line)));
   return part;
 }
 
@@ -75,13 +84,15 @@ function label_parts({ lines, values, values_width, width, height }, x, y) {
   lines.forEach((line, i) => parts.push(svg("text", { x: x + 4, y: y + 11 + LABEL_LINE * i }, line)));
   if (values.length) {
     const top = y + LABEL_LINE * lines.length;
-    parts.push(svg("rect", { class: "values", x: x + 2, y: top + 2, width: values_width - 2, height: LABEL_LINE * values.length + 3 }));
+    parts.push(svg("rect", { class: "values", x: x + 2, y: top + 2, width: values_width - 2,
+      height: LABEL_LINE * values.length + 3 }));
     values.forEach((line, i) => parts.push(svg("text", { x: x + 5, y: top + 13 + LABEL_LINE * i }, line)));
   }
   return parts;
 }
 
-// The parts of a whole model, and where its vertices are: each vertex is followed by its edges, which is the order of the Tab key.
+// The parts of a whole model, and where its vertices are: each vertex is followed by its edges, which is the order of
+// the Tab key.
 function model_parts(model, graph, layout) {
   const places = graph.vertices.map((shape, i) => ({ ...layout.nodes[i], rx: shape.rx, ry: shape.ry }));
   const parts = document.createDocumentFragment();
@@ -98,12 +109,14 @@ function model_parts(model, graph, layout) {
 
 // A picture as a file of its own.
 function picture_file(layer, size) {
-  const width = Math.ceil(size.width), height = Math.ceil(size.height), style = svg("style"), copy = layer.cloneNode(true);
+  const width = Math.ceil(size.width), height = Math.ceil(size.height), style = svg("style"),
+    copy = layer.cloneNode(true);
   const whole = svg("svg", { xmlns: SVG, width, height, viewBox: `0 0 ${width} ${height}` });
   style.textContent = STYLE.replace(/var\(--\w+,(#\w+)\)/g, "$1");
   copy.removeAttribute("transform");
   for (const element of copy.querySelectorAll(".badge,.pair,.over,.wide,.rubber")) element.remove();
-  for (const element of copy.querySelectorAll("[tabindex]")) for (const name of ["tabindex", "role"]) element.removeAttribute(name);
+  for (const element of copy.querySelectorAll("[tabindex]")) for (const name of ["tabindex",
+    "role"]) element.removeAttribute(name);
   whole.append(style, svg("rect", { width: "100%", height: "100%", fill: "#fff" }), copy);
   return '<?xml version="1.0" encoding="UTF-8"?>\n' + new XMLSerializer().serializeToString(whole) + "\n";
 }

@@ -137,7 +137,8 @@ function vertex_part(walk) {
 
 // All parts of an accepted text: version, model, variables, tables, watch, vertices and the word `end`.
 function parts_of(text) {
-  const walk = new TokenWalk(text), parts = { version: null, model: null, vars: [], tables: [], watch: null, vertices: [], end: null };
+  const walk = new TokenWalk(text),
+    parts = { version: null, model: null, vars: [], tables: [], watch: null, vertices: [], end: null };
   while (walk.peek() !== walk.behind) {
     const { word, from } = walk.peek();
     if (word === "version" || word === "model") {

@@ -1,4 +1,5 @@
-// What stands in an ellipse and at an arrow, and how large that is. `width_of(text, font)` measures a text, so that these are plain functions.
+// What stands in an ellipse and at an arrow, and how large that is. `width_of(text, font)` measures a text, so that
+// these are plain functions.
 
 const MOST_LINES = 12, MOST_LETTERS = 34, LINE = 15, LABEL_LINE = 13;
 const FONTS = {
@@ -55,7 +56,8 @@ function vertex_shape(vertex, is_watched, width_of) {
   const height = LINE * (lines.length + 1), around = is_watched ? 4 : 0;
   return {
     title, lines, line_width, is_watched,
-    rx: width / 2 * (lines.length ? 1.25 : 1.15) + 12 + around, ry: height / 2 * (lines.length ? 1.4 : 1.2) + 5 + around,
+    rx: width / 2 * (lines.length ? 1.25 : 1.15) + 12 + around,
+      ry: height / 2 * (lines.length ? 1.4 : 1.2) + 5 + around,
   };
 }
 

@@ -18,11 +18,14 @@ function start_graph() {
   at("closer").onclick = () => app.pictures.forEach(picture => picture.zoom(1.25));
   at("farther").onclick = () => app.pictures.forEach(picture => picture.zoom(0.8));
   for (const id of ["add-event", "first-event"]) at(id).onclick = drawing.add_event;
-  at("svg").onclick = () => { if (app.model) files.download(`${app.model.name}.svg`, "image/svg+xml", app.picture.file()); };
+  at("svg").onclick = () => { if (app.model) files.download(`${app.model.name}.svg`, "image/svg+xml",
+    app.picture.file()); };
   at("png").onclick = async () => {
-    if (app.model) files.download(`${app.model.name}.png`, "image/png", await picture_as_png(app.picture.file(), app.picture.size));
+    if (app.model) files.download(`${app.model.name}.png`, "image/png",
+      await picture_as_png(app.picture.file(), app.picture.size));
   };
-  new ResizeObserver(() => { for (const picture of app.pictures) if (!picture.own) picture.fit(picture.least()); }).observe(at("pictures"));
+  new ResizeObserver(() => { for (const picture of app.pictures) if (!picture.own) picture.fit(
+    picture.least()); }).observe(at("pictures"));
 }
 
 function start_text(text) {
@@ -55,7 +58,8 @@ function start_text(text) {
 async function start_page() {
   engine.start().catch(problem => {
     at("status").className = "bad";
-    app.say("status", `this browser can't run the program (WebAssembly with 64-bit memory: Chromium 133, Firefox 134 or later): ${problem.message}`);
+    app.say("status", "this browser can't run the program (WebAssembly with 64-bit memory: Chromium 133, Firefox 134 " +
+      `or later): ${problem.message}`);
   });
   layouts.start();
   gallery.start();

@@ -1,4 +1,5 @@
-// Contrast, as WCAG 2.1 AA asks: 4.5 for text, 3 for large text, and 3 for what shows where a control is; in light and in dark.
+// Contrast, as WCAG 2.1 AA asks: 4.5 for text, 3 for large text, and 3 for what shows where a control is; in light and
+// in dark.
 const numbers = colour => {
   const canvas = document.createElement("canvas");
   canvas.width = canvas.height = 1;
@@ -26,13 +27,16 @@ const ground = element => {
   }
   return layers.reduceRight((below, top) => over(top, below), [255, 255, 255, 1]);
 };
-const is_seen = element => element.checkVisibility({ opacityProperty: true, visibilityProperty: true }) && !element.closest(":disabled, [aria-hidden=true], .CodeMirror-measure, .CodeMirror-cursors, .thumb");
+const is_seen = element => element.checkVisibility({ opacityProperty: true, visibilityProperty: true })
+  && !element.closest(":disabled, [aria-hidden=true], .CodeMirror-measure, .CodeMirror-cursors, .thumb");
 const faults = () => {
-  const found = new Map(), note = (element, what, value) => found.set(`${what} ${element.tagName} ${element.id || element.className?.baseVal || element.className} '${element.textContent.slice(0, 20)}'`, value.toFixed(2));
+  const found = new Map(), note = (element, what, value) =>
+    found.set(`${what} ${element.tagName} ${element.id || element.className?.baseVal || element.className} '${element.textContent.slice(0, 20)}'`, value.toFixed(2));
   const walk = document.createTreeWalker(document.body, NodeFilter.SHOW_TEXT);
   while (walk.nextNode()) {
     const element = walk.currentNode.parentElement;
-    if (!walk.currentNode.data.trim() || ["SCRIPT", "STYLE", "OPTION"].includes(element.tagName) || !is_seen(element)) continue;
+    if (!walk.currentNode.data.trim() || ["SCRIPT", "STYLE", "OPTION"].includes(element.tagName)
+      || !is_seen(element)) continue;
     const style = getComputedStyle(element), in_picture = element.closest("svg"), size = parseFloat(style.fontSize);
     const least = size >= 24 || (size >= 18.66 && Number(style.fontWeight) >= 700) ? 3 : 4.5;
     let below = ground(in_picture ? in_picture.parentElement : element);
@@ -41,9 +45,11 @@ const faults = () => {
     const value = contrast(over(rgba(in_picture ? style.fill : style.color), below), below);
     if (value < least) note(element, "text", value);
   }
-  for (const element of document.querySelectorAll("input:not([type=file]):not([type=range]):not([type=checkbox]), select, textarea")) {
+  for (const element of document.querySelectorAll(
+    "input:not([type=file]):not([type=range]):not([type=checkbox]), select, textarea")) {
     if (!is_seen(element)) continue;
-    const value = contrast(over(rgba(getComputedStyle(element).borderTopColor), ground(element.parentElement)), ground(element.parentElement));
+    const value = contrast(over(rgba(getComputedStyle(element).borderTopColor), ground(element.parentElement)),
+      ground(element.parentElement));
     if (value < 3) note(element, "border", value);
   }
   for (const line of document.querySelectorAll("#picture .node ellipse, #picture .edge .line")) {

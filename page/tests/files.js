@@ -5,11 +5,13 @@ await app.set_text(bank, "bank.sigma");
 // A link carries a text of any letters, and says where it is too long.
 for (const text of [bank, "# Grüße 日本 😀\nmodel M;\nvertex V {\n}\nend\n", "\ufeffx\r\n"]) {
   const fragment = await fragment_of(text, "a name.sigma");
-  check("a link is made of letters that a link may have", /^#model=[\w-]+&name=[\w%.]+$/.test(fragment), fragment.slice(0, 40));
+  check("a link is made of letters that a link may have", /^#model=[\w-]+&name=[\w%.]+$/.test(fragment),
+    fragment.slice(0, 40));
   equal("and carries the text", await model_of_fragment(fragment), { text, name: "a name.sigma" });
 }
 equal("no link", await model_of_fragment("#else"), null);
-check("a link that was cut off", await model_of_fragment((await fragment_of(bank, "")).slice(0, 200)).then(() => false, () => true));
+check("a link that was cut off",
+  await model_of_fragment((await fragment_of(bank, "")).slice(0, 200)).then(() => false, () => true));
 at("link").click();
 await until(() => at("link-dialog").open && at("link-text").value);
 const link = at("link-text").value;
@@ -20,10 +22,13 @@ location.hash = link.slice(link.indexOf("#"));
 await until(() => app.fresh && app.model.name === "BANK");
 check("opening it brings the model", app.editor.text() === bank && app.file === "bank.sigma" && !location.hash);
 let state = 7;
-await app.set_text("# " + Array.from({ length: 30000 }, () => String.fromCharCode(97 + (state = (state * 69069 + 1) % 4294967296) / 165191050)).join("") + "\n" + bank, "long.sigma");
+await app.set_text("# " + Array.from({ length: 30000 },
+  () => String.fromCharCode(97 + (state = (state * 69069 + 1) % 4294967296) / 165191050)).join("") + "\n" + bank,
+  "long.sigma");
 at("link").click();
 await until(() => at("link-dialog").open);
-check("a model that is too long for a link is told", at("link-words").textContent.includes("too long") && at("link-text").parentNode.hidden, at("link-words").textContent);
+check("a model that is too long for a link is told",
+  at("link-words").textContent.includes("too long") && at("link-text").parentNode.hidden, at("link-words").textContent);
 at("link-dialog").close();
 
 // Files: opened, dropped, and such as aren't UTF-8.
@@ -81,9 +86,13 @@ at("examples-open").click();
 await until(() => document.querySelectorAll("#cards .thumb").length === Object.keys(given.examples).length, 60000);
 const cards = [...document.querySelectorAll(".card")];
 equal("a card for each example", cards.map(card => card.dataset.name).sort(), Object.keys(given.examples).sort());
-check("with a picture of its events", cards.every(card => card.querySelectorAll(".thumb .node").length === (given.examples[card.dataset.name].match(/^vertex /gm) || []).length));
-check("and words", cards.every(card => card.textContent.length > card.dataset.name.length + 10), cards.map(card => card.textContent));
-check("the bank's question", cards.find(card => card.dataset.name === "bank").textContent.includes("Is a third teller worth the money?"));
+check("with a picture of its events",
+  cards.every(card => card.querySelectorAll(".thumb .node").length === (
+  given.examples[card.dataset.name].match(/^vertex /gm) || []).length));
+check("and words", cards.every(card => card.textContent.length > card.dataset.name.length + 10),
+  cards.map(card => card.textContent));
+check("the bank's question", cards.find(card =>
+  card.dataset.name === "bank").textContent.includes("Is a third teller worth the money?"));
 cards.find(card => card.dataset.name === "polling").click();
 await until(() => app.fresh && app.model.name === "POLLING");
 check("a card opens its model", app.file === "polling.sigma" && !at("gallery").open);
@@ -91,11 +100,15 @@ check("a card opens its model", app.file === "polling.sigma" && !at("gallery").o
 // The report.
 await app.set_text(bank, "bank.sigma");
 await report.fill();
-check("the report has graph, variables, words and text", at("paper").querySelectorAll("svg .node").length === 5 && at("paper").querySelectorAll("tbody tr").length === 4
-  && at("paper").textContent.includes("After LEAVE, if QUEUE > 0, event SERVE follows at once.") && at("paper").querySelector("pre").textContent === bank);
+check("the report has graph, variables, words and text",
+  at("paper").querySelectorAll("svg .node").length === 5 && at("paper").querySelectorAll("tbody tr").length === 4
+  && at("paper").textContent.includes("After LEAVE, if QUEUE > 0, event SERVE follows at once.")
+    && at("paper").querySelector("pre").textContent === bank);
 
 // Without a mouse.
-const press = (key, more = {}) => (more.on || document.activeElement).dispatchEvent(new KeyboardEvent("keydown", { key, bubbles: true, cancelable: true, ...more }));
+const press = (key, more = {}) => (more.on
+  || document.activeElement).dispatchEvent(new KeyboardEvent("keydown",
+  { key, bubbles: true, cancelable: true, ...more }));
 at("picture").focus();
 press("?");
 check("? opens the keys", at("help-dialog").open);
@@ -125,11 +138,16 @@ check("a splitter moves by its keys", at("left").offsetWidth === width + 20, [wi
 press("ArrowLeft");
 
 // Names of all controls, no id twice, labels of roles.
-const named = element => element.textContent.trim() || element.ariaLabel || element.labels?.length || element.title || element.getAttribute("aria-labelledby");
+const named = element => element.textContent.trim() || element.ariaLabel || element.labels?.length || element.title
+  || element.getAttribute("aria-labelledby");
 app.select("SERVE");
-const controls = [...document.querySelectorAll("button, input:not([type=file]), select, textarea, [role=button], [role=separator], dialog")];
-equal("each control has a name", controls.filter(element => !named(element)).map(element => element.outerHTML.slice(0, 80)), []);
+const controls = [...document.querySelectorAll(
+  "button, input:not([type=file]), select, textarea, [role=button], [role=separator], dialog")];
+equal("each control has a name",
+  controls.filter(element => !named(element)).map(element => element.outerHTML.slice(0, 80)), []);
 const ids = [...document.querySelectorAll("[id]")].map(element => element.id);
 equal("no id twice", ids.filter((id, i) => ids.indexOf(id) !== i), []);
-check("the licence of the editor is in the page", [...document.childNodes, ...document.body.childNodes].some(node => node.nodeType === 8 && node.data.includes("CodeMirror") && node.data.includes("WITHOUT WARRANTY")));
+check("the licence of the editor is in the page",
+  [...document.childNodes, ...document.body.childNodes].some(node => node.nodeType === 8
+  && node.data.includes("CodeMirror") && node.data.includes("WITHOUT WARRANTY")));
 check("About names the editor's version", at("codemirror-version").textContent === CodeMirror.version);

@@ -22,9 +22,9 @@ PICTURES = [
      "document.querySelectorAll('#picture .node.gone').length === 2 && document.getElementById('reduce-verdict').textContent.endsWith('sound')"),
     ("page_sideways", 1120, 560, "app.how = 'right'; await app.set_text(given.shop, 'shop.sigma'); tabs.open('run'); splitters.set(document.getElementById('split-panel'), 34);"
                                  " splitters.set(document.getElementById('split-text'), 180); splitters.set(document.getElementById('split-form'), 200);"
-                                 " document.getElementById('legend-open').click(); await wait(200); app.picture.fit()",
+                                 " await wait(200); app.picture.fit()",
      "app.picture.at.get('LEAVE').x > app.picture.at.get('ARRIVE').x"),
-    ("page_gallery", 1000, 600, "app.how = 'down'; document.getElementById('legend-open').click(); await app.set_text(given.bank, 'bank.sigma'); document.getElementById('examples-open').click();"
+    ("page_gallery", 1000, 600, "app.how = 'down'; await app.set_text(given.bank, 'bank.sigma'); document.getElementById('examples-open').click();"
                                 " while (document.querySelectorAll('#cards .thumb').length < 12) await wait(50)", "document.querySelectorAll('.card').length > 20"),
 ]
 
