@@ -15,10 +15,12 @@ const measured = (text, how) => {
   return { layout, nodes, edges, faults: layout_faults(nodes, edges) };
 };
 const sums = { ellipses: 0, labels: 0, labels_on_ellipses: 0, lines_through_ellipses: 0, lines_through_labels: 0 };
+let arrows = 0;
 for (const how of ["down", "right"]) {
   for (const [name, text] of canonical) {
     const { layout, nodes, edges, faults } = measured(text, how);
     for (const kind in sums) sums[kind] += faults[kind];
+    arrows += edges.length;
     check(`${name} ${how}: no ellipses meet, no labels meet`,
       !faults.ellipses && !faults.labels && !faults.labels_on_ellipses, faults);
     const inside = (x, y) => x >= -1 && x <= layout.width + 1 && y >= -1 && y <= layout.height + 1;
@@ -29,8 +31,8 @@ for (const how of ["down", "right"]) {
     check(`${name} ${how}: the same twice`, JSON.stringify(measured(text, how).layout) === JSON.stringify(layout));
   }
 }
-check("arrows pass through at most two ellipses and five labels of others in all",
-  sums.lines_through_ellipses <= 2 && sums.lines_through_labels <= 5, sums);
+check("of a hundred arrows at most one passes through another's label, and of two hundred one through an ellipse",
+  sums.lines_through_labels <= arrows / 100 && sums.lines_through_ellipses <= arrows / 200, [sums, arrows]);
 
 // The measures see what is wrong.
 const node = (x, y) => ({ x, y, rx: 30, ry: 15 });
