@@ -6,7 +6,7 @@ import time
 import urllib.request
 
 from browser import KEYS, Browser, Failed
-from connection import Connection
+from connection import Connection, Refused
 
 HELD = {"Alt": 1, "Control": 2, "Meta": 4, "Shift": 8}
 
@@ -16,6 +16,7 @@ class Chromium(Browser):
 
     def __init__(self, width=1400, height=900):
         super().__init__()
+        self.loaded = False
         words = ["--headless=new", "--no-sandbox", "--disable-gpu", "--hide-scrollbars", "--force-device-scale-factor=1"]
         words += ["--no-first-run", f"--user-data-dir={self.room}/profile", "--remote-debugging-port=0", "about:blank"]
         self.start(words)
@@ -41,7 +42,9 @@ class Chromium(Browser):
 
     def _event(self, message):
         method, params = message.get("method"), message.get("params", {})
-        if method == "Runtime.exceptionThrown":
+        if method == "Page.loadEventFired":
+            self.loaded = True
+        elif method == "Runtime.exceptionThrown":
             details = params["exceptionDetails"]
             self.errors.append(details.get("exception", {}).get("description") or details["text"])
         elif method == "Runtime.consoleAPICalled" and params["type"] in ("error", "assert"):
@@ -53,10 +56,15 @@ class Chromium(Browser):
 
     def open(self, url):
         self.errors = []
+        self.loaded = False
         self.call("Page.navigate", url=url)
         end = time.time() + 60
-        while time.time() < end and self._evaluate("document.readyState + location.href", 60) != "complete" + url:
-            time.sleep(0.05)
+        while time.time() < end and not self.loaded:
+            try:
+                self.call("Page.getNavigationHistory")
+            except Refused:  # between two pages
+                pass
+            time.sleep(0.02)
 
     def _evaluate(self, text, seconds):
         answer = self.call("Runtime.evaluate", seconds, expression=text, awaitPromise=True, returnByValue=True)
