@@ -93,7 +93,7 @@ function follow_fusing(before, after) {
     sentences.push(stands_for.has(vertex.name)
       ? `${vertex.name} does the same as ${stands_for.get(vertex.name)}. So ${stands_for.get(vertex.name)} stands ` +
         `for both.`
-      : `${vertex.name} does the same as an event that stands before it, and no edge leads to it.`);
+      : `${vertex.name} does the same as an earlier event, and no edge leads to it.`);
   }
   return { gone, lines, sentences };
 }

@@ -24,7 +24,7 @@ async function events_before_fault(words, model, known, is_stopped) {
   return none;
 }
 
-// The event that faults behind so many events: { snapshot, pending, vertex, part, kind }, where `part` is the text of
+// The event that faults after so many events: { snapshot, pending, vertex, part, kind }, where `part` is the text of
 // the change or edge, or "" where it is a value that the event carries.
 async function find_fault(words, model, events) {
   const { snapshot, words: problem } = await saved_run(words, model, events);

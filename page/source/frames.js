@@ -10,7 +10,7 @@ class FrameReader {
   take(bytes) { this.pieces.push(bytes.slice()); }
 
   finish() {
-    // Where the output was cut off, what stands behind the last whole line is none.
+    // Where the output was cut off, what follows the last whole line is no line.
     const all = joined_bytes(this.pieces), bytes = all.subarray(0, all.lastIndexOf(LINE_FEED) + 1);
     const starts = [], times = [], vertices = [], decoder = new TextDecoder();
     let last = "";

@@ -41,7 +41,7 @@ function watched_cells(watched) {
 }
 
 // Reads notes. `values` has the cells of the last note, truth values as 1 and 0; `take_at(time)` is called for each
-// line `at`, and `take_on(time, bytes, from, to)` for each line `on`, where the name of the event stands in the
+// line `at`, and `take_on(time, bytes, from, to)` for each line `on`, where the name of the event is in the
 // bytes. The last line, as `ended 490`, is `last` in the end. `rounded` says that a value had more digits than a
 // double counts exactly.
 class NoteReader {

@@ -6,7 +6,7 @@ const player = {
   // Called with the time of the event that is shown.
   shown: () => { },
 
-  // `frames` are those of the run `words` (see run_words) of the variant, behind the first `first` events; `begun`
+  // `frames` are those of the run `words` (see run_words) of the variant, after the first `first` events; `begun`
   // are the values then.
   load(frames, { model, variant, first, begun, start }) {
     player.pause();

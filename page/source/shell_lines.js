@@ -7,8 +7,7 @@ function shell_line(words, file, output) {
   return `sigma ${words.map(shell_word).join(" ")} < ${shell_word(file)}${output ? ` > ${shell_word(output)}` : ""}`;
 }
 
-// The words of a line that was typed: quotes keep blanks, and what stands before the command or goes to a file isn't
-// the program's.
+// The words of a line that was typed. Quotes keep blanks. The program's name, and what follows a <, > or |, are left out.
 function typed_words(line) {
   const words = [];
   for (const [, double_quoted, single_quoted, plain] of line.matchAll(/"([^"]*)"|'([^']*)'|(\S+)/g))

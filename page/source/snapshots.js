@@ -1,4 +1,4 @@
-// Reads what `save` writes: a model's canonical text, and behind it the snapshot of a run. Plain functions.
+// Reads what `save` writes: a model's canonical text, and after it the snapshot of a run. Plain functions.
 
 // The values by variable, and the pending events in the order in which they are next, with their times as exact
 // numbers.

@@ -5,7 +5,7 @@
 // the same times with the same values, and its history shows them all.
 
 // The model with all vertices and variables watched, but arrays that are too long for a table; and with a truth value
-// for each condition of an edge, which the vertex sets behind its changes, so that the program itself says which
+// for each condition of an edge, which the vertex sets after its changes, so that the program itself says which
 // edges an event takes.
 function watching_all(model, most_cells, with_marks = true) {
   const variables = [], left_out = [];
@@ -33,7 +33,7 @@ function mark_names(model) {
   return Array.from({ length: count }, (_, k) => stem + (k + 1));
 }
 
-// The canonical text line by line, with the marks declared behind the variables and set behind each vertex's changes.
+// The canonical text line by line, with the marks declared after the variables and set after each vertex's changes.
 function marked_text(model, marks, watch_line) {
   const lines = [];
   let vertex = null, marked = 0, has_variables = false, has_watch = false;

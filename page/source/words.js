@@ -44,7 +44,7 @@ const run_words = {
       .join(",");
   },
 
-  // The words behind a command; `more` has other values in place of those of the fields, as { events: "20" }.
+  // The words of a command; `more` has other values in place of those of the fields, as { events: "20" }.
   words(command, more = {}) {
     const { until, seed, events, start } =
       { until: run_words.until(), seed: run_words.seed(), events: run_words.events(), start: run_words.start(),

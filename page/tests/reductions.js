@@ -50,7 +50,7 @@ const before = read_model("model M;\nvar N : 0..9 = 0;\nvertex A {\n  schedule B
 const fused = follow_fusing(before, read_model("model M;\nvar N : 0..9 = 0;\nvertex A {\n  schedule B;\n  " +
   "schedule B;\n}\nvertex B {\n}\nend\n"));
 equal("which vertex stands for which", fused.lines, ["fuse B C", "fuse D"]);
-check("where no edge leads it isn't known for which", fused.sentences[1].includes("stands before it"));
+check("where no edge leads it isn't known for which", fused.sentences[1].includes("an earlier event"));
 equal("narrowed ranges", follow_narrowing(before,
   read_model("model M;\nvar N : 0..4 = 0;\nvertex A {\n}\nend\n")).sentences,
   ["N is declared 0..9, and no run leaves 0..4."]);

@@ -131,7 +131,7 @@ equal("a range", await fault_of(examples.desk.replace("0..20", "0..1").replace("
   "At that moment: QUEUE = 1, declared 0..1."]);
 const parts = "model F;\nvar N : -9..9 = 2;\nvar A[3] : 0..9 = 0;\nwatch N;\nvertex GO {\n  schedule NEXT(1) " +
   "after 5;\n}\nvertex NEXT(N) {\n  set N := N - 1;\n  PART\n}\nend\n";
-equal("a division, behind a change", (await fault_of(parts.replace("PART", "set A[0] := 5 / N;"))).slice(1), [
+equal("a division, after a change", (await fault_of(parts.replace("PART", "set A[0] := 5 / N;"))).slice(1), [
   "The run faults at event 2: NEXT(1) at 5 asks for a division by 0 (division).", "set A[0] := 5 / N",
   "At that moment: A = [0, 0, 0], declared 0..9; N = 0, declared -9..9."]);
 equal("a cell", (await fault_of(parts.replace("PART", "set A[N + 3] := 1;"))).slice(1, 3), [
@@ -146,7 +146,7 @@ equal("the first event", (await fault_of(parts.replace("after 5", "after N - 9")
   "The run faults at event 1: GO at 0 asks for a delay below 0 (delay).", "schedule NEXT(1) after N - 9",
     "At that moment: N = 2, declared -9..9."]);
 
-// A fault behind what can be played.
+// A fault after what can be played.
 run_tab.MOST_EVENTS = 300;
 const late = "model LATE;\nvar N : 0..2000 = 0;\nwatch N;\nvertex GO {\n  set N := N + 1;\n  schedule GO after " +
   "1;\n}\nend\n";

@@ -110,7 +110,7 @@ def compare_since(browser, check, given, folder):
             subprocess.run([PROGRAM, "replicate", "--until", until, "--seed", "1", "--events", "100000000", "--runs", "30"], input=geo, stdout=file,
                            text=True, check=True)
     said, _ = tool(["since", "early.csv", "late.csv"], folder)
-    check("the report behind the warm-up is that of since", browser.run("return experiments.results[0].csv") == said)
+    check("the report after the warm-up is that of since", browser.run("return experiments.results[0].csv") == said)
     with open(f"{folder}/steady.csv", "w", encoding="utf-8") as file:
         file.write(said)
     said, _ = tool(["means", "N", "average", "steady.csv"], folder)
