@@ -95,7 +95,8 @@ const designs = {
   field(label, value, take) {
     const field = document.createElement("input");
     Object.assign(field, { value, ariaLabel: label, title: label, spellcheck: false });
-    field.onchange = () => { take(field.value.trim()); designs.changed(); };
+    field.oninput = () => take(field.value.trim());
+    field.onchange = designs.changed;
     return field;
   },
 
