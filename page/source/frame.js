@@ -79,7 +79,8 @@ function start_dialogs() {
       event => { if (event.target === dialog && dialog.id !== "loss-dialog") dialog.close(); });
   }
   at("codemirror-version").textContent = CodeMirror.version;
-  at("verdict").textContent = JSON.parse(at("made").textContent).verdict.trim();
+  const made = JSON.parse(at("made").textContent);
+  for (const fact of ["version", "verdict"]) at(fact).textContent = made[fact].trim();
 }
 
 // The legend: a sample of each sign, and what it says.
