@@ -20,11 +20,11 @@ PICTURES = [
     ("page_reduce", 1000, 600, "splitters.set(at('split-panel'), 300); await app.set_text(given.polling, 'polling.sigma'); tabs.open('reduce');"
                                " await reducing.go('reduce'); document.activeElement.blur()",
      "document.querySelectorAll('#picture .node.gone').length === 2 && document.getElementById('reduce-verdict').textContent.endsWith('sound')"),
-    ("page_sideways", 1120, 560, "app.how = 'right'; await app.set_text(given.shop, 'shop.sigma'); tabs.open('run'); splitters.set(document.getElementById('split-panel'), 34);"
+    ("page_sideways", 1120, 560, "document.getElementById('turn').click(); await app.set_text(given.shop, 'shop.sigma'); tabs.open('run'); splitters.set(document.getElementById('split-panel'), 34);"
                                  " splitters.set(document.getElementById('split-text'), 180); splitters.set(document.getElementById('split-form'), 200);"
                                  " await wait(200); app.picture.fit()",
      "app.picture.at.get('LEAVE').x > app.picture.at.get('ARRIVE').x"),
-    ("page_gallery", 1000, 600, "app.how = 'down'; await app.set_text(given.bank, 'bank.sigma'); document.getElementById('examples-open').click();"
+    ("page_gallery", 1000, 600, "document.getElementById('turn').click(); await app.set_text(given.bank, 'bank.sigma'); document.getElementById('examples-open').click();"
                                 " while (document.querySelectorAll('#cards .thumb').length < 12) await wait(50)", "document.querySelectorAll('.card').length > 20"),
 ]
 
