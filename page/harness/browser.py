@@ -13,8 +13,8 @@ class Failed(Exception):
 
 
 class Browser:
-    """A browser without a window. Those that stand on this have `open`, `size`, `shot`, `give_files`, `_evaluate`, `_pointer` and
-    `_key`."""
+    """A browser without a window, which begins with `begin` and ends with `quit`. Those that stand on this have `begin`, `open`,
+    `size`, `scheme`, `shot`, `give_files`, `_evaluate`, `_pointer` and `_key`."""
 
     command = None  # the command by which it is started
 
@@ -22,6 +22,7 @@ class Browser:
         self.errors = []  # what was thrown, or written as an error to the console, since the page was opened
         self.room = tempfile.mkdtemp(prefix="page-test-")
         self.process = None
+        self.connection = None
 
     @classmethod
     def is_there(cls):

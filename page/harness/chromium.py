@@ -14,8 +14,7 @@ HELD = {"Alt": 1, "Control": 2, "Meta": 4, "Shift": 8}
 class Chromium(Browser):
     command = "chromium"
 
-    def __init__(self, width=1400, height=900):
-        super().__init__()
+    def begin(self, width=1400, height=900):
         self.loaded = False
         words = ["--headless=new", "--no-sandbox", "--disable-gpu", "--hide-scrollbars", "--force-device-scale-factor=1"]
         words += ["--no-first-run", f"--user-data-dir={self.room}/profile", "--remote-debugging-port=0", "about:blank"]
@@ -32,7 +31,7 @@ class Chromium(Browser):
         self.scheme("light")
 
     def _port(self):
-        for _ in range(600):
+        for _ in range(2400):
             try:
                 with open(f"{self.room}/profile/DevToolsActivePort", encoding="utf-8") as it:
                     return int(it.readline())

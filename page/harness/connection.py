@@ -15,7 +15,7 @@ class Refused(Exception):
 class Connection:
     """A connection to 127.0.0.1, over which JSON goes both ways. on_event(message) is called for what is no answer."""
 
-    def __init__(self, port, path, on_event, seconds=60):
+    def __init__(self, port, path, on_event, seconds=240):
         until = time.time() + seconds
         while True:
             try:

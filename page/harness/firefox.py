@@ -17,8 +17,7 @@ def free_port():
 class Firefox(Browser):
     command = "firefox-esr"
 
-    def __init__(self, width=1400, height=900):
-        super().__init__()
+    def begin(self, width=1400, height=900):
         port = free_port()
         with open(f"{self.room}/user.js", "w", encoding="utf-8") as it:
             # No start page, no question for updates, no reports to its makers, and light colours.
@@ -35,10 +34,11 @@ class Firefox(Browser):
         self.size(width, height)
 
     def quit(self):
-        try:
-            self.call("browser.close", 10)
-        except (OSError, Refused):  # it ends before it answers
-            pass
+        if self.connection:
+            try:
+                self.call("browser.close", 10)
+            except (OSError, Refused):  # it ends before it answers
+                pass
         super().quit()
 
     def _event(self, message):
