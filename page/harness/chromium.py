@@ -57,7 +57,7 @@ class Chromium(Browser):
         self.errors = []
         self.loaded = False
         self.call("Page.navigate", url=url)
-        end = time.time() + 60
+        end = time.time() + 300
         while time.time() < end and not self.loaded:
             try:
                 self.call("Page.getNavigationHistory")

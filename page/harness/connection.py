@@ -80,7 +80,7 @@ class Connection:
         masked = int.from_bytes(text, "big") ^ int.from_bytes(masks[: len(text)], "big")
         self.socket.sendall(head + mask + masked.to_bytes(len(text), "big"))
 
-    def call(self, method, seconds=60, **params):
+    def call(self, method, seconds=300, **params):
         """Sends a command and returns its answer. Further fields of the message go in `fields`."""
         fields = params.pop("fields", {})
         self.number += 1
