@@ -151,4 +151,4 @@ check("the licence of the editor is in the page",
   [...document.childNodes, ...document.body.childNodes].some(node => node.nodeType === 8
   && node.data.includes("CodeMirror") && node.data.includes("WITHOUT WARRANTY")));
 check("About names the editor's version", at("codemirror-version").textContent === CodeMirror.version);
-check("About names the page's version", /^(none|\d{8}-[0-9a-f]{10}(-changed)?)$/.test(at("version").textContent), at("version").textContent);
+check("About names the page's version", /^(none|\d{8}-[0-9a-f]{10,}(-changed)?)$/.test(at("version").textContent), at("version").textContent);
