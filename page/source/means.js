@@ -67,14 +67,14 @@ function compared(designs, item, column) {
   for (const design of designs) {
     const found = item_values(design, item, column);
     if (found.refusal) return { refusal: found.refusal };
-    rows.push({ label: design.label, values: found.values, mean: mean_of(found.values), rounded: found.rounded });
+    rows.push({ label: design.label, values: found.values, mean: summary_of(found.values), rounded: found.rounded });
   }
   const pairs = designs.length * (designs.length - 1) / 2;
   for (let b = 1; b < designs.length; b++)
     for (let a = 0; a < b; a++) {
       if (!designs_pair(designs[a], designs[b])) return { refusal: `${designs[b].label} and ${designs[a].label} ` +
         `do not pair` };
-      const mean = mean_of(rows[b].values.map((value, k) => value - rows[a].values[k]));
+      const mean = summary_of(rows[b].values.map((value, k) => value - rows[a].values[k]));
       const together = pairs > 1 && mean.error !== null ? interval_together(mean, pairs) : null;
       differences.push({ label: `${rows[b].label} - ${rows[a].label}`, mean, together });
     }

@@ -80,7 +80,7 @@ class Tally {
 }
 
 // The mean of values with its standard error and 95 % interval. Of one value there is no error.
-function mean_of(values) {
+function summary_of(values) {
   const tally = new Tally();
   for (const value of values) tally.take(value);
   if (tally.taken < 2) return { runs: tally.taken, mean: tally.mean, error: null };

@@ -88,7 +88,7 @@ at("exp-sum").value = "BROKEN[0]+BROKEN[1]";
 at("exp-sum").dispatchEvent(new Event("change"));
 const sums = starts.map(({ out }) => { const { items, times } = read_report(out);
   return times.map((time, k) => items.get("BROKEN[0]").area[k] / time + items.get("BROKEN[1]").area[k] / time); });
-equal("a sum of items", table().slice(0, 2).map(row => row[3]), sums.map(values => told_mean(mean_of(values)).mean));
+equal("a sum of items", table().slice(0, 2).map(row => row[3]), sums.map(values => told_mean(summary_of(values)).mean));
 at("exp-sum").value = "";
 
 // Runs that were cut off.

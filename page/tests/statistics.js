@@ -13,11 +13,11 @@ equal("decimals as C prints them", [[0.0625, 3], [0.1875, 3], [2.5, 0], [3.5, 0]
   [1.0005, 3], [-0.0001, 3], [1e22, 1]]
   .map(([value, digits]) => fixed(value, digits)),
 ["0.062", "0.188", "2", "4", "-0.062", "0.001", "1.000", "-0.000", "1e+22"]);
-equal("a mean in words", told_mean(mean_of([1, 2, 3, 4])),
+equal("a mean in words", told_mean(summary_of([1, 2, 3, 4])),
   { runs: "4", mean: "2.500", error: "0.645", from: "0.446", to: "4.554" });
 equal("as many decimals as the error needs",
   told_mean({ runs: 9, mean: 0.5, error: 0.00012, from: 0.4, to: 0.6 }).mean, "0.5000");
-equal("no error of one value", told_mean(mean_of([7])),
+equal("no error of one value", told_mean(summary_of([7])),
   { runs: "1", mean: "7.000", error: "takes two runs", from: "", to: "" });
 equal("bars of whole widths", [0, 0.19999999999, 0.2, 0.3, -0.1, -0.2, 5].map(value => bar_of(value, 0.2)),
   [0, 1, 1, 1, -1, -1, 25]);
