@@ -128,7 +128,12 @@ function report_since(early, late, label, early_label) {
   return { report };
 }
 
-// A report as text, as tools/since writes one: without totals, and with empty fields for columns that it hasn't.
+function whole_sum(values) {
+  return values.reduce((sum, value) => whole_difference(sum, whole_difference(0, value)), 0);
+}
+
+// A report as text, as tools/since writes one: with empty fields for columns that it hasn't, and with totals of areas
+// and counts.
 function report_text(report) {
   const lines = ["run,seed,outcome,time,item,least,greatest,last,area,count"];
   for (let k = 0; k < run_count(report); k++)
@@ -136,5 +141,8 @@ function report_text(report) {
       const columns = [...VARIABLE_COLUMNS, "count"].map(column => (item[column] ? item[column][k] : ""));
       lines.push([k + 1, report.seeds[k], report.outcomes[k], report.times[k], name, ...columns].join(","));
     }
+  for (const [name, { area, count }] of report.items)
+    lines.push(["total", "", "", "", name, "", "", "", area ? whole_sum(area) : "", count ? whole_sum(count) : ""]
+      .join(","));
   return lines.join("\n") + "\n";
 }

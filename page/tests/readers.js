@@ -86,7 +86,8 @@ const early = read_report("run,seed,outcome,time,item,least,greatest,last,area,c
 const late = read_report("run,seed,outcome,time,item,least,greatest,last,area,count\n1,5,stopped,30,X,0,9,4,100,\n" +
   "1,5,stopped,30,E,,,,,7\n");
 equal("since", report_text(report_since(early, late, "late", "early").report),
-  "run,seed,outcome,time,item,least,greatest,last,area,count\n1,5,stopped,20,X,,,4,80,\n1,5,stopped,20,E,,,,,5\n");
+  "run,seed,outcome,time,item,least,greatest,last,area,count\n1,5,stopped,20,X,,,4,80,\n1,5,stopped,20,E,,,,,5\n" +
+    "total,,,,X,,,,80,\ntotal,,,,E,,,,,5\n");
 equal("an early run that ended", report_since(read_report(csv), read_report(csv), "late", "early").refusal,
   "the run with seed 7 was not stopped in early: ended");
 
