@@ -87,16 +87,16 @@ run_sets g = record g { vertices = map (λ (v : EventVertex). record v { changes
 
 -- ---- edges that are never taken
 
-abbrev pub never : EventEdge → EventEdge
-never e = only_if (Truth false) e
+abbrev pub if_never : EventEdge → EventEdge
+if_never e = only_if (Truth false) e
 
 -- RUN never schedules LATE, which then has its priority, 7, all the same; DREW comes after a drawn delay, with priority 8. CUT
 -- never cancels GOAL, and ASK never looks at A
 abbrev pub never_taken : EventGraph
 never_taken =
     meeting (codes "ABC")
-    (each_at_5 (1 ∷ 2 ∷ 3 ∷ 4 ∷ []) ++ never (at_priority 7 5) ∷ at_priority 7 6 ∷ plain_edge (Schedule (Drawn 52 (Uniform (pos 1) (pos 6))) 8) 7 [] ∷ at_priority 8 8 ∷ [])
-    (event (codes "CUT") [] (never (cancel 2) ∷ []) ∷ event (codes "GOAL") [] [] ∷
+    (each_at_5 (1 ∷ 2 ∷ 3 ∷ 4 ∷ []) ++ if_never (at_priority 7 5) ∷ at_priority 7 6 ∷ plain_edge (Schedule (Drawn 52 (Uniform (pos 1) (pos 6))) 8) 7 [] ∷ at_priority 8 8 ∷ [])
+    (event (codes "CUT") [] (if_never (cancel 2) ∷ []) ∷ event (codes "GOAL") [] [] ∷
     event (codes "ASK") [] (only_if (Binary And (Truth false) (positive 0)) (urgent 9) ∷ []) ∷ sets (codes "SETA") 0 ∷
     sets (codes "LATE") 1 ∷ sets (codes "OTHER") 1 ∷
     sets (codes "DREW") 2 ∷ sets (codes "MATE") 2 ∷
