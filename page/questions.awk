@@ -1,7 +1,7 @@
 # Writes what the gallery says of each example, as JSON: its title, from the table of examples/README.md, and the question that it is
-# asked, from there and from docs/studies.md.
+# asked, from there and from docs/use/studies.md.
 #
-#     awk -f questions.awk examples/README.md docs/studies.md
+#     awk -f questions.awk examples/README.md docs/use/studies.md
 
 function quoted(text) {
     gsub(/`/, "", text)
@@ -16,8 +16,8 @@ function quoted(text) {
     cells = split($0, cell, " \\| ")
     sub(/^\| /, "", cell[1])
     title = cell[2]
-    sub(/ \(`docs[^)]*\)$/, "", title)
-    sub(/; `docs.*$/, "", title)
+    sub(/ \(\[docs.*\)$/, "", title)
+    sub(/; \[docs.*$/, "", title)
     files = split(cell[1], file, ", ")
     for (i = 1; i <= files; i++) {
         name = file[i]

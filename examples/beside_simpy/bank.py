@@ -1,4 +1,4 @@
-"""The bank of ../bank.sigma in SimPy, for docs/from-simpy.md: two tellers, one queue, from opening to closing.
+"""The bank of ../bank.sigma in SimPy, for docs/use/from-simpy.md: two tellers, one queue, from opening to closing.
 
     /usr/bin/python3 bank.py SEED RUNS >REPORT
 

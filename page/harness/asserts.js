@@ -1,6 +1,6 @@
 // The words in which the tests are written. A test is the body of an async function. It has these, and `given`: `examples` (the
 // texts by name), `stored` (of each stored file beside them, by its name, the words and the bytes), `refusals` (of each text in
-// docs/model-text.md that is refused: the text, the byte and what is said), `large` (a model of 500 vertices).
+// docs/use/model-text.md that is refused: the text, the byte and what is said), `large` (a model of 500 vertices).
 const held = [];
 
 // check(name, yes, more): one thing that must hold. `more` is told where it doesn't.

@@ -35,8 +35,8 @@ def stored():
 
 
 def refusals():
-    """The refusals that docs/model-text.md shows: a text, the byte, and what is said."""
-    lines, found = text_of(f"{TOP}/docs/model-text.md").split("\n"), []
+    """The refusals that docs/use/model-text.md shows: a text, the byte, and what is said."""
+    lines, found = text_of(f"{TOP}/docs/use/model-text.md").split("\n"), []
     for before, line in zip(lines, lines[1:]):
         said = re.match(r"    sigma: byte (\d+): (.*)", line)
         if said and re.match(r"    (model|version)", before):

@@ -1,5 +1,5 @@
 // Reads what `reduce`, `fuse` and `narrow` write, and follows it on the model that was read: what goes, and why, in
-// the words of docs/reduction.md. Plain functions; nothing here decides whether a rule applies, since the program
+// the words of docs/use/reduction.md. Plain functions; nothing here decides whether a rule applies, since the program
 // wrote that it does.
 
 // The reduced model and the lines of the certificate.

@@ -1,4 +1,4 @@
-// The tab Experiments: the numbers of docs/experiments.md, designs that are kept and compared, refusals, Stop, the
+// The tab Experiments: the numbers of docs/use/experiments.md, designs that are kept and compared, refusals, Stop, the
 // program's own bytes, what is cut off as the warm-up, and how a mean settles.
 const examples = given.examples, text_at = id => at(id).textContent;
 const opened = async (name, text = examples[name]) => { await app.set_text(text, name + ".sigma");
@@ -16,7 +16,7 @@ await opened("bank");
 fresh_designs();
 asked("600", "1", "100000", "1000");
 await experiments.go();
-equal("the mean of docs/experiments.md", table()[0], ["QUEUE", "now", "1000", "0.676", "0.014", "0.649", "0.703"]);
+equal("the mean of docs/use/experiments.md", table()[0], ["QUEUE", "now", "1000", "0.676", "0.014", "0.649", "0.703"]);
 equal("an event has none", table()[2], ["CLOSE", "CLOSE is an event, which has a count, and no average"]);
 equal("outcomes", text_at("exp-outcomes"), "now: 1,000 runs, 1,000 ended");
 const native = await engine.call("test", [...run_words.words("replicate"), "--runs", "1000"], examples.bank);
@@ -37,7 +37,7 @@ designs.list.reverse();
 designs.list.forEach((design, k) => { design.name = ["bank", "faster"][k]; });
 designs.changed();
 await experiments.go();
-equal("designs as in docs/experiments.md", table().slice(0, 3),
+equal("designs as in docs/use/experiments.md", table().slice(0, 3),
   [["QUEUE", "bank", "1000", "0.676", "0.014", "0.649", "0.703"],
   ["", "faster", "1000", "0.339", "0.006", "0.328", "0.350"],
     ["", "faster - bank", "1000", "-0.337", "0.009", "-0.354", "-0.320"]]);

@@ -1,4 +1,4 @@
-"""Makes the pictures of docs/page.md where --shots names a folder, and sees that each shows what the page says of it."""
+"""Makes the pictures of docs/use/page.md where --shots names a folder, and sees that each shows what the page says of it."""
 
 import os
 

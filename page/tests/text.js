@@ -3,7 +3,7 @@
 const status = () => at("status").textContent, bytes = text => new TextEncoder().encode(text).length;
 const { bank } = given.examples;
 
-// Each refusal of docs/model-text.md is marked at its byte, also behind other letters than those of ASCII.
+// Each refusal of docs/use/model-text.md is marked at its byte, also behind other letters than those of ASCII.
 for (const [text, byte, what] of given.refusals) {
   for (const before of ["", "# Grüße 日本 😀\n"]) {
     await app.set_text(before + text);
