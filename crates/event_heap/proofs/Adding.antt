@@ -1,4 +1,4 @@
--- How the heaps and the free nodes stand after an event has come.
+-- The heaps and the free nodes after an event has come.
 use Rattle.std.proofs.Common.{◌≡◌, ℕ, ◌+◌, ◌^◌, ◌<◌, ◌≤◌, ◌≢◌, ◌⊎◌, inl, inr, cond, ◌==◌, List, [], ◌∷◌, ◌++◌, length, set, Option, Some, None, refl, sym, ◌∙◌, ap, subst, arith, get_or-set_same, get_or-set_other}
 use Rattle.std.proofs.lemmas.Bool.Decides.{nat_tests}
 use Rattle.std.proofs.lemmas.Bool.{cases_eq, cases_lt}
@@ -15,7 +15,7 @@ use Rattle.event_heap.proofs.StandsLaws.{stands-along}
 use Rattle.event_heap.proofs.ListedLaws.{IsNew, in_order-set, in_order-push}
 use Rattle.event_heap.proofs.ForestLaws.{item-there, chain-kept, changed, changed-same, changed-other, separate, held_not_free, item-listed, item-same, some_none}
 
--- what a claimed node changes
+-- the changes that a claimed node makes
 pub record ClaimFacts (old mid : List Node) (x : Item) (chain fewer : List ℕ) (later : Option ℕ) (i : ℕ) : Type 0 where
   pub there : i < length mid
   pub node : node_at mid i ≡ lone_node x
@@ -96,7 +96,7 @@ module _ (old mid : List Node) (roots : List (Option ℕ)) (free later : Option 
     by (inl m) = let (y, e) = item-there old (trees u) (root_at roots u) i (f.heaps u).stands m in absurd (some_none (item_at old i) y e k.empty)
     by (inr z) = omega arith
 
-  -- the heap of the vertex and the new node stand apart
+  -- the heap of the vertex and the new node have no node in common
   pub apart-added : leftist_rank (trees v) + 1 < 2 ^ 32 → StandApart mid (trees v) (Fork i x Leaf Leaf) (root_at roots v) (Some i)
   apart-added ranks = record {
     one = stands-along old mid (trees v) (root_at roots v) k.longer (λ q m. k.others q (λ s. absurd (omega (arith, subst (λ q. 0 < times_in q (trees v)) s m, not_held v)))) (f.heaps v).stands;

@@ -9,7 +9,7 @@ use Rattle.event_heap.specs.Inner.Seated.{hung, seated, CanCompare}
 use Rattle.event_heap.proofs.TreeLaws.{times_in-merged, leftist_rank-merged, second_over, first_over}
 use Rattle.event_heap.proofs.StandsLaws.{rank_at-stands, IsHung, hung_by_set, hung_already, hung_stands, seat-rebuilds}
 
--- a tree as what stands from a node on
+-- a tree, read from its node on
 pub record Opened (nodes : List Node) (p : ℕ) (t : Tree) (x : Item) (l r : Tree) : Type 0 where
   pub is : t ≡ Fork p x l r
   pub fork : IsFork nodes p x l r
@@ -50,7 +50,7 @@ merged_first nodes s t i j h before =
 pub apart_turned : (nodes : List Node) (s t : Tree) (a b : Option ℕ) → StandApart nodes s t a b → StandApart nodes t s b a
 apart_turned nodes s t a b h = record { one = h.other; other = h.one; apart = λ p. omega (arith, h.apart p); ranks = omega (arith, h.ranks) }
 
--- what the merge below the root that comes first gives
+-- the result of the merge below the root that comes first
 pub rebuilt_second : (nodes new : List Node) (s t : Tree) (i j : ℕ) → ((y x : Item) → item_at nodes j ≡ Some y → item_at nodes i ≡ Some x → precedes y x ≡ true) → ((s t : Tree) → StandApart nodes s t (Some j) (Some i) → IsRebuilt nodes new (heap_over s t) (Some j)) → StandApart nodes s t (Some i) (Some j) → IsRebuilt nodes new (merged_heap s t) (Some j)
 rebuilt_second nodes new s t i j before merges h = subst (λ u. IsRebuilt nodes new u (Some j)) (sym (merged_second nodes s t i j h before)) (merges t s (apart_turned nodes s t (Some i) (Some j) h))
 
@@ -67,7 +67,7 @@ module _ (nodes : List Node) (s t : Tree) (i j : ℕ) where
   pub top_there : (b : Option ℕ) → StandApart nodes s t (Some i) b → i < length nodes
   top_there b h = let (x, l, r, o) = opened nodes s i h.one in o.fork.within
 
-  -- the right heap of the first one and the other heap stand apart
+  -- the right heap of the first one and the other heap have no node in common
   pub apart_first : (b : Option ℕ) → StandApart nodes s t (Some i) b → (x : Item) × (l : Tree) × (r : Tree) × Opened nodes i s x l r × StandApart nodes r t (node_at nodes i).right b × (times_in i r ≡ 0) × (times_in i t ≡ 0)
   apart_first b h =
       let (x, l, r, o) = opened nodes s i h.one in

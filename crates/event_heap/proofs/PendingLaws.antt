@@ -57,7 +57,7 @@ each_late events tops x firsts first u (Some z) e =
     let others = every-map (λ (y : Item). (y.number ≢ z.number) × (is_of u y.entry ≡ true → precedes y z ≡ false)) (λ (y : Item). is_of u y.entry ≡ true → precedes y x ≡ false) (λ y h p. first_along x z y z_late (h.1 p)) rest n.first in
     subst (AllByRecursion (λ (y : Item). is_of u y.entry ≡ true → precedes y x ≡ false)) (sym n.is) (each-placed (λ y. is_of u y.entry ≡ true → precedes y x ≡ false) z rest (λ p. z_late) others)
 
--- what holds of each event by its vertex holds of each
+-- a property that holds of each vertex's events holds of each event
 by_vertex : (P : Item → Type 0) (events : List Item) → ((u : ℕ) → AllByRecursion (λ y. is_of u y.entry ≡ true → P y) events) → AllByRecursion P events
 by_vertex P [] h = tt
 by_vertex P (y ∷ ys) h = ((h y.entry.vertex).0 (eq-eqb y.entry.vertex y.entry.vertex refl), by_vertex P ys (λ u. (h u).1))
@@ -84,7 +84,7 @@ module _ (events : List Item) (keys : List (Option KeyParts)) (tops : ℕ → Op
       both P Q [] a b = tt
       both P Q (y ∷ ys) a b = ((a.0, b.0), both P Q ys a.1 b.1)
 
-  -- with nobody at the top there is no event
+  -- without a vertex at the top there is no event
   pub no-top : IsTop keys None → events ≡ []
   no-top none = empty events (by_vertex (λ y. ⊥) events (λ u. by u (tops u) refl)) where
     empty : (xs : List Item) → AllByRecursion (λ y. ⊥) xs → xs ≡ []

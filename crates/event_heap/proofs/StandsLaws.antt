@@ -9,7 +9,7 @@ use Rattle.event_heap.specs.Inner.Stands.{no_node, node_at, item_at, items_of, r
 use Rattle.event_heap.specs.Inner.Seated.{hung, seated}
 use Rattle.event_heap.proofs.TreeLaws.{times_in-seat}
 
--- what a tree's nodes are is all that it depends on
+-- a tree depends on its own nodes alone
 pub stands-along : (old new : List Node) (t : Tree) (root : Option ℕ) → length old ≤ length new → ((q : ℕ) → 0 < times_in q t → node_at new q ≡ node_at old q) → StandsFrom old t root → StandsFrom new t root
 stands-along old new Leaf None len same h = tt
 stands-along old new Leaf (Some i) len same h = h
@@ -50,7 +50,7 @@ seated-item n c =
       | false ↦ refl
     ]
 
--- a node whose two heaps stand, once its rank is set
+-- a node with its two heaps is a tree, once its rank is set
 seated-stands : (mid new : List Node) (p : ℕ) (x : Item) (l u : Tree) (c : ℕ) → p < length mid → item_at mid p ≡ Some x → (node_at mid p).left_rank ≡ leftist_rank l → c ≡ leftist_rank u → StandsFrom mid l (node_at mid p).left → StandsFrom mid u (node_at mid p).right → times_in p l ≡ 0 → times_in p u ≡ 0 → length new ≡ length mid → node_at new p ≡ seated (node_at mid p) c → ((q : ℕ) → q ≢ p → node_at new q ≡ node_at mid q) → StandsFrom new (seat p x l u) (Some p)
 seated-stands mid new p x l u c within item rank_left rank_under left under no_l no_u len here others =
     let kept_l : StandsFrom new l (node_at mid p).left = stands-kept mid new l (node_at mid p).left len (λ q m. others q (λ e. absurd (omega (arith, m, subst (λ (q : ℕ). times_in q l ≡ 0) (sym e) no_l)))) left in
@@ -101,7 +101,7 @@ hung_already old p below within e = record {
   items = refl;
 }
 
--- a tree without the node stands as it did
+-- a tree without the node is as it was
 pub hung_stands : (old new : List Node) (p below : ℕ) (t : Tree) (root : Option ℕ) → IsHung old new p below → times_in p t ≡ 0 → StandsFrom old t root → StandsFrom new t root
 hung_stands old new p below t root k none h = stands-kept old new t root k.count (λ q m. k.others q (λ e. absurd (omega (arith, m, subst (λ (q : ℕ). times_in q t ≡ 0) (sym e) none)))) h
 

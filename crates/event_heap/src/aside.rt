@@ -15,7 +15,7 @@ use event_list::carried::same;
 use sig_base::{Carried, Steps};
 use std::sync::ledger::Ledger;
 
-/// What a search leaves: the node that was found, the root of the rest of the heap, and the last of the roots that
+/// The result of a search: the node that was found, the root of the rest of the heap, and the last of the roots that
 /// were set aside.
 #[derive(Drop)]
 pub struct Split {

@@ -9,7 +9,7 @@ use crate::node::{Node, comes_first};
 use sig_base::Steps;
 use std::sync::ledger::Ledger;
 
-/// Puts a heap on the right of a node, in place of the one that is there. The ranks stay as they are.
+/// Puts a heap on the right of a node, in place of the one that was there. The ranks stay as they are.
 fn hang(nodes: &mut [Node], top: usize, below: usize)
     requires { top < length nodes.old }
     ensures { nodes.new ≡ slice_set nodes.old top (hung (node_at nodes.old top) below) }

@@ -1,4 +1,4 @@
-//! The nodes of all heaps, which stand in one vector.
+//! The nodes of all heaps, in one vector.
 
 ghost use Rattle.std.specs.Prelude.{◌≡◌, ◌+◌, Some};
 ghost use Rattle.event_heap.specs.declared.node.Item.{Item as Event};
@@ -31,7 +31,7 @@ pub struct Node {
 }
 
 impl Item {
-    /// What is told of the event.
+    /// The time, priority and vertex of the event.
     pub fn told(&self) -> First
         ensures { result ≡ first_of self.now.entry }
     {

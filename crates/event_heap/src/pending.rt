@@ -61,7 +61,7 @@ fn replay<L: Ledger>(
     }
 }
 
-/// The same of a vertex that alone has an event, or had the last one.
+/// Does this for a vertex that alone has an event, or had the last one.
 fn replay_alone(heaps: &Heaps, tournament: &mut Tournament, vertex: usize)
     requires games { (u : ℕ) → u ≢ vertex → slice_index_or tournament.old u None ≡ option_map key_of (top_of heaps.now u) }
     requires alone { (u : ℕ) → u ≢ vertex → slice_index_or tournament.old u None ≡ None }
@@ -101,7 +101,7 @@ fn replay_known<L: Ledger>(
 }
 
 /// Puts the key of an event that is now the first of its vertex, and plays the games of this vertex. Not inlined, so that
-/// they are played where they stand once.
+/// the code that plays them occurs once.
 #[inline(never)]
 fn play_first<L: Ledger>(
     tournament: &mut Tournament,

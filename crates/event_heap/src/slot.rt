@@ -7,7 +7,7 @@ use crate::node::Item;
 use event_list::Entry;
 use std::marker::Model;
 
-/// An event or none. What stays behind of an event that is gone is seen by nobody.
+/// An event or none. No call sees the remains of an event that has gone.
 #[derive(Drop)]
 pub struct Slot {
     item: Item,

@@ -78,7 +78,7 @@ impl Tournament {
         play_alone(self.keys.as_slice(), self.winners.as_mut_slice(), vertex);
     }
 
-    /// Takes a vertex's key away, where no other vertex has one: then it doesn't matter who won a game.
+    /// Takes a vertex's key away, where no other vertex has one: the winners of the games don't matter then.
     pub fn clear_alone(&mut self, vertex: usize)
         requires vertex { vertex < length self.old }
         requires alone { (u : ℕ) → u ≢ vertex → slice_index_or self.old u None ≡ None }

@@ -1,4 +1,4 @@
--- What edges keep of what they work on, and what they leave to plan with.
+-- The pending list and the streams after edges: what stays, and that edges can be treated again.
 use Rattle.std.proofs.Common.{◌≡◌, ℕ, ◌+◌, ◌≤◌, ◌<◌, ◌^◌, List, Option, refl, sym, ◌∙◌, subst, arith}
 use Rattle.std.specs.Prelude.{IsTrue, length}
 use Rattle.sig_base.specs.declared.limits.TheConstants.{CHANGES_MAX, EDGES_MAX}
@@ -49,7 +49,7 @@ pending_changed words events view p pending spare numbered vertices is few room 
       known = λ all. subst (λ n. Known n pending) (sym same) (known all);
     })
 
--- what was kept can be planned with again
+-- after edges, edges can be treated again
 pub plans_again : (g : EventGraph) (a b c m n o : ℕ) (p q : Planning) → CanPlan g c o p → PlanKeeps a m p q → a + b ≤ c → m + n ≤ o → CanPlan g b n q
 plans_again g a b c m n o p q can kept words events = record {
   made_for = kept.vertices ∙ can.made_for;
@@ -94,7 +94,7 @@ module _ (g : EventGraph) (s : State) (p : Planning) (turns : ℕ) (sound : Soun
         known = subst (λ n. Known n r.planned.pending) made_for (kept.known (subst (λ n. Known n p.planned.pending) (sym sound.made_for) sound.known));
       }
 
--- what a step keeps
+-- the facts that a step keeps
 pub step_kept : (m : Model) (s t : State) (p q r : Planning) (clock time turns : ℕ) (before after : Option Fault) (run : Running) → run_of m p s clock turns before ≡ run → PlanKeeps 0 0 p q → PlanKeeps (CHANGES_MAX + EDGES_MAX) EDGES_MAX q r → StepKeeps run (run_of m r t time (turns + 1) after)
 step_kept m s t p q r clock time turns before after run is first second =
     let kept = kept_then 0 (CHANGES_MAX + EDGES_MAX) (CHANGES_MAX + EDGES_MAX) 0 EDGES_MAX EDGES_MAX p q r first second (omega arith) (omega arith) in

@@ -1,4 +1,4 @@
-//! What edges work on: the pending events, and the streams of which delays are drawn.
+//! The things that edges change: the pending events, and the streams from which delays are drawn.
 
 ghost use Rattle.std.specs.Prelude.{◌≡◌, ◌≤◌, map, true, Some, IsOk, IsSome, OnOk, OnErr};
 ghost use Rattle.std.specs.Option.{option_map};

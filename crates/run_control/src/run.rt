@@ -21,7 +21,7 @@ use std::alloc::Global;
 use std::marker::{Brand, Model};
 use std::sync::ledger::{Blank, Ledger};
 
-/// What ended a run, and at which time.
+/// The fault that ended a run, and its time.
 #[derive(Clone, Copy)]
 struct Fault {
     time: u64,
@@ -193,7 +193,7 @@ impl<'m, P: Pending> Run<'m, P> {
         }
     }
 
-    /// What is told of the next event: `None` where nothing is pending, or the run has faulted.
+    /// The next event: `None` where nothing is pending, or the run has faulted.
     pub fn next(&self) -> Option<First>
         ensures { result ≡ told_next self.now self.now.faulted }
     {
@@ -220,7 +220,7 @@ impl<'m, P: Pending> Run<'m, P> {
         self.turns
     }
 
-    /// What each variable holds, a value in its range.
+    /// The state: the values of all variables, each in its range.
     pub fn state(&self) -> &State
         ensures value { result.now ≡ self.now.now.state }
         ensures inside { IsTrue (in_range (graph_of self.now.model) result.now) }
@@ -267,7 +267,7 @@ impl<'m, P: Pending> Run<'m, P> {
         }
     }
 
-    /// Makes one step of a run that hasn't faulted, and of which this is told of the next event.
+    /// Makes one step of a run that hasn't faulted. `next` is the run's next event.
     #[inline(always)]
     pub fn go_on<L: Ledger>(
         &mut self,

@@ -25,7 +25,7 @@ lies (p ∷ ps) from end (suc v) d h l =
 pub ends_inside : (spans : List Span) (end v : ℕ) (p d : Span) → Laid 0 spans end → v < length spans → p ≡ slice_index_or spans v d → p.from + p.size ≤ end
 ends_inside spans end v p d h below is = rw is (lies spans 0 end v d h below).high
 
--- a piece behind a place does not see what is written before it
+-- a piece after a place does not see what is written before it
 pub piece_behind : {A : Type 0} (xs : List A) (p : Span) (k : ℕ) (x : A) → k < p.from → piece (set xs k x) p ≡ piece xs p
 piece_behind xs p k x l = ap (take p.size) (drop-set-lt p.from xs k x l)
 
@@ -58,7 +58,7 @@ pieces_set xs (p ∷ ps) from end (suc v) i x d h l m =
     let es = pieces_set xs ps (from + p.size) end v i x d h.1 (omega (arith, l)) m in
     cc
 
--- What is written of a cell that is there, where p is the span of its variable.
+-- Writing a cell that exists, where p is the span of its variable.
 pub written : {A : Type 0} (xs : List A) (spans : List Span) (v i : ℕ) (x : A) (p : Span) → Laid 0 spans (length xs) → p ≡ slice_index_or spans v p → v < length (pieces xs spans) → i < length (slice_index_or (pieces xs spans) v [])
     → pieces (slice_set xs (p.from + i) x) spans ≡ slice_set (pieces xs spans) v (slice_set (slice_index_or (pieces xs spans) v []) i x)
 written {A} xs spans v i x p h e l m =

@@ -1,4 +1,4 @@
--- Places that targets name are there.
+-- Places that targets name exist.
 use Rattle.std.proofs.Common.{◌≡◌, ℕ, suc, ◌<◌, List, [], ◌∷◌, length, Option, Some, None, Ok, sym, ap, ◌∙◌, arith, All, IsTrue}
 use Rattle.std.proofs.lemmas.List.{length-map}
 use Rattle.std.proofs.lemmas.List.Elements.{All-cons}
@@ -12,7 +12,7 @@ use Rattle.sig_expr.specs.Possible.{PossibleLocation}
 use Rattle.sig_expr.specs.Inner.Placed.{DeclaredPlace}
 use Rattle.run_laws.proofs.CellsThere.{indexed_is_declared, declared_is_there}
 
--- a declared place is there, of a variable that the state has
+-- a declared place exists, of a variable that the state has
 pub place_is_there : (m : Model) (s : State) (v k : ℕ) (p : Place) → IsTrue (in_range (graph_of m) s) → DeclaredPlace (graph_of m) p → record { variable = v; index = k } ≡ p → k < length (cells_of s v)
 place_is_there m s v k p inside is seen =
     let here : DeclaredPlace (graph_of m) (record { variable = v; index = k }) = rw seen is in
@@ -28,11 +28,11 @@ place_at-declared g s clk v (Some i) p below e =
     let (same, inside) = indexed_is_declared g v k p (sym placed) in
     record { declared = rw same below; inside = rw same inside }
 
--- what a target names
+-- the place that a target names is declared
 pub place_of-declared : (g : EventGraph) (s : State) (clk : ℕ) (l : Location) (p : Place) → PossibleLocation g l → place_of g s clk l ≡ Ok p → DeclaredPlace g p
 place_of-declared g s clk l p possible e = place_at-declared g s clk l.variable l.index p possible.declared e
 
--- what the targets of a `set` name
+-- the places that the targets of a `set` name are declared
 pub places_declared : (g : EventGraph) (s : State) (clk : ℕ) (ls : List Location) (ps : List Place) → All (PossibleLocation g) ls → each (place_of g s clk) ls ≡ Ok ps → All (DeclaredPlace g) ps
 places_declared g s clk [] ps possible e =
     let none : [] ≡ ps = cc in

@@ -1,4 +1,4 @@
--- What gives truth values has no other values in a state in range.
+-- In a state in range, expressions of truth values give 0 or 1 alone.
 use Rattle.std.proofs.Common.{◌≡◌, ℕ, ◌<◌, ℤ, pos, negsuc, ◌-ℤ◌, int_le, int_lt, nat_lt, not, Bool, true, false, cond, ◌&&◌, Ok, refl, ap, ◌∙◌, subst, arith, IsTrue, to_z, of_z, w64}
 use Rattle.std.specs.Ordering.{int_eq}
 use Rattle.std.proofs.lemmas.Int.{ints, to_z-of_z}
@@ -95,6 +95,6 @@ truth g s clk (If c a b) x inside t e =
     let (y, at_test, at_rest) = bind_ok (value_of g s clk c) (λ y. cond (is_one y) (value_of g s clk a) (value_of g s clk b)) x e in
     both-truth (is_one y) (value_of g s clk a) (value_of g s clk b) x (truth g s clk a x inside t.0) (truth g s clk b x inside t.1) at_rest
 
--- so is what is passed as a signed number
+-- a value that is passed as a signed number is a truth value too
 pub passed_truth : (x : ℤ) → IsTruth x → IsTruth (to_z w64 (of_z w64 x))
 passed_truth x t = rw (to_z-of_z w64 x (omega (arith, ints, t.low, t.high))) t

@@ -1,3 +1,3 @@
--- What restates the code for its proofs: nobody has to believe it.
+-- Definitions that restate the code for its proofs: you don't have to believe them.
 pub mod Pieces
 pub mod Placed

@@ -1,7 +1,7 @@
 -- Results with another value.
 use Rattle.std.specs.Prelude.{Result, Ok, Err}
 
--- what is made of the value, where there is one
+-- the image of the value, where there is one
 abbrev pub map_ok : {A B E : Type 0} → (A → B) → Result A E → Result B E
 map_ok f (Ok a) = Ok (f a)
 map_ok f (Err e) = Err e

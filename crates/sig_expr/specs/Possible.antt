@@ -1,4 +1,4 @@
--- Which expressions and changes a model could have, as far as computing them asks: their variables and tables are there,
+-- Which expressions and changes a model could have, as far as computing them asks: their variables and tables exist,
 -- `not` is given truth values alone, and a draw has a stream and some values.
 use Rattle.std.specs.Prelude.{◌≡◌, ℕ, ◌^◌, ◌<◌, ◌≤◌, ℤ, pos, ◌-ℤ◌, ◌≤ℤ◌, ◌<ℤ◌, All, List, length, map, sum, slice_index_or, Option, Some, None}
 use Rattle.sig_base.specs.declared.limits.TheConstants.{TARGETS_MAX}

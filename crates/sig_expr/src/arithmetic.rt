@@ -1,4 +1,4 @@
-//! What operators make of values.
+//! The operators on values.
 
 ghost use Rattle.std.specs.Prelude.{◌≡◌, ◌+ℤ◌, ◌-ℤ◌, ◌*ℤ◌, neg_ℤ, int_div, int_rem, Ok};
 ghost use Rattle.model_core.specs.Run.Value.{exact, unless_zero, operate, decided};
@@ -65,7 +65,7 @@ fn remainder(a: i64, b: i64) -> Result<i64, FaultKind>
     Ok(a.wrapping_rem(b))
 }
 
-/// What an operator makes of the values of both operands.
+/// The result of an operator on the values of both operands.
 #[inline(always)]
 pub fn operate(op: Op, a: i64, b: i64) -> Result<i64, FaultKind>
     ensures { result ≡ operate (operator_of op) a b }

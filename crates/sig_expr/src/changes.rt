@@ -1,4 +1,4 @@
-//! What the changes of an event do to the state, and which words they take.
+//! The changes of an event: what they do to the state, and which words they take.
 
 ghost use Rattle.std.specs.Prelude.{◌≡◌, ℕ, [], ◌∷◌, ◌+◌, ◌<◌, ◌≤◌, ◌^◌, All, IsTrue, length, map};
 ghost use Rattle.sig_base.specs.declared.limits.TheConstants.{CHANGES_MAX};

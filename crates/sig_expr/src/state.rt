@@ -10,14 +10,14 @@ use sig_base::NoMemory;
 use std::alloc::Global;
 use std::marker::Model;
 
-/// Where the cells of a variable stand.
+/// The cells of a variable: the place of the first, and how many there are.
 #[derive(Clone, Copy)]
 struct Span {
     from: usize,
     size: usize,
 }
 
-/// What each variable of a model holds, in one list of cells. Contracts see a list of values for each variable, a
+/// The values of all variables of a model, in one list of cells. Contracts see a list of values for each variable, a
 /// scalar's a list of one.
 #[derive(Drop)]
 pub struct State {

@@ -14,7 +14,7 @@ use crate::state::State;
 use model_core::{Model, Var};
 use sig_base::FaultKind;
 
-/// What a variable holds when a value is stored in it.
+/// The value that a variable keeps when a value is stored in it.
 fn kept(var: &Var, x: i64) -> Result<i64, FaultKind>
     ensures { result ≡ kept (variable_of var.now) x }
 {

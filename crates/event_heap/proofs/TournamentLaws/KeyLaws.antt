@@ -1,4 +1,4 @@
--- Laws of who wins a game.
+-- Laws of winners: which vertex wins a game.
 use Rattle.std.proofs.Common.{◌≡◌, ℕ, ◌+◌, ◌*◌, true, false, cond, List, get_or, Option, Some, None, refl, ◌⊎◌, inl, inr, arith}
 use Rattle.std.proofs.lemmas.Bool.Decides.{nat_tests}
 use Rattle.event_list.specs.KeyOrder.{KeyParts, comes_before}
@@ -23,7 +23,7 @@ beats-asymmetric None b h = cc
 beats-asymmetric (Some a) None h = refl
 beats-asymmetric (Some a) (Some b) h = comes-asymmetric a b h
 
--- what doesn't beat one that doesn't beat a third doesn't beat the third
+-- if a doesn't beat b, and b doesn't beat c, then a doesn't beat c
 pub unbeaten-transitive : (a b c : Option KeyParts) → beats a b ≡ false → beats b c ≡ false → beats a c ≡ false
 unbeaten-transitive None b c h k = refl
 unbeaten-transitive (Some a) None c h k = cc
@@ -50,7 +50,7 @@ winner-unbeaten_right keys a b =
       | false ↦ λ e. e
     ] refl
 
--- who wins a game may stand as its winner
+-- the winner of a game may be written down as its winner
 pub winner-wins : (keys : List (Option KeyParts)) (a b : ℕ) → IsWinner keys a b (winner_of keys a b)
 winner-wins keys a b = record {
   either = winner-cases keys a b;

@@ -29,7 +29,7 @@ unbeaten_within keys winners h (suc fuel) place f p l = elim (cases_eq place 1) 
       (unbeaten_within keys winners h fuel (place / 2) (omega arith) up (omega arith))
 ]
 
--- what is read at the top: a vertex and its key
+-- the top read as a vertex and its key
 record TopRead (keys : List (Option KeyParts)) (winners : List ℕ) (top : ℕ) (key : Option KeyParts) : Type 0 where
   pub vertex : top ≡ get_or winners 1 0
   pub is_key : key ≡ get_or keys top None

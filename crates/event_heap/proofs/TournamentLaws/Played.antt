@@ -1,4 +1,4 @@
--- What a new key and a game more do to the games that are played.
+-- How a new key and one more game change the games that are played.
 use Rattle.std.proofs.Common.{◌≡◌, ◌≢◌, ℕ, ◌+◌, ◌*◌, ◌/◌, ◌≤◌, ◌<◌, inl, inr, List, length, get_or, set, Option, None, sym, ◌∙◌, arith}
 use Rattle.std.proofs.lemmas.Bool.{cases_lt, cases_eq}
 use Rattle.std.proofs.lemmas.List.{length-set, get_or-set_same, get_or-set_other}
@@ -20,7 +20,7 @@ won-other_key keys winners v key place l r h =
       right_loses = rw (get_or-set_other keys v (get_or winners (2 * place + 1) 0) key None r, same) h.right_loses;
     }
 
--- a vertex stands in none of the games but those above its own place
+-- a vertex is in none of the games but those above its own place
 not_held : (keys : List (Option KeyParts)) (winners : List ℕ) (v place : ℕ) → IsPlayed keys winners 0 → 0 < place → place < length winners → (IsAbove (place / 2) ((length keys + v) / 2) → ⊥) → get_or winners place 0 ≢ v
 not_held keys winners v place h p l free e =
     free (above-both_up place (length keys + v) (rw e at (h.held place p l)))
@@ -55,7 +55,7 @@ replayed-set_key keys winners v key h l = record {
 
 -- ---- a game more
 
--- the games are played from the next place on, once a winner stands at a place
+-- the games are played from the next place on, once a place has its winner
 played-set_winner : (keys : List (Option KeyParts)) (winners : List ℕ) (place winner : ℕ) → IsPlayed keys winners place → 0 < place → place < length keys → IsWinner keys (get_or winners (2 * place) 0) (get_or winners (2 * place + 1) 0) winner → IsPlayed keys (set winners place winner) (place / 2)
 played-set_winner keys winners place winner h p l won =
     let left = get_or winners (2 * place) 0 in
@@ -117,7 +117,7 @@ replayed-set_winner keys winners v place winner h p l won =
 
 -- ---- no game more
 
--- where a vertex stands at a place above, it stands at each place between this one and its own
+-- where a vertex is at a place above, it is at each place between this one and its own
 held-between : (keys : List (Option KeyParts)) (winners : List ℕ) (v place : ℕ) → IsReplayed keys winners v place → place < length keys → (top below : ℕ) → IsAbove top below → 0 < top → below ≤ place → IsAbove below (length keys + v) → get_or winners top 0 ≡ v → get_or winners below 0 ≡ v
 held-between keys winners v place h l top _ itself p b o e = e
 held-between keys winners v place h l top below (higher _ up) p b o e =
@@ -132,7 +132,7 @@ held-between keys winners v place h l top below (higher _ up) p b o e =
       | inr w ↦ here (2 * (below / 2) + 1) (omega (arith, h.played.places)) (omega arith) (omega arith) w
     ]
 
--- a vertex that doesn't stand at a place stands at none above it, nor beside one of these
+-- a vertex that isn't at a place is at none above it, nor beside one of these
 not_held-ahead : (keys : List (Option KeyParts)) (winners : List ℕ) (v place : ℕ) → IsReplayed keys winners v place → 0 < place → place < length keys → get_or winners place 0 ≢ v → (other : ℕ) → 0 < other / 2 → 2 * (other / 2) ≤ place → get_or winners other 0 ≢ v
 not_held-ahead keys winners v place h p l n other q r e =
     let o : IsAbove other (length keys + v) = rw e at (h.played.held other (omega arith) (omega (arith, h.played.places))) in

@@ -1,4 +1,4 @@
--- What a node is when it is claimed for an event, and when it is given back.
+-- A node as it is claimed for an event, and as it is given back.
 use Rattle.std.specs.Prelude.{◌≡◌, ℕ, List, [], ◌∷◌, ◌++◌, length, slice_set, Option, Some, None}
 use Rattle.event_heap.specs.declared.node.Item.{Item}
 use Rattle.event_heap.specs.declared.node.Node.{Node}

@@ -4,7 +4,7 @@ use Rattle.event_heap.specs.declared.node.Item.{Item}
 use Rattle.event_heap.specs.declared.node.Node.{Node}
 use Rattle.event_heap.specs.Inner.Tree.{Tree, Leaf, Fork, leftist_rank, times_in}
 
--- what stands for a node that isn't there
+-- the default for a place without a node
 abbrev pub no_node : Node
 no_node = record { item = None; left = None; right = None; rank = 0; left_rank = 0 }
 
@@ -37,14 +37,14 @@ StandsFrom nodes Leaf (Some i) = ⊥
 StandsFrom nodes (Fork p x l r) None = ⊥
 StandsFrom nodes (Fork p x l r) (Some i) = (i ≡ p) × IsFork nodes p x l r × StandsFrom nodes l (node_at nodes p).left × StandsFrom nodes r (node_at nodes p).right
 
--- two trees stand from two places on and have no node in common
+-- the nodes from two places on are two trees that have no node in common
 pub record StandApart (nodes : List Node) (s t : Tree) (a b : Option ℕ) : Type 0 where
   pub one : StandsFrom nodes s a
   pub other : StandsFrom nodes t b
   pub apart : (p : ℕ) → times_in p s + times_in p t ≤ 1
   pub ranks : leftist_rank s + leftist_rank t < 2 ^ 32
 
--- the tree stands from the place on, nodes that aren't its own are as they were, and each node keeps its event
+-- the nodes from the place on are the tree, all others are as they were, and each node keeps its event
 pub record IsRebuilt (old new : List Node) (t : Tree) (root : Option ℕ) : Type 0 where
   pub stands : StandsFrom new t root
   pub others : (p : ℕ) → times_in p t ≡ 0 → node_at new p ≡ node_at old p

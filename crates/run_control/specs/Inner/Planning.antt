@@ -1,4 +1,4 @@
--- What edges work on, and what they keep of it.
+-- The pending list and the streams, which edges change, and what they leave of both.
 use Rattle.std.specs.Prelude.{◌≡◌, ℕ, ◌+◌, ◌≤◌, ◌<◌, ◌^◌, length}
 use Rattle.model_core.specs.EventGraph.{EventGraph}
 use Rattle.model_core.specs.Run.Changes.{taken_from}

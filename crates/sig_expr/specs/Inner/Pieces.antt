@@ -1,4 +1,4 @@
--- The values of each variable, as pieces of one list that lie one behind the other.
+-- The values of each variable, as consecutive pieces of one list.
 use Rattle.std.specs.Prelude.{◌≡◌, ℕ, ◌+◌, List, [], ◌∷◌, take, drop, map}
 use Rattle.sig_expr.specs.declared.state.Span.{Span}
 
@@ -8,7 +8,7 @@ piece xs p = take p.size (drop p.from xs)
 abbrev pub pieces : {A : Type 0} → List A → List Span → List (List A)
 pieces xs spans = map (piece xs) spans
 
--- the spans lie one behind the other between two places
+-- the spans follow one another between two places
 abbrev pub Laid : ℕ → List Span → ℕ → Type 0
 Laid from [] end = from ≡ end
 Laid from (p ∷ ps) end = (p.from ≡ from) × Laid (from + p.size) ps end

@@ -1,4 +1,4 @@
--- The vertex stands at the place below, and the games are played up to the place.
+-- The vertex is at the place below, and the games are played up to the place.
 use Rattle.std.proofs.Common.{◌≡◌, ℕ, ◌/◌, ◌<◌, length, get_or}
 use Rattle.event_heap.specs.Inner.Games.{IsReplayed}
 use Rattle.event_heap.proofs.games.play_alone.Given as goal

@@ -1,4 +1,4 @@
--- What the top's key says of all keys.
+-- The top's key is at most each key.
 use Rattle.std.proofs.Common.{◌<◌, length, arith}
 use Rattle.std.proofs.lemmas.Bool.Decides.{nat_tests}
 use Rattle.event_heap.proofs.TournamentLaws.LeastAtTop.{top-with_key, top-without_key}
