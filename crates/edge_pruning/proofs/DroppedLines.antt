@@ -1,5 +1,5 @@
--- What dropping vertices takes from the canonical text behind the line of its version: their lines alone. And that line stays as
--- it is where none of them needs version 2 of a text.
+-- Dropping vertices takes their lines alone from the canonical text after the line of its version. That line stays as it is
+-- where none of them needs version 2 of a text.
 use Rattle.std.proofs.Common.{◌≡◌, inl, inr, ℕ, zero, suc, cond, ◌||◌, ◌+◌, ◌<◌, ◌≤◌, Bool, true, false, not, List, [], ◌∷◌, ◌++◌, map, filter, length, slice_get, slice_index_or, None, refl, sym, ap, ap₂, subst, arith, ◌∙◌, length-append}
 use Rattle.std.specs.Prelude.{codes, nat_lt, Option}
 use Rattle.std.proofs.lemmas.Bool.Decides.{nat_tests}
@@ -55,7 +55,7 @@ filter-next p (k ∷ ks) = kept-next (p (suc k)) (suc k) (map suc ks) (filter p 
     kept-next true n all later before k e = ap (λ more. suc k ∷ more) e
     kept-next false n all later before k e = e
 
--- the places of those that aren't marked behind the first one
+-- the places of those after the first one that aren't marked
 pub unmarked-next : (b : Bool) (bs : List Bool) → unmarked_places (b ∷ bs) ≡ cond (not b) (0 ∷ map suc (unmarked_places bs)) (map suc (unmarked_places bs))
 unmarked-next b bs = ap (λ ks. cond (not b) (0 ∷ ks) ks) (ap (filter (λ k. not (is_marked (b ∷ bs) k))) (next_ones 0 (length bs)) ∙ filter-next (λ k. not (is_marked (b ∷ bs) k)) (range_with_len 0 (length bs)))
 
@@ -99,7 +99,7 @@ later-same f v = ap (λ drawn. nat_lt PARAMETERS_MAX_VERSION_1 (length v.paramet
 
 -- ---- places
 
--- where no element stands, none does at the new place
+-- a place without an element has a new place without one
 rank-past : {A : Type 0} (marks : List Bool) (xs : List A) (k : ℕ) → length marks ≡ length xs → length xs ≤ k → length (marked_of marks xs) ≤ rank marks k
 rank-past [] xs k long past = omega arith
 rank-past (b ∷ bs) [] k long past = omega arith
@@ -170,7 +170,7 @@ module _ (g : EventGraph) (marks : List Bool) (hold : HoldReached g marks) (long
       let parted = parted-length (vertex_lines g) (λ v. vertex_lines h (vertex_renumbered f v)) marks g.vertices long lines_same in
       omega (arith, moved, gone, parted)
 
-  -- what stands before the vertices
+  -- the lines before the vertices
   abbrev front : Bool → List ℕ → List ℕ
   front needed watch = version_line needed ++ codes "model " ++ g.name ++ codes ";\n" ++ flat_map variable_line g.variables ++ flat_map table_line g.tables ++ watch
 

@@ -1,5 +1,5 @@
--- A drop of one vertex alone takes no notice of what stands in that vertex: two graphs that differ there alone have the same
--- conditions and the same result.
+-- A drop of one vertex alone doesn't look into that vertex: two graphs that differ there alone have the same conditions and the
+-- same result.
 use Rattle.std.proofs.Common.{◌≡◌, ◌⊎◌, inl, inr, ℕ, zero, suc, ◌<◌, ◌==◌, nat_lt, Bool, true, false, not, ◌&&◌, ◌||◌, eq-eqb, List, [], ◌∷◌, map, length, Contains, refl, sym, ap, subst, arith, ◌∙◌}
 use Rattle.std.specs.List.{list_any}
 use Rattle.std.proofs.lemmas.Bool.Decides.{nat_tests}

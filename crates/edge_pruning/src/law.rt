@@ -63,7 +63,7 @@ pub fn dropping_keeps_the_meaning()
     validity_is_by_parts();
 }
 
-/// A drop takes the lines of its vertices from the canonical text behind the line of its version, and nothing else. Where none of
+/// A drop takes the lines of its vertices from the canonical text after the line of its version, and nothing else. Where none of
 /// them has parts that only a text of version 2 can write, the result needs one where the model does.
 pub fn dropping_takes_lines()
     ensures lines { (g : EventGraph) (vertices : List ℕ) → first_failed (drop_conditions g vertices) ≡ None
@@ -74,7 +74,7 @@ pub fn dropping_takes_lines()
         → needs_version_two (dropped g vertices) ≡ needs_version_two g }
 {}
 
-/// A drop of one vertex alone leaves the others the lines of their changes and edges. Those behind it move up.
+/// A drop of one vertex alone leaves the others the lines of their changes and edges. Those after it move up.
 pub fn dropping_one_leaves_lines()
     ensures { (g : EventGraph) (gone k : ℕ) → first_failed (drop_conditions g (gone ∷ [])) ≡ None
         → let h = dropped g (gone ∷ []) in
@@ -83,8 +83,8 @@ pub fn dropping_one_leaves_lines()
         ≡ flat_map (change_line g) was.changes ++ flat_map (edge_line g) was.edges }
 {}
 
-/// A drop of one vertex alone takes no notice of what stands in that vertex: whatever is put in its place, the conditions and
-/// the result are the same, and it is the only one that can't be reached where it was.
+/// A drop of one vertex alone doesn't look into that vertex: whatever is put in its place, the conditions and the result are the
+/// same, and it is the only one that can't be reached where it was.
 pub fn dropping_takes_no_notice_of_the_vertex()
     ensures conditions { (g : EventGraph) (f : EventVertex → EventVertex) (gone : ℕ)
         → drop_conditions (with_vertex f gone g) (gone ∷ []) ≡ drop_conditions g (gone ∷ []) }

@@ -1,5 +1,4 @@
-//! The rules prune, settle and drop: where they apply, what they make of a model, and that this keeps it valid and its
-//! meaning.
+//! The rules prune, settle and drop: where they apply, their result, and the laws that the result is valid and means the same.
 #![tactic(auto)]
 
 mod dropping;

@@ -19,7 +19,7 @@ pub no_pair : (count : ℕ) (first whole : List ℕ) (pairs : List (ℕ × ℕ))
 no_pair count first whole pairs more (from_first k below there) = from_first k below (contained-among whole k (more k (among-contained first k there)))
 no_pair count first whole pairs more (over_pair j k below before there) = absurd (among-contained [] (j, k) there)
 
--- the marks that are found with nothing behind any place
+-- the marks that are found where the list of each place is empty
 pub unlinked-marked : (first : List ℕ) (next : List (List ℕ)) (n : ℕ) → next ≡ linked [] (no_lists n) → entailed_marks (length next) first (pairs_from 0 next) ≡ entailed_marks n first []
 unlinked-marked first next n listed = rw listed
     (ap (λ (m : ℕ). entailed_marks m first (pairs_from 0 (linked [] (no_lists n)))) (linked-length [] n)

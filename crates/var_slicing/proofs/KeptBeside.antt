@@ -1,4 +1,4 @@
--- What stands beside marked variables: parameters, targets and values that stay.
+-- The items beside marked variables, which stay: parameters, targets and values.
 use Rattle.std.proofs.Common.{◌≡◌, ℕ, Bool, true, false, cond, List, [], ◌∷◌, map, zip, refl, ap}
 use Rattle.std.specs.List.{AllByRecursion, AllZip}
 use Rattle.model_core.specs.declared.model.Kind.{Kind}
@@ -29,7 +29,7 @@ TargetMarked marks l = Marked marks l.variable × IndexReadsMarked marks l.index
 abbrev pub TargetsRead : List Bool → List Location → Type 0
 TargetsRead marks ls = AllByRecursion (λ (l : Location). Marked marks l.variable → IndexReadsMarked marks l.index) ls
 
--- what stands beside a marked variable reads marked ones alone
+-- an item beside a marked variable reads marked ones alone
 abbrev pub ValuesRead : List Bool → List ℕ → List Expression → Type 0
 ValuesRead marks [] es = AllByRecursion (ReadsMarked marks) es
 ValuesRead marks (v ∷ vs) [] = Unit {0}
@@ -82,7 +82,7 @@ zip-mapped P R Q f into [] (y ∷ ys) all zipped = absurd zipped
 zip-mapped P R Q f into (x ∷ xs) [] all zipped = absurd zipped
 zip-mapped P R Q f into (x ∷ xs) (y ∷ ys) all zipped = (into x y all.0 zipped.0, zip-mapped P R Q f into xs ys all.1 zipped.1)
 
--- what a `set` and what an edge carries need tells what their parts read, as there are as many of both
+-- the needs of a `set` and of what an edge carries are what their parts read, as there are as many of both
 pub set-reads : (g : EventGraph) (marks : List Bool) (R : Location → Kind → Type 0) (S : Expression → Kind → Type 0) (ls : List Location) (es : List Expression) (ks : List Kind) → AllZip R ls ks → AllZip S es ks → AllByRecursion (SetNeeds g marks) (zip ls es) → TargetsRead marks ls × ValuesRead marks (variables_of ls) es
 set-reads g marks R S [] [] ks taken given needs = (tt, tt)
 set-reads g marks R S [] (e ∷ es) [] taken given needs = absurd given

@@ -159,7 +159,7 @@ module _ (g : EventGraph) (s : IsSpellable g) (keeps : KeepsParts g) (marks : Li
   led-marked : (v : ℕ) → Marked marks v → (xs : List ℕ) → AllBelow count xs → ((w : ℕ) → Among w xs → Among (v, w) (needed_beside g)) → AllByRecursion (Marked marks) xs
   led-marked v marked xs below into = each-among (Marked marks) xs (λ w there. hold.leads v w marked (into w there) (of-among (λ v. v < count) xs w below there))
 
-  -- ---- where these stand among what is needed
+  -- ---- these are among what is needed
 
   abbrev at_writes : List ℕ
   at_writes = flat_map (faulting_writes g) (all_changes g)

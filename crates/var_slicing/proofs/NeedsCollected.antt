@@ -150,7 +150,7 @@ module _ (g : EventGraph) where
       ∙ ap (λ (ps : List (ℕ × ℕ)). with_drawn (paired ps)) (carried-added known g g.vertices (flat_map (open_by_targets known) (all_changes g)))
       ∙ (λ i. record { first = first_of_all ++ drawn-once (flat_map edge_streams (all_edges g)) (all_draws g) i; pairs = still_open; draws = all_draws g; delays = delays_once })
 
-  -- ---- marks over the lists of what is behind each variable
+  -- ---- marks over the list of each variable
 
   abbrev count : ℕ
   count = length g.variables
@@ -220,7 +220,7 @@ module _ (g : EventGraph) where
   first-in : (k : ℕ) → Among k first_of_all → Among k (without_faults ++ faults)
   first-in k there = among-front without_faults faults k (first-held k there)
 
-  -- where these stand among what is needed at once
+  -- these are among what is needed at once
   needs-part : (k : ℕ) → Among k (at_begin ++ writes ++ at_edges) → Among k (needed_at_once g)
   needs-part k h = among-front (at_begin ++ writes ++ at_edges) (needed_by_delays g) k h
 

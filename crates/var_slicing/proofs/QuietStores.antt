@@ -1,4 +1,4 @@
--- What is stored quietly: where bounds tell that nothing faults, there are a value, a place and what is kept of the value.
+-- Quiet stores: where the bounds show that nothing faults, there are a value, a place and what is kept of the value.
 use Rattle.std.proofs.Common.{◌≡◌, ℕ, zero, suc, slice_get, slice_index_or, Some, ◌≤◌, ◌^◌, ℤ, true, false, ◌&&◌, Bool, IsTrue, List, [], ◌∷◌, map, zip, length, Ok, refl, sym, ap, ◌∙◌, subst, arith}
 use Rattle.std.specs.List.{AllByRecursion, AllZip}
 use Rattle.std.specs.Option.{option_map_or}

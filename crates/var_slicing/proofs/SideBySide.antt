@@ -1,4 +1,4 @@
--- Two lists walked side by side, by a loop over a `zip`: what it adds for each two that stand beside each other.
+-- Two lists walked side by side, by a loop over a `zip`: what it adds for each pair of items at one place.
 use Rattle.std.proofs.Common.{◌≡◌, ◌⊎◌, inl, inr, List, [], ◌∷◌, ◌++◌, map, zip, Option, None, Some, refl, sym, ap, ap₂, ◌∙◌, append-nil, append_assoc}
 use Rattle.std.specs.List.{flat_map}
 use Rattle.std.specs.Iterator.Adapters.{zip_first, zip_second}

@@ -49,7 +49,7 @@ zip-left marks (p ∷ ps) (x ∷ xs) = one (is_marked marks p.variable) (zip-lef
   one true e = ap (λ zs. (place_left marks p, x) ∷ zs) e
   one false e = e
 
--- where all of the variables are marked, all that stands beside them stays
+-- where all of the variables are marked, all items beside them stay
 pub all-kept_beside : {A : Type 0} (marks : List Bool) (vs : List ℕ) (xs : List A) → AllByRecursion (Marked marks) vs → kept_beside marks vs xs ≡ xs
 all-kept_beside marks [] xs all = refl
 all-kept_beside marks (v ∷ vs) [] all = refl
@@ -79,7 +79,7 @@ pub record IsStored (g : EventGraph) (s : State) (clk v : ℕ) (e : Expression) 
   pub stored : ℤ
   pub keeps : kept (variable_at g v) value ≡ Ok stored
 
--- what stands for a marked variable reads marked ones alone. What stands for another has a value that can be stored
+-- the value for a marked variable reads marked ones alone. The value for another one can be stored
 abbrev pub ValuesFit : EventGraph → List Bool → State → ℕ → List ℕ → List Expression → Type 0
 ValuesFit g marks s clk [] es = AllByRecursion (ReadsMarked marks) es
 ValuesFit g marks s clk (v ∷ vs) [] = Unit {0}

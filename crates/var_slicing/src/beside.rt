@@ -1,4 +1,4 @@
-//! Places of variables beside which other things stand: values beside parameters, and right sides beside targets.
+//! Lists of variables with a second list beside them: values beside parameters, and right sides beside targets.
 
 ghost use Rattle.std.specs.Prelude.{◌≡◌, ℕ, List as Sequence, map, slice_get};
 ghost use Rattle.model_core.specs.EventGraph.{Location};
@@ -39,7 +39,7 @@ impl HasVars for List<Target> {
     }
 }
 
-/// Whether what stands at a place beside these stays: where the variable there stays, or there is none.
+/// Whether the item at a place beside these stays: where the variable there stays, or there is none.
 pub(crate) fn stays_beside<V: HasVars>(staying: &Staying, beside: &V, place: usize) -> bool
     ensures { result ≡ keeps_beside staying.now (V.vars beside.now) place }
 {

@@ -38,7 +38,7 @@ fn leave_params(staying: &Staying, params: &mut Vec<usize>)
     params.truncate(kept);
 }
 
-/// Takes the values out that stand beside variables that go.
+/// Takes out the values beside variables that go.
 fn leave_values<V: HasVars>(staying: &Staying, beside: &V, values: &mut Vec<Expr>)
     ensures { map expression_of values.new.items ≡ values_left staying.now (V.vars beside.now) (map expression_of values.old.items) }
 {

@@ -1,4 +1,4 @@
-//! From pairs of places to the places behind each place.
+//! From pairs of places to a list for each place: the second places of its pairs.
 
 ghost use Rattle.std.specs.Prelude.{◌≡◌, OnOk, IfOk};
 ghost use Rattle.model_core.specs.Rules.PlacedEdges.{with_place};
@@ -8,7 +8,7 @@ use marked_walks::PlacesBehind;
 use sig_base::{List, NoMemory};
 use std::alloc::Global;
 
-/// For each place the list of those behind it.
+/// For each place the second places of its pairs.
 #[derive(Drop)]
 pub(crate) struct Links {
     lists: Vec<List<usize>>,
@@ -35,7 +35,7 @@ impl PlacesBehind for Links {
     }
 }
 
-/// So many places with none behind them.
+/// So many places with an empty list each.
 fn no_lists(alloc: Global, count: usize) -> Result<Vec<List<usize>>, NoMemory>
     ensures { IfOk result (λ next. next.items ≡ no_lists count) }
 {
@@ -46,7 +46,7 @@ fn no_lists(alloc: Global, count: usize) -> Result<Vec<List<usize>>, NoMemory>
     Ok(next)
 }
 
-/// Puts one place more behind a place, if there is such a place.
+/// Adds one more place to the list of a place, if there is such a place.
 fn link(next: &mut Vec<List<usize>>, place: usize, behind: usize) -> Result<(), NoMemory>
     ensures { OnOk result (next.new.items ≡ with_place (with_behind behind) place next.old.items) }
 {
@@ -56,7 +56,7 @@ fn link(next: &mut Vec<List<usize>>, place: usize, behind: usize) -> Result<(), 
     }
 }
 
-/// For each of so many places those that stand beside it in pairs as the second.
+/// For each of so many places the second places of its pairs.
 pub(crate) fn lists_behind(
     alloc: Global,
     count: usize,

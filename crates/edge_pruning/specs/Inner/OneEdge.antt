@@ -1,4 +1,4 @@
--- What a rule of one edge makes of the edge's vertex.
+-- The vertex of an edge after a rule of one edge.
 use Rattle.std.specs.Prelude.{ℕ}
 use Rattle.model_core.specs.EventGraph.{EventVertex}
 use Rattle.model_core.specs.Rules.Prune.{without_edge}

@@ -5,7 +5,7 @@ use Rattle.model_core.specs.Rules.Entailed.{entailed_marks}
 use Rattle.mark_laws.specs.PlacePairs.{pairs_from}
 use Rattle.var_slicing.specs.Inner.Faulting.{faulting_unless}
 
--- what follows from the first places over the places behind each place
+-- what follows from the first places over the list of each place
 abbrev pub marked_over : List (List ℕ) → List ℕ → List Bool
 marked_over next first = entailed_marks (length next) first (pairs_from 0 next)
 

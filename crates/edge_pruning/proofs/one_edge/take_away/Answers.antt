@@ -1,4 +1,4 @@
--- The edge is removed from the list that stands for the vertex's edges.
+-- The edge is removed from the vertex's edges.
 use Rattle.std.proofs.Common.{◌∙◌, ap, map, List}
 use Rattle.std.specs.List.{remove}
 use Rattle.model_core.specs.declared.vertex.Edge.{Edge}

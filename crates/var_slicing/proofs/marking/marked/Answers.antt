@@ -1,4 +1,4 @@
--- Nothing is behind any place.
+-- The list of each place is empty.
 use Rattle.std.proofs.Common.{◌∙◌}
 use Rattle.std.proofs.lemmas.Result.{IfOk-weaker}
 use Rattle.var_slicing.proofs.AllWatched.{unlinked-marked}

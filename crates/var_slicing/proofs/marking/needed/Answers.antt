@@ -1,4 +1,4 @@
--- What is collected is what is needed, and is found over the lists of what is behind each variable.
+-- What is collected is what is needed, and is found over the list of each variable.
 use Rattle.std.proofs.Common.{◌∙◌, sym, ap, ℕ, List, ◌++◌}
 use Rattle.std.specs.List.{flat_map}
 use Rattle.std.proofs.lemmas.List.{length-map}

@@ -1,4 +1,4 @@
--- As many places are behind a vertex as it has edges.
+-- As many places follow a vertex as it has edges.
 use Rattle.std.proofs.Common.{◌∙◌, sym, ap, length, map, List}
 use Rattle.std.proofs.lemmas.List.{length-map}
 use Rattle.model_core.specs.EventGraph.{EventEdge}

@@ -1,4 +1,4 @@
--- The place behind a vertex is where its edge leads.
+-- The place that follows a vertex is where its edge leads.
 use Rattle.std.proofs.Common.{◌∙◌, sym, ap, map, slice_get, List, ℕ}
 use Rattle.model_core.specs.EventGraph.{EventEdge}
 use Rattle.model_core.specs.Code.Views.{vertex_of}
