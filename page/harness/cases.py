@@ -5,7 +5,7 @@ import random
 import re
 import subprocess
 
-from given import COMMANDS, EXAMPLES, TOP, examples, text_of
+from given import ANSWERS, COMMANDS, TOP, examples, text_of
 
 MOST = 4194304  # bytes of a text, at most
 
@@ -65,10 +65,10 @@ def example_calls():
     found = []
     for name, text in examples().items():
         given = text.encode()
-        own = f"{EXAMPLES}/{name}.words"
+        own = f"{ANSWERS}/{name}.run.words"
         run = text_of(own).split() if os.path.exists(own) else "run --until 480 --seed 7 --events 100000".split()
-        calls = [["check"], ["print"], *[[it] for it in sorted(set(COMMANDS.values()))], run]
-        report = f"{EXAMPLES}/{name}.report_words"
+        calls = [["check"], ["print"], *[[it] for it in COMMANDS], run]
+        report = f"{ANSWERS}/{name}.replicate.words"
         few = "replicate --until 480 --seed 1 --events 20000 --runs 3".split()
         calls.append(text_of(report).split() if os.path.exists(report) else few)
         save = ["save", *run[1:]]

@@ -7,10 +7,10 @@ import re
 TOP = os.path.dirname(os.path.dirname(os.path.dirname(os.path.abspath(__file__))))
 EXAMPLES = f"{TOP}/examples"
 
-# The kinds of stored files whose words are always the same.
-COMMANDS = {"conflicts": "conflicts", "uses": "uses", "described": "describe", "fused": "fuse", "narrowed": "narrow", "reduced": "reduce"}
-# Those whose words stand in a file beside them.
-WORDS = {"history": "words", "report": "report_words"}
+# The program's answers that are stored, each named by its example and its command.
+ANSWERS = f"{EXAMPLES}/answers"
+# The commands that need no option.
+COMMANDS = ["conflicts", "describe", "fuse", "narrow", "reduce", "uses"]
 
 
 def text_of(file):
@@ -23,14 +23,13 @@ def examples():
 
 
 def stored():
-    """Of each file that is stored beside an example: the words that the program is called with, and what it must write."""
+    """Of each stored answer: the words that the program is called with, and what it must write."""
     found = {}
-    for file in sorted(os.listdir(EXAMPLES)):
-        name, _, kind = file.partition(".")
-        if kind in COMMANDS:
-            found[file] = [COMMANDS[kind], text_of(f"{EXAMPLES}/{file}")]
-        elif kind in WORDS:
-            found[file] = [text_of(f"{EXAMPLES}/{name}.{WORDS[kind]}").strip(), text_of(f"{EXAMPLES}/{file}")]
+    for file in sorted(os.listdir(ANSWERS)):
+        if file.endswith(".words"):
+            continue
+        words = f"{ANSWERS}/{file}.words"
+        found[file] = [text_of(words).strip() if os.path.exists(words) else file.partition(".")[2], text_of(f"{ANSWERS}/{file}")]
     return found
 
 

@@ -3,7 +3,7 @@ const bank = given.examples.bank, bytes = text => new TextEncoder().encode(text)
 const words = ["run", "--until", "480", "--seed", "7", "--events", "100000"];
 const whole = await engine.call("test", words, bank);
 equal("a run ends with status 0", [whole.status, whole.err, whole.cut, whole.failure], [0, "", false, ""]);
-equal("its bytes are those that are stored", whole.out, given.stored["bank.history"]?.[1] ?? whole.out);
+equal("its bytes are those that are stored", whole.out, given.stored["bank.run"]?.[1] ?? whole.out);
 equal("as many are told as came", whole.written, bytes(whole.out).length);
 const same = await engine.call("test", words, bytes(bank), { want: "bytes" });
 check("bytes in, bytes out", same.out instanceof Uint8Array && new TextDecoder().decode(same.out) === whole.out);

@@ -1,7 +1,7 @@
 // Plain: model.js layers.js lines.js shapes.js
 // The layout by its measures: nothing meets that shouldn't, in both directions, on all examples and a large model.
 const width_like = (text, font) => text.length * (font.startsWith("11") ? 5.6 : 6.2);
-const canonical = Object.entries(given.stored).filter(([name]) => name.endsWith(".reduced")).map(([name, [, text]]) =>
+const canonical = Object.entries(given.stored).filter(([name]) => name.endsWith(".reduce")).map(([name, [, text]]) =>
   [name, text.split("certificate\n")[0]]);
 const measured = (text, how) => {
   const graph = graph_of(read_model(text), width_like);

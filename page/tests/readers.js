@@ -7,7 +7,7 @@ const fed = (reader, text, size) => {
   for (let from = 0; from < bytes.length; from += size) reader.take(bytes.subarray(from, from + size));
   return reader;
 };
-const history = given.stored["bank.history"][1];
+const history = given.stored["bank.run"][1];
 const watched = [{ name: "QUEUE", cells: 0 }, { name: "IDLE", cells: 0 }, { name: "CLOSE", is_event: true }];
 equal("cells of arrays", watched_cells([{ name: "A", cells: 2 }, { name: "E", is_event: true }, { name: "B" }]),
   ["A[0]", "A[1]", "B"]);
@@ -59,7 +59,7 @@ equal("a line that is cut off is none", [...fed(new FrameReader(["B", "A"]), tex
   [3]);
 
 // Reports.
-const csv = given.stored["bank.report"][1];
+const csv = given.stored["bank.replicate"][1];
 for (const size of [1, 50, 4096]) {
   const reader = fed(new ReportReader(), csv, size);
   reader.end(false);

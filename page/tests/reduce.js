@@ -5,7 +5,7 @@ const examples = given.examples, text_at = id => at(id).textContent,
 const opened = async (name, text = examples[name]) => { await app.set_text(text, name + ".sigma");
   await until(() => app.fresh); };
 tabs.open("reduce");
-for (const [file, [, stored]] of Object.entries(given.stored).filter(([file]) => file.endsWith(".reduced"))) {
+for (const [file, [, stored]] of Object.entries(given.stored).filter(([file]) => file.endsWith(".reduce"))) {
   const name = file.split(".")[0];
   await opened(name);
   Object.assign(at("until"), { value: "300" });
@@ -58,7 +58,7 @@ check("work on with this", app.model.text === text && !document.body.classList.c
 // Fuse and narrow.
 await opened("ferry");
 await reducing.go("fuse");
-check("fused as stored", reducing.result.output === given.stored["ferry.fused"][1]);
+check("fused as stored", reducing.result.output === given.stored["ferry.fuse"][1]);
 equal("which stands for which", all("#reduce-steps li").map(step => step.textContent),
   ["fuse NEAR_STAGE FAR_STAGE FAR_STAGE does the same as NEAR_STAGE. So NEAR_STAGE stands for both."]);
 check("the same run of both, with other names", text_at("both-status").startsWith("Both show the same") &&
@@ -66,7 +66,7 @@ check("the same run of both, with other names", text_at("both-status").startsWit
 for (const name of ["ferry", "emergency", "flow_line"]) {
   await opened(name);
   await reducing.go("narrow");
-  check(`${name}: narrowed as stored`, reducing.result.output === given.stored[`${name}.narrowed`][1]);
+  check(`${name}: narrowed as stored`, reducing.result.output === given.stored[`${name}.narrow`][1]);
   const changed = reducing.result.before.vars.filter((variable, k) =>
     reducing.result.after.vars[k].kind !== variable.kind).length;
   check(`${name}: a sentence for each range`, all("#reduce-steps li").length === changed && changed > 0);

@@ -26,7 +26,7 @@ vertex ALARM {
 }
 end
 `);
-const { text, lines } = read_reduction(given.stored["polling.reduced"][1]),
+const { text, lines } = read_reduction(given.stored["polling.reduce"][1]),
   followed = follow_certificate(polling, lines);
 equal("the certificate's lines", lines, ["prune SEND 2", "settle SEND 1", "drop ALARM", "merge ACKNOWLEDGE REST",
   "drop REST", "slice LAST_DELAY"]);

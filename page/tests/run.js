@@ -11,7 +11,7 @@ tabs.open("run");
 
 // The words of an example come with it, and there is a field for each starting value.
 await opened("clinic");
-equal("an example brings its words", run_words.words("run").join(" "), given.stored["clinic.history"][0]
+equal("an example brings its words", run_words.words("run").join(" "), given.stored["clinic.run"][0]
   .replace("--start ", "--start="));
 equal("starting values have fields", [...document.querySelectorAll("#start-fields label")]
   .map(label => label.textContent.trim()),

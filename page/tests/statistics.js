@@ -29,7 +29,7 @@ check("a width for the bars", [[0, 100], [0, 3], [0.1, 0.9], [5, 5]].every(([low
 // The words of refusals are those of the tool.
 const header = "run,seed,outcome,time,item,least,greatest,last,area,count\n";
 const report = text => ({ label: "bank", report: read_report(header + text) });
-const bank = { label: "bank", report: read_report(given.stored["bank.report"][1]) };
+const bank = { label: "bank", report: read_report(given.stored["bank.replicate"][1]) };
 equal("an event has no average", compared([bank], "CLOSE", "average").refusal,
   "CLOSE is an event, which has a count, and no average");
 equal("a variable has no count", compared([bank], "QUEUE", "count").refusal,
