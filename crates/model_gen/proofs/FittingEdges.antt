@@ -58,7 +58,7 @@ variables_short = every-append (λ (v : Variable). IsShort v.name) (map counter 
 
 -- ---- a model of vertices that are made in turn
 
--- what is made of the numbers are vertices that have their number in their name, and no parameters
+-- the vertices made from the numbers have their number in their name, and no parameters
 pub record IsMadeInTurn (made : ℕ → EventVertex) : Type 0 where
   pub named : (i : ℕ) → (made i).name ≡ codes "E" ++ decimal i
   pub bare : (i : ℕ) → (made i).parameters ≡ []

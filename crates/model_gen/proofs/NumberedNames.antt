@@ -1,4 +1,4 @@
--- Names that are a letter with a number behind it: they are names, they are short, and no two are the same.
+-- Names that are a letter with a number after it: they are names, they are short, and no two are the same.
 use Rattle.std.proofs.Common.{◌≡◌, ℕ, zero, suc, ◌+◌, ◌%◌, ◌^◌, ◌≤◌, ◌<◌, Bool, true, false, List, [], ◌∷◌, ◌++◌, map, length, refl, arith}
 use Rattle.std.specs.Prelude.{codes, decimal}
 use Rattle.std.specs.List.{AllByRecursion, IsDistinct, range_with_len}
@@ -39,7 +39,7 @@ digits_apart m n below small =
     false_from_ne_true (same_bytes (decimal m) (decimal n))
     (λ same. let equal : m ≡ n = decimal_injective m n (omega arith) (omega arith) ((bytes_decides (decimal m) (decimal n)).0 same) in omega arith)
 
--- behind one letter, by what the numbers are tested to
+-- after one letter, by the result of the numbers' test
 pub numbered_apart : (name : ℕ → List ℕ) → ((m n : ℕ) → m < n → n < 1000 → same_bytes (name m) (name n) ≡ false) → (a n : ℕ) → a + n ≤ 1000 → IsDistinct same_bytes (map name (range_with_len a n))
 unfolding IsDistinct
 numbered_apart name apart a zero within = tt

@@ -71,7 +71,7 @@ vertex_by vertices i x form z = record {
   edges = generated_edges vertices i form z;
 }
 
--- vertex i takes three words, behind those of the vertices before it
+-- vertex i takes three words, after those of the vertices before it
 abbrev pub generated_vertex : ℕ → ℕ → ℕ → EventVertex
 generated_vertex seed vertices i = vertex_by vertices i (picked_below seed (3 * i) 8) (picked_below seed (3 * i + 1) 4) (picked_below seed (3 * i + 2) vertices)
 

@@ -1,4 +1,4 @@
-//! What a made model declares before its vertices.
+//! The declarations of a made model, before its vertices.
 
 ghost use Rattle.std.specs.Prelude.{◌≡◌, [], ◌∷◌, ◌++◌, map, IfOk};
 ghost use Rattle.std.specs.List.{range_with_len};

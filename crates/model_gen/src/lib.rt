@@ -1,4 +1,4 @@
-//! Models that are made of a number: the same number makes the same model.
+//! Models made from a number: the same number makes the same model.
 #![tactic(auto)]
 
 mod declared_parts;

@@ -12,7 +12,7 @@ pub(crate) fn copied_name(alloc: Global, letters: &[u8]) -> Result<Name, NoMemor
     Ok(Name::from_vec(Vec::from_slice(alloc, letters)?))
 }
 
-/// The name of these letters and a number behind them.
+/// The name of these letters and a number after them.
 pub(crate) fn numbered_name(alloc: Global, letters: &[u8], number: usize) -> Result<Name, NoMemory>
     ensures { IfOk result (λ name. name ≡ letters.now ++ decimal number) }
 {

@@ -1,4 +1,4 @@
-//! What the words of the stream that makes models pick.
+//! The picks by the words of the stream that makes models.
 
 ghost use Rattle.std.specs.Prelude.{◌≡◌, ◌<◌, ◌≤◌, ◌^◌, ◌+◌, length, slice_index_or};
 ghost use Rattle.sig_base.specs.Stream.{share};
@@ -7,7 +7,7 @@ ghost use Rattle.model_gen.specs.Generated.{picked_below};
 
 use random_streams::Streams;
 
-/// What makes a vertex: the place of a counter, a form of edges from 0 to 3, and the place of a vertex.
+/// The picks that make a vertex: the place of a counter, a form of edges from 0 to 3, and the place of a vertex.
 #[derive(Clone, Copy)]
 pub(crate) struct Picks {
     pub counter: usize,
@@ -26,7 +26,7 @@ fn pick_below(streams: &mut Streams, count: usize) -> usize
     streams.uniform(54, 0, count as i64 - 1) as usize
 }
 
-/// What the next three words pick for a vertex, of so many vertices.
+/// The picks of the next three words for a vertex, of so many vertices.
 pub(crate) fn next_picks(streams: &mut Streams, vertices: usize) -> Picks
     requires some { 0 < vertices }
     requires few { vertices ≤ 2 ^ 32 }

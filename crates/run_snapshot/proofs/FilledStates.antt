@@ -7,7 +7,7 @@ use Rattle.model_core.specs.Run.State.{State, no_variable, cell_count, within, i
 use Rattle.model_core.specs.Saved.Cells.{cut_up, cell_variables}
 use Rattle.model_core.proofs.RangesTogether.{split-ranges}
 
--- what each variable begins with
+-- the initial values of each variable
 abbrev beginnings : List Variable → State
 beginnings variables = map (λ v. replicate (cell_count v) v.initial) variables
 

@@ -25,13 +25,13 @@ use Rattle.bound_laws.proofs.Soundness.DrawnValues.{word_small, choice_in}
 use Rattle.model_core.specs.Saved.SavedRun.{IsWide, IsGoodEntry}
 use Rattle.run_snapshot.proofs.WideValues.{WideRange, value-wide}
 
--- what holds of each element, and of what stands for none, holds at each place
+-- a property of each element, and of the default, holds at each place
 pub every-place : {A : Type 0} (P : A → Type 0) (xs : List A) (d : A) (k : ℕ) → AllByRecursion P xs → P d → P (slice_index_or xs k d)
 every-place P [] d k all p = p
 every-place P (x ∷ xs) d zero (here, all) p = here
 every-place P (x ∷ xs) d (suc k) (here, all) p = every-place P xs d k all p
 
--- the image that stands at a place
+-- the image at a place
 got-image : {A B : Type 0} (f : A → B) (xs : List A) (d : A) (k : ℕ) (y : B) → slice_get (map f xs) k ≡ Some y → (k < length xs) × (f (slice_index_or xs k d) ≡ y)
 got-image f [] d k y e = cc
 got-image f (x ∷ xs) d zero y e = (omega arith, cc)
@@ -68,7 +68,7 @@ rows-wide : (rows : List Weighted) → AllByRecursion KeepsRow rows → AllByRec
 rows-wide [] kept = tt
 rows-wide (r ∷ rows) (here, kept) = (literal-wide r.value here.value, rows-wide rows kept)
 
--- what a choice makes of a word of 32 bits
+-- the value that a choice picks by a word of 32 bits
 picked-wide : (g : EventGraph) (choice : Choice) (w : ℕ) → AllByRecursion KeepsTable g.tables → KeepsChoice g.variables (length g.tables) (parameters_of g) choice → w < 2 ^ 32 → IsWide (picked g choice w)
 picked-wide g (Uniform lo hi) w tables kept small =
     let within = choice_in g (Uniform lo hi) (length g.tables) (parameters_of g) w tables kept small in

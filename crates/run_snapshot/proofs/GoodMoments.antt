@@ -30,7 +30,7 @@ use Rattle.run_snapshot.proofs.GoingMoves.{move-by, reached-keeps}
 use Rattle.run_snapshot.proofs.WideValues.{WideRange, between-wide}
 use Rattle.run_snapshot.proofs.TakenWords.{occur-few}
 
--- what holds of a moment after n steps
+-- a property of a moment after n steps
 pub record IsSound (g : EventGraph) (n : ℕ) (m : Moment) : Type 0 where
   pub watch : AllByRecursion (IsWatchable (length g.variables) (length g.vertices)) g.watch
   pub inside : IsTrue (in_range g m.now.state)

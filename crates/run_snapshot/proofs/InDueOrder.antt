@@ -49,7 +49,7 @@ sorted-again : (l : List Entry) → IsSorted l → sorted l ≡ l
 sorted-again [] s = refl
 sorted-again (x ∷ xs) (all, s) = ap (put_in x) (sorted-again xs s) ∙ put_in-front x xs all
 
--- what is in due order stays so
+-- a list that is in due order stays so
 pub due_order-again : (p : List Entry) → in_due_order (in_due_order p) ≡ in_due_order p
 due_order-again p =
     ap in_due_order (due_order-sorted p) ∙ due_order-sorted (sorted p) ∙ sorted-again (sorted p) (sorted-IsSorted p) ∙ sym (due_order-sorted p)

@@ -1,4 +1,4 @@
--- What is saved of a moment of a valid model's run is good, and goes on as the moment does.
+-- A saved moment of a valid model's run is good, and goes on as the moment does.
 use Rattle.std.proofs.Common.{◌≡◌, map, ℕ, suc, ◌^◌, ◌<◌, ◌≤◌, ℤ, true, List, [], ◌∷◌, slice_index_or, Option, Some, None, option_map, refl, sym, ap, ◌∙◌, subst, arith, IsTrue, ◌+◌, ◌++◌, append_assoc}
 use Rattle.std.specs.Prelude.{IfSome}
 use Rattle.std.specs.List.{AllByRecursion, flat_map}

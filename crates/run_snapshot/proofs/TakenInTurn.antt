@@ -4,7 +4,7 @@ use Rattle.model_core.specs.Run.Pending.{Entry, TakenOff, next_entry, without_ne
 use Rattle.model_core.specs.Saved.DueOrder.{in_due_order}
 use Rattle.run_snapshot.proofs.InDueOrder.{length-sorted, sorted-front, sorted-none, due_order-sorted}
 
--- what a next entry tells
+-- the next entry, as one among the entries
 record IsNext (p : List Entry) (e : Entry) (others : List Entry) : Type 0 where
   order : in_due_order p ≡ e ∷ in_due_order others
   long : length p ≡ suc (length others)

@@ -22,7 +22,7 @@ use Rattle.model_core.specs.Saved.SavedRun.{IsWide}
 wide_as : {x y : ℤ} → x ≡ y → IsWide x → IsWide y
 wide_as e w = subst IsWide e w
 
--- what an expression gives that has only this to give
+-- an expression that has only this value to give
 ok-wide : (x y : ℤ) → (let r : OrFault ℤ = Ok x in r ≡ Ok y) → IsWide x → IsWide y
 ok-wide x y e w = let same : x ≡ y = cc in wide_as same w
 
@@ -105,7 +105,7 @@ module _ (g : EventGraph) (s : State) (clk : ℕ) (early : clk ≤ 2 ^ 48) (insi
   cell-wide : (v i : ℕ) → i < cell_count (variable_at g v) → IsWide (cell_at s (record { variable = v; index = i }))
   cell-wide v i below = between-wide (variable_at g v) _ (ranges v) (cells_lie_in_range g s v i inside below)
 
-  -- what two operands and an operator give whose result is a number
+  -- the value of an operator on two operands, whose result is a number
   operated-wide : (op : Operator) (x y z : ℤ) → IsNumeric op → IsWide x → IsWide y → operate op x y ≡ Ok z → IsWide z
   operated-wide Add x y z numeric p q e = exact-wide (x +ℤ y) z e
   operated-wide Subtract x y z numeric p q e = exact-wide (x -ℤ y) z e

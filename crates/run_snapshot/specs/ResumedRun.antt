@@ -6,7 +6,7 @@ use Rattle.run_control.specs.Running.{Running}
 use Rattle.watch_trace.specs.Tracing.{Tracing, moment_of}
 use Rattle.model_core.specs.Saved.SavedRun.{SavedRun, saved_moment}
 
--- a run of the model and its tracer, which stand where the saved run stood, with room for so many events
+-- a run of the model and its tracer at the moment of the saved run, with room for so many events
 pub record ResumedRun (m : Model) (s : SavedRun) (room : ℕ) (r : Running) (t : Tracing) : Type 0 where
   pub model : r.model ≡ m
   pub traced : t.model ≡ m

@@ -28,7 +28,7 @@ pub fn stopped_runs_go_on()
 }
 
 /// So can a saved run, for a valid model and within the limits of a run: what is saved is good, and the history from
-/// there on, behind the one so far, is that of the whole run.
+/// there on, after the one so far, is that of the whole run.
 pub fn saved_runs_resume()
     ensures { (g : EventGraph) (seed : ℕ) (starts : List ℤ) (until n : ℕ) → KeepsStaticRules g → IsSpellable g
         → seed < 2 ^ 64 → IsTrue (allowed g starts) → until ≤ 2 ^ 48 → n ≤ 2 ^ 40 → (look g seed starts until n).standing ≡ Going

@@ -27,7 +27,7 @@ pub(crate) fn streams_after(seed: u64, taken: &[u64]) -> Streams
     streams
 }
 
-/// Schedules events in a list that is empty, one after the other. Its keys are counted by nobody.
+/// Schedules events in a list that is empty, one after the other, without a count of key comparisons.
 pub(crate) fn schedule_all<P: Pending, L: Ledger>(pending: &mut P, entries: &[Entry], blank: Blank)
     requires name { blank.name ≡ L.name }
     requires parts { blank.parts ≡ L.parts }

@@ -54,7 +54,7 @@ fn again(alloc: Global, values: Option<&[i64]>) -> Result<Option<List<i64>>, NoM
     Ok(Some(List::from_vec(copy)))
 }
 
-/// Takes all events off a pending list, each time the next. Its keys are counted by nobody.
+/// Takes all events off a pending list, each time the next, without a count of key comparisons.
 fn all_due<P: Pending, L: Ledger>(
     alloc: Global,
     pending: &mut P,
@@ -73,7 +73,7 @@ fn all_due<P: Pending, L: Ledger>(
     Ok(List::from_vec(entries))
 }
 
-/// What is saved of a run: its parts, with this seed, how many steps it made, and the values that its tracer noted last.
+/// The snapshot of a run: its parts, with this seed, how many steps it made, and the values that its tracer noted last.
 pub fn save<'m, P: Pending>(
     alloc: Global,
     model: &'m Model,

@@ -1,4 +1,4 @@
--- What is saved of a run that has spent its budget is good.
+-- The snapshot of a run that has spent its budget is good.
 use Rattle.std.proofs.Common.{◌≡◌, ℕ, ◌^◌, ◌<◌, ◌≤◌, ◌+◌, ℤ, List, [], Some, None, refl, sym, ap, ap₂, ◌∙◌, subst, arith, IsTrue}
 use Rattle.model_core.specs.declared.model.Model.{Model}
 use Rattle.model_core.specs.EventGraph.{EventGraph}

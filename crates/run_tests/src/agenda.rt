@@ -27,7 +27,7 @@ fn put<P: Pending, L: Ledger>(pending: &mut P, told: First, value: i64, steps: &
     pending.schedule(&entry, steps);
 }
 
-/// What is told of the next event, and the value that it carries. It is taken off.
+/// The next event as the list shows it, and the value that it carries. It is taken off.
 fn taken<P: Pending, L: Ledger>(pending: &mut P, steps: &mut Steps<L>) -> Option<(First, i64)> {
     let first = pending.first()?;
     let entry = pending.take_first(steps)?;

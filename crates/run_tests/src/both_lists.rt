@@ -1,4 +1,5 @@
-//! Runs over the plain list and over heaps, which write the same bytes: models whose histories are known, and many small ones.
+//! Runs over the plain list and over heaps, which write the same bytes: models whose histories are known, and many
+//! small ones.
 
 ghost use Rattle.std.specs.Prelude.{◌≡◌, ◌<◌, [], length};
 ghost use Rattle.model_core.specs.Code.Views.{graph_of};
@@ -17,7 +18,8 @@ use std::sync::ledger::{Blank, Ledger};
 use std::test::*;
 use watch_trace::{Outcome, Tracer, follow};
 
-/// Writes the history of a run with the seed 42 over an empty list with room for one event, and answers what it comes to.
+/// Writes the history of a run with the seed 42 over an empty list with room for one event, and answers what it comes
+/// to.
 fn history_over<P: Pending + Drop, L: Ledger>(
     alloc: Global,
     model: &Model,
@@ -52,7 +54,7 @@ fn history_over<P: Pending + Drop, L: Ledger>(
     Ok(outcome)
 }
 
-/// What runs of a model come to, and what they write: over the plain list, and over heaps.
+/// The outcomes of runs of a model, and what they write: over the plain list, and over heaps.
 fn histories_over_both(
     alloc: Global,
     model: &Model,
@@ -308,7 +310,7 @@ fn known_histories_are_written_over_both_lists(rt: HostRuntime) -> Result<(), Fa
     Ok(())
 }
 
-/// A model in which each edge of scheduling and of cancelling stands, with a `?` for each digit that varies.
+/// A model with each edge of scheduling and of cancelling, with a `?` for each digit that varies.
 const MODEL: &[u8] = b"version 2;
 model SMALL;
 var X : 0..9 clip = ?;

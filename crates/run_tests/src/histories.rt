@@ -27,8 +27,8 @@ fn begun<'m>(alloc: Global, model: &'m Model) -> Result<Run<'m, PlainPending>, R
     Ok(Run::begin(alloc, model, pending, 42, &List::new(alloc), 2)?)
 }
 
-/// What following a run from its beginning comes to, and then, where it has spent its budget, for a hundred events more;
-/// and how many steps were made.
+/// The outcome of following a run from its beginning, and then, where it has spent its budget, for a hundred events
+/// more; and how many steps were made.
 fn followed<K: Sink, L: Ledger>(
     alloc: Global,
     model: &Model,
@@ -58,7 +58,7 @@ fn followed<K: Sink, L: Ledger>(
     Ok((first, last, turns))
 }
 
-/// What following a run of a model for so many events comes to, and then on, with the steps made and the sink behind it.
+/// The outcome of following a run of a model for so many events, and then on, with the steps made and the sink after it.
 fn history(
     alloc: Global,
     text: &[u8],
@@ -135,7 +135,7 @@ fn ends_at_call(alloc: Global, failing: u64, turns: u64, written: &[u8]) -> Resu
 }
 
 /// The history of the clock up to 12 takes 39 calls of one byte each. Where a call fails, what the calls before it
-/// took stands, and no call is made after it, nor any step but the one of its move: the note of time 0, the first nine
+/// took is kept, and no call is made after it, nor any step but the one of its move: the note of time 0, the first nine
 /// bytes, is written in the move of the second step.
 #[test]
 fn no_call_is_made_after_one_that_failed(rt: HostRuntime) -> Result<(), Fail> {

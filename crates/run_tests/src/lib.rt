@@ -1,4 +1,4 @@
-//! Tests of what runs are made of, through the public calls of the crates that do it.
+//! Tests of the parts of runs, through the public calls of the crates that have them.
 #![tactic(auto)]
 
 #[cfg(test)]

@@ -1,5 +1,5 @@
-//! Runs that are taken apart between their steps and put together again, over both lists: they go on as runs that aren't,
-//! and an event can be scheduled in between.
+//! Runs that are taken apart between their steps and put together again, over both lists: they go on as runs that
+//! aren't, and an event can be scheduled in between.
 
 ghost use Rattle.std.specs.Prelude.{◌≡◌, ◌++◌, ◌∷◌, ◌<◌, ◌≤◌, ◌^◌, [], length, None, IfOk};
 ghost use Rattle.model_core.specs.Code.Views.{graph_of};
@@ -17,7 +17,7 @@ use std::mem::forget;
 use std::sync::ledger::{Blank, Ledger};
 use std::test::*;
 
-/// The run that is made of a run's parts. It is that run, but for a fault, which is no part.
+/// The run built from a run's parts. It is that run, but for a fault, which is no part.
 fn put_together<'m, P: Pending>(model: &'m Model, run: Run<'m, P>) -> Run<'m, P>
     requires possible { PossibleModel (graph_of model.now) }
     requires one_model { run.model ≡ model.now }
@@ -43,7 +43,7 @@ fn put_together_if<'m, P: Pending>(apart: bool, model: &'m Model, run: Run<'m, P
     if apart { put_together(model, run) } else { run }
 }
 
-/// How a run stands after six steps: what each of them came to, the clock's time, how many steps were made, and how many
+/// A run after six steps: the answer of each, the clock's time, how many steps were made, and how many
 /// events are pending and were ever scheduled.
 #[derive(Clone, Copy, Debug, PartialEq, Eq)]
 struct Stand {
@@ -54,7 +54,7 @@ struct Stand {
     numbered: u64,
 }
 
-/// How a run stands after six steps from its beginning, before each of which it is taken apart where that is asked for.
+/// A run after six steps from its beginning, before each of which it is taken apart where that is asked for.
 fn stand_of<'m, P: Pending + Drop, L: Ledger>(
     model: &'m Model,
     run: Run<'m, P>,
@@ -88,7 +88,7 @@ fn stand_of<'m, P: Pending + Drop, L: Ledger>(
     Ok(stand)
 }
 
-/// How a run with the seed 42 and no starting values stands after six steps up to 16 over an empty list.
+/// A run with the seed 42 and no starting values after six steps up to 16 over an empty list.
 fn stand_over<P: Pending + Drop, L: Ledger>(
     alloc: Global,
     model: &Model,
@@ -108,7 +108,7 @@ fn stand_over<P: Pending + Drop, L: Ledger>(
     Ok(stand_of::<P, L>(model, run, apart, 16, blank)?)
 }
 
-/// How the runs stand that are left whole and that are taken apart, each over the plain list and over heaps.
+/// The runs that are left whole and those that are taken apart, each over the plain list and over heaps.
 fn stands(alloc: Global, model: &Model) -> Result<[Stand; 4], Refused>
     requires { PossibleModel (graph_of model.now) }
 {
@@ -124,7 +124,7 @@ fn stands(alloc: Global, model: &Model) -> Result<[Stand; 4], Refused>
     Ok([whole, apart, heaped, both])
 }
 
-/// Whether all four runs of a text's model stand so.
+/// Whether all four runs of a text's model are so after six steps.
 fn all_stand(alloc: Global, text: &[u8], wanted: Stand) -> Result<bool, Refused> {
     let model = model_of(alloc, text)?;
     kept_models_can_be_run();
@@ -221,7 +221,7 @@ fn with_one_more<'m, P: Pending + Drop, L: Ledger>(
     Ok(Run::from_parts(model, pending, state, streams, clock, turns))
 }
 
-/// What each of four steps comes to of a run from its beginning, where after the first one an event of the first vertex at 7
+/// The answers of four steps of a run from its beginning, where after the first one an event of the first vertex at 7
 /// is scheduled besides.
 fn turns_with_one_more<P: Pending + Drop, L: Ledger>(
     alloc: Global,

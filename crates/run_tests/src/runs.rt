@@ -95,7 +95,7 @@ fn clock(alloc: Global) -> Result<Model, NoMemory>
     })
 }
 
-/// What each of four steps up to a stop time comes to.
+/// The answers of four steps up to a stop time.
 fn turns<P: Pending, L: Ledger>(
     run: &mut Run<'_, P>,
     until: u64,
@@ -128,7 +128,7 @@ fn begun<'m>(
     Run::begin(alloc, model, pending, 42, starts, 2)
 }
 
-/// What each of four steps of the clock up to 12 comes to, and behind them the clock's time and the number of turns.
+/// The answers of four steps of the clock up to 12, and after them the clock's time and the number of turns.
 fn stepped(alloc: Global, model: &Model) -> Result<([Turn; 4], u64, u64), Fail>
     requires { graph_of model.now ≡ ticking }
 {

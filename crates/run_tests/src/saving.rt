@@ -30,7 +30,7 @@ fn begun<'m>(alloc: Global, model: &'m Model) -> Result<Run<'m, PlainPending>, R
     Ok(Run::begin(alloc, model, pending, 42, &List::new(alloc), 2)?)
 }
 
-/// What is saved of a run up to 12 after two events.
+/// The snapshot of a run up to 12 after two events.
 fn saved<L: Ledger>(
     alloc: Global,
     model: &Model,
@@ -63,7 +63,7 @@ fn saved<L: Ledger>(
     }
 }
 
-/// What following a saved run up to 12 comes to.
+/// The outcome of following a saved run up to 12.
 fn resumed<L: Ledger>(
     alloc: Global,
     model: &Model,
@@ -93,8 +93,8 @@ fn resumed<L: Ledger>(
     Ok(outcome)
 }
 
-/// What is saved of a model's run after two events, and what it comes to from there. The sinks take what is written before
-/// and behind.
+/// The snapshot of a model's run after two events, and its outcome from there. The sinks take what is written before
+/// and after.
 fn both_halves(
     alloc: Global,
     model: &Model,

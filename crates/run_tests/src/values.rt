@@ -74,7 +74,7 @@ fn binary(alloc: Global, op: Op, left: Expr, right: Expr) -> Result<Expr, NoMemo
     Expr::binary(alloc, op, left, right)
 }
 
-/// What a value comes to.
+/// The result of a value.
 type Outcome = Result<i64, FaultKind>;
 
 /// The expression of an operator and two numbers.
@@ -105,7 +105,7 @@ fn evaluated(alloc: Global, expr: &Expr) -> Result<Outcome, NoMemory>
     outcome
 }
 
-/// What an operator makes of two numbers.
+/// The result of an operator on two numbers.
 fn operated(alloc: Global, op: Op, a: i64, b: i64) -> Result<Outcome, NoMemory> {
     let expr = operation(alloc, op, a, b)?;
     let outcome = evaluated(alloc, &expr);
@@ -200,7 +200,7 @@ fn two_raises(alloc: Global, var: usize, by: i64) -> Result<List<Change>, NoMemo
     Ok(changes)
 }
 
-/// What two raises of a scalar come to, and what it holds then.
+/// The results of two raises of a scalar, and its value then.
 type Raised = (Result<(), FaultKind>, Outcome);
 
 /// The same in a model.

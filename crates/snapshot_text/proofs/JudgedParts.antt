@@ -1,4 +1,4 @@
--- Parts one after the other: each good one is passed, and the first that isn't is told.
+-- Parts one after the other: each good one is passed, and the first that isn't is reported.
 use Rattle.std.proofs.Common.{◌≡◌, ℕ, suc, ◌+◌, ◌<◌, ◌≤◌, ◌∷◌, List, length, map, slice_set, Bool, true, false, cond, ◌&&◌, [], ◌++◌, ℤ, pos, Option, Some, None, unwrap_or, refl, ap, ap₂, sym, ◌∙◌, arith, append_assoc}
 use Rattle.std.specs.List.{flat_map, list_all}
 use Rattle.std.proofs.lemmas.List.{length-set}
@@ -86,7 +86,7 @@ one_value_more v variables w later out added first all good is so_far made = (
 pub one_value_told : (v : Variable) (variables : List Variable) (w : WrittenValue) (later : List WrittenValue) (first : Option ℕ) → false ≡ value_good v w → first_bad_part (value_parts (v ∷ variables) (w ∷ later)) ≡ first → first ≡ Some w.at
 one_value_told v variables w later first bad so_far = sym so_far ∙ told (record { good = value_good v w; at = w.at }) (value_parts variables later) (sym bad)
 
--- ---- parts, and others behind them
+-- ---- parts, and others after them
 
 one_before : (good : Bool) (first : Option ℕ) (at : ℕ) → cond good first (Some at) ≡ None → (good ≡ true) × (first ≡ None)
 one_before true first at h = (refl, h)

@@ -1,4 +1,4 @@
--- Parts of the text of a snapshot, each read back wherever it stands.
+-- Parts of the text of a snapshot, each read back at any place.
 use Rattle.std.proofs.Common.{◌≡◌, ℕ, ◌+◌, true, List, [], ◌∷◌, ◌++◌, refl, arith}
 use Rattle.std.specs.Prelude.{codes}
 use Rattle.std.specs.List.{AllByRecursion, flat_map, list_all}

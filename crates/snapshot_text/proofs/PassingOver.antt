@@ -1,4 +1,5 @@
--- Passing over a format leaves what reading it leaves, and a loop that passes over a part again and again passes over all.
+-- Passing over a format leaves what reading it leaves, and a loop that passes over a part again and again passes over
+-- all.
 use Rattle.std.proofs.Common.{◌≡◌, ℕ, suc, ◌≤◌, ◌<◌, Bool, true, false, cond, List, [], ◌∷◌, length, refl, sym, ap, ◌∙◌, arith}
 use Rattle.std.specs.Prelude.{Ok, Err}
 use Rattle.model_core.specs.Text.Lexing.{Lexeme}
@@ -37,7 +38,7 @@ skims-is (Either p q) tokens = by-test (begins_among (first_sorts level_lookahea
 skims-is (Many p) tokens = refl
 skims-is (ByRule r) tokens = refl
 
--- what was passed over was read
+-- tokens that were passed over were read
 record WasRead {A : Type 0} (r : Parse A) (left : List Lexeme) : Type 0 where
   value : A
   took : r ≡ took value left
@@ -78,7 +79,7 @@ module _ {A : Type 0} (f : LanguageFormat A) (some : nullable f ≡ false) where
       let m : language_reader (Many f) tokens ≡ took [] tokens = rw (repeated-is (first_sorts level_lookahead f) (language_reader f) (shorter f some) tokens, stop) refl in
       ap skimmed m
 
--- ---- where no token is left behind it
+-- ---- no token is left after it
 
 pub whole-none : (tokens : List Lexeme) → length tokens ≡ 0 → whole_read {A = Unit {0}} tt tokens ≡ took tt tokens
 whole-none [] e = refl

@@ -1,4 +1,4 @@
--- The lines of a snapshot, each read back wherever it stands.
+-- The lines of a snapshot, each read back at any place.
 use Rattle.std.proofs.Common.{◌≡◌, ℕ, zero, suc, ◌+◌, ◌-◌, ◌^◌, ◌<◌, ◌≤◌, ℤ, pos, true, false, List, [], ◌∷◌, ◌++◌, length, map, take, drop, refl, sym, ap, ap₂, subst, arith}
 use Rattle.std.specs.Option.{is_some}
 use Rattle.std.specs.Prelude.{◌&&◌, unwrap_or, Option, Some, None, codes, decimal, ◌==◌, if◌then◌else◌, IfSome}
@@ -127,7 +127,7 @@ values-write (v ∷ variables) values h j =
 pub record NotedIs (noted : List ℤ) (w : WrittenNoted) : Type 0 where
   pub values : AreSigned noted w.values
 
--- what is written of them, if anything is noted
+-- the line that is written of them, if anything is noted
 abbrev pub MaybeNoted : Option (List ℤ) → Option WrittenNoted → Type 0
 MaybeNoted None None = Unit {0}
 MaybeNoted None (Some w) = ⊥
@@ -189,7 +189,7 @@ pub record PendingIs (g : EventGraph) (clock : ℕ) (e : Entry) (w : WrittenPend
   pub vertex : w.vertex.name ≡ (vertex_name g e.vertex)
   pub values : map carried_of w.values ≡ e.values
 
--- an event that a line can tell
+-- an event that a line can write
 pub record IsTellable (g : EventGraph) (clock : ℕ) (e : Entry) : Type 0 where
   pub near : e.time - clock < 2 ^ 63
   pub low : e.priority < 2 ^ 63

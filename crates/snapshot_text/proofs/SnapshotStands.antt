@@ -1,4 +1,4 @@
--- What the written snapshot of a good saved run stands for: that run, and no part of it is bad.
+-- The written snapshot of a good saved run spells that run, and no part of it is bad.
 use Rattle.std.proofs.Common.{◌≡◌, ℕ, zero, suc, ◌+◌, ◌-◌, ◌*◌, ◌/◌, ◌%◌, ◌^◌, ◌<◌, ◌≤◌, ℤ, pos, neg_ℤ, ◌≤ℤ◌, true, false, not, ◌&&◌, cond, nat_lt, List, [], ◌∷◌, ◌++◌, length, map, take, drop, replicate, slice_set, Option, Some, None, option_map, unwrap_or, refl, sym, ap, ap₂, ◌∙◌, subst, arith, IsTrue, append_assoc}
 use Rattle.std.specs.Prelude.{IfSome, ◌==◌, int_le}
 use Rattle.std.specs.List.{AllByRecursion, flat_map, list_all}
@@ -88,7 +88,7 @@ streams-stand front k taken ws long (spoken i n others w us some is are) =
 
 -- ---- values
 
--- values in the ranges of the cells of one variable and of those behind it, by how many cells the variable has
+-- values in the ranges of the cells of one variable and of those after it, by how many cells the variable has
 pub of-variable : (v : Variable) (variables : List Variable) (xs : List ℤ) → in_ranges (cell_variables (v ∷ variables)) xs ≡ true → (in_ranges (replicate (cell_count v) v) (take (cell_count v) xs) ≡ true) × (in_ranges (cell_variables variables) (drop (cell_count v) xs) ≡ true)
 of-variable v variables xs e =
     subst (λ (n : ℕ). (in_ranges (replicate (cell_count v) v) (take n xs) ≡ true) × (in_ranges (cell_variables variables) (drop n xs) ≡ true)) (length-replicate (cell_count v) v)

@@ -62,7 +62,7 @@ cells-signed : (vs : List Variable) → AllByRecursion SignedRange vs → AllByR
 cells-signed [] all = tt
 cells-signed (v ∷ vs) (r, all) = every-joined SignedRange (replicate (cell_count v) v) (cell_variables vs) (replicate-signed (cell_count v) v r) (cells-signed vs all)
 
--- of the variable at a place, or of what stands for none
+-- of the variable at a place, or of the default
 place-signed : (vs : List Variable) (v : ℕ) → AllByRecursion SignedRange vs → SignedRange (slice_index_or vs v no_variable)
 place-signed [] v all = record { lo = omega arith; hi = omega arith }
 place-signed (w ∷ vs) zero (r, all) = r
@@ -117,7 +117,7 @@ module _ (g : EventGraph) (if_good : KeepsStaticRules g) (spellable : IsSpellabl
         pending = every-map (IsGoodEntry g s.clock) (IsTellable g s.clock) (tellable s.clock) s.pending good.pending;
       }
 
-  -- what is read of the text, which begins at this place
+  -- the value that is read of the text, which begins at this place
   pub snapshot-at : (at : ℕ) (s : SavedRun) → IsGood g s → (tokens : List Lexeme) × (w : WrittenSnapshot) × (tokens_from at 0 (snapshot_text g s) ≡ Ok tokens) × IsSnapshot tokens w × (bad_at g w ≡ None) × (saved_run g w ≡ s)
   snapshot-at at s good =
       let text = snapshot_text g s in

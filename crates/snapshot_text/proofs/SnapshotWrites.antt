@@ -1,4 +1,4 @@
--- The text of a saved run reads back, wherever it stands, as a written snapshot of the same parts.
+-- The text of a saved run reads back, at any place, as a written snapshot of the same parts.
 use Rattle.std.proofs.Common.{ℕ, ◌+◌, ◌/◌, ◌%◌, ◌^◌, ◌<◌, ◌≤◌, List, length, refl, arith}
 use Rattle.std.specs.Prelude.{Option, codes, IfSome}
 use Rattle.std.specs.List.{AllByRecursion}
@@ -16,7 +16,7 @@ use Rattle.model_core.specs.Text.SnapshotText.{snapshot_text, pending_line}
 use Rattle.snapshot_text.proofs.NamesSpelled.{writes-this_name, rows-write}
 use Rattle.snapshot_text.proofs.SnapshotLines.{IsNumber, AreStreams, streams-write, AreValues, values_cost, HaveValues, values-write, MaybeNoted, noted_cost, noted-writes, PendingIs, IsTellable, entry_cost, pending-writes}
 
--- what a text can write of a saved run
+-- a saved run that a text can write
 pub record IsWritable (g : EventGraph) (s : SavedRun) : Type 0 where
   pub seed : s.seed < 2 ^ 64
   pub clock : s.clock < 2 ^ 63
@@ -42,7 +42,7 @@ module _ (g : EventGraph) (s : SavedRun) (h : IsWritable g s) where
   abbrev AnyPlace : ℕ → Type 0
   AnyPlace at = Unit {0}
 
-  -- what each part makes of what was made before it
+  -- the result of each part, from the result of those before it
   abbrev Behind_pending : (ℕ → WrittenSnapshot) → Type 0
   Behind_pending = Takes AnyPlace (SnapshotIs g s)
 

@@ -1,4 +1,4 @@
--- The parts of a snapshot behind the clock and the number of events: where those before it are good, its end decides.
+-- The parts of a snapshot after the clock and the number of events: where those before it are good, its end decides.
 use Rattle.std.proofs.Common.{◌≡◌, ℕ, ◌<◌, ◌≤◌, Bool, true, false, not, cond, nat_lt, List, [], ◌∷◌, ◌++◌, length, map, replicate, Option, Some, None, ℤ, ap, ap₂, ◌∙◌, arith}
 use Rattle.std.specs.List.{flat_map}
 use Rattle.std.specs.Option.{option_map}

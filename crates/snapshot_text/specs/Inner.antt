@@ -1,4 +1,4 @@
--- What the code needs on the way, for its proofs. Nobody has to believe it.
+-- Definitions that restate the code for its proofs. You don't have to believe them.
 pub mod Skimming
 pub mod SomeParts
 pub mod Lines

@@ -38,7 +38,7 @@ fn written_values<'v, 't>(values: &'v Option<List<RawCarried<'t>>>) -> &'v [RawC
     }
 }
 
-/// Adds values, and tells whether all of them are numbers of 64 bits.
+/// Adds values, and gives whether all of them are numbers of 64 bits.
 fn add_carried(values: &mut Carried, written: &[RawCarried<'_>]) -> bool
     requires { length values.old.items + length written.now ≤ PARAMETERS_MAX }
     ensures all { result ≡ list_all is_wide (map written_carried written.now) }

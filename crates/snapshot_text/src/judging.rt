@@ -1,4 +1,4 @@
-//! What a snapshot that was read stands for, if it is good.
+//! The saved run that a snapshot spells, if the snapshot is good.
 
 ghost use Rattle.std.specs.Prelude.{◌≡◌, ◌≤◌, ◌^◌, length};
 ghost use Rattle.std.specs.List.{AllByRecursion};
@@ -53,7 +53,7 @@ fn later_judged(
     })
 }
 
-/// The saved run that a snapshot stands for, if it is good for the model.
+/// The saved run that a snapshot spells, if it is good for the model.
 pub(crate) fn judged(
     alloc: Global,
     model: &Model,

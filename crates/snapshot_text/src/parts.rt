@@ -44,7 +44,7 @@ pub(crate) struct RawPending<'t> {
     pub values: Option<List<RawCarried<'t>>>,
 }
 
-/// What a snapshot says before its streams.
+/// The parts of a snapshot before its streams.
 #[derive(Clone, Copy)]
 pub(crate) struct RawHead {
     pub seed_at: usize,

@@ -16,7 +16,7 @@ use model_core::{Model, Var};
 use sig_base::{List, NoMemory, Text, put_bytes, put_counted, put_number, put_signed, put_texts};
 use std::alloc::Global;
 
-/// Adds values, each behind a comma.
+/// Adds values, each after a comma.
 fn put_later_values(out: &mut Vec<u8>, values: &[i64]) -> Result<(), NoMemory>
     ensures { OnOk result (out.new.items ≡ out.old.items ++ flat_map (λ (y : ℤ). codes "," ++ signed_decimal y) values.now) }
 {
@@ -82,7 +82,7 @@ fn put_all_values(out: &mut Vec<u8>, model: &Model, values: &[i64]) -> Result<()
     Ok(())
 }
 
-/// Adds values behind a space, if there are any.
+/// Adds values after a space, if there are any.
 fn put_noted_values(out: &mut Vec<u8>, values: &[i64]) -> Result<(), NoMemory>
     ensures { OnOk result (out.new.items ≡ out.old.items ++ noted_values values.now) }
 {
@@ -144,7 +144,7 @@ fn put_all_pending(
     Ok(())
 }
 
-/// Adds the line of the seed, which is written in two parts, behind the word that begins a snapshot.
+/// Adds the line of the seed, which is written in two parts, after the word that begins a snapshot.
 fn put_seed(out: &mut Vec<u8>, high: u64, low: u64) -> Result<(), NoMemory>
     ensures { OnOk result (out.new.items ≡ out.old.items ++ seed_lines high low) }
 {
@@ -165,7 +165,7 @@ fn put_clock(out: &mut Vec<u8>, clock: u64, events: u64) -> Result<(), NoMemory>
     put_bytes(out, b"\n")
 }
 
-/// Adds the lines behind these.
+/// Adds the lines after these.
 fn put_last_lines(out: &mut Vec<u8>, model: &Model, snapshot: &Snapshot) -> Result<(), NoMemory>
     requires { AllByRecursion (λ (e : Scheduled). snapshot.now.clock ≤ e.time) snapshot.now.pending }
     ensures { OnOk result (out.new.items ≡ out.old.items ++ last_lines (graph_of model.now) snapshot.now) }
@@ -188,8 +188,8 @@ fn put_snapshot(out: &mut Vec<u8>, model: &Model, snapshot: &Snapshot) -> Result
     Ok(())
 }
 
-/// The text of a snapshot that is good for the model: a line for each part. The seed is written as its quotient by 2^32 and
-/// its rest, an event's time as the ticks from the clock on.
+/// The text of a snapshot that is good for the model: a line for each part. The seed is written as its quotient by 2^32
+/// and its rest, an event's time as the ticks from the clock on.
 pub fn print_snapshot(alloc: Global, model: &Model, snapshot: &Snapshot) -> Result<Text, NoMemory>
     requires { IsGood (graph_of model.now) snapshot.now }
     ensures { IfOk result (λ text. text ≡ snapshot_text (graph_of model.now) snapshot.now) }

@@ -1,4 +1,5 @@
-//! Whether tokens are a snapshot, and where they stop to begin one. The tokens are passed over, and nothing is kept of them.
+//! Whether tokens are a snapshot, and where they stop to begin one. The tokens are passed over, and nothing is kept of
+//! them.
 
 ghost use Rattle.std.specs.Prelude.{◌≡◌, ℕ, drop, None, Some};
 ghost use Rattle.model_core.specs.declared.token.Word.TheVariants.{Clk, End};
@@ -31,7 +32,7 @@ fn skim_many<'t, T: Skimmed<'t> + Repeated<'t>>(cursor: &mut Cursor<'t>) -> Resu
     Ok(())
 }
 
-/// Passes over a comma and the phrase behind it.
+/// Passes over a comma and the phrase after it.
 fn skim_next<'t, T: Skimmed<'t>>(cursor: &mut Cursor<'t>) -> Result<(), Stop>
     ensures { Passed result cursor.new (skims (mark symbols.Comma *> T.format) cursor.old) }
 {
@@ -222,9 +223,9 @@ fn skim_whole(cursor: &mut Cursor<'_>) -> Result<(), Stop>
     Ok(())
 }
 
-/// Where the pieces from a place on stop to begin a snapshot, and `None` exactly where they all together are one. A place is
-/// here the number of pieces before it; what is told is the first byte from which no continuation makes a snapshot: that of
-/// a piece, or the text's length. No openings are counted.
+/// Where the pieces from a place on stop to begin a snapshot, and `None` exactly where they all together are one. A
+/// place is here the number of pieces before it; the byte named is the first from which no continuation makes a
+/// snapshot: that of a piece, or the text's length. No openings are counted.
 pub fn snapshot_fault_pieces(pieces: &Pieces<'_>, from: usize) -> Option<usize>
     ensures none { result ≡ None → (w : WrittenSnapshot) × IsSnapshot (drop from (pieces_lexemes pieces.now)) w }
     ensures some { (at : ℕ) → result ≡ Some at → IsNoSnapshotAt pieces.now.text.now (drop from (pieces_lexemes pieces.now)) at }

@@ -1,4 +1,4 @@
-//! What is kept of a run that is stopped.
+//! A snapshot: the parts of a run that is stopped.
 
 use event_list::Entry;
 use sig_base::List;

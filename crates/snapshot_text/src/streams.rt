@@ -14,7 +14,7 @@ use std::alloc::Global;
 /// The most words that a stream may have given.
 const WORDS_MAX: u64 = 4_503_599_627_370_496;
 
-/// The number of the stream and how many words it gave, if it is good behind the streams below `least`.
+/// The number of the stream and how many words it gave, if it is good after the streams below `least`.
 fn stream_of(stream: RawStream, least: u64) -> Option<(u64, u64)>
     ensures is { result ≡ if_good (stream_good least (written_stream stream)) (stream_taken (written_stream stream)) }
     ensures within { IfSome result (λ s. s.0 < 64) }

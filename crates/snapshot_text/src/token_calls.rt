@@ -1,4 +1,4 @@
-//! The calls on whole snapshots for those who have the tokens as a list: what is read are the pieces beside them.
+//! The calls on whole snapshots for callers that have the tokens as a list: they read the pieces beside them.
 
 ghost use Rattle.std.specs.Prelude.{◌≡◌, ◌≤◌, ℕ, drop, length, Some, None, Err, IfOk};
 ghost use Rattle.std.specs.List.{AllByRecursion};
@@ -17,9 +17,9 @@ use model_core::Model;
 use model_lex::{Tokens, pieces_are_the_tokens};
 use std::alloc::Global;
 
-/// Where the tokens from a place on stop to begin a snapshot, and `None` exactly where they all together are one. A place is
-/// here the number of tokens before it; what is told is the first byte from which no continuation makes a snapshot: that of
-/// a token, or the text's length. No openings are counted.
+/// Where the tokens from a place on stop to begin a snapshot, and `None` exactly where they all together are one. A
+/// place is here the number of tokens before it; the byte named is the first from which no continuation makes a
+/// snapshot: that of a token, or the text's length. No openings are counted.
 pub fn snapshot_fault(tokens: &Tokens<'_>, from: usize) -> Option<usize>
     ensures none { result ≡ None → (w : WrittenSnapshot) × IsSnapshot (drop from (lexemes tokens.now)) w }
     ensures some { (at : ℕ) → result ≡ Some at → IsNoSnapshotAt tokens.now.text.now (drop from (lexemes tokens.now)) at }
@@ -28,9 +28,9 @@ pub fn snapshot_fault(tokens: &Tokens<'_>, from: usize) -> Option<usize>
     snapshot_fault_pieces(&tokens.pieces, from)
 }
 
-/// Reads the tokens from a place on, which all together are one snapshot, as `snapshot_fault` tells: the saved run that it
-/// stands for, if it is good for the model. A place is here the number of tokens before it; no vertex of the model has more
-/// parameters than the limit.
+/// Reads the tokens from a place on, which all together are one snapshot, as `snapshot_fault` says: the saved run that
+/// it spells, if it is good for the model. A place is here the number of tokens before it; no vertex of the model has
+/// more parameters than the limit.
 pub fn read_snapshot(
     alloc: Global,
     model: &Model,
@@ -39,9 +39,9 @@ pub fn read_snapshot(
 ) -> Result<Snapshot, SnapshotError>
     requires few { AllByRecursion (λ (v : EventVertex). length v.parameters ≤ PARAMETERS_MAX) (graph_of model.now).vertices }
     requires spelled { (w : WrittenSnapshot) × IsSnapshot (drop from (lexemes tokens.now)) w }
-    // What is read is good, and the saved run that it stands for.
+    // The snapshot is good, and spells this saved run.
     ensures good { IfOk result (λ snapshot. (w : WrittenSnapshot) → IsSnapshot (drop from (lexemes tokens.now)) w → (bad_at (graph_of model.now) w ≡ None) × (snapshot ≡ saved_run (graph_of model.now) w)) }
-    // What is refused isn't good, and this is where its first part that breaks a rule begins.
+    // The snapshot isn't good, and its first part that breaks a rule begins here.
     ensures bad { (at : ℕ) → result ≡ Err (SnapshotError.Bad at) → (w : WrittenSnapshot) → IsSnapshot (drop from (lexemes tokens.now)) w → bad_at (graph_of model.now) w ≡ Some at }
 {
     pieces_are_the_tokens();

@@ -41,7 +41,7 @@ fn value_within(signed: RawSigned, lo: i64, hi: i64) -> Option<i64>
     }
 }
 
-/// Adds the values, and tells whether all of them are known and in the limits.
+/// Adds the values, and gives whether all of them are known and in the limits.
 pub(crate) fn add_fitting(
     out: &mut Vec<i64>,
     limits: &Limits,
@@ -59,7 +59,7 @@ pub(crate) fn add_fitting(
     Ok(true)
 }
 
-/// Adds the values of a variable, and tells whether they are good.
+/// Adds the values of a variable, and gives whether they are good.
 fn add_value(out: &mut Vec<i64>, var: &Var, value: &RawValue<'_>) -> Result<bool, NoMemory>
     ensures all { IfOk result (λ good. good ≡ value_good (variable_of var.now) (written_value value.now)) }
     ensures added { IfOk result (λ good. good ≡ true → out.new.items ≡ out.old.items ++ signed_values (written_value value.now).values) }
@@ -114,7 +114,7 @@ fn limits_of(model: &Model, var: usize) -> (Limits, usize)
     }
 }
 
-/// Adds the values of the cells of a variable, which stand from a place on, and gives the place behind them, if they are
+/// Adds the values of the cells of a variable, which begin at a place, and gives the place after them, if they are
 /// there and all are good.
 fn add_cells(
     out: &mut Vec<i64>,
@@ -140,8 +140,8 @@ fn add_cells(
     }
 }
 
-/// Adds the values of what is watched, if it is a variable, which stand from a place on, and gives the place behind them, if
-/// they are there and all are good.
+/// Adds the values of a watched variable, which begin at a place, and gives the place after them, if
+/// they exist and all are good. A watched vertex has none.
 fn add_watched(
     out: &mut Vec<i64>,
     model: &Model,

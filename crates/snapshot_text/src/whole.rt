@@ -18,8 +18,8 @@ use model_core::Model;
 use model_lex::Pieces;
 use std::alloc::Global;
 
-/// Reads the pieces from a place on, which all together are one snapshot, as `snapshot_fault_pieces` tells: the saved run
-/// that it stands for, if it is good for the model. A place is here the number of pieces before it; no vertex of the model
+/// Reads the pieces from a place on, which all together are one snapshot, as `snapshot_fault_pieces` says: the saved run
+/// that it spells, if it is good for the model. A place is here the number of pieces before it; no vertex of the model
 /// has more parameters than the limit.
 pub fn read_snapshot_pieces(
     alloc: Global,
@@ -29,9 +29,9 @@ pub fn read_snapshot_pieces(
 ) -> Result<Snapshot, SnapshotError>
     requires few { AllByRecursion (λ (v : EventVertex). length v.parameters ≤ PARAMETERS_MAX) (graph_of model.now).vertices }
     requires spelled { (w : WrittenSnapshot) × IsSnapshot (drop from (pieces_lexemes pieces.now)) w }
-    // What is read is good, and the saved run that it stands for.
+    // The snapshot is good, and spells this saved run.
     ensures good { IfOk result (λ snapshot. (w : WrittenSnapshot) → IsSnapshot (drop from (pieces_lexemes pieces.now)) w → (bad_at (graph_of model.now) w ≡ None) × (snapshot ≡ saved_run (graph_of model.now) w)) }
-    // What is refused isn't good, and this is where its first part that breaks a rule begins.
+    // The snapshot isn't good, and its first part that breaks a rule begins here.
     ensures bad { (at : ℕ) → result ≡ Err (SnapshotError.Bad at) → (w : WrittenSnapshot) → IsSnapshot (drop from (pieces_lexemes pieces.now)) w → bad_at (graph_of model.now) w ≡ Some at }
 {
     snapshots_have_one_reading();

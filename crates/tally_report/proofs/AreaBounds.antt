@@ -23,7 +23,7 @@ sum-small m n x y p q = record { above = omega (arith, ints, p.above, q.above); 
 pub small-fits : (n : ℕ) (x : ℤ) → IsSmallArea n x → n < 2 ^ 64 → SFits w128 x
 small-fits n x p few = omega (arith, ints, p.above, p.below, few)
 
--- what the code computes of a product
+-- a product as the code computes it
 pub area-computed : (x : ℤ) (n : ℕ) → SFits w64 x → n < 2 ^ 64 → to_z w128 (of_z w128 (to_z w128 (of_z w128 (to_z w64 (of_z w64 x))) *ℤ to_z w128 n)) ≡ x *ℤ pos n
 area-computed x n f few =
     let value : to_z w128 (of_z w128 (to_z w64 (of_z w64 x))) ≡ x = omega (arith, ints, f) in
@@ -31,11 +31,11 @@ area-computed x n f few =
     let whole = to_z-of_z w128 (x *ℤ pos n) (small-fits n (x *ℤ pos n) (product-small x n f) few) in
     (λ i. to_z w128 (of_z w128 (value i *ℤ ticks i))) ∙ whole
 
--- what is small over some ticks is so over more
+-- an area that is small over some ticks is so over more
 pub area-longer : (a b : ℕ) (area : ℤ) → a ≤ b → IsSmallArea a area → IsSmallArea b area
 area-longer a b area le small = record { above = omega (arith, ints, le, small.above); below = omega (arith, ints, le, small.below) }
 
--- what the code computes of a sum
+-- a sum as the code computes it
 sum-computed : (m n : ℕ) (x y : ℤ) → IsSmallArea m x → IsSmallArea n y → m + n < 2 ^ 64 → to_z w128 (of_z w128 (to_z w128 (of_z w128 x) +ℤ to_z w128 (of_z w128 y))) ≡ x +ℤ y
 sum-computed m n x y p q few =
     let first = to_z-of_z w128 x (small-fits m x p (omega (arith, few))) in
@@ -43,7 +43,7 @@ sum-computed m n x y p q few =
     let whole = to_z-of_z w128 (x +ℤ y) (small-fits (m + n) (x +ℤ y) (sum-small m n x y p q) few) in
     (λ i. to_z w128 (of_z w128 (first i +ℤ second i))) ∙ whole
 
--- what the code computes of an area whose last value holds on
+-- an area whose last value holds on, as the code computes it
 pub held-computed : (a b : ℕ) (area x part : ℤ) → a ≤ b → b < 2 ^ 64 → SFits w64 x → part ≡ to_z w64 (of_z w64 x) *ℤ pos (b - a) → IsSmallArea a area → IsSmallArea (b - a) part → to_z w128 (of_z w128 (to_z w128 (of_z w128 area) +ℤ to_z w128 (of_z w128 part))) ≡ area +ℤ x *ℤ pos (b - a)
 held-computed a b area x part le few f product p q =
     let value : to_z w64 (of_z w64 x) ≡ x = omega (arith, ints, f) in

@@ -1,4 +1,4 @@
--- Running sums, note by note, come to what the whole history tells of each item.
+-- Running sums, note by note, come to the items of the whole history.
 use Rattle.std.proofs.Common.{◌≡◌, ℕ, ℤ, suc, ◌+◌, ◌-◌, ◌^◌, ◌<◌, ◌≤◌, le_trans, max, Bool, true, false, cond, List, [], ◌∷◌, ◌++◌, length, map, Some, None, refl, sym, ap, ap₂, ◌∙◌, arith}
 use Rattle.std.specs.Prelude.{pos, ◌+ℤ◌, ◌*ℤ◌, ◌==◌}
 use Rattle.std.specs.List.{range_with_len}
@@ -26,7 +26,7 @@ latest_at [] since = since
 latest_at (At time values ∷ notes) since = latest_at notes (max since time)
 latest_at (On time place values ∷ notes) since = latest_at notes since
 
--- a sum behind notes
+-- a sum after notes
 abbrev sum_behind : EventGraph → List Note → ℕ → Sum → Sum
 sum_behind g [] since s = s
 sum_behind g (At time values ∷ notes) since s = sum_behind g notes (max since time) (sum_at g values since (max since time) s)
@@ -61,7 +61,7 @@ latest_at-by (On time place values ∷ notes) since from to le (first, later) = 
 
 -- ---- a cell
 
--- what a sum comes to at the end
+-- a sum at the end
 abbrev come_to : EventGraph → List Note → ℕ → ℕ → Sum → Item
 come_to g notes since end s = held_until (latest_at notes since) (max (latest_at notes since) end) (sum_behind g notes since s).item
 

@@ -26,7 +26,7 @@ rises-append : (a b to : ℕ) (notes more : List Note) → RisesTo a notes b →
 rises-append a b to [] more le rises = rises-sooner a b to more le rises
 rises-append a b to (note ∷ notes) more (first, later) rises = (first, rises-append (note_time note) b to notes more later rises)
 
--- what ends a run does so by the stop time
+-- the end of a run is by the stop time
 abbrev pub EndsBy : ℕ → Standing → Type 0
 EndsBy until (Ended time) = time ≤ until
 EndsBy until (Faulted time kind) = time ≤ until
@@ -62,7 +62,7 @@ placed-rises t values (Some place) = record { rises = (omega arith, omega arith)
 completed-rises : (g : EventGraph) (vertex : ℕ) (c : Configuration) → Rise 1 c.clock (completed g vertex c) c.clock
 completed-rises g vertex c = placed-rises c.clock (watched_values g.watch c.state) (position (watches vertex) g.watch)
 
--- what a move from this clock shows, and where it leads
+-- the notes of a move from this clock, and where it leads
 abbrev Fine : ℕ → ℕ → Move Moment → Type 0
 Fine from until (Rests notes end) = Rise 1 from notes until × EndsBy until end
 Fine from until (Fails notes end) = Rise 1 from notes until × EndsBy until end

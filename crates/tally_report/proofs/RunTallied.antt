@@ -1,4 +1,4 @@
--- What is told of a run that was followed from its beginning is its tally.
+-- The items of a run that was followed from its beginning are its tally.
 use Rattle.std.proofs.Common.{◌≡◌, ℕ, suc, ◌+◌, ◌*◌, ◌^◌, ◌<◌, ◌≤◌, max, Bool, true, false, cond, List, [], ◌∷◌, ◌++◌, subst, length, refl, sym, ap, ap₂, ◌∙◌, append-nil, arith}
 use Rattle.std.specs.Prelude.{ℤ, Option, None, All, slice_index_or, ◌==◌}
 use Rattle.std.proofs.lemmas.List.Elements.{All-map}
@@ -128,7 +128,7 @@ tallied_from_beginning m starts room until events r t w u outcome notes rest beg
           (few_counted g until events (look g r.seed starts until events) fine bounded u all outcome is),
     )
 
--- ---- what comes of one run
+-- ---- the result of one run
 
 of-one-run : (ticks : ℕ) (item : Item) → ticks ≤ 2 ^ 48 → IsSmall ticks item → FewCounted item → IsOfRuns 1 item
 of-one-run ticks (items.Cell span area) le small few = area-longer ticks (2 ^ 48 * 1) area (omega (arith, le)) small

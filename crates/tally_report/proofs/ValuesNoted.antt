@@ -1,4 +1,4 @@
--- What is noted of a place of the watch list is what the state holds of it.
+-- The values noted at a place of the watch list are the state's values of the thing there.
 use Rattle.std.proofs.Common.{◌≡◌, ℕ, zero, suc, List, [], ◌∷◌, map, refl, sym, ap, ◌∙◌, ◌<◌, ◌≤◌, length, get_or}
 use Rattle.std.specs.Prelude.{slice_get, option_map}
 use Rattle.std.specs.Option.{option_map_or}

@@ -1,4 +1,4 @@
--- What a history shows of one watched cell: its values, each from the time of its `at` note on.
+-- The course of one watched cell in a history: its values, each from the time of its `at` note on.
 use Rattle.std.specs.Prelude.{ℕ, zero, suc, ◌-◌, ℤ, pos, ◌+ℤ◌, ◌*ℤ◌, List, [], ◌∷◌, Option, Some, None, slice_index_or}
 use Rattle.std.specs.Int.{int_min, int_max}
 use Rattle.model_core.specs.EventGraph.{EventGraph, Watched, WatchedVariable, WatchedVertex}
@@ -10,7 +10,7 @@ pub record ValueSince : Type 0 where
   pub since : ℕ
   pub value : ℤ
 
--- the values noted of the cells of what stands at a place of the watch list
+-- the values noted of the cells of the watched thing at a place of the watch list
 abbrev pub cells_noted : List Watched → List (List ℤ) → ℕ → List ℤ
 cells_noted [] values place = []
 cells_noted (WatchedVertex v ∷ watch) values zero = []

@@ -1,4 +1,5 @@
--- What this crate's code keeps on the way, for its proofs. No public clause cites it, and nobody has to believe it.
+-- Definitions that restate this crate's code for its proofs. No public clause cites them; you don't have to believe
+-- them.
 pub mod Sums
 pub mod NotesInTurn
 pub mod RunEnds

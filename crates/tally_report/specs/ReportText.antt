@@ -49,7 +49,7 @@ end_word ends.Stopped = codes "stopped"
 end_word ends.Fault = codes "fault"
 end_word ends.Budget = codes "budget"
 
--- what stands ahead of an item's name in a row, and whether its last value is told
+-- the columns ahead of an item's name in a row, and whether its last value is written
 pub record Heading : Type 0 where
   pub run : List ℕ
   pub seed : List ℕ

@@ -8,7 +8,7 @@ pub record IsSmallArea (ticks : ℕ) (area : ℤ) : Type 0 where
   pub above : neg_ℤ (pos (2 ^ 63 * ticks)) ≤ℤ area
   pub below : area ≤ℤ pos ((2 ^ 63 - 1) * ticks)
 
--- what comes of so many runs, each over at most 2^48 ticks and with at most 2^42 notes
+-- items of so many runs, each over at most 2^48 ticks and with at most 2^42 notes
 abbrev pub IsOfRuns : ℕ → Item → Type 0
 IsOfRuns runs (items.Cell span area) = IsSmallArea (2 ^ 48 * runs) area
 IsOfRuns runs (items.Count n) = n ≤ 2 ^ 42 * runs

@@ -1,4 +1,4 @@
--- The tally of a run: what there is to tell of it, from its notes and how it stands alone.
+-- The tally of a run, from its notes and its standing alone.
 use Rattle.std.specs.Prelude.{ℕ, suc, ◌+◌, cond, ◌==◌, List, [], ◌∷◌, ◌++◌, map}
 use Rattle.std.specs.List.{range_with_len}
 use Rattle.model_core.specs.EventGraph.{EventGraph, Watched, WatchedVariable, WatchedVertex}
@@ -11,12 +11,13 @@ use Rattle.tally_report.specs.declared.run_tally.RunEnd.TheVariants as ends
 use Rattle.tally_report.specs.declared.run_tally.RunTally.{RunTally}
 use Rattle.tally_report.specs.CellCourse.{course, span_of, area_of}
 
--- what an item is of: the cell at an index of what stands at a place of the watch list, or the vertex at a place
+-- the subject of an item: the cell at an index of the watched thing at a place of the watch list, or the vertex at a
+-- place
 pub data ItemOf : Type 0 where
   CellAt : ℕ → ℕ → ItemOf
   VertexAt : ℕ → ItemOf
 
--- the items of what stands at a place of the watch list
+-- the subjects of the watched thing at a place of the watch list
 abbrev pub items_at : EventGraph → ℕ → Watched → List ItemOf
 items_at g place (WatchedVariable v) = map (CellAt place) (range_with_len 0 (cells_declared g v))
 items_at g place (WatchedVertex v) = VertexAt place ∷ []
@@ -35,7 +36,7 @@ occurrences place [] = 0
 occurrences place (At time values ∷ notes) = occurrences place notes
 occurrences place (On time at values ∷ notes) = cond (place == at) 1 0 + occurrences place notes
 
--- what is told of an item
+-- the item of a subject
 abbrev pub item_told : EventGraph → List Note → ℕ → ItemOf → Item
 item_told g notes end (CellAt place index) = items.Cell (span_of (course g place index notes)) (area_of (course g place index notes) end)
 item_told g notes end (VertexAt place) = items.Count (occurrences place notes)

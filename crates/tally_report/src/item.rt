@@ -15,7 +15,7 @@ pub struct Span {
     pub last: i64,
 }
 
-/// What is told of something that is watched.
+/// The item of a watched cell or vertex.
 #[derive(Clone, Copy, Debug, PartialEq, Eq)]
 pub enum Item {
     /// A cell: its values, `None` where none was noted, and the sum of value times duration in ticks.

@@ -1,4 +1,4 @@
-//! Replications as a report: what is told of one run, the totals of many, and both as rows of a table.
+//! Replications as a report: the tally of one run, the totals of many, and both as rows of a table.
 #![tactic(auto)]
 
 mod item;

@@ -12,7 +12,7 @@ use itoa::Buffer;
 use sig_base::NoMemory;
 use std::alloc::Global;
 
-/// What stands ahead of an item's name in a row, and whether its last value is told.
+/// The columns ahead of an item's name in a row, and whether its last value is written.
 #[derive(Clone, Copy)]
 pub(crate) struct RowHead<'b> {
     pub run: &'b [u8],
@@ -22,7 +22,7 @@ pub(crate) struct RowHead<'b> {
     pub last: bool,
 }
 
-/// A number in decimal, where it is told.
+/// A number in decimal, if it is to be written.
 fn digits_if(buffer: &mut Buffer, told: bool, value: i64) -> &[u8]
     ensures { result.now ≡ cond told (signed_decimal value) [] }
 {

@@ -1,4 +1,4 @@
-//! What is told of one run.
+//! The tally of one run.
 
 use crate::item::Item;
 use sig_base::List;
@@ -16,8 +16,8 @@ pub enum RunEnd {
     Budget,
 }
 
-/// What is told of one run: its end with the time in ticks, and an item for each watched cell or vertex, in the order of the
-/// watch list.
+/// The tally of one run: its end with the time in ticks, and an item for each watched cell or vertex, in the order of
+/// the watch list.
 #[derive(Drop)]
 pub struct RunTally {
     pub end: RunEnd,

@@ -33,7 +33,7 @@ fn cells_there(state: &State, watch: Watch) -> &[i64]
     }
 }
 
-/// The values of a state that are noted of what stands at a place of the watch list.
+/// The noted values of a state, of the watched thing at a place of the watch list.
 fn cells_at<'s>(model: &Model, state: &'s State, place: usize) -> &'s [i64]
     ensures { result.now ≡ cells_noted (map watched_of model.now.watch) (watched_values (map watched_of model.now.watch) state.now) place }
 {

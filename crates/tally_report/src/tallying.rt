@@ -1,4 +1,4 @@
-//! The tally of one run: what is told of it, kept as running sums while it goes.
+//! The tally of one run, kept as running sums while the run goes.
 
 ghost use Rattle.std.specs.Prelude.{◌≡◌, ℕ, ℤ, List as Sequence, None, ◌≤◌, ◌^◌, All, IfOk, IfErr, IsTrue};
 ghost use Rattle.model_core.specs.Run.History.{look, look_from, allowed};
@@ -75,8 +75,8 @@ fn follow<'m>(
     }
 }
 
-/// The tally of the run of a model with a seed, up to a stop time in ticks and for at most so many events, that begins with
-/// these starting values, one for each parameter of the first vertex. An error tells why the run can't begin.
+/// The tally of the run of a model with a seed, up to a stop time in ticks and for at most so many events, that begins
+/// with these starting values, one for each parameter of the first vertex. An error says why the run can't begin.
 pub fn tally_one(
     alloc: Global,
     model: &Model,

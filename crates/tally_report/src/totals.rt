@@ -14,7 +14,7 @@ use sig_base::NoMemory;
 use std::alloc::Global;
 use std::marker::Model;
 
-/// What runs of a model come to together: how many there were, the least of the least values, the greatest of the greatest
+/// The totals of runs of a model: how many there were, the least of the least values, the greatest of the greatest
 /// ones, and the sums of areas and counts.
 #[derive(Drop)]
 pub struct Totals {

@@ -1,4 +1,4 @@
--- What is put behind what was put before.
+-- Texts that are put after what was put before.
 use Rattle.std.proofs.Common.{◌≡◌, ℕ, List, ◌++◌, Result, Ok, Err, ◌∙◌, ap, append_assoc}
 use Rattle.std.specs.Prelude.{OnOk}
 

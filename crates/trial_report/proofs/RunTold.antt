@@ -1,4 +1,4 @@
--- What is told of a run that was followed from its beginning.
+-- The measure of a run that was followed from its beginning.
 use Rattle.std.proofs.Common.{◌≡◌, ℕ, ◌+◌, ◌-◌, ◌^◌, ◌<◌, ◌≤◌, List, [], ◌++◌, length, Option, None, refl, sym, ap, ap₂, ◌∙◌, subst, append-nil, arith}
 use Rattle.model_core.specs.declared.model.Model.{Model}
 use Rattle.model_core.specs.Run.Step.{Configuration}
@@ -22,7 +22,7 @@ module _ (until events : ℕ) (r later : Running) (t after : Tracing) (from : r.
   abbrev Steps : ℕ → Moment → ℕ
   Steps = steps_made (next_move (graph_of r.model) r.seed until)
 
-  -- where none is made of the steps left, those that led here are all
+  -- where no step is left to make, those that led here are all
   all-steps : (k n : ℕ) (here : Moment) → Steps events (moment_of r t) ≡ k + Steps n here → Steps n here ≡ 0 → Steps events (moment_of r t) ≡ k
   all-steps k n here e none = e ∙ ap (λ x. k + x) none ∙ omega arith
 
@@ -64,7 +64,7 @@ module _ (until events : ℕ) (r later : Running) (t after : Tracing) (from : r.
   completed-so outcomes.WriteFault rest well roomy p = absurd (well refl)
   completed-so outcomes.NoMemory rest well roomy p = absurd (roomy refl)
 
--- a run that stands at its beginning, with a tracer that noted nothing
+-- a run at its beginning, with a tracer that noted nothing
 at-start : (m : Model) (seed room : ℕ) (r : Running) (t : Tracing) → BegunRun m seed [] room r → t.noted ≡ None → moment_of r t ≡ start (graph_of r.model) []
 at-start m seed room r t begun noted =
     let moment : Configuration → Option _ → Moment = λ c n. record { now = c; noted = n } in

@@ -1,4 +1,4 @@
--- The line of a measure is that of the run of which it tells.
+-- The line of a measure is the line of the run that was measured.
 use Rattle.std.proofs.Common.{◌≡◌, ℕ, ◌-◌, List, [], ◌∷◌, ◌++◌, length, length-append, map, take, codes, decimal, refl, sym, ap, ◌∙◌, arith}
 use Rattle.std.proofs.Math.Seq.{take-append_seam}
 use Rattle.model_core.specs.EventGraph.{EventGraph}

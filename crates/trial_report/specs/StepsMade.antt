@@ -4,7 +4,7 @@ use Rattle.model_core.specs.EventGraph.{EventGraph}
 use Rattle.model_core.specs.Run.Machine.{Move, Rests, Fails, Goes}
 use Rattle.model_core.specs.Run.History.{next_move, start}
 
--- a move that goes on is a step, with those after it. So is one that fails, the last; a rest takes none
+-- a move that goes on is a step, with those after it. One that fails is a step too, the last; a rest takes none
 abbrev pub steps_behind : {S : Type 0} → (S → ℕ) → Move S → ℕ
 steps_behind later (Rests notes end) = 0
 steps_behind later (Fails notes end) = 1

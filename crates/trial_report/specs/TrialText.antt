@@ -1,5 +1,5 @@
--- What comes of a model that a number makes: how large it is, what is left of it when it is reduced, and how a run of each
--- goes.
+-- The summary of a model that a number makes: how large it is, what is left of it when it is reduced, and how a run of
+-- each goes.
 use Rattle.std.specs.Prelude.{◌≡◌, ℕ, ◌-◌, List, [], ◌++◌, length, take, codes, decimal}
 use Rattle.std.specs.List.{sum_by}
 use Rattle.model_core.specs.EventGraph.{EventGraph, EventVertex}
@@ -25,14 +25,14 @@ applications_line n = codes "applications " ++ decimal n ++ codes "\n"
 abbrev pub without_feed : List ℕ → List ℕ
 without_feed line = take (length line - 1) line
 
--- how a run without starting values stands after at most so many steps, how many of them it made, and how many notes its
--- history has
+-- the standing of a run without starting values after at most so many steps, how many of them it made, and how many
+-- notes its history has
 abbrev pub run_line : List ℕ → EventGraph → ℕ → ℕ → ℕ → List ℕ
 run_line name g seed until events =
     let seen = look g seed [] until events in
     name ++ codes " " ++ without_feed (end_line until events seen.standing) ++ codes " events " ++ decimal (steps_of_run g seed [] until events) ++ codes " notes " ++ decimal (length seen.history) ++ codes "\n"
 
--- what there is to tell of a model that is reduced by so many applications, behind how large it is
+-- the lines of a model that is reduced by so many applications, after those of its size
 abbrev pub reduction_lines : EventGraph → EventGraph → ℕ → ℕ → ℕ → ℕ → List ℕ
 reduction_lines original reduced applications seed until events =
     size_line (codes "reduced") reduced ++ applications_line applications
@@ -43,7 +43,7 @@ abbrev pub summary : EventGraph → EventGraph → ℕ → ℕ → ℕ → ℕ �
 summary original reduced applications seed until events =
     size_line (codes "original") original ++ reduction_lines original reduced applications seed until events
 
--- the summary of the model that the number makes and of what the strategy makes of it
+-- the summary of the model that the number makes and of the strategy's result on it
 pub record Summarises (seed vertices until events : ℕ) (out : List ℕ) : Type 0 where
   pub applications : List RuleApplication
   pub reduced : EventGraph

@@ -1,4 +1,4 @@
-//! What comes of a model that a number makes, as a text: how large it is, what is left of it when it is reduced, and how a run
+//! The summary of a model that a number makes: how large it is, what is left of it when it is reduced, and how a run
 //! of each goes.
 #![tactic(auto)]
 

@@ -54,7 +54,7 @@ pub(crate) fn put_applications(out: &mut Vec<u8>, applications: usize) -> Result
     put_bytes(out, b"\n")
 }
 
-/// Puts how a run stands, as its end line has it.
+/// Puts the standing of a run, as its end line has it.
 fn put_standing(
     out: &mut Vec<u8>,
     until: u64,

@@ -1,4 +1,4 @@
-//! A trial: a model is made of a number, reduced, and both are run.
+//! A trial: a number makes a model, the model is reduced, and both are run.
 
 ghost use Rattle.std.specs.Prelude.{◌≡◌, ◌≤◌, ◌^◌, [], ◌++◌, length, OnOk, IfOk};
 ghost use Rattle.model_core.specs.EventGraph.{EventGraph};
@@ -58,9 +58,9 @@ fn put_reduction(
     put_run_of(alloc, out, b"reduced", &reduced.model, seed, until, events)
 }
 
-/// The summary of a trial: how large the model is that a seed makes with so many vertices, how large what it is reduced to, by
-/// how many applications of rules; and of a run of each with this seed, up to a stop time in ticks and for at most so many
-/// events, how it stands then, how many steps it made, and how many notes its history has.
+/// The summary of a trial: how large the model is that a seed makes with so many vertices, how large what it is reduced
+/// to, by how many applications of rules; and of a run of each with this seed, up to a stop time in ticks and for at
+/// most so many events, its standing then, how many steps it made, and how many notes its history has.
 pub fn trial_text(
     alloc: Global,
     seed: u64,

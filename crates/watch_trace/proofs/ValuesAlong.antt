@@ -6,7 +6,7 @@ use Rattle.model_core.specs.Run.Pending.{same_values}
 use Rattle.run_laws.proofs.CutUp.{same-append}
 
 module _ {X Y : Type 0} (f : Y → List ℤ) (view : X → Y) (xs : List X) (i : ℕ) (d : X) (below : i < length xs) where
-  -- the values of the next thing, and of those behind it
+  -- the values of the next thing, and of those after it
   next-values : flat_map f (map view (drop i xs)) ≡ f (view (get_or xs i d)) ++ flat_map f (map view (drop (i + 1) xs))
   next-values = rw (add-one, drop-cons xs i d) refl
 

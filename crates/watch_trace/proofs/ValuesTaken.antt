@@ -7,7 +7,8 @@ use borrow.Rule.Slice.PartMut.{mid_of, put_mid, mid_len, same_len_mid}
 use Rattle.model_core.specs.Run.Pending.{same_values}
 use Rattle.watch_trace.proofs.ValuesAlong.{enough, first_and_rest}
 
--- the values of the first i things stand in front, up to this place, and the others are as they were; whether the first ones are new is told
+-- the values of the first i things are in front, up to this place, and the others are as they were; it is known whether
+-- the first ones are new
 pub record TakenAlong {X Y : Type 0} (f : Y → List ℤ) (view : X → Y) (xs : List X) (i from : ℕ) (initial values : List ℤ) (new : Bool) : Type 0 where
   pub front : take from values ≡ flat_map f (map view (take i xs))
   pub rest : drop from values ≡ drop from initial

@@ -60,7 +60,7 @@ fn place_of(watch: &[Watch], vertex: usize) -> Option<usize>
     None
 }
 
-/// Whether the clock leaves its time before a run's next turn, of whose event this is told.
+/// Whether the clock leaves its time before a run's next turn. `next` is the run's next event.
 pub fn leaves_time<'m, P: Pending>(run: &Run<'m, P>, next: Option<First>, until: u64) -> bool
     requires { next ≡ told_next run.now None }
     ensures { result ≡ leaves_time run.now.now.clock until (next_entry run.now.now.pending) }
@@ -138,7 +138,7 @@ impl<'m> LastNotes<'m> {
         self.noted = true;
     }
 
-    /// Whether an `at` note is due before the run's next turn, of whose event this is told.
+    /// Whether an `at` note is due before the run's next turn. `next` is the run's next event.
     pub fn leaving<P: Pending>(&self, run: &Run<'m, P>, next: Option<First>, until: u64) -> bool
         requires one_model { self.now.model ≡ run.now.model }
         requires told { next ≡ told_next run.now None }

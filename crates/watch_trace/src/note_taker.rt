@@ -1,4 +1,4 @@
-//! What takes the notes of a run, one after the other: a line for each to a sink, or whatever is made of them.
+//! Takers of a run's notes, one note after the other: a line to a sink, a count, or any other.
 
 ghost use Rattle.std.specs.Prelude.{◌≡◌, Bool, List, [], ◌∷◌, ◌++◌, map};
 ghost use Rattle.model_core.specs.EventGraph.{EventGraph};
@@ -9,7 +9,7 @@ ghost use Rattle.model_core.specs.Code.Views.{graph_of, watched_of};
 use model_core::Model;
 use sig_expr::State;
 
-/// What takes notes, and may put what it makes of them onto something else.
+/// A taker of notes, which may put what it builds from them onto something else.
 pub trait NoteTaker<K> {
     // The second pair is what the first becomes where these notes of a run of the model are taken.
     ghost takes: { EventGraph → List Note → (Self × K) → (Self × K) → Type 0 };
@@ -21,7 +21,7 @@ pub trait NoteTaker<K> {
     fn take_at(&mut self, onto: &mut K, model: &Model, state: &State, time: u64)
         ensures { takes (graph_of model.now) (At time (watched_values (map watched_of model.now.watch) state.now) ∷ []) (self.old, onto.old) (self.new, onto.new) };
 
-    /// Takes the note that an event occurred at this time and left this state, whose vertex stands at a place of the watch
+    /// Takes the note that an event occurred at this time and left this state. Its vertex is at a place of the watch
     /// list.
     fn take_on(&mut self, onto: &mut K, model: &Model, state: &State, time: u64, place: usize)
         ensures { takes (graph_of model.now) (On time place (watched_values (map watched_of model.now.watch) state.now) ∷ []) (self.old, onto.old) (self.new, onto.new) };

@@ -1,4 +1,4 @@
-//! What stands in each line of a history, added to its bytes at once: room is asked for once, and not for each byte.
+//! Pieces that each line of a history has, added to its bytes at once: room is asked for once, and not for each byte.
 
 ghost use Rattle.std.specs.Prelude.{◌≡◌, ◌+◌, ◌≤◌, ◌∷◌, ◌++◌, length, OnOk, OnErr, codes, decimal, vec_len, vec_capacity};
 ghost use Rattle.std.specs.Fmt.{signed_decimal};
@@ -86,7 +86,7 @@ pub fn add_head(bytes: &mut Vec<u8>, first: u8, second: u8, number: u64) -> Resu
     Ok(())
 }
 
-/// Adds a name and a value, behind a space. Adds nothing where memory for them is refused.
+/// Adds a name and a value, after a space. Adds nothing where memory for them is refused.
 #[inline(always)]
 pub fn add_cell(bytes: &mut Vec<u8>, name: &[u8], value: i64) -> Result<(), NoMemory>
     ensures ok { OnOk result (bytes.new.items ≡ bytes.old.items ++ (codes " " ++ name.now ++ codes "=" ++ signed_decimal value)) }

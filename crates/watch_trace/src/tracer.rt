@@ -13,7 +13,7 @@ use sig_base::NoMemory;
 use std::alloc::Global;
 use std::marker::Model;
 
-/// Tells which note of a run's history is due, and keeps the values of the last `at` note.
+/// Says which note of a run's history is due, and keeps the values of the last `at` note.
 #[derive(Drop)]
 pub struct Tracer<'m> {
     pub(crate) last_notes: LastNotes<'m>,
@@ -39,7 +39,8 @@ impl<'m> Tracer<'m> {
     ghost use Rattle.model_core.specs.Run.Pending.{next_entry};
     ghost use Rattle.watch_trace.specs.Tracing.{leaves_time, is_new, place_of_turn};
 
-    /// A tracer that has noted nothing. The memory for what it notes is taken here; lines take theirs as they are written.
+    /// A tracer that has noted nothing. The memory for what it notes is taken here; lines take theirs as they are
+    /// written.
     pub fn begin(alloc: Global, model: &'m Graph) -> Result<Tracer<'m>, NoMemory>
         ensures { IfOk result (λ tracer. tracer ≡ record { model = model.now; noted = None }) }
     {

@@ -1,4 +1,4 @@
-//! A run is followed, and its steps are counted by nobody.
+//! Follows a run without counting key comparisons.
 
 ghost use Rattle.std.specs.Prelude.{◌≡◌, ◌+◌, ◌<◌, ◌≤◌, ◌^◌, None};
 ghost use Rattle.watch_trace.specs.Inner.MadeMoves.{Came};

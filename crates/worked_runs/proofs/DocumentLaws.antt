@@ -1,4 +1,4 @@
--- What is computed of a certificate and of a document is what their grammar and the static rules say of them.
+-- A certificate and a document as computed, and by their grammar and the static rules.
 use Rattle.std.proofs.Common.{◌≡◌, ℕ, ◌≤◌, List, [], refl, sym, subst, ◌∙◌}
 use Rattle.std.specs.Prelude.{Option, Some, None, Result, Ok, Err}
 use Rattle.sig_base.specs.declared.limits.TheConstants.{DOCUMENT_MAX, OPENINGS_MAX}
@@ -35,7 +35,7 @@ no_certificate {text} {at} e = go (tokens_of text) refl e
     go (Ok tokens) cut e = record { tokens = tokens; cut = cut; wrong = stuck_at text tokens at (certificate_parse tokens) refl e }
     go (Err k) cut e = absurd cc
 
--- a written model is accepted as the model that its names name, where no fault is told
+-- a written model is accepted as the model that its names name, where it has no fault
 accepted-as : ((m : WrittenModel) → told_fault m ≡ None → (g : EventGraph) × Accepted m g) → (m : WrittenModel) (g : EventGraph) → told_fault m ≡ None → numbered m ≡ Some g → Accepted m g
 accepted-as accepts m g none is =
     let (h, accepted) = accepts m none in

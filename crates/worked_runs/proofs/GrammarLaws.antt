@@ -1,4 +1,4 @@
--- What is computed of a text is what the grammar says of it.
+-- A text as computed, and by the grammar.
 use Rattle.std.proofs.Common.{◌≡◌, ℕ, true, List, [], ◌∷◌, refl, ap, subst}
 use Rattle.std.specs.Prelude.{Option, Some, None, is_some, Result, Ok, Err}
 use Rattle.std.proofs.lemmas.Option.{same_Some}

@@ -1,4 +1,4 @@
--- What follows where two machines show the same: how they end, and what they show.
+-- Two machines that show the same: how they end, and what they show.
 use Rattle.std.proofs.Common.{◌≡◌, ℕ, zero, suc, ◌<◌, ◌≤◌, ◌^◌, ℤ, IsTrue, List, [], ◌∷◌, map, false, nat_lt, refl, sym, ◌∙◌, ap, subst, arith}
 use Rattle.std.proofs.lemmas.Bool.{le-ltb}
 use Rattle.model_core.specs.EventGraph.{EventGraph}
@@ -28,7 +28,7 @@ one_end f zero (suc k) s a b = sym (rested (look_of f k) (f s) a)
 one_end f (suc n) zero s a b = rested (look_of f n) (f s) b
 one_end f (suc n) (suc k) s a b = same_after_move (look_of f n) (look_of f k) (f s) (one_end f n k) a b
 
--- a machine that comes back to where it stands, and shows nothing, goes on for ever and shows nothing
+-- a machine that comes back to where it is, and shows nothing, goes on for ever and shows nothing
 pub circles : {S : Type 0} (f : S → Move S) (s : S) → f s ≡ Goes [] s → (n : ℕ) → look_of f n s ≡ record { history = []; standing = Going }
 circles f s e zero = ap before e
 circles f s e (suc n) = ap (after (look_of f n)) e ∙ ap (ahead []) (circles f s e n)
@@ -53,7 +53,7 @@ both_finish_only first second same m fin going =
     let (n, e) = same.finishes_only m fin in
     unfinished (first n) (going n) (subst (λ (l : Look). IsTrue (finished l.standing)) (sym e) fin)
 
--- what one shows isn't missing in each look at the other
+-- a note that one shows isn't missing in each look at the other
 pub both_show : (first second : ℕ → Look) → SameLooks first second → (n : ℕ) → ((m : ℕ) → Begins (first n).history (second m).history → ⊥) → ⊥
 both_show first second same n missing =
     let (m, le, begins) = same.shows n in missing m begins

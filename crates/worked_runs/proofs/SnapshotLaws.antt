@@ -1,4 +1,4 @@
--- What is computed of a snapshot's text is what its grammar says of it.
+-- A snapshot's text as computed, and by its grammar.
 use Rattle.std.proofs.Common.{◌≡◌, ℕ, true, List, refl, subst}
 use Rattle.std.specs.Prelude.{Some, Result, Ok, Err}
 use Rattle.model_core.specs.Text.Lexing.{Lexeme, tokens_of}

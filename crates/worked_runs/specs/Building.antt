@@ -74,7 +74,7 @@ x_watched = WatchedVariable 0 ∷ []
 abbrev pub scalars : List ℕ → List (List ℤ)
 scalars values = map (λ x. pos x ∷ []) values
 
--- what is seen: these notes, and how the run stands
+-- the look: these notes, and the standing of the run
 abbrev pub showing : List Note → Standing → Look
 showing notes standing = record { history = notes; standing = standing }
 

@@ -9,7 +9,7 @@ use Rattle.text_laws.specs.LanguageReader.{language_reader}
 use Rattle.worked_runs.specs.Building.{event}
 use Rattle.worked_runs.specs.GrammarTexts.{place_stuck}
 
--- a text is no certificate, and this is the place that is told
+-- a text is no certificate, and is refused at this place
 pub record IsNoCertificateText (text : List ℕ) (at : ℕ) : Type 0 where
   pub tokens : List Lexeme
   pub cut : tokens_of text ≡ Ok tokens

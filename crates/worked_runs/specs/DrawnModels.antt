@@ -17,8 +17,8 @@ one_to_six = Uniform (pos 1) (pos 6)
 abbrev pub below_zero : Choice
 below_zero = Uniform (negsuc 5) (negsuc 0)
 
--- RUN counts N, and has these edges. The vertices are RUN, A and B, of which A and B are watched behind N. The table has 8 and
--- 2, each as often
+-- RUN counts N, and has these edges. The vertices are RUN, A and B, of which A and B are watched after N. The table has
+-- 8 and 2, each as often
 abbrev pub arriving : List EventEdge → EventGraph
 arriving edges = record {
   name = codes "DELAY";

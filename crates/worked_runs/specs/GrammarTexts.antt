@@ -1,4 +1,4 @@
--- What a text spells by the grammar, and how that is computed.
+-- Texts that spell by the grammar, and how that is computed.
 use Rattle.std.specs.Prelude.{◌≡◌, ℕ, List, [], Option, Some, None, Result, Ok, Err}
 use Rattle.model_core.specs.Text.Lexing.{Lexeme, tokens_of}
 use Rattle.model_core.specs.Text.Written.{WrittenModel}
@@ -21,13 +21,13 @@ pub record IsModelText (text : List ℕ) : Type 0 where
   pub model : WrittenModel
   pub spelled : IsSpelled text_format text model
 
--- a text is no model's, and this is the place that is told
+-- a text is no model's, and is refused at this place
 pub record IsRefusedAt (text : List ℕ) (at : ℕ) : Type 0 where
   pub tokens : List Lexeme
   pub cut : tokens_of text ≡ Ok tokens
   pub unexpected : IsUnexpectedAt text tokens at
 
--- the same of the tokens up to and with the first word `end`
+-- this for the tokens up to and with the first word `end`
 pub record IsFrontRefusedAt (text : List ℕ) (at : ℕ) : Type 0 where
   pub tokens : List Lexeme
   pub cut : tokens_of text ≡ Ok tokens

@@ -1,4 +1,4 @@
--- Saved runs of the harbour: their snapshots, and the moments at which they stood.
+-- Saved runs of the harbour: their snapshots, and their moments.
 use Rattle.std.specs.Prelude.{ℕ, ℤ, pos, neg_ℤ, List, [], ◌∷◌, replicate, slice_set, Some, None, codes}
 use Rattle.model_core.specs.Run.Pending.{Entry}
 use Rattle.model_core.specs.Run.History.{Moment}
@@ -12,7 +12,7 @@ use Rattle.worked_runs.specs.WrittenSnapshots.{words_of, value_part, noted_part,
 abbrev pub taken_from_three : ℕ → ℕ → ℕ → List ℕ
 taken_from_three first second third = slice_set (slice_set (slice_set (replicate 64 0) 0 first) 54 second) 63 third
 
--- the seed is 3 * 2^32 + 7, and the event that is next stands last
+-- the seed is 3 * 2^32 + 7, and the event that is next is last in the list
 abbrev pub two_pending : WrittenSnapshot
 two_pending = record (numbered_so (figure 3 14) (figure 7 16) (figure 5 24) (figure 2 37)) {
   streams = words_of 40 0 4 ∷ words_of 50 54 2 ∷ words_of 55 63 9 ∷ [];
@@ -46,7 +46,7 @@ two_events_saved = record {
 abbrev pub two_events_due : SavedRun
 two_events_due = record two_events_saved { pending = a_due 5 9 (pos 0 ∷ neg_ℤ (pos 2) ∷ []) ∷ due 5 255 0 ∷ a_due 11 0 least_and_four ∷ [] }
 
--- where that run stood
+-- the moment of that run
 abbrev pub two_events_moment : Moment
 two_events_moment = record {
   now = record {

@@ -1,4 +1,4 @@
--- Written models and models that pass a limit of version 1 behind parts that don't.
+-- Written models and models that pass a limit of version 1 after parts that don't.
 use Rattle.std.specs.Prelude.{ℕ, ◌+◌, List, [], ◌∷◌, ◌++◌, Option, Some, None, codes, replicate}
 use Rattle.model_core.specs.EventGraph.{EventGraph, Set, EventEdge, scalar_location}
 use Rattle.model_core.specs.Text.Written as written
@@ -17,7 +17,7 @@ set_of others last = written.Set 40 (replicate others (storing (codes "N") 44) +
 abbrev pub of_vertices_saying : Option WrittenNumber → List WrittenVertex → WrittenModel
 of_vertices_saying version vertices = record (saying version (n_variable ∷ [])) { vertices = vertices }
 
--- a `set` of so many targets, of which the ninth stands at byte 54
+-- a `set` of so many targets, of which the ninth is at byte 54
 abbrev pub of_targets : Option WrittenNumber → ℕ → WrittenModel
 of_targets version count = of_vertices_saying version (run_at 27 (written.Set 40 (replicate count (storing (codes "N") 54)) (replicate count (constant 1 70)) ∷ []) [] ∷ [])
 
@@ -33,8 +33,8 @@ everything version = record (saying version (array_at 9 4096 ∷ array_at 40 409
       ∷ with_parameters (replicate 9 (spelled (codes "N") 238)) (run_at 227 (set_of 7 60 ∷ set_of 8 254 ∷ []) (leading 280 (spelled (codes "RUN") 287) written.Urgent ∷ drawn_loop ∷ [])) ∷ [];
 }
 
--- a model whose second array has so many cells, and whose second vertex has so many parameters, as its second change a `set` of so
--- many targets, and these edges
+-- a model whose second array has so many cells, and whose second vertex has so many parameters, as its second change a
+-- `set` of so many targets, and these edges
 abbrev pub parts_behind : ℕ → ℕ → ℕ → List EventEdge → EventGraph
 parts_behind cells parameters targets edges = record {
   name = codes "W";

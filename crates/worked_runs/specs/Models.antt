@@ -212,7 +212,8 @@ bad_index_and_value = Set (at_cell 1 (whole 2) ∷ []) (one_over_zero ∷ [])
 abbrev pub bad_indexes : Expression → Expression → StateChange
 bad_indexes one other = Set (at_cell 1 one ∷ at_cell 1 other ∷ []) (whole 1 ∷ whole 2 ∷ [])
 
--- the first event takes these two variables and has these edges to B. The second one is watched before the first, and B behind them
+-- the first event takes these two variables and has these edges to B. The second one is watched before the first, and B
+-- after them
 abbrev pub taking_two : Variable → Variable → List EventEdge → EventGraph
 taking_two x y edges = record {
   name = codes "TAKES";

@@ -1,4 +1,4 @@
--- Moments of the clock that counts, and how a run of one scalar may stand.
+-- Moments of the clock that counts, and of a run of one scalar.
 use Rattle.std.specs.Prelude.{ℕ, ◌+◌, List, [], ◌∷◌, replicate, slice_set, Some}
 use Rattle.model_core.specs.Run.Pending.{Entry}
 use Rattle.model_core.specs.Run.Step.{Configuration}
@@ -9,7 +9,7 @@ use Rattle.worked_runs.specs.Building.{scalars}
 abbrev pub next_count : ℕ → Entry
 next_count time = record { time = time + 5; priority = 5; vertex = 0; values = [] }
 
--- at this time N has this value, and the last note told that one
+-- at this time N has this value, and the last note had that one
 abbrev pub counted_to : ℕ → ℕ → ℕ → Moment
 counted_to time n last =
     let now : Configuration = record { clock = time; state = scalars (n ∷ []); taken = replicate 64 0; pending = next_count time ∷ [] } in

@@ -63,7 +63,7 @@ one_draw = record (two_draws 53) {
 abbrev pub growing : EventGraph
 growing = unfaulting x_watched [] (set 1 (plus_one 1) ∷ both_grow ∷ []) []
 
--- what is left of it: X grows
+-- the model that is left of it: X grows
 abbrev pub x_alone : EventGraph
 x_alone = record growing {
   variables = clipped_one (codes "X") ∷ [];
@@ -77,7 +77,7 @@ x_alone = record growing {
 abbrev pub two_carried : EventGraph
 two_carried = unfaulting [] (1 ∷ []) [] (plain_edge Urgent 0 (Scalar 1 ∷ []) ∷ schedule_with 1 3 5 ∷ plain_edge CancelEqual 0 (Scalar 1 ∷ []) ∷ [])
 
--- what is left of it: A takes nothing, and nothing is carried to it
+-- the model that is left of it: A takes nothing, and nothing is carried to it
 abbrev pub one_carried : EventGraph
 one_carried = record two_carried {
   variables = clipped_one (codes "Y") ∷ [];

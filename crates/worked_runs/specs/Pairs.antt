@@ -1,4 +1,4 @@
--- Models two by two, which differ in one thing, and what it is that sameness tells two models apart.
+-- Models two by two, which differ in one thing, and the feature by which sameness distinguishes two models.
 use Rattle.std.specs.Prelude.{ℕ, List, [], ◌∷◌, codes}
 use Rattle.model_core.specs.EventGraph.{EventGraph, Variable, Expression, Scalar, Binary, Equal, And, StateChange, EventEdge, EventVertex, Watched, WatchedVertex}
 use Rattle.model_core.specs.Run.Same.{Same}
@@ -12,7 +12,7 @@ Apart g h = (Same g h → ⊥) × (Same h g → ⊥)
 abbrev pub small : List Variable → List Watched → List EventVertex → EventGraph
 small variables watch vertices = record { name = codes "SMALL"; variables = variables; tables = []; watch = watch; vertices = vertices }
 
--- ---- how a run stands from clock 5 on
+-- ---- a run's standing from clock 5 on
 
 -- A comes at this time, makes these changes of X and has these edges. Nothing is watched
 abbrev pub coming_at : ℕ → List StateChange → List EventEdge → EventGraph

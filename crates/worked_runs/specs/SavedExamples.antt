@@ -1,10 +1,10 @@
--- What is saved of the clock that counts, and pending events of several times and priorities.
+-- Snapshots of the clock that counts, and pending events of several times and priorities.
 use Rattle.std.specs.Prelude.{ℕ, pos, List, [], ◌∷◌, replicate, Some}
 use Rattle.model_core.specs.Run.Pending.{Entry}
 use Rattle.model_core.specs.Saved.SavedRun.{SavedRun}
 use Rattle.worked_runs.specs.Moments.{next_count}
 
--- saved after two events, as N is 2 and the last note told 1
+-- saved after two events, as N is 2 and the last note had 1
 abbrev pub saved_clock : SavedRun
 saved_clock = record {
   seed = 42;

@@ -6,7 +6,7 @@ use Rattle.text_laws.specs.FormatReader.{and_next, whole_read}
 use Rattle.text_laws.specs.LanguageReader.{language_reader}
 use Rattle.worked_runs.specs.GrammarTexts.{place_stuck}
 
--- a text is no snapshot, and this is the place that is told
+-- a text is no snapshot, and is refused at this place
 pub record IsNoSnapshotText (text : List ℕ) (at : ℕ) : Type 0 where
   pub tokens : List Lexeme
   pub cut : tokens_of text ≡ Ok tokens

@@ -25,7 +25,7 @@ shortest = record {
   end_at = 33;
 }
 
--- two parts of each kind that may stand more than once, with leading zeros and blanks where they may be
+-- two parts of each kind that may occur more than once, with leading zeros and blanks where they may be
 abbrev pub each_part_text : List ℕ
 each_part_text =
     until_streams ++ codes "stream 007 1 stream 3 2\nvalue N -5 value A 1 , -0,02 noted 1,-1\n"

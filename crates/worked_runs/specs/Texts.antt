@@ -5,7 +5,7 @@ use Rattle.model_core.specs.EventGraph.{Operator, Equal, NotEqual, Below, AtMost
 use Rattle.model_core.specs.Text.Canonical.{expression_text}
 use Rattle.worked_runs.specs.Building.{whole, at_variable, at_cell}
 
--- the expressions that stand in the texts: `n` is the variable N, and `is_open` is OPEN
+-- the expressions in the texts: `n` is the variable N, and `is_open` is OPEN
 abbrev pub n : Expression
 n = Scalar 0
 

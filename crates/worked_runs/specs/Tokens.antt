@@ -6,7 +6,7 @@ use Rattle.model_core.specs.Text.Lexing.{Lexeme, LexemeKind}
 abbrev pub token : ℕ → ℕ → LexemeKind → Lexeme
 token from to kind = record { from = from; to = to; kind = kind }
 
--- what the tokens of a text are, in turn
+-- the tokens of a text, in turn
 abbrev pub kinds_of : Result (List Lexeme) ℕ → List LexemeKind
 kinds_of (Ok tokens) = map (λ (t : Lexeme). t.kind) tokens
 kinds_of (Err at) = []

@@ -1,4 +1,4 @@
--- A model with two vertices that do the same, and what fusing makes of it.
+-- A model with two vertices that do the same, and the result of fusing it.
 use Rattle.std.specs.Prelude.{List, [], ◌∷◌, codes}
 use Rattle.model_core.specs.EventGraph.{EventGraph, EventVertex, EventEdge, Watched}
 use Rattle.worked_runs.specs.Building.{ranged, clipped, whole, set, plus_one, schedule, event, x_watched}
@@ -24,7 +24,7 @@ twins_with watch more = record {
 abbrev pub twins : EventGraph
 twins = twins_with x_watched []
 
--- A stands for both
+-- A is in place of both
 abbrev pub one_of_twins : EventGraph
 one_of_twins = record twins {
   vertices =

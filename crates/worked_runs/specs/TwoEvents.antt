@@ -1,4 +1,4 @@
--- Models with two events that may be due at once, and how a run stands then.
+-- Models with two events that may be due at once, and the moment of a run then.
 use Rattle.std.specs.Prelude.{ℕ, List, [], ◌∷◌, replicate, slice_set, codes}
 use Rattle.model_core.specs.EventGraph.{EventGraph, Variable, EventVertex, CancelNext, CancelAll}
 use Rattle.model_core.specs.Run.State.{State}

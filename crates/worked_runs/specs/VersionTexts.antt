@@ -6,7 +6,7 @@ use Rattle.model_core.specs.Text.Written.{WrittenNumber, RangeKind, SignedLitera
 use Rattle.worked_runs.specs.Building.{whole}
 use Rattle.worked_runs.specs.WrittenParts.{spelled, figure, plain_figure, run_at, composed}
 
--- an array of so many cells, whose word `var` stands at this byte: `var A[..] : 0..9 = 0;`
+-- an array of so many cells, whose word `var` is at this byte: `var A[..] : 0..9 = 0;`
 abbrev pub array_at : ℕ → ℕ → WrittenVariable
 array_at at cells = record { at = at; name = spelled (codes "A") (at + 4); size = Some (figure cells (at + 6)); kind = RangeKind (plain_figure 0 (at + 15)) (plain_figure 9 (at + 18)) false; initial = SignedLiteral (plain_figure 0 (at + 22)) }
 

@@ -1,4 +1,4 @@
--- What is told of a whole text, and what it is printed as, computed from its bytes.
+-- Whole texts: their first fault, and what they are printed as, computed from their bytes.
 use Rattle.std.specs.Prelude.{ℕ, List, ◌++◌, Option, Some, None, option_map, codes}
 use Rattle.model_core.specs.EventGraph.{EventGraph}
 use Rattle.model_core.specs.Text.Written.{WrittenModel}
@@ -13,7 +13,7 @@ abbrev pub fault_of_read : Option WrittenModel → Option StaticFault
 fault_of_read None = None
 fault_of_read (Some m) = told_fault m
 
--- the static fault that is told of a text
+-- the first static fault of a text
 abbrev pub fault_in : List ℕ → Option StaticFault
 fault_in text = fault_of_read (read_as text_format text)
 

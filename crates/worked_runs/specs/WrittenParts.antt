@@ -19,7 +19,7 @@ huge at = record { value = None; at = at }
 abbrev pub plain_figure : ℕ → ℕ → WrittenSigned
 plain_figure n at = record { at = at; negative = false; number = figure n at }
 
--- a number behind a sign at this byte
+-- a number after a sign at this byte
 abbrev pub minus_figure : ℕ → ℕ → WrittenSigned
 minus_figure n at = record { at = at; negative = true; number = figure n (at + 1) }
 

@@ -38,7 +38,7 @@ event_of_a values = event_part 140 (figure 1 148) (figure 5 150) (codes "A") val
 
 -- ---- snapshots
 
--- the parts of the seed, the clock and the events stand at 9, 20 and 30, and the `end` at 200
+-- the parts of the seed, the clock and the events are at 9, 20 and 30, and the `end` at 200
 abbrev pub numbered_so : WrittenNumber → WrittenNumber → WrittenNumber → WrittenNumber → WrittenSnapshot
 numbered_so seed rest clock events = record {
   seed_at = 9;

@@ -13,7 +13,7 @@ pub fn steps_may_be_fewer()
     ensures not_more_for_ever { Same a_first a_second → ⊥ }
 {}
 
-/// What is due after the last stop time makes no difference.
+/// Events that are due after the last stop time make no difference.
 pub fn later_events_are_unseen()
     ensures { (one other : ℕ) → 2 ^ 48 < one → 2 ^ 48 < other → Same (due_after one) (due_after other) }
 {}

@@ -1,4 +1,4 @@
-//! Models that differ in one thing, and that sameness tells apart.
+//! Models that differ in one thing, and that sameness distinguishes.
 
 ghost use Rattle.std.specs.Prelude.{◌+◌, ◌^◌, [], ◌∷◌, false, codes};
 ghost use Rattle.model_core.specs.EventGraph.{Truth, WatchedVariable, WatchedVertex};
@@ -6,7 +6,7 @@ ghost use Rattle.worked_runs.specs.Building.{ranged, whole, set, schedule};
 ghost use Rattle.worked_runs.specs.Models.{changing, ordering};
 ghost use Rattle.worked_runs.specs.Pairs.{Apart, ends, stops, goes_on, divides, leaves, ends_at_4, divides_at_4, a_first, b_first, silent, watching, watching_two, asking, due_after, taking_x, equals_x, drawing, equals_x_and_y};
 
-/// Runs that end, stop, fail or go on for ever are told apart, although they show the same.
+/// Runs that end, stop, fail or go on for ever are distinguished, although they show the same.
 pub fn ends_tell_apart()
     ensures ended_or_stopped { Apart ends stops }
     ensures ended_or_going_on { Apart ends goes_on }
@@ -19,7 +19,7 @@ pub fn ends_tell_apart()
     ensures failed_earlier { Apart divides_at_4 divides }
 {}
 
-/// Runs that show other notes are told apart, also where they go on for ever.
+/// Runs that show other notes are distinguished, also where they go on for ever.
 pub fn notes_tell_apart()
     ensures another_value { Apart (changing (set 0 (whole 2) ∷ [])) (changing (set 0 (whole 3) ∷ [])) }
     ensures another_order { Apart
@@ -32,7 +32,7 @@ pub fn notes_tell_apart()
     ensures another_order_for_ever { Apart a_first b_first }
 {}
 
-/// What is watched, and with what a run begins, tells apart, although the runs are the same.
+/// The watch list and the parameters of the beginning distinguish models, although the runs are the same.
 pub fn declarations_tell_apart()
     ensures variable_or_vertex { Apart
         (watching (codes "X") (codes "A") (WatchedVariable 0 ∷ []))
@@ -54,7 +54,8 @@ pub fn declarations_tell_apart()
     ensures greatest_of_a_parameter { Apart (asking (ranged (codes "X") 0 9 0)) (asking (ranged (codes "X") 0 8 0)) }
 {}
 
-/// One run is enough, also at the last stop time, with the first or the last seed, or with a value at the end of a range.
+/// One run is enough, also at the last stop time, with the first or the last seed, or with a value at the end of a
+/// range.
 #[tactic(auto, unfolding(rand_pcg::specs::Lcg::state_after))]
 pub fn one_run_tells_apart()
     ensures last_stop_time { Apart (due_after (2 ^ 48)) (due_after (2 ^ 48 + 1)) }

@@ -77,7 +77,7 @@ pub fn comparisons_go_by_ends()
     ensures truths_different { seen_bounds (Binary NotEqual (Truth true) (Truth false)) ≡ only_true }
 {}
 
-/// What is never evaluated counts for nothing.
+/// A part that is never evaluated counts for nothing.
 pub fn branches_not_taken_count_for_nothing()
     ensures opposite { seen_bounds (Not (Truth true)) ≡ only_false }
     ensures and { seen_bounds (Binary And b (Truth true)) ≡ either_truth }

@@ -18,7 +18,7 @@ pub fn certificates_are_spelled()
     ensures too_large { IsSpelled certificate_format (codes "certificate prune A 9223372036854775808 end") (Prune (codes "A") 0 ∷ []) }
 {}
 
-/// What is no certificate is refused at the first token that can't stand where it stands, or at its end.
+/// A text that is no certificate is refused at the first token that can't be there, or at its end.
 pub fn certificates_are_refused()
     ensures empty { IsNoCertificateText [] 0 }
     ensures no_end { IsNoCertificateText (codes "certificate prune RUN 1") 23 }

@@ -1,4 +1,4 @@
-//! What changes do: stores on the state before, and draws.
+//! Changes: stores on the state before, and draws.
 
 ghost use Rattle.std.specs.Prelude.{◌≡◌, pos, neg_ℤ, [], ◌∷◌, codes, Ok, Err};
 ghost use Rattle.sig_base.specs.declared.fault.FaultKind.TheVariants as faults;

@@ -38,7 +38,8 @@ pub fn runs_are_over()
     ensures not_while_it_goes_on { finished Going ≡ false }
 {}
 
-/// A run begins at clock 0 with the initial values, no words taken and the first vertex's event, which carries the starting values.
+/// A run begins at clock 0 with the initial values, no words taken and the first vertex's event, which carries the
+/// starting values.
 pub fn runs_begin_at_0()
     ensures { start (cells []) (pos 4 ∷ []) ≡ record {
       now = record { clock = 0; state = (pos 0 ∷ []) ∷ (pos 0 ∷ pos 0 ∷ []) ∷ []; taken = replicate 64 0; pending = record { time = 0; priority = 5; vertex = 0; values = pos 4 ∷ [] } ∷ [] };
@@ -46,7 +47,8 @@ pub fn runs_begin_at_0()
     } }
 {}
 
-/// A note comes where any cell of any watched variable differs from the last one, also where it is as it was before that.
+/// A note comes where any cell of any watched variable differs from the last one, also where it is as it was before
+/// that.
 pub fn notes_tell_what_is_new()
     ensures first { at_note 7 [] None ≡ At 7 [] ∷ [] }
     ensures nothing_watched { at_note 7 [] (Some []) ≡ [] }
@@ -56,23 +58,23 @@ pub fn notes_tell_what_is_new()
     ensures last_cell { at_note 7 ((pos 3 ∷ pos 4 ∷ []) ∷ []) (Some ((pos 3 ∷ pos 5 ∷ []) ∷ [])) ≡ At 7 ((pos 3 ∷ pos 4 ∷ []) ∷ []) ∷ [] }
 {}
 
-/// The clock leaves its time where the next event is later, and what it leaves is what the next note is compared with, also where no
-/// note came.
+/// The clock leaves its time where the next event is later, and what it leaves is what the next note is compared with,
+/// also where no note came.
 pub fn the_clock_leaves_its_time()
     ensures later { leave_for clock (counted_to 5 2 1) 6 ≡ record { notes = At 5 (scalars (2 ∷ [])) ∷ []; noted = Some (scalars (2 ∷ [])) } }
     ensures now { leave_for clock (counted_to 5 2 1) 5 ≡ record { notes = []; noted = Some (scalars (1 ∷ [])) } }
     ensures nothing_new { leave_for clock (counted_to 5 2 2) 6 ≡ record { notes = []; noted = Some (scalars (2 ∷ [])) } }
 {}
 
-/// The note of an event that is completed has its vertex's place in the watch list, and the values and the clock behind it. A variable
-/// of the same number is no vertex.
+/// The note of an event that is completed has its vertex's place in the watch list, and the values and the clock after
+/// it. A variable of the same number is no vertex.
 pub fn events_are_noted_by_place()
     ensures second { completed (at_two [] []) 2 (standing_so 4 3 0 []) ≡ On 4 1 (scalars (3 ∷ [])) ∷ [] }
     ensures unwatched { completed (at_two [] []) 1 (standing_so 4 3 0 []) ≡ [] }
     ensures variable { completed (at_two [] []) 0 (standing_so 4 3 0 []) ≡ [] }
 {}
 
-/// An event at the stop time comes, and one behind it doesn't.
+/// An event at the stop time comes, and one after it doesn't.
 pub fn runs_stop_behind_their_time()
     ensures at_the_stop_time { look clock 42 [] 5 1000 ≡ showing (At 0 (scalars (1 ∷ [])) ∷ At 5 (scalars (2 ∷ [])) ∷ []) Stopped }
     ensures before_it { look clock 42 [] 4 1000 ≡ showing (At 0 (scalars (1 ∷ [])) ∷ []) Stopped }

@@ -1,4 +1,4 @@
-//! What two simultaneous events of worked models give in either order.
+//! Two simultaneous events of worked models, in either order.
 
 ghost use Rattle.std.specs.Prelude.{◌≡◌, ◌∷◌, [], false, pos, Some, None, Ok};
 ghost use Rattle.worked_runs.specs.TwoEvents.{soon, waiting, later, at_5, words_of_54, cutting, both_write, both_draw, cancelling};
@@ -6,8 +6,8 @@ ghost use Rattle.model_core.specs.Conflicts.Conflict.{in_conflict};
 ghost use Rattle.model_core.specs.Conflicts.Perform.{performed_both};
 ghost use Rattle.model_core.specs.Conflicts.Orders.{Simultaneous};
 
-/// The second event is found where it then is, although the first one cancels an event ahead of it and schedules another.
-/// Both orders leave the same events, in another order.
+/// The second event is found where it then is, although the first one cancels an event ahead of it and schedules
+/// another. Both orders leave the same events, in another order.
 pub fn places_are_kept()
     ensures simultaneous { Simultaneous cutting (soon 3 ∷ soon 1 ∷ soon 2 ∷ []) 1 2 (soon 1) (soon 2) }
     ensures not_in_conflict { in_conflict cutting 1 2 ≡ false }

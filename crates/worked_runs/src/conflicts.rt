@@ -6,8 +6,8 @@ ghost use Rattle.worked_runs.specs.Building.{whole, plain_edge, schedule};
 ghost use Rattle.worked_runs.specs.Models.{bank, cut, cancel_three, ordering};
 ghost use Rattle.conflict_report.specs.ConflictText.{conflict_text};
 
-/// A line tells which two vertices, or one with itself, are in conflict, and why: in the bank, in a model that cancels, and
-/// in one where priorities keep all events apart.
+/// A line says which two vertices, or one with itself, are in conflict, and why: in the bank, in a model that cancels,
+/// and in one where priorities keep all events apart.
 pub fn conflicts_have_texts()
     ensures of_the_bank { conflict_text bank
         ≡ codes "RUN RUN variables\n"

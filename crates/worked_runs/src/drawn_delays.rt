@@ -1,4 +1,4 @@
-//! Delays that are drawn: which words they take, and what the rules and the texts make of them.
+//! Delays that are drawn: which words they take, and how the rules and the texts treat them.
 #![tactic(auto, unfolding(model_core::specs::Rules::BoundsTable::exact_bounds))]
 
 ghost use Rattle.std.specs.Prelude.{◌≡◌, [], ◌∷◌, Some, None, false, Ok, Err, codes, replicate};
@@ -55,7 +55,8 @@ pub fn only_drawn_delays_take_words()
         ≡ showing (On 0 1 (scalars (1 ∷ [])) ∷ At 0 (scalars (1 ∷ [])) ∷ On 3 2 (scalars (1 ∷ [])) ∷ []) (Ended 3) }
 {}
 
-/// Two events aren't merged where an edge of the first would take its word before a draw of the second. Behind it, it may.
+/// Two events aren't merged where an edge of the first would take its word before a draw of the second. After it, it
+/// may.
 #[tactic(auto, unfolding(rand_pcg::specs::Lcg::state_after))]
 pub fn drawn_delays_stay_in_order()
     ensures before { first_failed (merge_conditions (twisted (after_draw 2 one_to_six ∷ []) []) 0 1) ≡ Some 6 }
@@ -70,7 +71,7 @@ pub fn streams_of_delays_are_needed()
     ensures of_another { unneeded (drawing_too 53) ≡ 1 ∷ [] }
 {}
 
-/// A drawn delay needs version 2 of a text, is told at its word `draw` in any other, and is always printed.
+/// A drawn delay needs version 2 of a text, is refused at its word `draw` in any other, and is always printed.
 pub fn drawn_delays_need_a_version()
     ensures none { told_fault (drawn_in None) ≡ Some (static_fault rules.VersionNeeded 140) }
     ensures first { told_fault (drawn_in (Some (figure 1 8))) ≡ Some (static_fault rules.VersionNeeded 140) }

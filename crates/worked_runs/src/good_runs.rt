@@ -7,7 +7,8 @@ ghost use Rattle.worked_runs.specs.HarbourModel.{harbour, harbour_watching};
 ghost use Rattle.worked_runs.specs.HarbourRuns.{two_events_saved, bare_saved, a_due};
 ghost use Rattle.worked_runs.specs.SavedExamples.{due};
 
-/// The seed is below 2^64, the clock at most 2^48 and the events at most 2^40. There are 64 streams, and each gave at most 2^52 words.
+/// The seed is below 2^64, the clock at most 2^48 and the events at most 2^40. There are 64 streams, and each gave at
+/// most 2^52 words.
 pub fn numbers_of_good_runs_have_limits()
     ensures whole { IsGood harbour two_events_saved }
     ensures least { IsGood harbour bare_saved }
@@ -21,7 +22,7 @@ pub fn numbers_of_good_runs_have_limits()
     ensures one_stream_too_many { IsGood harbour (record bare_saved { taken = replicate 65 0 }) → ⊥ }
 {}
 
-/// There is one value in range for each cell and, where a note stands, for each watched cell.
+/// There is one value in range for each cell and, where a note was taken, for each watched cell.
 pub fn values_of_good_runs_are_in_range()
     ensures below { IsGood harbour (record bare_saved { values = neg_ℤ (pos 4) ∷ pos 0 ∷ pos 0 ∷ pos 0 ∷ [] }) → ⊥ }
     ensures above { IsGood harbour (record bare_saved { values = pos 9 ∷ pos 1 ∷ pos 2 ∷ pos 0 ∷ [] }) → ⊥ }
@@ -35,8 +36,8 @@ pub fn values_of_good_runs_are_in_range()
     ensures one_of_none_watched { IsGood (harbour_watching (WatchedVertex 0 ∷ [])) (record bare_saved { noted = Some (pos 0 ∷ []) }) → ⊥ }
 {}
 
-/// A pending event is due from the clock on and at most 2^63 - 1 later, has a priority of at most 255 and a vertex, and carries a
-/// number of 64 bits for each parameter of that.
+/// A pending event is due from the clock on and at most 2^63 - 1 later, has a priority of at most 255 and a vertex, and
+/// carries a number of 64 bits for each parameter of that.
 pub fn events_of_good_runs_may_be_pending()
     ensures now { IsGoodEntry harbour 5 (due 5 255 0) }
     ensures latest { IsGoodEntry harbour 5 (due 9223372036854775812 0 0) }

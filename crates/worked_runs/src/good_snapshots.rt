@@ -1,4 +1,5 @@
-//! Which written snapshots are good for a model, and where one that isn't is told: both ends of each number, and each place.
+//! Which written snapshots are good for a model, and where one that isn't is refused: both ends of each number, and
+//! each place.
 
 ghost use Rattle.std.specs.Prelude.{◌≡◌, [], ◌∷◌, Some, None, codes};
 ghost use Rattle.model_core.specs.EventGraph.{WatchedVertex};
@@ -8,8 +9,8 @@ ghost use Rattle.worked_runs.specs.HarbourRuns.{two_pending, two_events_saved, b
 ghost use Rattle.worked_runs.specs.WrittenParts.{figure, huge, plain_figure, minus_figure, plain_huge, minus_huge};
 ghost use Rattle.worked_runs.specs.WrittenSnapshots.{stream_part, words_of, value_part, carried, minus_carried, event_part, numbered_so, bare, taking_streams, with_two_streams, with_values, with_n, with_flags, with_z, with_noted, with_pending, with_run_at, with_a, with_event_of, bad_stream, bad_value, bad_noted, bad_event};
 
-/// The two parts of the seed are below 2^32, the clock is at most 2^48, and the events are at most 2^40. A number above 2^63 - 1 is
-/// none of these.
+/// The two parts of the seed are below 2^32, the clock is at most 2^48, and the events are at most 2^40. A number above
+/// 2^63 - 1 is none of these.
 pub fn seed_clock_and_events_have_limits()
     ensures least { bad_at harbour bare ≡ None }
     ensures greatest { bad_at harbour (numbered_so (figure 4294967295 14) (figure 4294967295 25) (figure 281474976710656 40) (figure 1099511627776 60)) ≡ None }
@@ -23,8 +24,8 @@ pub fn seed_clock_and_events_have_limits()
     ensures events_too_large { bad_at harbour (numbered_so (figure 0 14) (figure 0 25) (figure 0 40) (huge 60)) ≡ Some 30 }
 {}
 
-/// Streams are below 64 and rise, each from the one before it on, and each gave from 1 to 2^52 words. The one that doesn't rise is
-/// told itself.
+/// Streams are below 64 and rise, each from the one before it on, and each gave from 1 to 2^52 words. The one that
+/// doesn't rise is reported itself.
 pub fn streams_rise()
     ensures first_and_last { bad_at harbour (with_two_streams 0 63) ≡ None }
     ensures next_to_one_another { bad_at harbour (with_two_streams 62 63) ≡ None }
@@ -40,8 +41,8 @@ pub fn streams_rise()
     ensures words_too_large { bad_at harbour (taking_streams (stream_part 40 (figure 54 47) (huge 50) ∷ [])) ≡ Some 40 }
 {}
 
-/// There is one `value` part for each variable, in order. Where one is missing at the end, the `end` is told; one too many, or with
-/// another name, is told itself.
+/// There is one `value` part for each variable, in order. Where one is missing at the end, the `end` is reported; one
+/// too many, or with another name, is reported itself.
 pub fn each_variable_has_its_values()
     ensures none { bad_at harbour (with_values []) ≡ Some 200 }
     ensures last_missing { bad_at harbour (with_values (value_part 60 (codes "N") (plain_figure 0 68 ∷ []) ∷ value_part 70 (codes "FLAGS") (plain_figure 0 82 ∷ plain_figure 0 84 ∷ []) ∷ [])) ≡ Some 200 }
@@ -73,8 +74,8 @@ pub fn values_are_in_range()
     ensures too_large_below { bad_at harbour (with_z (minus_huge 98)) ≡ Some 90 }
 {}
 
-/// `noted` may be left out. Where it stands it has one value in range for each watched cell, in the order of the watch list, and none
-/// where nothing but vertices is watched.
+/// `noted` may be left out. If it is there it has one value in range for each watched cell, in the order of the watch
+/// list, and none where nothing but vertices is watched.
 pub fn noted_values_are_those_watched()
     ensures in_order { bad_at harbour (with_noted (plain_figure 0 126 ∷ plain_figure 1 128 ∷ minus_figure 3 130 ∷ [])) ≡ None }
     ensures greatest { bad_at harbour (with_noted (plain_figure 1 126 ∷ plain_figure 1 128 ∷ plain_figure 9 130 ∷ [])) ≡ None }
@@ -89,8 +90,8 @@ pub fn noted_values_are_those_watched()
     ensures one_of_no_variable { bad_at (harbour_watching (WatchedVertex 1 ∷ [])) (with_noted (plain_figure 0 126 ∷ [])) ≡ Some 120 }
 {}
 
-/// Each `pending` part has ticks of at most 2^63 - 1, a priority of at most 255, the name of a vertex and as many values as that has
-/// parameters, each from -2^63 to 2^63 - 1. A value need not be in its parameter's range.
+/// Each `pending` part has ticks of at most 2^63 - 1, a priority of at most 255, the name of a vertex and as many
+/// values as that has parameters, each from -2^63 to 2^63 - 1. A value need not be in its parameter's range.
 pub fn pending_events_are_known()
     ensures least { bad_at harbour (with_run_at (figure 0 138) (figure 0 140)) ≡ None }
     ensures greatest { bad_at harbour (with_run_at (figure 9223372036854775807 138) (figure 255 160)) ≡ None }
@@ -111,7 +112,7 @@ pub fn pending_events_are_known()
     ensures later_value_above { bad_at harbour (with_a (carried 0 ∷ carried 9223372036854775808 ∷ [])) ≡ Some 140 }
 {}
 
-/// Of two parts that are bad the first is told, also where a variable has no value, which is told at the `end`.
+/// Of two parts that are bad the first is reported, also where a variable has no value, which is reported at the `end`.
 pub fn the_first_bad_part_is_told()
     ensures seed_before_clock { bad_at harbour (numbered_so (huge 14) (figure 0 25) (huge 40) (figure 0 60)) ≡ Some 9 }
     ensures clock_before_events { bad_at harbour (numbered_so (figure 0 14) (figure 0 25) (huge 40) (huge 60)) ≡ Some 20 }
@@ -126,8 +127,8 @@ pub fn the_first_bad_part_is_told()
     ensures pending_before_the_end { bad_at harbour (record bare { values = []; pending = bad_event ∷ [] }) ≡ Some 130 }
 {}
 
-/// A good snapshot stands for its numbers, the words of each stream, the values in order, and the events in order: the time of each is
-/// the clock and its ticks.
+/// A good snapshot spells its numbers, the words of each stream, the values in order, and the events in order: the time
+/// of each is the clock and its ticks.
 pub fn good_snapshots_stand_for_runs()
     ensures is_good { bad_at harbour two_pending ≡ None }
     ensures stands { saved_run harbour two_pending ≡ two_events_saved }

@@ -23,7 +23,7 @@ pub fn operators_have_levels()
     ensures else_goes_on { IsSpelled expression_format (codes "if A then 1 else B or C") (If 0 (reading (codes "A") 3) (constant 1 10) (Binary 17 Or (reading (codes "B") 17) (reading (codes "C") 22))) }
 {}
 
-/// A part stands where its first token begins, and a parenthesis counts as a token of its expression.
+/// A part is at the place where its first token begins, and a parenthesis counts as a token of its expression.
 pub fn expressions_have_places()
     ensures parentheses { IsSpelled expression_format (codes "((X))") (Scalar 0 (spelled (codes "X") 2)) }
     ensures group { IsSpelled expression_format (codes "(1 - 2) - 3") (Binary 0 Subtract (Binary 0 Subtract (constant 1 1) (constant 2 5)) (constant 3 10)) }
@@ -32,7 +32,7 @@ pub fn expressions_have_places()
     ensures truths { IsSpelled expression_format (codes "true = false") (Binary 0 Equal (Truth 0 true) (Truth 7 false)) }
 {}
 
-/// What declarations, changes and edges are written down as.
+/// The written forms of declarations, changes and edges.
 pub fn lines_are_spelled()
     ensures truth_variable { IsSpelled variable_format (codes "var B : bool = true;") (record { at = 0; name = spelled (codes "B") 4; size = None; kind = TruthKind; initial = TruthLiteral 15 true }) }
     ensures set { IsSpelled change_format (codes "set X, Y[1] := 2, clk;") (Set 0 (storing (codes "X") 4 ∷ to_index (spelled (codes "Y") 7) (constant 1 9) ∷ []) (constant 2 15 ∷ Clock 18 ∷ [])) }
@@ -47,7 +47,7 @@ pub fn lines_are_spelled()
     ensures cancel_all { IsSpelled edge_format (codes "cancel all A when X;") (with_condition (reading (codes "X") 18) (leading 0 (spelled (codes "A") 11) CancelAll)) }
 {}
 
-/// What whole texts are written down as.
+/// The written forms of whole texts.
 pub fn texts_are_spelled()
     ensures stock { IsSpelled text_format stock_text stock }
     ensures smallest { IsModelText (codes "model M; vertex A { } end") }
@@ -55,7 +55,7 @@ pub fn texts_are_spelled()
     ensures one { IsModelText (codes "model ONE; var N : 0..9 = 0; watch N; vertex RUN { set N := 4; schedule RUN after 5 when false; } end # of it") }
 {}
 
-/// A text that is no model's is refused at the first token that can't stand where it stands, or at its end.
+/// A text that is no model's is refused at the first token that can't be there, or at its end.
 pub fn texts_are_refused()
     ensures empty { IsRefusedAt [] 0 }
     ensures too_short { IsRefusedAt (codes "model") 5 }
@@ -86,7 +86,7 @@ pub fn lines_are_refused()
     ensures no_choice { IsRefusedAt (codes "model M; vertex A { draw X from 1; } end") 33 }
 {}
 
-/// Of a front, nothing behind its first word `end` counts.
+/// Of a front, nothing after its first word `end` counts.
 pub fn fronts_are_refused()
     ensures word_end_inside { IsFrontRefusedAt (codes "model M; vertex A { end } end") 20 }
     ensures later_faults { IsFrontRefusedAt (codes "model M end ; ; ;") 8 }

@@ -1,4 +1,4 @@
-//! What changes leave where one of them faults.
+//! Changes of which one faults, and what they leave.
 
 ghost use Rattle.std.specs.Prelude.{◌≡◌, pos, [], ◌∷◌};
 ghost use Rattle.model_core.specs.Run.Changes.{one_more};

@@ -1,6 +1,6 @@
-//! Definitions computed on small examples: runs, texts, tokens, static faults, bounds, reductions, conflicts and limits; and
-//! pairs of models that are the same, or that sameness tells apart. The clauses are theorems. The functions that carry them do
-//! nothing.
+//! Definitions computed on small examples: runs, texts, tokens, static faults, bounds, reductions, conflicts and
+//! limits; and pairs of models that are the same, or that sameness distinguishes. The clauses are theorems. The
+//! functions that carry them do nothing.
 #![tactic(auto)]
 
 mod alike;

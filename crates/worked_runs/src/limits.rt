@@ -3,7 +3,7 @@
 ghost use Rattle.std.specs.Prelude.{◌≡◌, ◌^◌, pos};
 ghost use Rattle.sig_base.specs.declared.limits.TheConstants.{TEXT_MAX, DOCUMENT_MAX, NAME_MAX, VERTICES_MAX, VARIABLES_MAX, ARRAY_CELLS_MAX, ARRAY_CELLS_MAX_VERSION_1, CELLS_MAX, CHANGES_MAX, EDGES_MAX, PARAMETERS_MAX, PARAMETERS_MAX_VERSION_1, TARGETS_MAX, TARGETS_MAX_VERSION_1, TABLES_MAX, ROWS_MAX, OPENINGS_MAX, LITERAL_MAX, WEIGHTS_MAX, STOP_MAX, EVENTS_MAX, RUNS_MAX};
 
-/// What a model, a text and a run may have at most.
+/// The numbers that a model, a text and a run may have at most.
 pub fn limits_have_these_numbers()
     ensures bytes_of_a_text { TEXT_MAX ≡ 4_194_304 }
     ensures bytes_of_a_document { DOCUMENT_MAX ≡ 25_165_824 }

@@ -50,7 +50,7 @@ pub fn merge_has_conditions()
     ensures as_many_bytes { first_failed (merge_conditions (long_named 4194170) 1 2) ≡ None }
 {}
 
-/// The changes of the other come behind those of the one and a `set` of its parameters, and its edges behind the others.
+/// The changes of the other come after those of the one and a `set` of its parameters, and its edges after the others.
 pub fn merge_has_a_result()
     ensures chain_of_three { merged three_at_once 1 2 ≡ chain_merged }
     ensures of_bank { merged bank 0 1 ≡ bank_merged }

@@ -13,7 +13,7 @@ ghost use Rattle.worked_runs.specs.Building.{whole, at_cell, set, draw, schedule
 ghost use Rattle.worked_runs.specs.Models.{bank, bank_enter, cancel_three, two_draws};
 ghost use Rattle.worked_runs.specs.NeedingModels.{unfaulting, strict, with_cells, carrying_variable, both_grow, unseen_bank, one_draw, growing, x_alone, two_carried, one_carried};
 
-/// Changes and edges read what stands in them but for their targets, and parameters and targets are written.
+/// Changes and edges read the variables in them but for their targets, and parameters and targets are written.
 pub fn uses_are_told()
     ensures reads { vertex_reads bank_enter ≡ 0 ∷ 3 ∷ 2 ∷ 1 ∷ [] }
     ensures writes { vertex_writes bank_enter ≡ 0 ∷ 3 ∷ 2 ∷ [] }
@@ -25,7 +25,7 @@ pub fn uses_are_told()
         ∷ [] }
 {}
 
-/// What is watched, given at the start, compared or decides is needed, whatever else is.
+/// Variables that are watched, given at the start, compared or decisive are needed, whatever else is.
 pub fn some_variables_are_needed_at_once()
     ensures none { unneeded (unfaulting [] [] (both_grow ∷ []) (schedule_with 1 3 5 ∷ [])) ≡ 0 ∷ 1 ∷ [] }
     ensures watched { unneeded (unfaulting x_watched [] [] []) ≡ 1 ∷ [] }
@@ -35,7 +35,7 @@ pub fn some_variables_are_needed_at_once()
     ensures in_a_delay { unneeded (unfaulting [] [] [] (schedule 0 (Scalar 1) ∷ [])) ≡ 0 ∷ [] }
 {}
 
-/// What a needed variable is made of is needed.
+/// The variables from which a needed variable is computed are needed.
 pub fn some_variables_are_needed_for_others()
     ensures for_a_value { unneeded (unfaulting x_watched [] (set 0 (plus_one 1) ∷ []) []) ≡ [] }
     ensures not_for_its_own { unneeded (unfaulting x_watched [] (both_grow ∷ []) []) ≡ 1 ∷ [] }

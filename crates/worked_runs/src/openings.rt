@@ -4,7 +4,7 @@ ghost use Rattle.std.specs.Prelude.{◌≡◌, ◌++◌, Some, None, codes, repl
 ghost use Rattle.sig_base.specs.declared.limits.TheConstants.{OPENINGS_MAX};
 ghost use Rattle.worked_runs.specs.GrammarTexts.{IsRefusedAt, deep_in, deep_in_front};
 
-/// Operators, `if`, `min`, `max` and opening brackets count, wherever they stand, and nothing else does.
+/// Operators, `if`, `min`, `max` and opening brackets count, at every place, and nothing else does.
 pub fn openings_are_counted()
     ensures within_the_limit { deep_in 3 (codes "A + B * C - D") ≡ None }
     ensures one_too_many { deep_in 2 (codes "A + B * C - D") ≡ Some 10 }

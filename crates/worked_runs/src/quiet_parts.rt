@@ -1,4 +1,4 @@
-//! Stores, changes and edges of one small model, of which the declared ranges tell whether they can fault.
+//! Stores, changes and edges of one small model, whose declared ranges decide whether they can fault.
 #![tactic(auto, unfolding(model_core::specs::Rules::BoundsTable::exact_bounds))]
 
 ghost use Rattle.std.specs.Prelude.{◌≡◌, pos, neg_ℤ, true, false, [], ◌∷◌};

@@ -1,4 +1,4 @@
-//! The reduction of the bank, to which two rules apply: a merge, and a slice behind it.
+//! The reduction of the bank, to which two rules apply: a merge, and a slice after it.
 #![tactic(auto, unfolding(model_core::specs::Rules::BoundsTable::exact_bounds))]
 
 ghost use Rattle.std.specs.Prelude.{◌≡◌, [], ◌∷◌, Some, None, codes};

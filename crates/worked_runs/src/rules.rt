@@ -46,8 +46,8 @@ pub fn the_strategy_ends()
     ensures not_before_its_end { Strategy idle (Prune (codes "A") 1 ∷ []) once_pruned → ⊥ }
 {}
 
-/// A reduction is sound where its applications lead to the other model. Else the first bad one is told, and where none is
-/// bad, that they lead elsewhere.
+/// A reduction is sound where its applications lead to the other model. Else the first bad one is reported, and where
+/// none is bad, that they lead elsewhere.
 pub fn reductions_are_judged()
     ensures sound { verdict idle (Prune (codes "A") 1 ∷ Prune (codes "A") 2 ∷ []) twice_pruned ≡ Sound }
     ensures in_part { verdict idle (Prune (codes "A") 3 ∷ []) (pruned idle 1 2) ≡ Sound }

@@ -1,4 +1,4 @@
-//! What is saved of a run, how it goes on, and the order in which pending events are saved.
+//! The snapshot of a run, how it goes on, and the order in which pending events are saved.
 
 ghost use Rattle.std.specs.Prelude.{◌≡◌, pos, [], ◌∷◌, Some};
 ghost use Rattle.model_core.specs.EventGraph.{WatchedVariable, WatchedVertex};
@@ -35,8 +35,8 @@ pub fn events_are_in_due_order()
     ensures none { in_due_order [] ≡ [] }
 {}
 
-/// Two runs stand alike that scheduled events in another order which aren't due alike. With another clock, state or number of words
-/// taken, or with another order of events that are due alike, they don't.
+/// Two runs are alike that scheduled events in another order which aren't due alike. With another clock, state or
+/// number of words taken, or with another order of events that are due alike, they don't.
 pub fn runs_may_stand_alike()
     ensures another_order { Alike (standing_so 4 3 0 (due 9 5 0 ∷ due 4 5 1 ∷ [])) (standing_so 4 3 0 (due 4 5 1 ∷ due 9 5 0 ∷ [])) }
     ensures another_order_of_priorities { Alike (standing_so 4 3 0 (due 4 5 0 ∷ due 4 3 1 ∷ [])) (standing_so 4 3 0 (due 4 3 1 ∷ due 4 5 0 ∷ [])) }
@@ -47,7 +47,7 @@ pub fn runs_may_stand_alike()
     ensures an_event_more { Alike (standing_so 4 3 0 (due 4 5 0 ∷ [])) (standing_so 4 3 0 (due 4 5 0 ∷ due 9 5 0 ∷ [])) → ⊥ }
 {}
 
-/// What is saved after two events stands for the moment that they reached, and shows what is left of the run.
+/// A snapshot after two events is the moment that they reached, and shows what is left of the run.
 pub fn saved_runs_show_the_rest()
     ensures saved { saved 42 2 (counted_to 5 2 1) ≡ saved_clock }
     ensures stands_there { saved_moment clock saved_clock ≡ counted_to 5 2 1 }
@@ -57,8 +57,8 @@ pub fn saved_runs_show_the_rest()
     ensures no_event_more { history_from clock saved_clock 12 0 ≡ showing [] Going }
 {}
 
-/// Each part of a moment is kept: the words of each stream, the values of each cell in one list, those of the last note if there is
-/// one, and the events in due order.
+/// Each part of a moment is kept: the words of each stream, the values of each cell in one list, those of the last note
+/// if there is one, and the events in due order.
 pub fn moments_are_kept_whole()
     ensures saved { saved 12884901895 2 two_events_moment ≡ two_events_due }
     ensures stands_there { saved_moment harbour two_events_due ≡ record two_events_moment { now = record two_events_moment.now { pending = two_events_due.pending } } }
@@ -68,7 +68,7 @@ pub fn moments_are_kept_whole()
     ensures nothing_watched { (saved_moment (harbour_watching []) (record bare_saved { noted = Some [] })).noted ≡ Some [] }
 {}
 
-/// A run that goes on draws by its own seed the words behind those that were taken.
+/// A run that goes on draws by its own seed the words after those that were taken.
 #[tactic(auto, unfolding(rand_pcg::specs::Lcg::state_after))]
 pub fn saved_streams_go_on()
     ensures { history_from (arriving (after_draw 0 one_to_six ∷ [])) saved_delay 12 9

@@ -6,9 +6,9 @@ ghost use Rattle.worked_runs.specs.GrammarTexts.{IsSpelled};
 ghost use Rattle.worked_runs.specs.SnapshotTexts.{IsNoSnapshotText};
 ghost use Rattle.worked_runs.specs.SpelledSnapshots.{until_streams, shortest, each_part, each_part_text, words_for_names, too_large};
 
-/// Each part stands at its first token. Streams, values, noted values and events may be left out, `noted` may have no values and an
-/// event none, and the words of the grammar may be names. A number above 2^63 - 1 has no value, but an event's values are read from
-/// their digits.
+/// Each part is at the place of its first token. Streams, values, noted values and events may be left out, `noted` may
+/// have no values and an event none, and the words of the grammar may be names. A number above 2^63 - 1 has no value,
+/// but an event's values are read from their digits.
 pub fn snapshots_are_spelled()
     ensures shortest { IsSpelled snapshot_format (codes "snapshot seed 1 2 clk 3 events 4 end # of it") shortest }
     ensures each_part { IsSpelled snapshot_format each_part_text each_part }
@@ -16,7 +16,7 @@ pub fn snapshots_are_spelled()
     ensures too_large { IsSpelled snapshot_format (codes "snapshot seed 1 2 clk 3 events 4 stream 9223372036854775808 5 value V -9223372036854775808 pending 9223372036854775808 6 A(-9223372036854775808) end") too_large }
 {}
 
-/// What is no snapshot is refused at the first token that can't stand where it stands, or at its end.
+/// A text that is no snapshot is refused at the first token that can't be there, or at its end.
 pub fn snapshots_are_refused()
     ensures empty { IsNoSnapshotText [] 0 }
     ensures another_word { IsNoSnapshotText (codes "snap seed 1 2 clk 3 events 4 end") 0 }

@@ -1,4 +1,4 @@
-//! What a text can write: the openings of parts are those of their canonical texts, and what no text writes.
+//! Parts that a text can write: their openings are those of their canonical texts; and parts that no text writes.
 
 ghost use Rattle.std.specs.Prelude.{◌≡◌, negsuc, [], ◌∷◌, map, codes};
 ghost use Rattle.model_core.specs.EventGraph.{Number, Clock, Scalar, Cell, Negative, Not, Binary, If, Equal, Least, Or, CancelNext, CancelEqual};

@@ -1,5 +1,5 @@
-//! Static rules: written models that break them, each with what is broken at which byte, and the fault that is told.
-//! The texts stand beside the models in `specs/WrittenModels.antt`.
+//! Static rules: written models that break them, each with what is broken at which byte, and the first fault.
+//! The texts are beside the models in `specs/WrittenModels.antt`.
 
 ghost use Rattle.std.specs.Prelude.{◌≡◌, Some, None, [], ◌∷◌, map, codes, replicate};
 ghost use Rattle.std.specs.List.{range_with_len};
@@ -15,7 +15,7 @@ ghost use Rattle.worked_runs.specs.Texts.{desk};
 ghost use Rattle.worked_runs.specs.WrittenParts.{spelled, figure, huge, plain_figure, minus_figure, static_fault};
 ghost use Rattle.worked_runs.specs.WrittenModels as texts;
 
-/// A name has at most 32 bytes, the model's own too, and wherever it stands.
+/// A name has at most 32 bytes, the model's own too, and at every place.
 pub fn names_are_short()
     ensures declared { model_faults texts.long_name ≡ static_fault rules.NameTooLong 16 ∷ [] }
     ensures own { model_faults texts.long_own_name ≡ static_fault rules.NameTooLong 6 ∷ [] }
@@ -33,7 +33,7 @@ pub fn names_are_declared()
 {}
 
 /// Variables, tables and vertices share their names, and no list names anything twice. What is declared again is
-/// told at the later name, and means its first declaration.
+/// reported at the later name, and means its first declaration.
 pub fn names_are_declared_once()
     ensures vertices { model_faults texts.declared_twice ≡ static_fault rules.DuplicateName 31 ∷ [] }
     ensures variable_and_vertex { model_faults texts.shared_name ≡ static_fault rules.DuplicateName 36 ∷ [] }
@@ -52,7 +52,7 @@ pub fn names_are_rightly_used()
         ∷ static_fault rules.WrongUse 107 ∷ static_fault rules.WrongUse 110 ∷ static_fault rules.WrongUse 132 ∷ static_fault rules.WrongUse 144 ∷ [] }
 {}
 
-/// Whole numbers and truth values stand where they are wanted.
+/// Whole numbers and truth values are where they are wanted.
 pub fn kinds_match()
     ensures number_for_truth { model_faults texts.number_for_truth ≡ static_fault rules.KindMismatch 24 ∷ [] }
     ensures truth_for_number { model_faults texts.truth_for_number ≡ static_fault rules.KindMismatch 24 ∷ [] }
@@ -137,9 +137,11 @@ pub fn numbers_beyond_are_compared()
     ensures size_told { earliest_fault None (size_faults (huge 15)) ≡ Some (static_fault rules.LiteralTooLarge 15) }
 {}
 
-/// Each rule has its row, and of two faults at one place the one of the earlier row is told, whichever is found first.
-// pairs that can meet at one place, in both orders: a number too large beside an empty range, and beside a weight; an item
-// beyond a limit that is unknown, that is declared twice, and that needs a version; a stream outside beside such a delay.
+/// Each rule has its row, and of two faults at one place the one of the earlier row is reported, whichever is found
+/// first.
+// pairs that can meet at one place, in both orders: a number too large beside an empty range, and beside a weight; an
+// item beyond a limit that is unknown, that is declared twice, and that needs a version; a stream outside beside such a
+// delay.
 pub fn rules_have_rows()
     ensures rows { map rule_row (rules.NameTooLong ∷ rules.UnknownName ∷ rules.DuplicateName ∷ rules.WrongUse ∷ rules.KindMismatch ∷ rules.ValueCount ∷ rules.LiteralTooLarge ∷ rules.EmptyRange ∷ rules.InitialOutside ∷ rules.SizeOutside ∷ rules.PriorityOutside ∷ rules.StreamOutside ∷ rules.DrawOutside ∷ rules.WeightOutside ∷ rules.VersionUnknown ∷ rules.VersionNeeded ∷ rules.TooMany ∷ rules.ModelTooLong ∷ []) ≡ range_with_len 0 18 }
     ensures pairs { map (λ (a, b). earliest_fault None (static_fault a 7 ∷ static_fault b 7 ∷ []))
@@ -152,7 +154,7 @@ pub fn rules_have_rows()
     ensures before_the_row_the_place { earliest_fault None (static_fault rules.NameTooLong 8 ∷ static_fault rules.ModelTooLong 7 ∷ []) ≡ Some (static_fault rules.ModelTooLong 7) }
 {}
 
-/// Of several faults the one with the least place is told.
+/// Of several faults the one with the least place is reported.
 pub fn the_least_place_is_told()
     ensures initial_before_unknown { told_fault texts.initial_before_unknown ≡ Some (static_fault rules.InitialOutside 24) }
     ensures empty_before_initial { told_fault texts.bounds_exchanged ≡ Some (static_fault rules.EmptyRange 17) }
@@ -161,7 +163,7 @@ pub fn the_least_place_is_told()
     ensures none { told_fault texts.plain_text ≡ None }
 {}
 
-/// The first item beyond a limit is told.
+/// The first item beyond a limit is reported.
 pub fn counts_have_limits()
     ensures third_of_four { too_many 2 (5 ∷ 7 ∷ 9 ∷ 11 ∷ []) ≡ static_fault rules.TooMany 9 ∷ [] }
     ensures just_two { too_many 2 (5 ∷ 7 ∷ []) ≡ [] }
@@ -172,7 +174,7 @@ pub fn counts_have_limits()
         ∷ static_fault rules.DuplicateName 59 ∷ static_fault rules.DuplicateName 62 ∷ static_fault rules.TooMany 62 ∷ [] }
 {}
 
-/// Each limit is its own: of so many items at one place the one beyond the limit is told, and with as many as it
+/// Each limit is its own: of so many items at one place the one beyond the limit is reported, and with as many as it
 /// allows none is.
 pub fn limits_on_counts_are_exact()
     ensures variables { faults_of_counts (texts.variables_at_nine 2001) ≡ static_fault rules.TooMany 9 ∷ [] }
@@ -189,7 +191,7 @@ pub fn limits_on_counts_are_exact()
     ensures as_many_edges { faults_of_parts (texts.edges_at_twenty_two 1000) ≡ [] }
 {}
 
-/// The canonical text is measured where no other rule is broken, and told at the word `end`.
+/// The canonical text is measured where no other rule is broken, and reported at the word `end`.
 pub fn long_models_are_told_last()
     ensures fits { or_too_long texts.plain_text 28 (faults_of_parts texts.plain_text) ≡ [] }
     ensures too_long { or_too_long texts.plain_text 27 (faults_of_parts texts.plain_text) ≡ static_fault rules.ModelTooLong 24 ∷ [] }

@@ -1,4 +1,4 @@
-//! The words of a stream, and what draws make of them.
+//! The words of a stream, and the draws by them.
 
 ghost use Rattle.std.specs.Prelude.{◌≡◌, [], ◌∷◌, map, pos, negsuc};
 ghost use Rattle.sig_base.specs.Stream.{word, uniform_pick, weighted_pick};

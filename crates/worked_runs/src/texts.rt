@@ -1,4 +1,4 @@
-//! Canonical texts: a model with each part of the language, and which operands stand in parentheses.
+//! Canonical texts: a model with each part of the language, and which operands are in parentheses.
 
 ghost use Rattle.std.specs.Prelude.{◌≡◌, ◌∷◌, [], map, codes};
 ghost use Rattle.model_core.specs.EventGraph.{Clock, Cell, Negative, Not, Binary, If, Add, Subtract, Multiply, Divide, Remainder, Least, Greatest, Below, Equal, And, Or};
@@ -11,7 +11,7 @@ pub fn models_have_texts()
     ensures desk { canonical desk ≡ desk_text }
 {}
 
-/// An operand stands in parentheses exactly where it binds less tightly than what is asked for.
+/// An operand is in parentheses exactly where it binds less tightly than what is asked for.
 pub fn operands_stand_in_parentheses()
     ensures chains_group_to_the_left { expression_text desk (less (less n (whole 1)) (whole 2)) ≡ codes "N - 1 - 2" }
     ensures right_operand { expression_text desk (less n (less (whole 1) (whole 2))) ≡ codes "N - (1 - 2)" }
@@ -26,8 +26,8 @@ pub fn operands_stand_in_parentheses()
     ensures choice { expression_text desk (plus (If is_open n (whole 2)) (whole 1)) ≡ codes "(if OPEN then N else 2) + 1" }
 {}
 
-/// Each operator has its text, and its level: between two operands that bind as tightly as the right one must, and between two
-/// that bind less tightly than the left one must.
+/// Each operator has its text, and its level: between two operands that bind as tightly as the right one must, and
+/// between two that bind less tightly than the left one must.
 pub fn operators_have_texts_and_levels()
     ensures or_of_and { beside_itself (Binary And is_open is_open) Or ≡ codes "OPEN and OPEN or OPEN and OPEN" }
     ensures or_of_choice { beside_itself (If is_open is_open is_open) Or ≡ codes "(if OPEN then OPEN else OPEN) or (if OPEN then OPEN else OPEN)" }

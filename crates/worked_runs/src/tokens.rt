@@ -1,4 +1,4 @@
-//! Tokens: the longest one each time, what may stand between them, and the first byte that begins none.
+//! Tokens: the longest one each time, what may be between them, and the first byte that begins none.
 
 ghost use Rattle.std.specs.Prelude.{◌≡◌, pos, Some, None, Ok, Err, [], ◌∷◌, length, map, codes};
 ghost use Rattle.model_core.specs.declared.token.Word.TheVariants as words;
@@ -25,7 +25,7 @@ pub fn words_and_symbols_are_spelled_so()
     ensures no_other_symbol { length all_symbols ≡ 22 }
 {}
 
-/// Spaces, tabs, line ends and comments stand between tokens.
+/// Spaces, tabs, line ends and comments may be between tokens.
 pub fn blanks_and_comments_are_no_tokens()
     ensures nothing { tokens_of [] ≡ Ok [] }
     ensures blanks { tokens_of (32 ∷ 9 ∷ 13 ∷ 10 ∷ []) ≡ Ok [] }
@@ -40,7 +40,7 @@ pub fn numbers_have_a_limit()
     ensures beyond { tokens_of (codes "9223372036854775808") ≡ Ok (token 0 19 (NumberOf None 9223372036854775808) ∷ []) }
 {}
 
-/// The first byte that begins no token is told, by its place.
+/// The first byte that begins no token is reported, by its place.
 pub fn bad_bytes_have_places()
     ensures one_point { tokens_of (codes "a.b") ≡ Err 1 }
     ensures three_points { tokens_of (codes "a...b") ≡ Err 3 }

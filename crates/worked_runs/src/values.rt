@@ -6,7 +6,7 @@ ghost use Rattle.model_core.specs.EventGraph.{Truth, Clock, Cell, Negative, Not,
 ghost use Rattle.worked_runs.specs.Building.{whole, minus, one_over_zero, is_one_over_zero};
 ghost use Rattle.worked_runs.specs.Models.{of};
 
-/// Results outside the numbers of 64 bits are faults, and so are quotients by 0 and indexes outside.
+/// Results outside the numbers of 64 bits are faults; quotients by 0 and indexes outside are faults too.
 pub fn values_are_exact()
     ensures product_outside { of (Binary Multiply (whole 4611686018427387904) (whole 2)) ≡ Err faults.Overflow }
     ensures greatest_sum { of (Binary Add (whole 9223372036854775806) (whole 1)) ≡ Ok (pos 9223372036854775807) }
@@ -51,7 +51,7 @@ pub fn operators_compare()
     ensures clock { of Clock ≡ Ok (pos 7) }
 {}
 
-/// What isn't needed isn't evaluated, and else the first fault is told.
+/// A part that isn't needed isn't evaluated, and else the first fault is reported.
 pub fn values_are_lazy()
     ensures if_true { of (If (Truth true) (whole 1) one_over_zero) ≡ Ok (pos 1) }
     ensures if_false { of (If (Truth false) one_over_zero (whole 1)) ≡ Ok (pos 1) }

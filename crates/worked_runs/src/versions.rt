@@ -37,8 +37,8 @@ pub fn versions_have_their_limits()
     ensures unknown { version_faults (saying (Some (figure 3 8)) (array_at 20 4097 ∷ [])) ≡ static_fault rules.VersionUnknown 8 ∷ static_fault rules.SizeOutside 26 ∷ [] }
 {}
 
-/// Version 1 has 8 targets, 8 parameters and no drawn delay, in each variable, vertex, change and edge. A text of version 2 has none of
-/// these limits here.
+/// Version 1 has 8 targets, 8 parameters and no drawn delay, in each variable, vertex, change and edge. A text of
+/// version 2 has none of these limits here.
 pub fn version_1_has_limits_everywhere()
     ensures most_targets { version_faults (of_targets None 8) ≡ [] }
     ensures one_target_more { version_faults (of_targets None 9) ≡ static_fault rules.TooMany 54 ∷ [] }
@@ -52,8 +52,8 @@ pub fn version_1_has_limits_everywhere()
     ensures nowhere_in_the_second { version_faults (everything second) ≡ [] }
 {}
 
-/// The cells of all arrays together have a limit of their own: the first array that passes it is told, and one over its own
-/// limit doesn't count.
+/// The cells of all arrays together have a limit of their own: the first array that passes it is reported, and one over
+/// its own limit doesn't count.
 pub fn cells_together_have_a_limit()
     ensures as_many { cells_faults 0 (replicate 256 (array_at 20 65536)) ≡ [] }
     ensures one_more { cells_faults 0 (replicate 256 (array_at 20 65536) ++ array_at 50 1 ∷ array_at 80 1 ∷ []) ≡ static_fault rules.TooMany 50 ∷ [] }

@@ -1,4 +1,4 @@
-//! From the bytes of a text to the static fault that is told of it, or to the text that it is printed as.
+//! From the bytes of a text to its first static fault, or to the text that it is printed as.
 
 ghost use Rattle.std.specs.Prelude.{◌≡◌, ◌++◌, [], ◌∷◌, Some, None, codes};
 ghost use Rattle.model_core.specs.declared.static_kind.StaticKind.TheVariants as rules;
@@ -6,7 +6,7 @@ ghost use Rattle.worked_runs.specs.Texts.{desk_text};
 ghost use Rattle.worked_runs.specs.WrittenParts.{static_fault};
 ghost use Rattle.worked_runs.specs.WholeTexts.{fault_in, printed_as, expressions_text};
 
-/// The fault that is told of a text stands at the byte of its text.
+/// The fault of a text is at the byte of its text.
 pub fn texts_have_their_faults_told()
     ensures kind { fault_in (codes "model M; var B : bool = 2; vertex RUN { } end") ≡ Some (static_fault rules.KindMismatch 24) }
     ensures range { fault_in (codes "model M; var B : 3..2 = 3; vertex RUN { } end") ≡ Some (static_fault rules.EmptyRange 17) }
@@ -20,7 +20,7 @@ pub fn texts_have_their_faults_told()
     ensures none_in_the_desk { fault_in desk_text ≡ None }
 {}
 
-/// What is left out by default isn't printed, and a text that stands as it is printed stays so.
+/// Parts that are left out by default aren't printed, and a text in its printed form stays so.
 pub fn texts_are_printed()
     ensures defaults { printed_as (codes "model M;vertex RUN{schedule RUN after(0)priority 5 when true;}end")
         ≡ Some (codes "model M;" ++ 10 ∷ codes "vertex RUN {" ++ 10 ∷ codes "  schedule RUN;" ++ 10 ∷ codes "}" ++ 10 ∷ codes "end" ++ 10 ∷ []) }

@@ -1,4 +1,4 @@
--- What is made of a part of a snapshot that is good.
+-- The value of each part of a snapshot, where the part is good.
 use Rattle.std.specs.Prelude.{◌≡◌, ℕ, ◌+◌, ◌*◌, ◌^◌, ◌-◌, not, ◌&&◌, nat_lt, Bool, true, if◌then◌else◌, ℤ, pos, List, Option, Some, None, Result, Ok, Err, unwrap_or, replicate, length, take, map, [], ◌∷◌, ◌++◌}
 use Rattle.std.specs.List.{list_all}
 use Rattle.std.specs.Option.{is_some}
@@ -17,7 +17,7 @@ use Rattle.snapshot_text.specs.declared.snapshot_error.SnapshotError.TheVariants
 abbrev pub if_good : {X : Type 0} → Bool → X → Option X
 if_good good x = if good then Some x else None
 
--- What a call made of parts is so, and they are good; or it told the first that isn't.
+-- The result that a call built from parts is right, and they are good; or it named the first that isn't.
 abbrev pub Judged : {X : Type 0} → Result X SnapshotError → List JudgedPart → (X → Type 0) → Type 0
 Judged (Ok x) parts P = (first_bad_part parts ≡ None) × P x
 Judged (Err (errors.Bad at)) parts P = first_bad_part parts ≡ Some at
@@ -29,7 +29,7 @@ seed_kept high low = if_good (is_at_most (2 ^ 32 - 1) high && is_at_most (2 ^ 32
 
 -- ---- streams
 
--- the stream is good behind those below this one
+-- the stream is good after those below this one
 abbrev pub stream_good : ℕ → WrittenStream → Bool
 stream_good least s = (is_at_most 63 s.stream && not (nat_lt (number_or_zero s.stream) least)) && from_one_to (2 ^ 52) s.words
 
@@ -46,7 +46,7 @@ fits_between lo hi s = is_some (numbering.signed s) && within lo hi (unwrap_or (
 abbrev pub fitting : ℤ → ℤ → WrittenSigned → Option ℤ
 fitting lo hi s = if_good (fits_between lo hi s) (unwrap_or (numbering.signed s) (pos 0))
 
--- what a snapshot says of a variable is good
+-- a snapshot's values of a variable are good
 abbrev pub value_good : Variable → WrittenValue → Bool
 value_good v w = same_bytes w.variable.name v.name && fit_variables (replicate (cell_count v) v) w.values
 
@@ -65,7 +65,7 @@ watched_cells g (WatchedVertex v) = 0
 
 -- ---- the whole
 
--- the parts behind the seed, the clock and the number of events
+-- the parts after the seed, the clock and the number of events
 abbrev pub later_parts : EventGraph → WrittenSnapshot → List JudgedPart
 later_parts g w =
     stream_parts 0 w.streams ++ value_parts g.variables w.values ++ noted_parts g w.noted ++ map (pending_part g) w.pending

@@ -1,4 +1,4 @@
--- What the parts of a snapshot stand for, as the code has read them.
+-- The parts of a snapshot as the code has read them, seen as the definition's.
 use Rattle.std.specs.Prelude.{[], map, unwrap_or}
 use Rattle.std.specs.Option.{option_map}
 use Rattle.model_core.specs.Code.WrittenViews.{written_number, written_signed}

@@ -1,4 +1,4 @@
--- What is left behind a format that is passed over, without the value that it makes.
+-- The tokens that are left after a format that is passed over, without its value.
 use Rattle.std.specs.Prelude.{◌≡◌, if◌then◌else◌, List, Result, Ok, Err}
 use Rattle.model_core.specs.Text.Lexing.{Lexeme}
 use Rattle.model_core.specs.Text.Format.{Yields, Single, Apply, Either, Many, ByRule}
@@ -8,7 +8,7 @@ use Rattle.text_laws.specs.FormatReader.{Parse, Parser, took, stuck, and_next, s
 use Rattle.text_laws.specs.LanguageReader.{level_lookahead, language_reader}
 use Rattle.model_read.specs.declared.stop.Stop.{Stop}
 
--- what was read, without its value
+-- a result of reading, without its value
 abbrev pub skimmed : {A : Type 0} → Parse A → Parse (Unit {0})
 skimmed (Ok r) = took tt r.1
 skimmed (Err rest) = stuck rest
@@ -22,11 +22,11 @@ skims (Either p q) tokens = if begins_among (first_sorts level_lookahead p) toke
 skims (Many p) tokens = skimmed (language_reader (Many p) tokens)
 skims (ByRule r) tokens = skimmed (language_reader (ByRule r) tokens)
 
--- the same, where no token is left behind it
+-- this, where no token is left after it
 abbrev pub skims_whole : {A : Type 0} → LanguageFormat A → Parser (Unit {0})
 skims_whole f tokens = and_next whole_read (skims f tokens)
 
--- What a call that passes over tokens returned is so: it left the same tokens. It stops for no other reason.
+-- A call that passes over tokens returned this: it left the same tokens. It stops for no other reason.
 abbrev pub Passed : Result (Unit {0}) Stop → List Lexeme → Parse (Unit {0}) → Type 0
 Passed (Ok u) left parse = parse ≡ took tt left
 Passed (Err e) left parse = parse ≡ stuck left

@@ -1,4 +1,4 @@
--- How a snapshot begins, before its streams. Behind it come the other parts.
+-- How a snapshot begins, before its streams. The other parts follow it.
 use Rattle.std.specs.Prelude.{ℕ, List, Option, codes}
 use Rattle.model_core.specs.declared.token.Word.TheVariants as words
 use Rattle.model_core.specs.Code.WrittenViews.{written_number}
@@ -24,7 +24,7 @@ with_parts h streams values noted pending end_at = record {
   end_at = end_at;
 }
 
--- `snapshot`, and the seed, the clock and the number of events, each behind its word
+-- `snapshot`, and the seed, the clock and the number of events, each after its word
 unfoldable pub head_format : LanguageFormat (List WrittenStream → List WrittenValue → Option WrittenNoted → List WrittenPending → ℕ → WrittenSnapshot)
 head_format =
     Yields (λ seed_at seed rest clock_at clock events_at events streams values noted pending end_at.

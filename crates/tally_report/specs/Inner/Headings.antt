@@ -1,4 +1,4 @@
--- What stands ahead in a row of the code.
+-- The columns ahead in a row of the code.
 use Rattle.tally_report.specs.declared.rows.RowHead.{RowHead}
 use Rattle.tally_report.specs.ReportText.{Heading}
 

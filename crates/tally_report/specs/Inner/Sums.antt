@@ -38,11 +38,11 @@ abbrev pub occurred_once : Item → Item
 occurred_once (items.Cell span area) = items.Cell span area
 occurred_once (items.Count n) = items.Count (min (n + 1) (2 ^ 64 - 1))
 
--- a sum behind an `at` note of a time, where the one before was at another
+-- a sum after an `at` note of a time, where the one before was at another
 abbrev pub sum_at : EventGraph → List (List ℤ) → ℕ → ℕ → Sum → Sum
 sum_at g values since time s = record s { item = with_value (value_noted g s.place s.index values) (held_until since time s.item) }
 
--- a sum behind an `on` note of the vertex at a place
+-- a sum after an `on` note of the vertex at a place
 abbrev pub sum_on : ℕ → Sum → Sum
 sum_on place s = cond (s.place == place) (record s { item = occurred_once s.item }) s
 
@@ -76,7 +76,7 @@ abbrev pub sums_from : EventGraph → ℕ → List Watched → List Sum
 sums_from g place [] = []
 sums_from g place (w ∷ watch) = sums_at g place w ++ sums_from g (suc place) watch
 
--- ---- what is told of a run
+-- ---- the tally of a run
 
 -- the tally of a run that came to this end at this time
 abbrev pub tally_told : RunEnd → ℕ → Tallied → RunTally

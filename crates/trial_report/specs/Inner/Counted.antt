@@ -1,4 +1,4 @@
--- A count of notes, which stands still at the last value.
+-- A count of notes, which stays at the last value.
 use Rattle.std.proofs.Common.{◌≡◌, ℕ, ◌+◌, ◌-◌, ◌^◌, List, [], ◌++◌, length, min, arith, length-append}
 use Rattle.model_core.specs.Run.Machine.{Note}
 

@@ -1,4 +1,4 @@
--- What a measure tells of a run.
+-- A measure of a run, and the run itself.
 use Rattle.std.specs.Prelude.{◌≡◌, ℕ, List, [], ◌++◌, length, codes, decimal}
 use Rattle.model_core.specs.EventGraph.{EventGraph}
 use Rattle.model_core.specs.Run.History.{look}
@@ -9,7 +9,7 @@ use Rattle.watch_trace.specs.Following.{outcome_of}
 use Rattle.trial_report.specs.StepsMade.{steps_of_run}
 use Rattle.trial_report.specs.declared.run_measure.RunMeasure.{RunMeasure}
 
--- how a run of this outcome stands, as words
+-- the standing of a run of this outcome, in words
 abbrev pub standing_text : ℕ → ℕ → Outcome → List ℕ
 standing_text until events (outcomes.Ended time) = codes "ended " ++ decimal time
 standing_text until events outcomes.Stopped = codes "stopped " ++ decimal until
@@ -22,7 +22,7 @@ abbrev pub measure_line : List ℕ → ℕ → ℕ → RunMeasure → List ℕ
 measure_line name until events m =
     name ++ codes " " ++ standing_text until events m.outcome ++ codes " events " ++ decimal m.events ++ codes " notes " ++ decimal m.notes ++ codes "\n"
 
--- it tells how the run of the graph stands, how many steps it made, and how many notes there are
+-- it has the standing of the run of the graph, how many steps it made, and how many notes there are
 pub record Tells (g : EventGraph) (seed until events : ℕ) (m : RunMeasure) : Type 0 where
   pub outcome : m.outcome ≡ outcome_of (look g seed [] until events).standing
   pub made : m.events ≡ steps_of_run g seed [] until events

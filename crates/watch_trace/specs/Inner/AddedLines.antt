@@ -15,7 +15,7 @@ pub GrowsBy-nothing : (o : Option (List ℕ)) → GrowsBy o o []
 GrowsBy-nothing None = tt
 GrowsBy-nothing (Some x) = ap Some (sym (append-nil x))
 
--- behind bytes, and then others
+-- after bytes, and then others
 settled-both : (a b : List ℕ) (x y z : Bool) → y ≡ settled_behind a x → z ≡ settled_behind b y → z ≡ settled_behind (a ++ b) x
 settled-both a b x y z p q = q ∙ ap (settled_behind b) p ∙ by a b
   where
@@ -33,7 +33,7 @@ moves-both s t u w left others a b p q = record {
       ∙ sym (append_assoc p.front left b) ∙ ap (λ (x : List ℕ). x ++ b) p.splits ∙ append_assoc w a b;
 }
 
--- what was lost stays lost, and all that is added later with it
+-- a text that was lost stays lost, and all that is added later with it
 moves-lost : (s t u : Sheet) (w lost a b : List ℕ) → u.written ≡ t.written → Moves s t (w ++ a) lost → Moves s u (w ++ (a ++ b)) (lost ++ b)
 moves-lost s t u w lost a b same p = record {
   front = p.front;

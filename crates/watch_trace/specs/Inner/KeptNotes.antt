@@ -1,4 +1,4 @@
--- What a tracer keeps of each watched thing.
+-- How many cells a tracer keeps of each watched thing.
 use Rattle.std.specs.Prelude.{ℕ, ℤ, List, []}
 use Rattle.model_core.specs.EventGraph.{EventGraph, Watched, WatchedVariable, WatchedVertex}
 use Rattle.model_core.specs.Run.State.{State, cells_of}

@@ -1,4 +1,4 @@
--- What was read is a snapshot.
+-- The tokens that were read are a snapshot.
 use Rattle.std.proofs.Common.{◌≡◌, drop}
 use Rattle.model_core.specs.Text.SnapshotGrammar.{snapshot_format}
 use Rattle.model_lex.specs.PiecesOfText.{pieces_lexemes}

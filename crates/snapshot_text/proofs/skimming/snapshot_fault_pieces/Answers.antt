@@ -1,4 +1,4 @@
--- What was passed over is a snapshot, and where it stopped none goes on.
+-- The tokens that were passed over are a snapshot, and where the call stopped none goes on.
 use Rattle.std.proofs.Common.{◌≡◌, ℕ, drop, refl, ◌∙◌, subst, sym}
 use Rattle.std.proofs.lemmas.Option.{same_Some}
 use Rattle.model_core.specs.Text.FirstWrong.{told_place}

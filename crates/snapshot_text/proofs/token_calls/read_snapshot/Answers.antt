@@ -1,4 +1,4 @@
--- What the pieces spell, the tokens do.
+-- The tokens spell the same as the pieces.
 use Rattle.snapshot_text.proofs.token_calls.read_snapshot.Goals as goal
 
 pub read_snapshot_pieces-requires-clause-spelled : goal.read_snapshot_pieces-requires-clause-spelled

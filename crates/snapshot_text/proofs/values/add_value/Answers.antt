@@ -1,4 +1,4 @@
--- What is added is good where each value fits, since the name is the variable's and there are as many.
+-- The added values are good where each value fits, since the name is the variable's and there are as many.
 use Rattle.std.proofs.Common.{rules, w64, ◌≡◌, List, Bool, IfOk, length, map, ap, ◌∙◌, subst}
 use Rattle.std.specs.List.{list_all}
 use Rattle.std.proofs.lemmas.Int.{to_z-of_z}

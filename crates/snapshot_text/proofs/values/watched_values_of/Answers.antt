@@ -1,4 +1,4 @@
--- What is watched next is good and passed, or it isn't good.
+-- The watched thing that is next is good and passed, or it isn't good.
 use Rattle.std.proofs.Common.{◌≡◌, ◌<◌, ◌+◌, ◌∷◌, [], ℕ, List, length, map, drop, get_or, sym, ap, ◌∙◌}
 use Rattle.std.proofs.lemmas.List.{drop_more}
 use Rattle.model_core.specs.declared.model.Watch.{Watch}

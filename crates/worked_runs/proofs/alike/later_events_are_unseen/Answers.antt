@@ -21,7 +21,7 @@ beginning = with_one (record { time = 0; priority = 5; vertex = 0; values = [] }
 abbrev waiting : ℕ → Moment
 waiting time = with_one (record { time = time; priority = 5; vertex = 1; values = [] })
 
--- where models stand whose event A is due at these times
+-- the moments of models whose event A is due at these times
 data Waiting (one_time other_time : ℕ) : Moment → Moment → Type 0 where
   begun : {s t : Moment} → s ≡ beginning → t ≡ beginning → Waiting one_time other_time s t
   both_wait : {s t : Moment} → s ≡ waiting one_time → t ≡ waiting other_time → Waiting one_time other_time s t

@@ -22,7 +22,7 @@ next vertex = at_0 (record { time = 0; priority = 0; vertex = vertex; values = [
 
 -- ---- runs that end
 
--- where the two models stand: as they begin, and where nothing is pending
+-- the moments of the two models: as they begin, and where nothing is pending
 data UpToTheEnd : Moment → Moment → Type 0 where
   begun : {s t : Moment} → s ≡ first → t ≡ first → UpToTheEnd s t
   over : {s t : Moment} → s ≡ at_0 [] → t ≡ at_0 [] → UpToTheEnd s t
@@ -80,7 +80,7 @@ returns-clause-not_more_behind_the_last_note c = λ same.
 
 -- ---- runs that go on for ever
 
--- where the two models stand: as they begin, and as A or B comes
+-- the moments of the two models: as they begin, and as A or B comes
 data Turning : Moment → Moment → Type 0 where
   begun_to_turn : {s t : Moment} → s ≡ first → t ≡ first → Turning s t
   a_comes : {s t : Moment} → s ≡ next 1 → t ≡ next 1 → Turning s t

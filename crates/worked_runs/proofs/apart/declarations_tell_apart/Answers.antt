@@ -1,4 +1,4 @@
--- A test tells the first of what one model watches, or of its parameters, from that of the other.
+-- A test distinguishes the first watched thing of one model, or its first parameter, from that of the other.
 use Rattle.std.proofs.Common.{◌≡◌, ℕ, pos, Bool, true, false, nat_eq, List, [], ◌∷◌, map, codes, refl, sym, ◌∙◌, ap}
 use Rattle.std.specs.Ordering.{int_eq}
 use lib.Pointwise.{pointwise}

@@ -1,4 +1,4 @@
--- At stop time 5 two steps show how each run stands.
+-- At stop time 5 two steps show the standing of each run.
 use Rattle.std.proofs.Common.{◌≡◌, ℕ, zero, suc, pos, Some, IsTrue, [], ◌∷◌, replicate, refl, ap, lit<, lit≤}
 use Rattle.sig_base.specs.declared.fault.FaultKind.TheVariants as faults
 use Rattle.model_core.specs.EventGraph.{EventGraph}
@@ -9,7 +9,7 @@ use Rattle.worked_runs.specs.Pairs.{Apart, ends, stops, goes_on, divides, leaves
 use Rattle.worked_runs.proofs.Looks.{apart_by_ends, apart_by_going_on, circles}
 use Rattle.worked_runs.proofs.apart.ends_tell_apart.Goals as goal
 
--- what is seen, where the clock left 0
+-- the look, where the clock left 0
 abbrev from_five : Standing → Look
 from_five standing = showing (At 0 [] ∷ []) standing
 

@@ -1,4 +1,4 @@
--- The notes of each run are computed. Of a run that goes on for ever the first ones tell.
+-- The notes of each run are computed. The first ones decide for a run that goes on for ever.
 use Rattle.std.proofs.Common.{◌≡◌, ℕ, zero, suc, None, IsTrue, List, [], ◌∷◌, ◌++◌, replicate, refl, ap, lit<, lit≤}
 use Rattle.model_core.specs.EventGraph.{EventGraph}
 use Rattle.model_core.specs.Run.Machine.{Note, At, On, Ended, Look, finished}
