@@ -1,4 +1,4 @@
-//! The places that follow from some, and from those behind them: a walk that marks each place once.
+//! Some places, their successors, the successors of these, and so on: a walk that marks each place once.
 
 ghost use Rattle.std.specs.Prelude.{◌≡◌, [], length, replicate, false, OnOk, IfOk};
 ghost use Rattle.model_core.specs.Rules.Entailed.{entailed_marks};
@@ -9,7 +9,7 @@ use crate::places_behind::PlacesBehind;
 use sig_base::NoMemory;
 use std::alloc::Global;
 
-/// Which places are found, and which of these wait until what is behind them is found too.
+/// Which places are found, and which of these wait until their successors are found too.
 #[derive(Drop)]
 struct Finder {
     marks: Vec<bool>,
@@ -49,7 +49,7 @@ impl Finder {
         Ok(())
     }
 
-    /// Marks one of the places behind this one, if there is such a place.
+    /// Marks one of the successors of this place, if there is such a one.
     fn follow_nth<N: PlacesBehind>(
         &mut self,
         next: &N,
@@ -64,7 +64,7 @@ impl Finder {
         }
     }
 
-    /// Marks the places behind this one.
+    /// Marks the successors of this place.
     fn follow_one<N: PlacesBehind>(&mut self, next: &N, place: usize) -> Result<(), NoMemory>
         ensures { OnOk result (found_of self.new ≡ find_all (found_of self.old) (places_behind (N.lists next.now) place)) }
     {
@@ -74,7 +74,7 @@ impl Finder {
         Ok(())
     }
 
-    /// Finds what is behind the places that wait, and behind those which these find, until none waits.
+    /// Finds the successors of the places that wait, and of those which these find, until none waits.
     fn follow<N: PlacesBehind>(&mut self, first: &[usize], next: &N) -> Result<(), NoMemory>
         requires { Going first.now (N.lists next.now) (found_of self.old) }
         ensures going { OnOk result (Going first.now (N.lists next.now) (found_of self.new)) }
@@ -87,7 +87,7 @@ impl Finder {
     }
 }
 
-/// For each place whether it is one of the first, or behind one that is marked.
+/// For each place whether it is one of the first, or a successor of one that is marked.
 pub fn entailed<N: PlacesBehind>(
     alloc: Global,
     first: &[usize],

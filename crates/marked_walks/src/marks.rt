@@ -6,7 +6,7 @@ ghost use Rattle.model_core.specs.Rules.MarkedPlaces.{is_marked, unmarked_places
 use sig_base::{List, NoMemory};
 use std::alloc::Global;
 
-/// Whether a place is marked. Those behind the last mark aren't.
+/// Whether a place is marked. Those beyond the last mark aren't.
 pub fn is_marked(marks: &[bool], place: usize) -> bool
     ensures { result ≡ is_marked marks.now place }
 {

@@ -5,7 +5,7 @@ ghost use Rattle.model_core.specs.Rules.MarkedPlaces.{marked_of};
 
 use crate::staying::Staying;
 
-/// Moves the item at a place up behind those that were kept, if it stays, and says how many are kept then.
+/// Moves the item at a place up to the end of those that were kept, if it stays, and says how many are kept then.
 pub fn keep<T>(items: &mut Vec<T>, stays: bool, kept: usize, place: usize) -> usize
     requires before { kept ≤ place }
     requires there { place < length items.old.items }

@@ -1,22 +1,22 @@
-//! What a walk follows: the places behind each place, wherever they are kept.
+//! What a walk follows: the successors of each place, wherever they are kept.
 
 ghost use Rattle.std.specs.Prelude.{◌≡◌, ℕ, List, length, slice_get};
 ghost use Rattle.mark_laws.specs.PlacePairs.{places_behind};
 
-/// For each of some places, counted from 0, the places behind it.
+/// For each of some places, counted from 0, its successors.
 pub trait PlacesBehind {
-    // The places behind each place.
+    // The successors of each place.
     ghost lists: { Self → List (List ℕ) };
 
     /// How many places there are.
     fn place_count(&self) -> usize
         ensures { result ≡ length (lists self.now) };
 
-    /// How many places are behind this one: none where there is no such place.
+    /// How many successors this place has: none if there is no such place.
     fn count_behind(&self, place: usize) -> usize
         ensures { result ≡ length (places_behind (lists self.now) place) };
 
-    /// The place behind this one that has so many before it, if there are more than these.
+    /// The successor of this place that has so many before it, if there is one.
     fn nth_behind(&self, place: usize, nth: usize) -> Option<usize>
         ensures { result ≡ slice_get (places_behind (lists self.now) place) nth };
 }

@@ -8,12 +8,12 @@ ghost use Rattle.model_core.specs.Code.Views.{vertex_of, edge_of, watched_of};
 use crate::staying::Staying;
 use model_core::{Edge, Vertex, Watch};
 
-/// New places for what stands at old ones.
+/// New places for old ones.
 pub trait NewPlaces {
     // The new place of each old one.
     ghost moved: { Self → ℕ → ℕ };
 
-    /// The new place of what stands at this place.
+    /// The new place of this one.
     fn place(&self, place: usize) -> usize
         ensures { result ≡ moved self.now place };
 }

@@ -27,7 +27,7 @@ impl Model for Staying {
     ghost invariant = { λ s. HasNumbers s.marks.items s.numbers.items s.count };
 }
 
-/// The number at a place of a table, or the count behind its end.
+/// The number at a place of a table, or the count for a place beyond its end.
 fn number_in(table: &[usize], count: usize, place: usize) -> usize
     ensures { result ≡ slice_index_or table.now place count }
 {

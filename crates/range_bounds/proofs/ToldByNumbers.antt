@@ -1,5 +1,5 @@
--- Urgent edges whose conditions are refuted exclude all others, and those that compare the same with numbers are told apart by
--- these.
+-- Urgent edges whose conditions are refuted exclude all others. Those that compare one and the same with numbers exclude each
+-- other by the numbers alone.
 use Rattle.std.proofs.Common.{◌≡◌, ℤ, Bool, true, false, not, ◌&&◌, ◌||◌, cond, List, [], ◌∷◌, ◌++◌, ℕ, zero, suc, map, filter, take, drop, slice_get, length, ◌+◌, ◌≤◌, Option, Some, None, option_map, arith, refl, sym, ◌∙◌, ap, ap₂}
 use Rattle.std.specs.List.{list_all, list_any, remove}
 use Rattle.std.specs.Option.{option_map_or, option_and_then}
@@ -116,7 +116,7 @@ module _ (g : EventGraph) where
     by true false is rest = ap₂ (λ b bs. b ∷ bs) is rest
     by true true is rest = rest
 
-  -- where all live edges compare one and the same with numbers, these tell whether any two exclude each other
+  -- if all live edges compare one and the same with numbers, these decide whether any two exclude each other
   pub alike_told : (left : Expression) (es : List EventEdge) (all : List Compared) → AreCompared g left es all → each_pair never_both all ≡ each_pair (exclusive g) (urgent_conditions es)
   alike_told left es all alike = sym (pairs_told left (live_conditions g es) all (lives es) alike) ∙ sym (pairs_live es)
 
@@ -211,7 +211,7 @@ all_compared left live rest n none compared counted within =
     let few : length live ≤ EDGES_MAX = omega (arith, empty, counted, within) in
     sym (ap₂ (λ a b. a && b) all (le-leb (length live) EDGES_MAX few))
 
--- the others are those before the place and those behind it
+-- the others are those before the place and those after it
 pub another_told : (p : EventEdge → Bool) (es : List Edge) (k : ℕ) → list_any p (remove (map edge_of es) k) ≡ (list_any p (map edge_of (take k es)) || list_any p (map edge_of (drop (k + 1) es)))
 another_told p es k =
     let next : suc k ≡ k + 1 = omega arith in

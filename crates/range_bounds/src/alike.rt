@@ -1,4 +1,4 @@
-//! Urgent edges whose conditions compare the same with numbers: the numbers alone tell whether two of them exclude each other.
+//! Urgent edges whose conditions compare one and the same with numbers: the numbers alone decide which exclude each other.
 #![tactic(auto, using(model_core::proofs::SignedBits::signed_bits))]
 
 ghost use Rattle.std.specs.Prelude.{◌≡◌, ◌&&◌, not, map, Some};

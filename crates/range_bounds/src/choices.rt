@@ -45,7 +45,7 @@ fn rows_bounds(rows: &[Row]) -> Bounds
     }
 }
 
-/// The bounds of what a draw gives: from its least value to its greatest one, and 0 alone of a table that isn't there.
+/// The bounds of what a draw gives: from its least value to its greatest one, and 0 alone for a missing table.
 pub fn choice_bounds(model: &Model, choice: &Choice) -> Bounds
     ensures { result ≡ choice_bounds (graph_of model.now) (choice_of choice.now) }
 {

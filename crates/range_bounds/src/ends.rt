@@ -53,7 +53,7 @@ fn unmoved(x: i128) -> i64
     x as i64
 }
 
-// Mostly it is the number itself, which is told without a call.
+// Mostly it is the number itself, which needs no call.
 #[inline(always)]
 fn nearest(x: i128) -> i64
     ensures { result ≡ nearest x }

@@ -128,8 +128,8 @@ fn is_negation_of(a: &Expr, b: &Expr) -> bool
     }
 }
 
-/// Whether it is told that two conditions are never both true: one is `not` of the other, one never holds, or both compare
-/// the same with numbers that no whole number meets both.
+/// Whether two conditions are known to be never both true: one is `not` of the other, one never holds, or both compare one
+/// and the same with numbers, and no whole number meets both.
 pub fn exclusive(model: &Model, a: &Expr, b: &Expr) -> bool
     ensures { result ≡ exclusive (graph_of model.now) (expression_of a.now) (expression_of b.now) }
 {

@@ -1,4 +1,4 @@
-//! Which values expressions can have, as the declared ranges tell: bounds, conditions that never or always hold, and
+//! Which values expressions can have, as far as the declared ranges show: bounds, conditions that never or always hold, and
 //! stores, changes and edges that never fault. The rows of the table of bounds are public, for bounds under other ranges.
 #![tactic(auto)]
 

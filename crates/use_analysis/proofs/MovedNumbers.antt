@@ -21,7 +21,7 @@ pub moved_together : (part : Part) (first second : List ℕ) (numbers : List Sta
 moved_together part [] second numbers = refl
 moved_together part (v ∷ first) second numbers = moved_together part first second (with_place (moved_number part) v numbers)
 
--- ---- each number by itself, where so many stand before the first
+-- ---- each number by itself, with so many before the first
 
 each_number : (ℕ → Stamped → Stamped) → ℕ → List Stamped → List Stamped
 each_number f k [] = []
@@ -118,7 +118,7 @@ stamped_below last xs all = every-map (λ (x : Stamped). x.stamp ≤ last) (λ (
 pub stamped_to : (last next : ℕ) (xs : List Stamped) → last ≡ next → StampedBelow next xs → StampedTo last xs
 stamped_to last next xs same all = every-map (λ (x : Stamped). x.stamp < next) (λ (x : Stamped). x.stamp ≤ last) (λ x below. omega (arith, below, same)) xs all
 
--- what the code makes of the numbers of a vector, which lends them all, in a part that has a new stamp
+-- the numbers of a vector, which lends them all, after a part that has a new stamp
 module _ (part : Part) (vs : List ℕ) {items lent now : List Stamped} {count : ℕ} (all : lent ≡ items) (counted : count ≡ length items) (same : length now ≡ length lent) (new : StampedBelow part.stamp items) (moves : now ≡ moved_at part vs lent) where
   given_back : take count (now ++ drop (length now) items) ≡ moved_at part vs items
   given_back = take_at now _ count (omega (arith, same, counted, ap length all)) ∙ moves ∙ ap (moved_at part vs) all
@@ -179,7 +179,7 @@ pub nothing_stamped_to : (count : ℕ) → StampedTo 0 (nothing_stamped count)
 nothing_stamped_to zero = tt
 nothing_stamped_to (suc count) = (omega arith, nothing_stamped_to count)
 
--- the number at a place, whatever stands in for one beyond the end
+-- the number at a place, whatever a place beyond the end gives
 pub read_there : (xs : List Stamped) (k : ℕ) (d : Stamped) → get_or xs k d ≡ get_or xs k (get_or xs k d)
 read_there [] k d = refl
 read_there (x ∷ xs) zero d = refl

@@ -12,7 +12,7 @@ abbrev pub changed_where : (ℕ → Bool) → (ℕ → ℕ) → ℕ → List ℕ
 changed_where test f place [] = []
 changed_where test f place (n ∷ ns) = cond (test place) (f n) n ∷ changed_where test f (place + 1) ns
 
--- one more at each of these variables, once however often it stands there
+-- one more at each of these variables, once however often it occurs there
 abbrev pub raised_at : List ℕ → List ℕ → List ℕ
 raised_at vars numbers = changed_where (is_among vars) (λ n. n + 1) 0 numbers
 

@@ -1,4 +1,4 @@
--- The table of uses, and which plain row a row of it stands for.
+-- The table of uses, and the plain row that a row of it is seen as.
 use Rattle.std.specs.Prelude.{List, map, length}
 use Rattle.std.specs.List.{range_with_len}
 use Rattle.model_core.specs.EventGraph.{EventGraph}

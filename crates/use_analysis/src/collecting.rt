@@ -1,4 +1,4 @@
-//! The variables that stand in parts of a model, added to a list in the order in which they stand there.
+//! The variables in parts of a model, added to a list in the order in which they occur there.
 
 ghost use Rattle.std.specs.Prelude.{◌≡◌, [], ◌++◌, map, OnOk};
 ghost use Rattle.std.specs.List.{flat_map};
@@ -11,7 +11,7 @@ ghost use Rattle.model_core.specs.Code.Views.{expression_of, location_of, change
 use model_core::{Change, Delay, Edge, EdgeForm, Expr, Target, Vertex};
 use sig_base::NoMemory;
 
-/// Adds the variables that stand in an expression.
+/// Adds the variables that occur in an expression.
 pub fn add_variables(out: &mut Vec<usize>, expr: &Expr) -> Result<(), NoMemory>
     ensures { OnOk result (out.new.items ≡ out.old.items ++ variables_in (expression_of expr.now)) }
 {
@@ -36,7 +36,7 @@ pub fn add_variables(out: &mut Vec<usize>, expr: &Expr) -> Result<(), NoMemory>
     Ok(())
 }
 
-/// Adds the variables that stand in expressions.
+/// Adds the variables that occur in expressions.
 pub fn add_all_variables(out: &mut Vec<usize>, exprs: &[Expr]) -> Result<(), NoMemory>
     ensures { OnOk result (out.new.items ≡ out.old.items ++ flat_map variables_in (map expression_of exprs.now)) }
 {
@@ -46,7 +46,7 @@ pub fn add_all_variables(out: &mut Vec<usize>, exprs: &[Expr]) -> Result<(), NoM
     Ok(())
 }
 
-/// Adds the variables that stand in the index of a target.
+/// Adds the variables that occur in the index of a target.
 pub fn add_index_reads(out: &mut Vec<usize>, target: &Target) -> Result<(), NoMemory>
     ensures { OnOk result (out.new.items ≡ out.old.items ++ location_reads (location_of target.now)) }
 {
@@ -56,7 +56,7 @@ pub fn add_index_reads(out: &mut Vec<usize>, target: &Target) -> Result<(), NoMe
     }
 }
 
-/// Adds the variables that stand in the indexes of targets.
+/// Adds the variables that occur in the indexes of targets.
 fn add_all_index_reads(out: &mut Vec<usize>, targets: &[Target]) -> Result<(), NoMemory>
     ensures { OnOk result (out.new.items ≡ out.old.items ++ flat_map location_reads (map location_of targets.now)) }
 {

@@ -16,7 +16,7 @@ use sig_base::NoMemory;
 use std::alloc::Global;
 
 /// How many edges and changes read each variable, and how many changes set it: each counts once at a variable, however often
-/// that stands in it. Contracts see it as these two lists of numbers.
+/// that occurs in it. Contracts see it as these two lists of numbers.
 #[derive(Drop)]
 pub struct UseCounts {
     numbers: Numbers,

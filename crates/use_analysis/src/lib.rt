@@ -1,5 +1,5 @@
-//! Who uses which variable: what edges and changes read, what vertices write, a table of both, and its text; and how many
-//! parts do, kept up to date as parts come and go. And who draws from which random stream.
+//! Which vertices use which variable: what edges and changes read, what vertices write, a table of both, and its text; and how
+//! many parts use each, kept up to date as parts come and go. And which random streams parts draw from.
 #![tactic(auto)]
 
 mod collecting;

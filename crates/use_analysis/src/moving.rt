@@ -1,5 +1,5 @@
-//! Numbers of variables that move as a part of a model is walked: each once, however often its variable stands in the part. A
-//! stamp beside each number tells whether this part moved it already, so no memory is taken and each node is visited once.
+//! Numbers of variables that move as a part of a model is walked: each once, however often its variable occurs in the part.
+//! A stamp beside each number shows whether this part moved it already. So no memory is taken, and each node is visited once.
 #![tactic(auto, using(crate::proofs::MovedNumbers::moved_together))]
 
 ghost use Rattle.std.specs.Prelude.{◌≡◌, [], map};
@@ -62,7 +62,7 @@ fn move_at(numbers: &mut [Stamped], part: Part, var: usize)
     }
 }
 
-/// Moves the numbers of the variables that stand in an expression.
+/// Moves the numbers of the variables that occur in an expression.
 fn move_in(numbers: &mut [Stamped], part: Part, expr: &Expr)
     ensures { numbers.new ≡ moved_at part (variables_in (expression_of expr.now)) numbers.old }
 {
@@ -86,7 +86,7 @@ fn move_in(numbers: &mut [Stamped], part: Part, expr: &Expr)
     }
 }
 
-/// Moves the numbers of the variables that stand in expressions.
+/// Moves the numbers of the variables that occur in expressions.
 fn move_in_all(numbers: &mut [Stamped], part: Part, exprs: &[Expr])
     ensures { numbers.new ≡ moved_at part (flat_map variables_in (map expression_of exprs.now)) numbers.old }
 {
@@ -95,7 +95,7 @@ fn move_in_all(numbers: &mut [Stamped], part: Part, exprs: &[Expr])
     }
 }
 
-/// Moves the numbers of the variables that stand in the index of a target.
+/// Moves the numbers of the variables that occur in the index of a target.
 fn move_in_index(numbers: &mut [Stamped], part: Part, target: &Target)
     ensures { numbers.new ≡ moved_at part (location_reads (location_of target.now)) numbers.old }
 {
@@ -104,7 +104,7 @@ fn move_in_index(numbers: &mut [Stamped], part: Part, target: &Target)
     }
 }
 
-/// Moves the numbers of the variables that stand in the indexes of targets.
+/// Moves the numbers of the variables that occur in the indexes of targets.
 fn move_in_indexes(numbers: &mut [Stamped], part: Part, targets: &[Target])
     ensures { numbers.new ≡ moved_at part (flat_map location_reads (map location_of targets.now)) numbers.old }
 {

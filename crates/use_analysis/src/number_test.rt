@@ -1,5 +1,5 @@
-//! Tests of numbers: of variables, of random streams, or of what else a part of a model is asked for. So one walk over a
-//! vertex tells whether one of its numbers passes, whatever is asked of it.
+//! Tests of numbers: of variables, of random streams, or of other numbers in a part of a model. So one walk over a vertex serves
+//! each test.
 
 ghost use Rattle.std.specs.Prelude.{◌≡◌, ◌==◌};
 

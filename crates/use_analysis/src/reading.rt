@@ -11,7 +11,7 @@ ghost use Rattle.model_core.specs.Code.Views.{expression_of, location_of, change
 
 use model_core::{Change, Delay, Edge, EdgeForm, Expr, Target, Vertex};
 
-/// Whether a variable stands in an expression.
+/// Whether a variable occurs in an expression.
 fn stands_in(expr: &Expr, var: usize) -> bool
     ensures { result ≡ is_among (variables_in (expression_of expr.now)) var }
 {
@@ -27,7 +27,7 @@ fn stands_in(expr: &Expr, var: usize) -> bool
     }
 }
 
-/// Whether a variable stands in one of these expressions.
+/// Whether a variable occurs in one of these expressions.
 fn stands_in_one(exprs: &[Expr], var: usize) -> bool
     ensures { result ≡ is_among (flat_map variables_in (map expression_of exprs.now)) var }
 {
@@ -39,7 +39,7 @@ fn stands_in_one(exprs: &[Expr], var: usize) -> bool
     false
 }
 
-/// Whether a variable stands in the index of a target.
+/// Whether a variable occurs in the index of a target.
 fn indexes(target: &Target, var: usize) -> bool
     ensures { result ≡ is_among (location_reads (location_of target.now)) var }
 {
@@ -49,7 +49,7 @@ fn indexes(target: &Target, var: usize) -> bool
     }
 }
 
-/// Whether a variable stands in the index of one of these targets.
+/// Whether a variable occurs in the index of one of these targets.
 fn indexes_one(targets: &[Target], var: usize) -> bool
     ensures { result ≡ is_among (flat_map location_reads (map location_of targets.now)) var }
 {

@@ -12,7 +12,7 @@ use model_core::Model;
 use sig_base::{NoMemory, put_bytes, put_texts};
 use std::alloc::Global;
 
-/// Adds the names of vertices, each behind a comma.
+/// Adds the names of vertices, each after a comma.
 fn put_later_users(out: &mut Vec<u8>, model: &Model, vertices: &[usize]) -> Result<(), NoMemory>
     ensures { OnOk result (out.new.items ≡ out.old.items ++ flat_map (λ (w : ℕ). codes "," ++ vertex_name (graph_of model.now) w) vertices.now) }
 {

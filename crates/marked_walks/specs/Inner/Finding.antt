@@ -1,4 +1,4 @@
--- Places that are found, and what holds as the places behind them are.
+-- Places that are found, and what holds while their successors are found.
 use Rattle.std.specs.Prelude.{◌≡◌, ◌⊎◌, ℕ, ◌<◌, Bool, true, not, cond, List, [], ◌∷◌, ◌++◌, length, slice_index_or, slice_get, slice_set, Contains}
 use Rattle.std.specs.Option.{option_map_or}
 use Rattle.model_core.specs.Rules.MarkedPlaces.{is_marked}
@@ -17,7 +17,7 @@ found_of f = record { marks = f.marks.items; waiting = f.waiting.items }
 abbrev pub is_unfound : List Bool → ℕ → Bool
 is_unfound marks k = not (slice_index_or marks k true)
 
--- a place that isn't marked is, and waits
+-- marks a place, which then waits, unless it is marked
 abbrev pub find_one : Found → ℕ → Found
 find_one f k = cond (is_unfound f.marks k) (record { marks = slice_set f.marks k true; waiting = f.waiting ++ k ∷ [] }) f
 
@@ -29,11 +29,11 @@ find_all f (k ∷ ks) = find_all (find_one f k) ks
 abbrev pub find_nth : Found → List ℕ → ℕ → Found
 find_nth f ks n = option_map_or (find_one f) (slice_get ks n) f
 
--- the places behind a place are found
+-- the successors of a place are found
 abbrev pub IsFollowed : List (List ℕ) → List Bool → ℕ → Type 0
 IsFollowed next marks k = (j : ℕ) → Contains (places_behind next k) j → j < length next → is_marked marks j ≡ true
 
--- what is marked is entailed, and what is behind a marked place that doesn't wait is marked
+-- what is marked is entailed, and the successors of a marked place that doesn't wait are marked
 pub record Going (first : List ℕ) (next : List (List ℕ)) (f : Found) : Type 0 where
   pub long : length f.marks ≡ length next
   pub entailed : (k : ℕ) → is_marked f.marks k ≡ true → Entailed (length next) first (pairs_from 0 next) k

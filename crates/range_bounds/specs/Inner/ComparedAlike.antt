@@ -19,7 +19,7 @@ abbrev pub left_operand : Expression → Option Expression
 left_operand (Binary op a b) = Some a
 left_operand e = None
 
--- the same of the first of these conditions
+-- the left operand of the first of these conditions
 abbrev pub first_left : List Expression → Option Expression
 first_left [] = None
 first_left (c ∷ cs) = left_operand c

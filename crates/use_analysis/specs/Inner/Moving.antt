@@ -1,4 +1,4 @@
--- Stamped numbers that move at variables, once a part: what the code makes of them.
+-- Stamped numbers that move at variables, once a part, as the code moves them.
 use Rattle.std.specs.Prelude.{ℕ, ◌+◌, ◌-◌, ◌^◌, ◌<◌, ◌≤◌, ◌==◌, min, cond, List, [], ◌∷◌, map, replicate}
 use Rattle.std.specs.List.{AllByRecursion}
 use Rattle.model_core.specs.Rules.PlacedEdges.{with_place}

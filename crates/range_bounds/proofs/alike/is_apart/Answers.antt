@@ -1,4 +1,4 @@
--- Some whole number meets both where one does that stands beside the numbers.
+-- Some whole number meets both if one of the numbers, or one beside them, does.
 use Rattle.std.proofs.Common.{◌≡◌, ◌∙◌, true, not, ◌||◌, rules, ap}
 use Rattle.model_core.specs.EventGraph.{Truth}
 use Rattle.model_core.specs.Code.Views.{operator_of}

@@ -1,4 +1,4 @@
--- The others are those before the place and those behind it.
+-- The others are those before the place and those after it.
 use Rattle.std.proofs.Common.{◌∙◌, ◌+◌, ◌||◌, List, map, drop, sym, ap}
 use Rattle.std.specs.List.{list_any}
 use Rattle.std.proofs.lemmas.List.{take_rest}

@@ -1,4 +1,4 @@
--- The numbers that are compared with tell it.
+-- The numbers in the comparisons decide it.
 use Rattle.std.proofs.Common.{◌∙◌, List, map, ap}
 use Rattle.model_core.specs.Rules.UrgentEdges.{each_pair}
 use Rattle.model_core.specs.Code.Views.{graph_of, edge_of}

@@ -1,4 +1,4 @@
--- No stamp is as great as the one behind the last.
+-- No stamp is as great as the one after the last.
 use Rattle.use_analysis.proofs.MovedNumbers.{stamped_below}
 use Rattle.use_analysis.proofs.counts.next_part.Goals as goal
 

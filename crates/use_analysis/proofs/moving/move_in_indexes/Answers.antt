@@ -1,4 +1,4 @@
--- One more is walked behind those before it.
+-- One more is walked after those before it.
 use Rattle.model_core.specs.Rules.Uses.{location_reads}
 use Rattle.model_core.specs.Code.Views.{location_of}
 use Rattle.use_analysis.proofs.MovedNumbers.{walked_more}

@@ -1,4 +1,4 @@
--- The places behind the place taken off are found.
+-- The successors of the place taken off are found.
 use Rattle.std.proofs.Common.{◌<◌, sym, subst, List, ℕ}
 use Rattle.marked_walks.specs.Inner.Finding.{Found, found_of, find_all, Going}
 use Rattle.mark_laws.specs.PlacePairs.{places_behind}

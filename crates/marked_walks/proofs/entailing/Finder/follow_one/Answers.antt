@@ -1,4 +1,4 @@
--- One place more of those behind.
+-- One successor more.
 use Rattle.std.proofs.Common.{◌<◌, length, arith}
 use Rattle.mark_laws.specs.PlacePairs.{places_behind}
 use Rattle.marked_walks.specs.Inner.Finding.{found_of, find_all}

@@ -1,4 +1,4 @@
--- The table with the count behind its end gives each rank.
+-- The table, with the count for places beyond its end, gives each rank.
 use Rattle.std.proofs.Common.{◌∙◌, ap, ℕ, List, Bool, slice_index_or}
 use Rattle.model_core.specs.Rules.MarkedPlaces.{rank}
 use Rattle.mark_laws.proofs.Ranks.{rank-in_table}
