@@ -1,4 +1,4 @@
--- What the class of the first byte says of what bytes begin with.
+-- From the class of the first byte: the front that bytes begin with.
 use Rattle.std.proofs.Common.{◌≡◌, ℕ, ◌<◌, Bool, true, false, cond, ◌||◌, ◌&&◌, List, [], ◌∷◌, length, take, slice_index, refl, sym, ap, ◌∙◌, arith}
 use lib.Pointwise.{pointwise}
 use Rattle.std.proofs.lemmas.Bool.{false≢true}
@@ -99,7 +99,7 @@ by_tests bytes false false false words false true symbol name alone = refl
 by_tests bytes false false false words false false None name alone = alone refl
 by_tests bytes false false false words false false (Some s) name alone = alone refl
 
--- the class of the first byte tells what bytes begin with
+-- the class of the first byte decides what bytes begin with
 pub class-front : (bytes : List ℕ) (class : Class) → 0 < length bytes → class ≡ class_of (slice_index bytes 0) → front_of_class class bytes ≡ front_at bytes
 class-front bytes class some is =
     let c = slice_index bytes 0 in

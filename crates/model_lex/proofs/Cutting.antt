@@ -40,7 +40,7 @@ pub record Cut (text : List ℕ) (ls : List Lexeme) (at : ℕ) : Type 0 where
   pub in_text : at ≤ length text
   pub whole : joined ls (tokens_from at 0 (drop at text)) ≡ tokens_of text
 
--- the front at a place, and what is left behind it
+-- the front at a place, and what is left after it
 abbrev rest_after : List ℕ → ℕ → ℕ → Result (List Lexeme) ℕ
 rest_after text at n = tokens_from (at + n) 0 (drop (at + n) text)
 
@@ -61,7 +61,7 @@ front_room text at f inside is = let fits = (front_here text at f inside is).1 i
 pub cut_neither : (text : List ℕ) (ls : List Lexeme) (at : ℕ) → at < length text → front_at (drop at text) ≡ Neither → Cut text ls at → tokens_of text ≡ Err at
 cut_neither text ls at inside is cut = sym cut.whole ∙ ap (joined ls) (front_here text at Neither inside is).0
 
--- an error tells such a byte
+-- an error names such a byte
 pub gives_error : {X : Type 0} (view : X → List Lexeme) (text : List ℕ) (ls : List Lexeme) (at : ℕ) (e : LexError) → at < length text → Cut text ls at
     → ((place : ℕ) → (let r : Result ℕ LexError = Err e in r) ≡ Err (errors.BadByte place) → (place ≡ at) × (front_at (drop at text) ≡ Neither)) → Gives view (Err e) (tokens_of text)
 gives_error view text ls at (errors.BadByte place) inside cut why = let w = why place refl in cut_neither text ls at inside w.1 cut ∙ ap Err (sym w.0)
@@ -76,7 +76,7 @@ joined_longest : (ls : List Lexeme) (at n : ℕ) (kind : LexemeKind) (r : Result
 joined_longest ls at n kind (Ok later) = ap Ok (sym (append_assoc ls (record { from = at; to = at + n; kind = kind } ∷ []) later))
 joined_longest ls at n kind (Err place) = refl
 
--- what comes of what the front adds
+-- the result with what the front adds
 joined_passed : (f : Front) (at to : ℕ) (ls ks : List Lexeme) (rest : ℕ → Result (List Lexeme) ℕ) → Passes at f ls ks to → joined ks (rest to) ≡ joined ls (after_front at f (rest (at + front_length f)))
 joined_passed (Between n) at to ls ks rest passes = rw (passes.0, passes.1) refl
 joined_passed (Longest n kind) at to ls ks rest passes = rw (passes.0, passes.1) (sym (joined_longest ls at n kind (rest (at + n))))
@@ -87,7 +87,7 @@ passed_to (Between n) at to ls ks passes = passes.0
 passed_to (Longest n kind) at to ls ks passes = passes.0
 passed_to Neither at to ls ks passes = absurd passes
 
--- the text is cut up to the place behind what stands at a place, which is a later one
+-- the text is cut up to the place after the front at a place, which is a later one
 pub cut_on : (text : List ℕ) (ls ks : List Lexeme) (at to : ℕ) → at < length text → Cut text ls at → Passes at (front_at (drop at text)) ls ks to → Cut text ks to × (at < to)
 cut_on text ls ks at to inside cut passes =
     let f = front_at (drop at text) in

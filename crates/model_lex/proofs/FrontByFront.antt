@@ -13,7 +13,7 @@ some_byte c s =
     let fits : Fits (c ∷ s) (front c s) = subst (Fits (c ∷ s)) (sym (front-front_at c s)) (front_at-fits (c ∷ s) (omega arith)) in
     fits.0
 
--- the front is taken off, and the rest gives what comes behind it
+-- the front is taken off, and the rest gives what comes after it
 tokens_from-cons : (at c : ℕ) (s : List ℕ) → tokens_from at 0 (c ∷ s) ≡ after_front at (front c s) (tokens_from (at + front_length (front c s)) 0 (drop (front_length (front c s)) (c ∷ s)))
 tokens_from-cons at c s = ap (after_front at (front c s)) (after_byte at (front_length (front c s)) c s (some_byte c s))
 

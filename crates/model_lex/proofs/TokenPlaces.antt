@@ -1,4 +1,4 @@
--- The tokens of a text stand in it in order.
+-- The tokens of a text follow one another in it.
 use Rattle.std.proofs.Common.{◌≡◌, ℕ, zero, suc, ◌+◌, ◌-◌, ◌<◌, ◌≤◌, List, [], ◌∷◌, length, get_or, map, sym, refl, subst, arith}
 use Rattle.std.specs.Prelude.{Result, Ok, Err}
 use Rattle.std.proofs.lemmas.List.{length-map, get_or-map}
@@ -10,12 +10,12 @@ use Rattle.model_lex.specs.PieceViews.{piece_of}
 use Rattle.model_lex.specs.TokenOrder.{StandInOrder}
 use Rattle.model_lex.proofs.FrontLemmas.{Fits, front-front_at, front_at-fits}
 
--- what stands in order from a place on does so from an earlier one on
+-- tokens in order from a place on are in order from an earlier one on
 earlier : (from from' : ℕ) (ls : List Lexeme) (to : ℕ) → from' ≤ from → StandInOrder from ls to → StandInOrder from' ls to
 earlier from from' [] to le order = omega arith
 earlier from from' (l ∷ ls) to le order = (omega (arith, order.0), order.1, order.2)
 
--- no token ends behind the last place
+-- no token ends after the last place
 within : (from : ℕ) (ls : List Lexeme) (to : ℕ) → StandInOrder from ls to → from ≤ to
 within from [] to order = order
 within from (l ∷ ls) to order = omega (arith, order.0, order.1, within l.to ls to order.2)
@@ -25,7 +25,7 @@ in_text from [] to order k d k_in = absurd (omega arith)
 in_text from (l ∷ ls) to order zero d k_in = (order.1, within l.to ls to order.2)
 in_text from (l ∷ ls) to order (suc k) d k_in = in_text l.to ls to order.2 k d (omega arith)
 
--- a front is put before tokens that stand in order behind it
+-- a front is put before tokens that are in order after it
 front_in_order : (at to : ℕ) (f : Front) (later : Result (List Lexeme) ℕ) → 1 ≤ front_length f → ((ls : List Lexeme) → later ≡ Ok ls → StandInOrder (at + front_length f) ls to) → (ls : List Lexeme) → after_front at f later ≡ Ok ls → StandInOrder at ls to
 front_in_order at to (Between n) later some order ls is = earlier (at + n) at ls to (omega arith) (order ls is)
 front_in_order at to (Longest n kind) (Ok later) some order ls is =

@@ -37,7 +37,7 @@ passes_between text at n tokens is = subst (λ f. Passes at f (map (piece_of tex
 pub has_bytes : (text : List ℕ) (at : ℕ) → at < length text → 0 < length (bytes_from text at)
 has_bytes text at inside = subst (λ b. 0 < length b) (sym (take_rest text at)) (omega (arith, length-drop at text))
 
--- there is room for what stands at the place
+-- there is room for what is at the place
 pub room_from : (text : List ℕ) (at : ℕ) (f : Front) → at < length text → front_at (bytes_from text at) ≡ f → at + front_length f ≤ length text
 room_from text at f inside is = (front_room text at f inside (subst (λ b. front_at b ≡ f) (take_rest text at) is)).1
 

@@ -1,3 +1,3 @@
--- The code of this crate, restated for its proofs. No public clause cites these, and nobody has to believe them.
+-- The code of this crate, restated for its proofs. No public clause cites these, so a reader need not believe them.
 pub mod Fronts
 pub mod Classes

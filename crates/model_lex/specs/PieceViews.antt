@@ -1,11 +1,11 @@
--- Which plain token each piece of a text stands for.
+-- Which plain token each piece of a text represents.
 use Rattle.std.specs.Prelude.{ℕ, ◌+◌, List, slice_range}
 use Rattle.model_core.specs.Text.Lexing.{LexemeKind, NameOf, Reserved, NumberOf, Mark, Lexeme, digits_value, literal_value}
 use Rattle.model_lex.specs.declared.piece.Piece.{Piece}
 use Rattle.model_lex.specs.declared.piece.PieceKind.{PieceKind}
 use Rattle.model_lex.specs.declared.piece.PieceKind.TheVariants as kinds
 
--- what a piece of these bytes stands for
+-- what a piece of these bytes represents
 abbrev pub piece_kind : List ℕ → PieceKind → LexemeKind
 piece_kind bytes kinds.Name = NameOf bytes
 piece_kind bytes (kinds.Word w) = Reserved w

@@ -4,6 +4,6 @@ use Rattle.model_core.specs.Text.Lexing.{Lexeme}
 use Rattle.model_lex.specs.PieceViews.{piece_of}
 use Rattle.model_lex.specs.declared.piece_list.Pieces.{Pieces}
 
--- what the pieces stand for, in their text
+-- what the pieces represent, in their text
 abbrev pub pieces_lexemes : Pieces → List Lexeme
 pieces_lexemes t = map (piece_of t.text.now) t.list

@@ -1,4 +1,4 @@
-//! What a byte can begin, told by the byte alone.
+//! What a byte can begin, by the byte alone.
 
 ghost use Rattle.std.specs.Prelude.{◌≡◌, map};
 ghost use Rattle.std.specs.List.{range_with_len};
@@ -70,7 +70,7 @@ const OPEN_BODY: Class = Class::Alone(Symbol::OpenBrace);
 
 const END_BODY: Class = Class::Alone(Symbol::CloseBrace);
 
-/// For each byte what it can begin. A table, since it is asked at each token, and at each blank that is no space.
+/// For each byte what it can begin. A table, since each token asks it, and each blank that is no space.
 fn classes() -> &'static [Class; 256]
     ensures { result.now ≡ map class_of (range_with_len 0 256) }
 {

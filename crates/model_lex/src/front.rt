@@ -14,8 +14,8 @@ use crate::words::word_kind;
 use model_core::Symbol;
 use sig_base::NoMemory;
 
-/// Passes over what the text has at a place, and gives the place behind it. Where that is a token, the longest one, it is
-/// added. Inlined with what it calls, since it is asked at each token and at each blank.
+/// Passes over what the text has at a place, and returns the place after it. A token, the longest one, is
+/// added. Inlined with what it calls, since each token and each blank takes a call.
 #[inline(always)]
 pub(crate) fn pass_over(list: &mut Vec<Piece>, text: &[u8], at: usize) -> Result<usize, LexError>
     requires inside { at < length text.now }
@@ -26,7 +26,7 @@ pub(crate) fn pass_over(list: &mut Vec<Piece>, text: &[u8], at: usize) -> Result
     let bytes = &text[at..];
     let left = bytes.len();
     let first = bytes[0];
-    // Most blanks are spaces, and many a byte is one: no table is asked.
+    // Most blanks are spaces, and many bytes are, so these need no table.
     if first == b' ' {
         return Ok(at + 1);
     }
@@ -51,7 +51,7 @@ pub(crate) fn pass_over(list: &mut Vec<Piece>, text: &[u8], at: usize) -> Result
     }
 }
 
-/// The longest symbol that the bytes begin with, behind its length.
+/// The longest symbol that the bytes begin with, and before it its length.
 fn symbol_front(bytes: &[u8]) -> Option<(usize, Symbol)>
     requires { 0 < length bytes.now }
     ensures { symbol_seen result ≡ symbol_among all_symbols bytes.now }
@@ -67,7 +67,7 @@ fn symbol_front(bytes: &[u8]) -> Option<(usize, Symbol)>
     }
 }
 
-/// Adds the token of so many bytes at a place, at which `left` bytes of the text are left, and gives the place behind it.
+/// Adds the token of so many bytes at a place, where `left` bytes of the text are left, and returns the place after it.
 #[inline(always)]
 fn add(
     list: &mut Vec<Piece>,

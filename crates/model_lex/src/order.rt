@@ -1,4 +1,4 @@
-//! Laws of the tokens of a text: how it is cut into them, and where they stand.
+//! Laws of the tokens of a text: how it is cut into them, and in which order they are.
 
 ghost use Rattle.std.specs.Prelude.{◌≡◌, ◌+◌, ◌↔◌, ◌<◌, ◌≤◌, ℕ, List, Result, Ok, All, length};
 ghost use Rattle.model_core.specs.Text.Lexing.{Lexeme, tokens_of};
@@ -15,7 +15,7 @@ pub fn texts_are_cut()
     ensures { (text : List ℕ) (r : Result (List Lexeme) ℕ) → IsCut 0 text r ↔ (tokens_of text ≡ r) }
 {}
 
-/// The law that the tokens of a text stand in it in order, each of at least a byte.
+/// The law that the tokens follow one another in their text, each of at least a byte.
 pub fn tokens_stand_in_order()
     ensures in_order { (text : List ℕ) (ls : List Lexeme) → tokens_of text ≡ Ok ls → StandInOrder 0 ls (length text) }
     // So a reader may take the bytes of any token out of the text.

@@ -1,4 +1,4 @@
-//! The tokens of a text in few bytes: what each is, and where it stands. What its bytes say is left in the text.
+//! The tokens of a text in few bytes: the kind of each, and its place. Its spelling stays in the text.
 
 ghost use Rattle.std.specs.Prelude.{◌≡◌, ◌+◌, ◌≤◌, length};
 ghost use Rattle.model_core.specs.Code.TokenViews.{lexeme_of};

@@ -18,7 +18,7 @@ pub(crate) fn word_kind(word: &[u8]) -> PieceKind
 }
 
 /// What a word is, where it begins with the letter. It is compared with the reserved words that do, of which there are at
-/// most four. Each comparison is inlined, so that it looks at no byte of these words: they stand in the code.
+/// most four. Each comparison is inlined, so that it looks at no byte of these words: they are in the code.
 #[inline(always)]
 fn kind_with(letter: u8, word: &[u8]) -> PieceKind
     ensures { piece_kind word.now result ≡ word_among (words_with_first letter) word.now }

@@ -1,4 +1,4 @@
--- What a byte can begin, told by the byte alone.
+-- What a byte can begin, by the byte alone.
 use Rattle.std.specs.Prelude.{ℕ, ◌==◌, Bool, if◌then◌else◌, List, [], ◌∷◌, Option, Some, None, slice_index}
 use Rattle.std.specs.List.{list_any}
 use Rattle.std.specs.Option.{option_map_or}

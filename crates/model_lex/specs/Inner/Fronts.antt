@@ -1,4 +1,4 @@
--- What the code's values stand for, and the front of a text as the code looks for it.
+-- What the code's values represent, and the front of a text as the code looks for it.
 use Rattle.std.specs.Prelude.{◌≡◌, ℕ, ◌+◌, ◌==◌, if◌then◌else◌, List, [], ◌∷◌, ◌++◌, length, take, filter, slice_index, Option, Some, None, Result, Ok, Err}
 use Rattle.std.specs.List.{prefix_len}
 use Rattle.std.specs.Char.{is_ascii_digit, is_ascii_alphabetic}
@@ -8,12 +8,12 @@ use Rattle.model_core.specs.declared.token.Symbol.{Symbol}
 use Rattle.model_lex.specs.declared.lex_error.LexError.{LexError}
 use Rattle.model_lex.specs.declared.lex_error.LexError.TheVariants as errors
 
--- what a symbol behind its length stands for
+-- the front that a length and a symbol represent
 abbrev pub symbol_seen : Option (ℕ × Symbol) → Front
 symbol_seen None = Neither
 symbol_seen (Some (n, s)) = Longest n (Mark s)
 
--- What stands at a place is passed over: the tokens before and after that, and the place behind it. A byte that begins no
+-- The front at a place is passed over: the tokens before and after that, and the place after it. A byte that begins no
 -- token is not passed over.
 abbrev pub Passes : ℕ → Front → List Lexeme → List Lexeme → ℕ → Type 0
 Passes at (Between n) before after to = (to ≡ at + n) × (after ≡ before)

@@ -1,4 +1,4 @@
--- The class of the first byte tells what the text has there.
+-- The class of the first byte decides what the text has there.
 use Rattle.std.proofs.Common.{◌≡◌, ◌∙◌, ap, arith, refl, slice_index, sym, take}
 use Rattle.model_core.specs.Text.Lexing.{Between, Longest, NameOf}
 use Rattle.model_lex.specs.declared.piece.PieceKind.TheVariants.{Number}

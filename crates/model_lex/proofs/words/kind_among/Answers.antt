@@ -1,4 +1,4 @@
--- The word at the place is the spelling, or those behind it are left to look at.
+-- The word at the place is the spelling, or the words after it are left to compare.
 use Rattle.std.proofs.Common.{◌≡◌, ℕ, ◌+◌, ◌<◌, Bool, cond, List, length, map, drop, get_or, sym, ap, ◌∙◌, Bor}
 use Rattle.std.proofs.lemmas.List.{at_drop_more}
 use Rattle.model_core.specs.declared.token.Word.{Word}

@@ -1,4 +1,4 @@
--- The words that begin with each letter stand in the code as they do among the reserved words.
+-- For each letter, the words in the code are the reserved words that begin with it, in their order.
 use Rattle.std.proofs.Common.{sym, ap, ◌∙◌}
 use Rattle.model_core.specs.Text.Lexing.{word_among}
 use Rattle.model_lex.specs.Inner.Fronts.{words_with_first}
