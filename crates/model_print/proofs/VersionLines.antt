@@ -1,4 +1,4 @@
--- Whether the line of the version stands, where an edge or a vertex is left out.
+-- Whether the text has the line of the version where an edge or a vertex is left out.
 use Rattle.std.proofs.Common.{◌≡◌, ℕ, zero, suc, ◌<◌, Bool, true, false, ◌||◌, List, [], ◌∷◌, ◌++◌, map, length, take, drop, slice_get, nat_lt, refl, sym, ◌∙◌, ap, ap₂}
 use Rattle.std.proofs.lemmas.List.{append_cancel_left, map-append}
 use Rattle.std.proofs.lemmas.List.Folds.{list_any-append}
@@ -27,7 +27,7 @@ together : (a b c : Bool) → ((a || b) || c) ≡ (a || (b || c))
 together true b c = refl
 together false b c = refl
 
--- all but the one at a place: those before it, or else those behind it
+-- all but the one at a place: those before it, or else those after it
 module _ {X Y : Type 0} (view : X → Y) (test : Y → Bool) (xs : List X) (k j : ℕ) (next : j ≡ suc k) where
   apart : (list_any test (map view (take k xs)) || list_any test (map view (drop j xs))) ≡ list_any test (remove (map view xs) k)
   apart =
@@ -68,7 +68,7 @@ later_renumbered f v = ap (λ b. nat_lt PARAMETERS_MAX_VERSION_1 (length v.param
 pub needed_fused : (g : EventGraph) (keep gone : ℕ) → (list_any is_large_array g.variables || list_any has_later_parts (remove g.vertices gone)) ≡ needs_version_two (fused g keep gone)
 needed_fused g keep gone = ap (λ b. list_any is_large_array g.variables || b) (sym (any_mapped has_later_parts (vertex_renumbered (fused_place keep gone)) (later_renumbered (fused_place keep gone)) (remove g.vertices gone)))
 
--- what stands before the vertices
+-- what comes before the vertices
 abbrev pub declared : EventGraph → Bool → List (List ℕ) → List ℕ
 declared g needed watched = version_line needed ++ codes "model " ++ g.name ++ codes ";\n" ++ flat_map variable_line g.variables ++ flat_map table_line g.tables ++ watch_names_line watched
 

@@ -8,12 +8,12 @@ pub size_written : (n : ℕ) → ¬ n ≡ 0 → size_text n ≡ codes "[" ++ dec
 size_written zero other = absurd (other refl)
 size_written (suc n) other = refl
 
--- what stands between two operands is put in one piece
+-- the text between two operands is put in one piece
 pub put_at_once : (left space op right : List ℕ) → left ++ (space ++ op ++ space) ++ right ≡ left ++ space ++ op ++ space ++ right
 put_at_once left space op right = ap (λ x. x ++ right) (sym (append_assoc left (space ++ op) space) ∙ ap (λ x. x ++ space) (sym (append_assoc left space op)))
 
 module _ (a : Expression) (left : List ℕ) (b : Expression) (right : List ℕ) where
-  -- an operator of the tightest level stands before its operands
+  -- an operator of the tightest level is before its operands
   pub before_both : (op : Operator) → operator_level op ≡ 8 → binary_text op a left b right ≡ operator_text op ++ codes "(" ++ left ++ codes ", " ++ right ++ codes ")"
   before_both Add e = absurd (omega (arith, e))
   before_both Subtract e = absurd (omega (arith, e))
@@ -31,7 +31,7 @@ module _ (a : Expression) (left : List ℕ) (b : Expression) (right : List ℕ) 
   before_both And e = absurd (omega (arith, e))
   before_both Or e = absurd (omega (arith, e))
 
-  -- an operator of another level stands between its operands
+  -- an operator of another level is between its operands
   pub between : (op : Operator) → ¬ operator_level op ≡ 8 → binary_text op a left b right ≡ infix_text op a left b right
   between Add n = refl
   between Subtract n = refl

@@ -1,2 +1,2 @@
--- What the pens of this crate do, for its proofs. No public clause cites it, and nobody has to believe it.
+-- What the pens of this crate do, for its proofs. No public clause cites it, so a reader need not believe it.
 pub mod Pens

@@ -9,7 +9,7 @@ use crate::operators::{left_level, operator_level, put_call, put_infix, right_le
 use crate::pen::{Pen, put_comma, put_signed};
 use model_core::{Expr, Model};
 
-/// The level of what stands alone, and of `min` and `max`, which are written before their operands in parentheses.
+/// The level of an expression without operators, and of `min` and `max`, which are written like calls.
 const CALL_LEVEL: u8 = 8;
 
 /// How tightly the operand of `-` has to bind.
@@ -62,7 +62,7 @@ fn put_operand<P: Pen>(out: &mut P, model: &Model, asked: u8, expr: &Expr)
     }
 }
 
-/// Puts an operand behind a sign or a word.
+/// Puts an operand after a sign or a word.
 #[cycle(printing)]
 fn put_behind<P: Pen>(out: &mut P, model: &Model, sign: &[u8], asked: u8, expr: &Expr)
     ensures { P.adds out.old out.new (sign.now ++ operand asked (expression_of expr.now) (expression_text (graph_of model.now) (expression_of expr.now))) }

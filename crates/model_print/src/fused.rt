@@ -1,4 +1,4 @@
-//! The canonical text of a model in which one vertex stands for another, which is left out, put from the model as it is.
+//! The canonical text of a model in which one vertex takes the place of another, put from the model as it is.
 
 ghost use Rattle.std.specs.Prelude.{◌≡◌, ◌<◌, [], cond, map, false};
 ghost use Rattle.std.specs.List.{flat_map, remove};
@@ -14,7 +14,7 @@ use crate::version_without::needs_version_two_without;
 use crate::vertices::{put_changes, put_edge_to, put_parameters};
 use model_core::{Edge, Model, Vertex};
 
-/// The vertex that stands for this one: `keep` for `gone`, and any other one for itself.
+/// The vertex that takes the place of this one: `keep` for `gone`, and any other one for itself.
 pub fn standing_for(keep: usize, gone: usize, vertex: usize) -> usize
     ensures { result ≡ standing_for keep gone vertex }
 {
@@ -74,7 +74,7 @@ fn put_vertices_for<P: Pen>(
     }
 }
 
-/// Puts the canonical text of a model in which the vertex at `keep` stands for the one at `gone` behind it, which isn't
+/// Puts the canonical text of a model in which the vertex at `keep` takes the place of the one at `gone` after it, which isn't
 /// watched.
 pub(crate) fn put_model_fused<P: Pen>(out: &mut P, model: &Model, keep: usize, gone: usize)
     requires first { keep < gone }

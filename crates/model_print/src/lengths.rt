@@ -90,7 +90,7 @@ pub fn body_length(vertex: &Vertex, model: &Model) -> u64
     count.total()
 }
 
-/// How many bytes the canonical text of a model has in which the vertex at `keep` stands for the one at `gone` behind it,
+/// How many bytes the canonical text has where the vertex at `keep` takes the place of the one at `gone` after it,
 /// or 2^64 - 1 where it has more.
 pub fn fused_length(model: &Model, keep: usize, gone: usize) -> u64
     requires first { keep < gone }

@@ -39,7 +39,7 @@ pub(crate) fn right_level(op: Op) -> u8
     operator_level(op) + 1
 }
 
-/// Puts `min` or `max` and the parenthesis behind it.
+/// Puts `min` or `max` and the parenthesis after it.
 pub(crate) fn put_call<P: Pen>(out: &mut P, op: Op)
     requires { level_of (operator_of op) ≡ 8 }
     ensures { P.adds out.old out.new (operator_text (operator_of op) ++ codes "(") }
@@ -51,7 +51,7 @@ pub(crate) fn put_call<P: Pen>(out: &mut P, op: Op)
     }
 }
 
-/// Puts an operator between two spaces, as it stands between its operands. In one piece, since most pieces of an expression
+/// Puts an operator with a space on each side, as between operands. In one piece, since most pieces of an expression
 /// are such.
 pub(crate) fn put_infix<P: Pen>(out: &mut P, op: Op)
     ensures { P.adds out.old out.new (codes " " ++ operator_text (operator_of op) ++ codes " ") }

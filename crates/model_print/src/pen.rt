@@ -1,4 +1,4 @@
-//! Where a text goes as it is made: onto a page with room for it, behind other bytes that grow, or into a count of its bytes
+//! Where a text goes as it is made: onto a page with room for it, after other bytes that grow, or into a count of its bytes
 //! alone.
 
 ghost use Rattle.std.specs.Prelude.{◌≡◌, ◌≤◌, ◌-◌, ◌^◌, ℕ, min, List, [], ◌++◌, codes, decimal, vec_capacity, IfOk};
@@ -13,7 +13,7 @@ pub trait Pen {
     // The second is what the first becomes where the text is put.
     ghost adds: { Self → Self → List ℕ → Type 0 };
 
-    /// Puts bytes behind those before.
+    /// Puts bytes after those before.
     fn put_bytes(&mut self, bytes: &[u8])
         ensures { adds self.old self.new bytes.now };
 

@@ -1,7 +1,7 @@
 -- What pens keep of the texts that are put, and that two texts are put one after the other.
 use Rattle.std.proofs.Common.{◌≡◌, Bool, false, ℕ, ◌+◌, ◌-◌, ◌≤◌, ◌^◌, List, [], ◌++◌, length, min, arith, append_assoc, append-nil, sym, length-append, ◌∙◌, ap}
 
--- a count of bytes that stands still at the last value
+-- a count of bytes that stays at the last value
 abbrev pub Counts : ℕ → ℕ → List ℕ → Type 0
 Counts old new text = min new (2 ^ 64 - 1) ≡ min (old + length text) (2 ^ 64 - 1)
 
@@ -11,7 +11,7 @@ counts_nothing s = omega arith
 pub counts_both : (s t u : ℕ) (a b : List ℕ) → Counts s t a → Counts t u b → Counts s u (a ++ b)
 counts_both s t u a b first second = omega (arith, first, second, length-append a b)
 
--- a page with room for the text has it behind what it had, and has no less room
+-- a page with room for the text has it after what it had, and has no less room
 abbrev pub Fills : List ℕ → ℕ → List ℕ → ℕ → List ℕ → Type 0
 Fills old room new left text = length old + length text ≤ room → (new ≡ old ++ text) × (room ≤ left)
 
@@ -24,7 +24,7 @@ fills_both s i t j u k a b first second fits =
     let has = second (omega (arith, fits, had.1, length-append a b, length-append s a, ap length had.0)) in
     (has.0 ∙ ap (λ (x : List ℕ). x ++ b) had.0 ∙ append_assoc s a b, omega (arith, had.1, has.1))
 
--- a text that grows has the text behind what it had, unless it lacks memory, and then it lacks it from there on
+-- a text that grows has the text after what it had, unless it lacks memory, and then it lacks it from there on
 abbrev pub Grows : List ℕ → Bool → List ℕ → Bool → List ℕ → Type 0
 Grows old lacked new lacks text = lacks ≡ false → (lacked ≡ false) × (new ≡ old ++ text)
 

@@ -1,4 +1,4 @@
--- one before the place, or else one behind it
+-- one before the place, or else one after it
 use Rattle.std.proofs.Common.{◌+◌, arith}
 use Rattle.std.proofs.lemmas.List.{take_rest}
 use Rattle.model_core.specs.EventGraph.{has_drawn_delay}
