@@ -16,7 +16,7 @@ use Rattle.model_read.specs.InText.{AreInText}
 use Rattle.model_read.specs.Inner.PieceSorts.{sort_of_kind, of_kind}
 use Rattle.text_laws.specs.Ladder.{infix_of_kind, infix_at}
 
--- what the other tokens stand for
+-- what the other tokens represent
 abbrev pub others : List ℕ → List Piece → List Lexeme
 others text tokens = map (piece_of text) (take (length tokens - 1) (drop 1 tokens))
 

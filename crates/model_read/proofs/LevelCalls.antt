@@ -22,12 +22,12 @@ by_format l r tokens left g = subst (λ (p : Parse WrittenExpression). Returned 
 pub stops_first : (others : WrittenExpression → Parser WrittenExpression) (whole first : Parse WrittenExpression) (error : Stop) (rest : List Lexeme) → whole ≡ and_next others first → Stops error rest first → Stops error rest whole
 stops_first others whole first error rest e g = λ is. e ∙ ap (and_next others) (g is)
 
--- the first operand is read, and then what stands behind it
+-- the first operand is read, and then what comes after it
 pub gives_others : (others : WrittenExpression → Parser WrittenExpression) (whole first : Parse WrittenExpression) (r : Result RawExpr Stop) (a : WrittenExpression) (between left : List Lexeme) → whole ≡ and_next others first → first ≡ took a between
     → Returned written_expression r left (others a between) → Returned written_expression r left whole
 gives_others others whole first r a between left e f g = subst (λ (p : Parse WrittenExpression). Returned written_expression r left p) (sym (e ∙ ap (and_next others) f)) g
 
--- the first operand alone, behind which no operator of these levels comes
+-- the first operand alone, after which no operator of these levels comes
 pub gives_alone : (under : ℕ) (whole first : Parse WrittenExpression) (r : Result RawExpr Stop) (left : List Lexeme) → under ≤ 5 → whole ≡ and_next (climb under 0) first → Returned written_expression r left first → at_levels 0 under (infix_at left) ≡ None → Returned written_expression r left whole
 gives_alone under whole first (Ok e) left few same g none = same ∙ ap (and_next (climb under 0)) g ∙ no_operator under 0 (written_expression e) left few none
 gives_alone under whole first (Err e) left few same g none = stops_first (climb under 0) whole first e left same g

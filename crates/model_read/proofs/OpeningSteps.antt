@@ -27,7 +27,7 @@ further limit room after text tokens i d total h step so_far =
     ∙ sym (ap (λ (ts : List Piece). deep_from limit room (map (piece_of text) ts)) (drop_more tokens i d h))
     ∙ so_far
 
--- what a function tells of a token's kind, whatever bytes it has
+-- what a function says of a token's kind, whatever bytes it has
 abbrev TellsOfKind : (LexemeKind → Bool) → Bool → Piece → Type 0
 TellsOfKind f b t = (bytes : List ℕ) → b ≡ f (piece_kind bytes t.kind)
 
@@ -49,7 +49,7 @@ pub behind-other : (limit room after : ℕ) (text : List ℕ) (tokens : List Pie
 behind-other limit room after text tokens i d total ends opens h tells e says f g =
     further limit room after text tokens i d total h (λ others. passed limit room (piece_of text (get_or tokens i d)) others (sym (tells _) ∙ e) (sym (says _) ∙ f) ∙ ap (λ (n : ℕ). deep_from limit n others) (sym g))
 
--- Up to the end of a part that has fewer tokens before it than there is room for openings nothing is found, and behind it
+-- Up to the end of a part that has fewer tokens before it than there is room for openings nothing is found, and after it
 -- there is all the room again.
 pub at_end : (limit n room : ℕ) (ls rest : List Lexeme) (t : Lexeme) → drop n ls ≡ t ∷ rest → ends_part t.kind ≡ true → n ≤ room → room ≤ limit → deep_from limit room ls ≡ deep_from limit limit rest
 at_end limit zero room ls rest t is ends fits within = ap (deep_from limit room) is ∙ ended limit room t rest ends
@@ -62,7 +62,7 @@ at_end limit (suc n) (suc room) (l ∷ ls) rest t is ends fits within = go (ends
     go false true e f more = rw (e, f) (more room (omega arith) (omega arith))
     go false false e f more = rw (e, f) (more (suc room) (omega arith) (omega arith))
 
--- where a part ends that so many tokens before it can't fill, what is found behind it is what is found from here
+-- where a part ends that so many tokens before it can't fill, what is found after it is what is found from here
 pub passed_over : (limit at n : ℕ) (text : List ℕ) (tokens : List Piece) (d : Piece) (total : Option ℕ) → n ≤ limit → at + n < length tokens → ends_part (piece_of text (get_or tokens (at + n) d)).kind ≡ true
     → deep_from limit limit (map (piece_of text) (drop at tokens)) ≡ total → deep_from limit limit (map (piece_of text) (drop (at + (n + 1)) tokens)) ≡ total
 passed_over limit at n text tokens d total fits below ends so_far =

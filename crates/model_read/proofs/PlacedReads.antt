@@ -1,4 +1,4 @@
--- What a call returned, with the place of the token that it left, tells where it stopped.
+-- A call's result, with the place of the token that it left, names where it stopped.
 use Rattle.std.proofs.Common.{◌≡◌, ℕ, List, refl, subst, sym}
 use Rattle.std.specs.Prelude.{Result, Ok, Err}
 use Rattle.model_core.specs.Text.Lexing.{Lexeme}
@@ -10,7 +10,7 @@ use Rattle.model_read.specs.declared.stop.Stop.{Stop}
 use Rattle.model_read.specs.declared.stop.Stop.TheVariants as stops
 use Rattle.model_read.specs.ReadCalls.{Returned, placed_at}
 
--- What a call returned that tells where it stopped in a text, seen by view, is what was taken, or the place is that of the first token that it left.
+-- Seen by view, the result is what was taken, or the place is that of the first token that the call left.
 abbrev pub Tells : {A B : Type 0} → (A → B) → List ℕ → Result A ParseError → List Lexeme → Parse B → Type 0
 Tells view text (Ok x) left parse = parse ≡ took (view x) left
 Tells view text (Err (errors.Unexpected at)) left parse = (parse ≡ stuck left) × (told_place text left ≡ at)

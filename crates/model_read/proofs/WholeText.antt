@@ -1,4 +1,4 @@
--- What a call that reads a text told is so: what it read is spelled, and where it stopped is where no text goes on.
+-- The answers of a call that reads a text are right: what it read is spelled, and where it stopped no text goes on.
 use Rattle.std.proofs.Common.{◌≡◌, ℕ, Bool, true, false, ◌+◌, ◌-◌, ◌≤◌, List, [], ◌∷◌, ◌++◌, length, map, take, drop, Some, refl, sym, ap, ◌∙◌, subst, arith}
 use Rattle.std.specs.Prelude.{Option, Result, Ok, Err, IfOk}
 use Rattle.std.proofs.lemmas.List.{length-drop, length-append, drop-drop}
@@ -46,7 +46,7 @@ never_deep text tokens left r at g e = subst (λ (q : Result RawModel ParseError
 
 -- ---- a front
 
--- what is left behind the front, by its place among all tokens
+-- what is left after the front, by its place among all tokens
 left-place : (all left : List Lexeme) (from : ℕ) (front : List Lexeme) → from ≤ length all → drop from all ≡ front ++ left → (length left ≤ length all) × (drop (length all - length left) all ≡ left)
 left-place all left from front h e =
     let size : length (drop from all) ≡ length all - from = length-drop from all in

@@ -1,4 +1,4 @@
--- What stands before the vertices of a model, and before the changes of a vertex. Behind it comes the rest.
+-- The beginning of a model, up to its vertices, and of a vertex, up to its changes; and the rest after it.
 use Rattle.std.specs.Prelude.{ℕ, List}
 use Rattle.model_core.specs.declared.token.Word.TheVariants as words
 use Rattle.model_core.specs.declared.token.Symbol.TheVariants as symbols

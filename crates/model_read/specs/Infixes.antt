@@ -1,4 +1,4 @@
--- Which operator each operator of the code stands for.
+-- Which operator each operator of the code represents.
 use Rattle.std.specs.Prelude.{ℕ}
 use Rattle.model_core.specs.EventGraph.{Operator}
 use Rattle.model_core.specs.Code.Views.{operator_of}

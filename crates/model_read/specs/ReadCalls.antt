@@ -7,7 +7,7 @@ use Rattle.model_lex.specs.declared.parse_error.ParseError.TheVariants as errors
 use Rattle.model_read.specs.declared.stop.Stop.{Stop}
 use Rattle.model_read.specs.declared.stop.Stop.TheVariants as stops
 
--- a call that stopped left the tokens from the first that can't stand where it stands, unless memory ran out
+-- a call that stopped left the tokens from the first that can't be at its place, unless memory ran out
 abbrev pub Stops : {B : Type 0} → Stop → List Lexeme → Parse B → Type 0
 Stops e left parse = e ≡ stops.Unexpected → parse ≡ stuck left
 

@@ -1,4 +1,4 @@
--- What a name and digits in a text stand for.
+-- What a name and digits in a text represent.
 use Rattle.std.specs.Prelude.{ℕ}
 use Rattle.model_core.specs.Text.Lexing.{digits_value}
 use Rattle.model_core.specs.Text.Written.{WrittenName}

@@ -24,7 +24,7 @@ use sig_base::Name;
 use std::alloc::Global;
 use std::marker::Model;
 
-/// A name or digits as they stand in a text, and the byte at which they begin, counted from 0.
+/// A name or digits as they are in a text, and the byte at which they begin, counted from 0.
 #[derive(Clone, Copy)]
 pub struct Spelling<'t> {
     pub bytes: &'t [u8],
@@ -41,14 +41,14 @@ fn bytes_of<'t>(text: &'t [u8], piece: &Piece) -> &'t [u8]
     &text[from..from + piece.length as usize]
 }
 
-/// The pieces from a place on. Behind the last there are none.
+/// The pieces from a place on. After the last there are none.
 fn pieces_from(pieces: &[Piece], from: usize) -> &[Piece]
     ensures { result.now ≡ drop from pieces.now }
 {
     &pieces[from.min(pieces.len())..]
 }
 
-/// The tokens of a text that are left to read, which contracts see as the plain list of what they stand for.
+/// The tokens of a text that are left to read, which contracts see as the plain list of what they represent.
 #[derive(Drop)]
 pub struct Cursor<'t> {
     text: &'t [u8],
@@ -248,7 +248,7 @@ impl<'t> Cursor<'t> {
         }
     }
 
-    /// Whether `not` comes next, and may stand before an operand of operators of the level `under`.
+    /// Whether `not` comes next, and may come before an operand of operators of the level `under`.
     pub fn begins_negation(&self, under: usize) -> bool
         ensures yes { result ≡ true → (3 ≤ under) × (begins_as (AWord Not) self.now ≡ true) }
         ensures no { result ≡ false → 3 ≤ under → begins_as (AWord Not) self.now ≡ false }
@@ -300,7 +300,7 @@ impl<'t> Cursor<'t> {
         Err(Stop::Unexpected)
     }
 
-    /// Takes a number, whose digits are left where they stand.
+    /// Takes a number, whose digits are left where they are.
     #[tactic(auto, unfolding(model_core::specs::Text::SnapshotGrammar::exact_format))]
     pub fn digits(&mut self) -> Result<Spelling<'t>, Stop>
         ensures reads { Returned digits_written result self.new (language_reader exact_format self.old) }
@@ -320,7 +320,7 @@ impl<'t> Cursor<'t> {
         Err(Stop::Unexpected)
     }
 
-    /// Takes a name, whose bytes are left where they stand.
+    /// Takes a name, whose bytes are left where they are.
     pub fn spelling(&mut self) -> Result<Spelling<'t>, Stop>
         ensures reads { Returned spelled_name result self.new (language_reader any_name self.old) }
         ensures shorter { IfOk result (λ n. length self.new + 1 ≤ length self.old) }

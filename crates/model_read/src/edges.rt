@@ -45,7 +45,7 @@ fn condition(alloc: Global, cursor: &mut Cursor<'_>) -> Result<Option<RawExpr>, 
     Ok(Some(expression(alloc, cursor)?))
 }
 
-/// Reads a delay. The word `draw` tells its form.
+/// Reads a delay. The word `draw` decides its form.
 #[tactic(auto, using(text_laws::proofs::DelayForms::drawn_form, text_laws::proofs::DelayForms::fixed_form))]
 fn delay(alloc: Global, cursor: &mut Cursor<'_>) -> Result<RawDelay, Stop>
     ensures { Returned written_delay result cursor.new (language_reader delay_format cursor.old) }
@@ -129,7 +129,7 @@ fn urgent(alloc: Global, cursor: &mut Cursor<'_>) -> Result<RawEdge, Stop>
     })
 }
 
-/// What stands between `cancel` and the condition.
+/// What is between `cancel` and the condition.
 #[derive(Drop)]
 struct Cancellation {
     target: RawName,
@@ -137,7 +137,7 @@ struct Cancellation {
     form: RawEdgeForm,
 }
 
-/// Reads what stands between `cancel` and the condition.
+/// Reads what is between `cancel` and the condition.
 #[tactic(auto, unfolding(model_core::specs::Text::Language::cancelled_format))]
 fn cancelled(alloc: Global, cursor: &mut Cursor<'_>) -> Result<Cancellation, Stop>
     ensures { Returned written_cancel result cursor.new (language_reader cancelled_format cursor.old) }

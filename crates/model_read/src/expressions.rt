@@ -1,4 +1,4 @@
-//! Expressions. They alone stand inside one another, so these functions alone call one another again.
+//! Expressions. They alone nest, so these functions alone are recursive.
 
 ghost use Rattle.std.specs.Prelude.{◌≡◌, ◌+◌, ◌≤◌, true, false, Some, length, IfOk};
 ghost use Rattle.std.specs.Option.{option_map};
@@ -79,7 +79,7 @@ fn operand(alloc: Global, cursor: &mut Cursor<'_>, under: usize) -> Result<RawEx
     others(alloc, cursor, first?, 0, under)
 }
 
-/// Reads a negated operand, and what stands behind it.
+/// Reads a negated operand, and what comes after it.
 #[inline(never)]
 #[cycle(expressions)]
 fn negation(alloc: Global, cursor: &mut Cursor<'_>, under: usize) -> Result<RawExpr, Stop>
@@ -91,7 +91,7 @@ fn negation(alloc: Global, cursor: &mut Cursor<'_>, under: usize) -> Result<RawE
     others(alloc, cursor, first, CONJUNCTIONS, under)
 }
 
-/// Reads what stands behind the first operand: operators with their right operands, of the levels from `least` up to the
+/// Reads what comes after the first operand: operators with their right operands, of the levels from `least` up to the
 /// one below `under`.
 #[inline(never)]
 #[cycle(expressions)]
@@ -275,7 +275,7 @@ fn primary(alloc: Global, cursor: &mut Cursor<'_>) -> Result<RawExpr, Stop>
     undivided(alloc, cursor)
 }
 
-/// Reads a number, a word, a variable, or what stands in parentheses.
+/// Reads a number, a word, a variable, or what is in parentheses.
 #[cycle(expressions)]
 fn undivided(alloc: Global, cursor: &mut Cursor<'_>) -> Result<RawExpr, Stop>
     ensures reads { Returned written_expression result cursor.new (language_reader primary_format cursor.old) }

@@ -1,4 +1,4 @@
-//! The operators that stand between two operands.
+//! The operators with two operands, written between these.
 
 ghost use Rattle.std.specs.Prelude.{◌≡◌, ℕ, List, Some};
 ghost use Rattle.std.specs.Option.{option_map};
@@ -28,7 +28,7 @@ const COMPARISONS: usize = 2;
 /// The level of `and`, the first whose operands may begin with `not`.
 pub const CONJUNCTIONS: usize = 3;
 
-/// The least level of an operator that may stand behind one of the level and its operands.
+/// The least level of an operator that may come after one of the level and its operands.
 pub fn next_level(level: usize) -> usize
     ensures { result ≡ next_level level }
 {

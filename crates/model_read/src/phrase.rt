@@ -1,4 +1,4 @@
-//! Phrases: the parts of a text that stand in lists. Reading such lists is proved here, once for all of them.
+//! Phrases: the parts of a text that come in lists. Reading such lists is proved here, once for all of them.
 
 ghost use Rattle.std.specs.Prelude.{◌≡◌, false, map};
 ghost use Rattle.model_core.specs.declared.token.Symbol.TheVariants.{Comma};
@@ -20,7 +20,7 @@ pub trait Phrase<'t>: Drop {
     // What is written.
     ghost Plain: { Type 0 };
 
-    // What a phrase stands for.
+    // What a phrase represents.
     ghost plain: { Self → Plain };
 
     // Which tokens spell it.
@@ -34,7 +34,7 @@ pub trait Phrase<'t>: Drop {
         ensures { Returned plain result cursor.new (language_reader format cursor.old) };
 }
 
-/// A phrase whose first token tells that it comes.
+/// A phrase whose first token shows that it comes.
 pub trait Repeated<'t>: Phrase<'t> {
     /// Whether a phrase comes.
     fn begins(cursor: &Cursor<'_>) -> bool
@@ -50,7 +50,7 @@ pub fn packed<T>(items: List<T>) -> List<T>
     List::from_vec(items)
 }
 
-/// Reads phrases as long as one comes, behind those that were read.
+/// Reads phrases as long as one comes, after those that were read.
 fn and_more<'t, T: Repeated<'t>>(
     alloc: Global,
     cursor: &mut Cursor<'t>,
@@ -83,7 +83,7 @@ pub(crate) fn at_least_one<'t, T: Repeated<'t>>(
     and_more(alloc, cursor, first)
 }
 
-/// Reads a comma and the phrase behind it.
+/// Reads a comma and the phrase after it.
 fn next<'t, T: Phrase<'t>>(alloc: Global, cursor: &mut Cursor<'t>) -> Result<T, Stop>
     ensures { Returned T.plain result cursor.new (language_reader (mark Comma *> T.format) cursor.old) }
 {
@@ -91,7 +91,7 @@ fn next<'t, T: Phrase<'t>>(alloc: Global, cursor: &mut Cursor<'t>) -> Result<T, 
     T::read(alloc, cursor)
 }
 
-/// Reads a comma and a phrase as long as a comma comes, behind the phrases that were read.
+/// Reads a comma and a phrase as long as a comma comes, after the phrases that were read.
 fn and_others<'t, T: Phrase<'t>>(
     alloc: Global,
     cursor: &mut Cursor<'t>,

@@ -13,7 +13,7 @@ use std::alloc::{AllocError, AllocFailed};
 /// Why a reader stops.
 #[derive(Clone, Copy, Debug, PartialEq, Eq)]
 pub enum Stop {
-    /// The first token that is left can't stand where it stands, or no token is left where one must come.
+    /// The first token that is left can't be at its place, or no token is left where one must come.
     Unexpected,
     /// Memory was refused.
     NoMemory,

@@ -24,7 +24,7 @@ use model_lex::{ParseError, Pieces, pieces_stand_in_text};
 use sig_base::{Held, List, OPENINGS_MAX};
 use std::alloc::Global;
 
-/// What a text says of its version: the byte of its word `version`, and the number behind it.
+/// What a text says of its version: the byte of its word `version`, and the number after it.
 #[derive(Clone, Copy)]
 struct RawVersion {
     at: usize,
@@ -44,7 +44,7 @@ fn version(cursor: &mut Cursor<'_>) -> Result<Option<RawVersion>, Stop>
     Ok(Some(RawVersion { at, number }))
 }
 
-/// The byte at which a text begins whose word `model` stands at this one.
+/// The byte at which a text begins: that of its word `version`, or else that of its word `model`.
 fn text_place(version: Option<RawVersion>, model: usize) -> usize
     ensures { result ≡ text_place (option_map written_version version) model }
 {
@@ -64,7 +64,7 @@ fn version_number(version: Option<RawVersion>) -> Option<RawNumber>
     }
 }
 
-/// Reads what stands before the vertices of a model. The model that it gives has no vertices, and ends at byte 0.
+/// Reads what comes before the vertices of a model. The model that it gives has no vertices, and ends at byte 0.
 #[tactic(auto, unfolding(crate::specs::Beginnings::model_beginning))]
 pub fn begun_model(alloc: Global, cursor: &mut Cursor<'_>) -> Result<RawModel, Stop>
     ensures { Returned (λ m. with_vertices (written_model m)) result cursor.new (language_reader model_beginning cursor.old) }
@@ -114,7 +114,7 @@ fn whole(alloc: Global, cursor: &mut Cursor<'_>) -> Result<RawModel, Stop>
 
 /// The model that all of the pieces spell, with its names, numbers and places as they are written.
 ///
-/// `TooDeep` comes first: it tells the first opening that is more than a part may have. `Unexpected` tells the first byte
+/// `TooDeep` comes first: it names the first opening that is more than a part may have. `Unexpected` names the first byte
 /// from which no continuation makes a model text: that of a token, or the text's length.
 pub fn parse_pieces(alloc: Global, pieces: &Pieces<'_>) -> Result<RawModel, ParseError>
     // What is read is spelled, with few openings.
@@ -145,7 +145,7 @@ pub fn parse_front_pieces(
     from: usize,
 ) -> Result<(RawModel, usize), ParseError>
     requires { from ≤ length pieces.now.list }
-    // What is read stands there, with few openings, and what is left are the pieces from the answer's place on.
+    // What is read is there, with few openings, and what is left are the pieces from the answer's place on.
     ensures ok { IfOk result (λ r. BeginsWithText (drop from (pieces_lexemes pieces.now)) (written_model r.0) (drop r.1 (pieces_lexemes pieces.now)) × HasFewOpenings OPENINGS_MAX (front_to_end (drop from (pieces_lexemes pieces.now)))) }
     ensures inside { IfOk result (λ r. r.1 ≤ length pieces.now.list) }
     ensures unexpected { (at : ℕ) → result ≡ Err (ParseError.Unexpected at)

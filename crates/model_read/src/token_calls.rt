@@ -15,7 +15,7 @@ use std::alloc::Global;
 
 /// The model that all of the tokens spell, with its names, numbers and places as they are written.
 ///
-/// `TooDeep` comes first: it tells the first opening that is more than a part may have. `Unexpected` tells the first byte
+/// `TooDeep` comes first: it names the first opening that is more than a part may have. `Unexpected` names the first byte
 /// from which no continuation makes a model text: that of a token, or the text's length.
 pub fn parse(alloc: Global, tokens: &Tokens<'_>) -> Result<RawModel, ParseError>
     // What is read is spelled, with few openings.
@@ -40,7 +40,7 @@ pub fn parse_front(
     from: usize,
 ) -> Result<(RawModel, usize), ParseError>
     requires { from ≤ length tokens.now.list }
-    // What is read stands there, with few openings, and what is left are the tokens from the answer's place on.
+    // What is read is there, with few openings, and what is left are the tokens from the answer's place on.
     ensures ok { IfOk result (λ r. BeginsWithText (drop from (lexemes tokens.now)) (written_model r.0) (drop r.1 (lexemes tokens.now)) × HasFewOpenings OPENINGS_MAX (front_to_end (drop from (lexemes tokens.now)))) }
     ensures inside { IfOk result (λ r. r.1 ≤ length tokens.now.list) }
     ensures unexpected { (at : ℕ) → result ≡ Err (ParseError.Unexpected at)

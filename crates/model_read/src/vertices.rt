@@ -31,7 +31,7 @@ fn parameters(alloc: Global, cursor: &mut Cursor<'_>) -> Result<Option<List<RawN
     Ok(Some(names))
 }
 
-/// Reads what stands before the changes of a vertex. The vertex that it gives has neither changes nor edges.
+/// Reads what comes before the changes of a vertex. The vertex that it gives has neither changes nor edges.
 #[tactic(auto, unfolding(crate::specs::Beginnings::vertex_beginning))]
 pub fn begun_vertex(alloc: Global, cursor: &mut Cursor<'_>) -> Result<RawVertex, Stop>
     ensures { Returned (λ v. with_body (written_vertex v)) result cursor.new (language_reader vertex_beginning cursor.old) }

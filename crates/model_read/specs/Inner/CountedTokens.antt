@@ -15,6 +15,6 @@ opens End = false
 opens Opening = true
 opens Other = false
 
--- it is told rightly of a token of this kind
+-- the answer is right for a token of this kind
 abbrev pub IsCounted : Counted → LexemeKind → Type 0
 IsCounted c kind = (is_end c ≡ ends_part kind) × (opens c ≡ is_opening kind)

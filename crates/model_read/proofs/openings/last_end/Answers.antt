@@ -4,7 +4,7 @@ use Rattle.model_lex.specs.PieceViews.{piece_kind}
 use Rattle.model_core.specs.Text.Openings.{ends_part}
 use Rattle.model_read.proofs.openings.last_end.Goals as goal
 
--- any token given for one that isn't there serves
+-- any token serves in place of a missing one
 pub returns-then-ends_part : goal.returns-then-ends_part
 returns-then-ends_part c =
     let inside = c.loop-place.invariant in

@@ -1,4 +1,4 @@
--- The openings of the front are counted, and then the reader of the grammar tells.
+-- The openings of the front are counted, and then the reader of the grammar decides.
 use Rattle.std.proofs.Common.{◌≡◌, refl, sym, ◌∙◌, drop}
 use Rattle.std.specs.Prelude.{Ok, Err}
 use Rattle.std.proofs.lemmas.Result.{err_from_is_err_and}

@@ -1,4 +1,4 @@
--- The openings are counted, and then the reader of the grammar tells.
+-- The openings are counted, and then the reader of the grammar decides.
 use Rattle.std.proofs.Common.{◌≡◌, refl, sym, ap, ◌∙◌, map}
 use Rattle.sig_base.specs.declared.limits.TheConstants.{OPENINGS_MAX}
 use Rattle.model_lex.specs.PieceViews.{piece_of}

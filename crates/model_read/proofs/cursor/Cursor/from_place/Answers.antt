@@ -1,4 +1,4 @@
--- What is left are the tokens behind the first so many.
+-- The tokens after the first so many are left.
 use Rattle.std.proofs.Common.{drop, map, ap, ◌∙◌, sym}
 use Rattle.std.proofs.lemmas.List.{drop-map}
 use Rattle.model_lex.specs.PieceViews.{piece_of}
