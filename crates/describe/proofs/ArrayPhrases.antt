@@ -1,4 +1,4 @@
--- How an array is told from a scalar, where the code has asked for its size.
+-- An array and a scalar have different phrases, and the code picks one by the size.
 use Rattle.std.proofs.Common.{◌≡◌, ◌≢◌, ℕ, zero, suc, List, ◌++◌, refl}
 use Rattle.std.specs.Prelude.{codes, decimal}
 use Rattle.describe.specs.Description.{variable_phrase}

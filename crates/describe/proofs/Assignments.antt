@@ -7,11 +7,11 @@ use Rattle.model_core.specs.EventGraph.{EventGraph, Location, Expression}
 use Rattle.describe.specs.Description.{becomes_phrase, after_ands}
 
 module _ (g : EventGraph) where
-  -- what locations become, each behind `and`
+  -- what locations become, each after `and`
   abbrev pub later_phrases : List Location → List Expression → List ℕ
   later_phrases ls es = after_ands (map (becomes_phrase g) (zip ls es))
 
-  -- what a location becomes behind `and`, where there is a value at this place
+  -- what a location becomes after `and`, where there is a value at this place
   abbrev pub phrase_at : Location → List Expression → ℕ → List ℕ
   phrase_at l es i = option_map_or (λ (e : Expression). codes " and " ++ becomes_phrase g (l, e)) (slice_get es i) []
 

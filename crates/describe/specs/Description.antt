@@ -1,4 +1,4 @@
--- The English sentences of a model: one a line, in the order of its text. Expressions and locations stand in canonical text.
+-- The English sentences of a model: one a line, in the order of its text, with expressions and locations in canonical text.
 use Rattle.std.specs.Prelude.{ℕ, zero, suc, ℤ, Bool, true, false, List, [], ◌∷◌, ◌++◌, map, zip, codes, decimal}
 use Rattle.std.specs.Fmt.{signed_decimal}
 use Rattle.std.specs.List.{flat_map}
@@ -63,7 +63,7 @@ drawn_phrase g stream choice = codes "drawn from stream " ++ decimal stream ++ c
 abbrev pub becomes_phrase : EventGraph → Location × Expression → List ℕ
 becomes_phrase g (l, e) = location_text g l ++ codes " becomes " ++ expression_text g e
 
--- what stands after the first of several phrases, each behind `and`
+-- the phrases after the first one, each after `and`
 abbrev pub after_ands : List (List ℕ) → List ℕ
 after_ands phrases = flat_map (λ p. codes " and " ++ p) phrases
 
@@ -92,7 +92,7 @@ abbrev pub delay_phrase : EventGraph → Delay → List ℕ
 delay_phrase g (Fixed e) = expression_text g e ++ codes " ticks"
 delay_phrase g (Drawn stream choice) = codes "a delay " ++ drawn_phrase g stream choice
 
--- the values that an event carries, behind these words, or nothing where it carries none
+-- the values that an event carries, after these words, or nothing where it carries none
 abbrev pub values_phrase : List ℕ → List (List ℕ) → List ℕ
 values_phrase words [] = []
 values_phrase words (v ∷ vs) = words ++ joined (v ∷ vs)

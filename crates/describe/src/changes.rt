@@ -27,7 +27,7 @@ fn put_becoming(
     put_expression(alloc, out, model, value)
 }
 
-/// Adds what a target becomes behind `and`, where there is a value at this place.
+/// Adds what a target becomes after `and`, where there is a value at this place.
 fn put_becoming_at(
     alloc: Global,
     out: &mut Vec<u8>,
@@ -47,7 +47,7 @@ fn put_becoming_at(
     }
 }
 
-/// Adds what targets become, each behind `and`.
+/// Adds what targets become, each after `and`.
 fn put_later_becoming(
     alloc: Global,
     out: &mut Vec<u8>,

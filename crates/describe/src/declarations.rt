@@ -100,7 +100,7 @@ fn put_row(out: &mut Vec<u8>, row: Row) -> Result<(), NoMemory>
     put_counted(out, b" with weight ", row.weight)
 }
 
-/// Adds values of a table with their weights, each behind a comma and a space.
+/// Adds values of a table with their weights, each after a comma and a space.
 fn put_later_rows(out: &mut Vec<u8>, rows: &[Row]) -> Result<(), NoMemory>
     ensures { OnOk result (out.new.items ≡ out.old.items ++ after_commas (map row_phrase (map weighted_of rows.now))) }
 {
@@ -151,7 +151,7 @@ fn watched_name(model: &Model, watch: Watch) -> &[u8]
     }
 }
 
-/// Adds the names of what is watched, each behind a comma and a space.
+/// Adds the names of what is watched, each after a comma and a space.
 fn put_later_watched(out: &mut Vec<u8>, model: &Model, watch: &[Watch]) -> Result<(), NoMemory>
     ensures { OnOk result (out.new.items ≡ out.old.items ++ after_commas (map (watched_name (graph_of model.now)) (map watched_of watch.now))) }
 {

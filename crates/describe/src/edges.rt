@@ -45,7 +45,7 @@ fn put_delay(alloc: Global, out: &mut Vec<u8>, model: &Model, delay: &Delay) -> 
     }
 }
 
-/// Adds the values that an event carries behind these words, or nothing where it carries none.
+/// Adds the values that an event carries after these words, or nothing where it carries none.
 fn put_values(
     alloc: Global,
     out: &mut Vec<u8>,

@@ -22,7 +22,7 @@ pub(crate) fn put_expression(
     put_expr(alloc, out, expr, model)
 }
 
-/// Adds expressions, each behind a comma and a space.
+/// Adds expressions, each after a comma and a space.
 fn put_later_expressions(
     alloc: Global,
     out: &mut Vec<u8>,

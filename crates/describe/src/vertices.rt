@@ -12,7 +12,7 @@ use model_core::{Model, Vertex};
 use sig_base::{NoMemory, put_bytes, put_texts};
 use std::alloc::Global;
 
-/// Adds the names of variables, each behind a comma and a space.
+/// Adds the names of variables, each after a comma and a space.
 fn put_later_parameters(out: &mut Vec<u8>, model: &Model, params: &[usize]) -> Result<(), NoMemory>
     ensures { OnOk result (out.new.items ≡ out.old.items ++ after_commas (map (variable_name (graph_of model.now)) params.now)) }
 {

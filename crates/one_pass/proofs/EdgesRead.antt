@@ -46,7 +46,7 @@ five-read : {A B C D E W S : Type 0} (h : A → B → C → D → E → W) (p1 :
     → language_reader (Yields h <*> p1 <*> p2 <*> p3 <*> p4 <*> p5 <* p6) t0 ≡ took (h a b c d e) t6
 five-read h p1 p2 p3 p4 p5 p6 t0 t1 t2 t3 t4 t5 t6 a b c d e s e1 e2 e3 e4 e5 e6 = rw (e1, e2, e3, e4, e5, e6) refl
 
--- what isn't told at one byte isn't told at another
+-- no fault at one byte means none at another
 elsewhere : (b : Bool) (at : ℕ) → fault_where b rules.ValueCount 0 ≡ [] → fault_where b rules.ValueCount at ≡ []
 elsewhere true at e = cc
 elsewhere false at e = refl
@@ -126,7 +126,7 @@ module _ (means : List ℕ → Option Meaning) (taken : List (List (Option Kind)
     numbers = edge-numbers t1 t2 k xs c written.Urgent at condition.written graph.Urgent y (λ d p. refl) condition.numbers;
   }
 
-  -- the word with which an edge begins tells its form
+  -- the word with which an edge begins decides its form
   pub first_form : (before after : List Lexeme) (e : graph.EventEdge) → begins_as (AWord words.Schedule) before ≡ true
       → ReadSure schedule_format means (edge_faults means taken) numbering.edge before after e → ReadSure edge_format means (edge_faults means taken) numbering.edge before after e
   unfolding edge_format schedule_format

@@ -30,7 +30,7 @@ pub absent : {A : Type 0} (p : LanguageFormat A) (before : List Lexeme) → begi
 absent p before begun = rw begun refl
 
 module _ {A B : Type 0} (f : LanguageFormat A) (means : List ℕ → Option Meaning) (faults : A → List StaticFault) (number : Declared → A → Option B) where
-  -- a part behind a token
+  -- a part after a token
   pub behind_token : {W : Type 0} (p : LanguageFormat W) (before between after : List Lexeme) (w : W) (x : B) → language_reader p before ≡ took w between
       → ReadSure f means faults number between after x → ReadSure (p *> f) means faults number before after x
   behind_token p before between after w x e r = record { written = r.written; read = follows p f before between after w r.written e r.read; unbroken = r.unbroken; numbers = r.numbers }

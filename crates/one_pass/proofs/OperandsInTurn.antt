@@ -1,4 +1,4 @@
--- Operators with their right operands, one after another, and the levels at which they stand.
+-- Operators with their right operands, one after another, and the levels at which they are.
 use Rattle.std.proofs.Common.{◌≡◌, ℕ, ◌≤◌, Bool, true, false, if◌then◌else◌, List, Option, Some, refl, ap, ◌∙◌}
 use Rattle.std.specs.Prelude.{Result, Ok, Err, IfOk}
 use Rattle.model_core.specs.declared.model.Kind.{Kind}
@@ -19,12 +19,12 @@ use Rattle.text_laws.specs.Ladder.{operand_level, climb, infix_at, at_levels, be
 use Rattle.text_laws.proofs.OperandLevels.{from-not, from-unary}
 use Rattle.one_pass.specs.Inner.ReadOperands.{first_operand, IsOperand, ReadOperand, ClimbsFrom, ClimbsOn}
 
--- An operator that was taken, or none, of the levels from the least one up to the one below `under`, and what is left of the tokens behind it.
+-- An operator that was taken, or none, of the levels from the least one up to the one below `under`, and what is left of the tokens after it.
 pub record IsTaken (under least : ℕ) (taken : Option (ℕ × graph.Operator)) (before left : List Lexeme) : Type 0 where
   pub takes : taken ≡ at_levels least under (infix_at before)
   pub leaves : left ≡ behind (at_levels least under (infix_at before)) before
 
--- whatever stands before the operator that was taken: what goes on with it is what is left of the operators from the first on
+-- for any expression before the operator that was taken, the rest of the operators goes on with it
 pub record ClimbedTo (means : List ℕ → Option Meaning) (under : ℕ) (whole : Parse WrittenExpression) (taken : Option (ℕ × graph.Operator)) (left : List Lexeme) (y : graph.Expression) (kind : Option Kind) : Type 0 where
   pub written : WrittenExpression
   pub operand : IsOperand means written y kind
@@ -33,7 +33,7 @@ pub record ClimbedTo (means : List ℕ → Option Meaning) (under : ℕ) (whole 
   pub is_taken : IsTaken under least taken before left
   pub goes_on : climb under least written before ≡ whole
 
--- a level begins with its first operand, which may be a negated one, and goes on with the operators that may stand behind that
+-- a level begins with its first operand, which may be a negated one, and goes on with the operators that may come after it
 pub first_comes : (under : ℕ) (tokens : List Lexeme) (negated : Bool) (least : ℕ) → under ≤ 5 → (negated ≡ true → (3 ≤ under) × (begins_as (AWord words.Not) tokens ≡ true)) → (negated ≡ false → 3 ≤ under → begins_as (AWord words.Not) tokens ≡ false)
     → least ≡ (if negated then 3 else 0) → language_reader (ByRule (operand_level under)) tokens ≡ and_next (climb under least) (first_operand negated tokens)
 first_comes under tokens true least few comes absent is = rw is (from-not under tokens few (comes refl))
@@ -46,7 +46,7 @@ module _ (means : List ℕ → Option Meaning) where
   by_level l tokens after (Ok u) x kind r = record { written = r.written; is_read = rule-is level_lookahead level_format levels-fine l tokens ∙ r.is_read; operand = r.operand }
   by_level l tokens after (Err e) x kind r = tt
 
-  -- the first operand, and then what stands behind it
+  -- the first operand, and then what comes after it
   pub behind_first : {A : Type 0} (others : WrittenExpression → Parser WrittenExpression) (whole first : Parse WrittenExpression) (between after : List Lexeme) (r : Result A NotRead) (x : graph.Expression) (kind : Option Kind) (y : graph.Expression)
       (kind' : Option Kind) → whole ≡ and_next others first → ReadOperand means first between x kind
       → IfOk r (λ u. (w : WrittenExpression) → IsOperand means w x kind → ReadOperand means (others w between) after y kind')
@@ -56,7 +56,7 @@ module _ (means : List ℕ → Option Meaning) where
       record { written = next.written; is_read = same ∙ ap (and_next others) read.is_read ∙ next.is_read; operand = next.operand }
   behind_first others whole first between after (Err e) x kind y kind' same read go = tt
 
-  -- behind an operand whatever stands behind the operator that was taken behind it
+  -- an operand, and after it all that comes after the operator that was taken
   pub goes-on : {A : Type 0} (under : ℕ) (first : ℕ × graph.Operator) (left after : List Lexeme) (r : Result A NotRead) (x : graph.Expression) (kind : Option Kind) (y : graph.Expression) (kind' : Option Kind) (least : ℕ) (before : List Lexeme)
       → Some first ≡ at_levels least under (infix_at before) → left ≡ behind (at_levels least under (infix_at before)) before → IfOk r (λ u. ClimbsOn means under first left after x kind y kind') → IfOk r (λ u. ClimbsFrom means under least before after x kind y kind')
   goes-on under first left after (Ok u) x kind y kind' least before takes leaves goes = goes least before takes leaves

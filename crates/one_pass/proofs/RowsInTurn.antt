@@ -11,7 +11,7 @@ use Rattle.text_laws.specs.LanguageReader.{language_reader}
 use Rattle.text_laws.proofs.ReadLoop.{begins-one, goes_on, is_done}
 use Rattle.one_pass.specs.Inner.ReadRows.{AllAre, ReadRow}
 
--- a token that is read stands first
+-- a token that is read comes first
 pub stands_first : {A : Type 0} (sort : TokenSort) (f : Lexeme → A) (before after : List Lexeme) (x : A) → language_reader (Single sort f) before ≡ took x after → begins_as sort before ≡ true
 stands_first sort f before after x e = go before (begins_as sort before) refl e
   where

@@ -33,7 +33,7 @@ module _ (means : List ℕ → Option Meaning) where
       → kinds_differ (operand_kind op) k ≡ false → kinds_differ (right_operand_kind op k) l ≡ false → z ≡ graph.Binary op x y → m ≡ Some (result_kind op) → IsOperand means (joining a (op, b)) z m
   joined_operand op a b x y z k l m left right fits also is kind = rw (is, kind) (two (place a) op a b x y k l left right fits also)
 
-  -- two operands behind a name
+  -- two operands after a name
   pub called_operand : (at : ℕ) (op : graph.Operator) (a b : WrittenExpression) (x y z : graph.Expression) (k l m : Option Kind) → IsOperand means a x k → IsOperand means b y l
       → kinds_differ (operand_kind op) k ≡ false → kinds_differ (right_operand_kind op k) l ≡ false → z ≡ graph.Binary op x y → m ≡ Some (result_kind op) → IsOperand means (written.Binary at op a b) z m
   called_operand at op a b x y z k l m left right fits also is kind = rw (is, kind) (two at op a b x y k l left right fits also)

@@ -1,4 +1,4 @@
--- A model that was read, from what stands before its vertices and from the vertices.
+-- A model that was read, from what comes before its vertices and from the vertices.
 use Rattle.std.proofs.Common.{◌≡◌, ◌≤◌, ℕ, List, [], ◌++◌, map, Option, Some, None, refl, ap, sym, subst, ◌∙◌}
 use Rattle.std.specs.Prelude.{sum_by}
 use Rattle.std.specs.List.{flat_map}
@@ -57,7 +57,7 @@ model_taken m means taken before after t0 t1 t2 t3 t4 xs ts ws vs is takes head 
 abbrev HasFewCells : EventGraph → Type 0
 HasFewCells g = sum_by (λ (v : graph.Variable). v.size) g.variables ≤ CELLS_MAX
 
--- where nothing is told of the parts of a model that the version can write, nothing is told of the whole
+-- where the parts of a model that the version can write have no fault, the whole has none
 version_kept : (m : WrittenModel) (g : EventGraph) → Checked None None (faults_of_parts m) (numbered m ≡ Some g) → FitsVersion m.version g → HasFewCells g → Checked None None (faults_of_parts m ++ version_faults m) (numbered m ≡ Some g)
 version_kept m g checked fits few =
     let none = none_told (faults_of_parts m) (sym checked.told) in
@@ -70,7 +70,7 @@ version_kept m g checked fits few =
       unbroken = λ n. is;
     }
 
--- a model in which nothing is told, and that the version can write, is accepted
+-- a model without a fault that the version can write is accepted
 pub model_accepted : (m : WrittenModel) (g : EventGraph) (t1 t2 : Option StaticFault) → Checked None t1 (faults_of_parts m) (numbered m ≡ Some g)
     → FitsVersion m.version g → HasFewCells g
     → (t1 ≡ None → t2 ≡ earliest_fault None (model_too_long TEXT_MAX (canonical g) m.end_at)) → ((f : StaticFault) → t1 ≡ Some f → t2 ≡ t1) → t2 ≡ None → Accepted m g

@@ -53,7 +53,7 @@ module _ (means : List ℕ → Option Meaning) where
       counted = length-append es (e ∷ []) ∙ ap (λ n. n + 1) are.counted ∙ sym (length-append xs (x ∷ []));
     }
 
-    -- the first value and those behind commas that were read, of those that come
+    -- the first value and those after commas that were read, of those that come
     pub record ListedSoFar (before now : List Lexeme) (xs : List graph.Expression) : Type 0 where
       pub first : WrittenExpression
       pub between : List Lexeme

@@ -35,14 +35,14 @@ few-told limit at ws told few =
     let size = length-map ws at in
     rw (too_many, slice_get_past (map at ws) limit (omega arith)) refl
 
--- a list of parts that were checked, in which nothing is told, has no fault
+-- a list of checked parts in which no fault was found has none
 told_nothing : (faults gs : List StaticFault) (t1 t2 : Option StaticFault) → t1 ≡ earliest_fault None faults → t2 ≡ earliest_fault t1 gs → t2 ≡ None → (faults ≡ []) × (gs ≡ [])
 told_nothing faults gs t1 t2 e f g =
     let all : faults ++ gs ≡ [] = none_told (faults ++ gs) (sym (told_both None t1 t2 faults gs e f) ∙ g) in
     (left_empty faults gs all, right_empty faults gs all)
 
 module _ (means : List ℕ → Option Meaning) where
-  -- the name and the parameters of a vertex, of which nothing is told
+  -- the name and the parameters of a vertex, without a fault
   pub begun_surely : (v : WrittenVertex) (t1 t2 : Option StaticFault) (ps : List ℕ) → t1 ≡ earliest_fault None (name_too_long v.name)
       → CheckedPart means t1 t2 (parameters_faults means [] (written_items v.parameters)) (λ d. each_numbered (numbering.numbered_parameter d) (written_items v.parameters)) ps → t2 ≡ None
       → (name_too_long v.name ≡ []) × (parameters_faults means [] (written_items v.parameters) ≡ []) × NumberedAs means (λ d. each_numbered (numbering.numbered_parameter d) (written_items v.parameters)) ps

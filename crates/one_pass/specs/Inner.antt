@@ -1,4 +1,4 @@
--- What the parts of this crate's reader return. No public clause cites these, and nobody has to believe them.
+-- What the parts of this crate's reader return. No public clause cites these, so a reader need not believe them.
 pub mod ReadParts
 pub mod ReadOperands
 pub mod ReadTargets

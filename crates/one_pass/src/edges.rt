@@ -27,7 +27,7 @@ use sig_base::{Held, List};
 use sig_types::{Names, Told, bounded};
 use std::alloc::Global;
 
-/// Reads a delay. The word `draw` tells its form.
+/// Reads a delay. The word `draw` decides its form.
 fn delay(alloc: Global, cursor: &mut Cursor<'_>, names: &Names) -> Result<Delay, NotRead>
     ensures { (taken : List (List (Option KnownKind))) → IfOk result (λ w. ReadSure delay_format (meaning_of names.now) (delay_faults (meaning_of names.now) taken) numbering.delay cursor.old cursor.new (edge_delay_of w)) }
 {

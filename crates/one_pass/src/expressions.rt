@@ -1,4 +1,4 @@
-//! Expressions, which are checked as they are read. They alone stand inside one another, so these functions alone call one
+//! Expressions, which are checked as they are read. They alone nest, so these functions alone call one
 //! another again. Where an expression breaks a static rule they give up.
 
 ghost use Rattle.std.specs.Prelude.{◌≡◌, ◌+◌, ◌≤◌, true, false, if◌then◌else◌, [], Some, length, IfOk, OnOk};
@@ -43,7 +43,7 @@ impl Drop for Operand {
     fn drop(self) {
         let Operand { expr, kind: _ } = self;
         match &expr {
-            // It stands where nothing is read yet, and holds no memory: asking is cheaper than the call.
+            // The placeholder of an operand holds no memory: asking is cheaper than the call.
             Expr::Clk => mem::forget(expr),
             _ => drop(expr),
         }
@@ -51,7 +51,7 @@ impl Drop for Operand {
 }
 
 impl Operand {
-    /// What stands for an operand until it is read.
+    /// The placeholder of an operand until it is read.
     pub(crate) fn unread() -> Operand {
         Operand {
             expr: Expr::Clk,
@@ -204,8 +204,8 @@ fn first_operand(
     }
 }
 
-/// Reads what stands behind the first operand: operators with their right operands, of the levels from `least` up to the
-/// one below `under`. Behind most operands stands none: so that is asked before the call.
+/// Reads what comes after the first operand: operators with their right operands, of the levels from `least` up to the
+/// one below `under`. After most operands comes none, so that is asked before the call.
 #[inline(always)]
 #[cycle(expressions)]
 fn others(
@@ -226,7 +226,7 @@ fn others(
     }
 }
 
-/// Reads what stands behind an operator that was taken: its right operand, and further operators with theirs.
+/// Reads what comes after an operator that was taken: its right operand, and further operators with theirs.
 #[inline(never)]
 #[cycle(expressions)]
 fn operators(
@@ -254,7 +254,7 @@ fn operators(
     Ok(())
 }
 
-/// The least level of an operator that may stand behind the first operand.
+/// The least level of an operator that may come after the first operand.
 fn least_behind(is_negated: bool) -> usize
     ensures { result ≡ (if is_negated then 3 else 0) }
 {
@@ -463,7 +463,7 @@ fn primary(
     undivided(alloc, cursor, names, read)
 }
 
-/// Reads a number, a word, a variable, or what stands in parentheses.
+/// Reads a number, a word, a variable, or what is in parentheses.
 #[cycle(expressions)]
 fn undivided(
     alloc: Global,

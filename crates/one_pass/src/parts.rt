@@ -31,7 +31,7 @@ pub(crate) trait Part: Drop {
     // What is written.
     ghost Written: { Type 0 };
 
-    // What a part stands for.
+    // What a part represents.
     ghost Plain: { Type 0 };
 
     ghost plain: { Self → Plain };

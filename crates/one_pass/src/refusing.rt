@@ -5,7 +5,7 @@ ghost use Rattle.std.specs.Prelude.{◌≡◌, ◌≢◌, None, OnOk, OnErr};
 use crate::not_read::NotRead;
 use sig_types::Told;
 
-/// Gives up where a fault is told.
+/// Gives up where a fault was found.
 pub(crate) fn refuse_told(told: &Told) -> Result<(), NotRead>
     ensures untold { OnOk result (told.now ≡ None) }
     ensures told { OnErr result (told.now ≢ None) }

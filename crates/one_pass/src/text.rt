@@ -72,7 +72,7 @@ fn among_names(
     })
 }
 
-/// Reads the vertices of a model of which what stands before them is read, and what each of them begins with.
+/// Reads the vertices of a model whose declarations are read, as are the beginnings of its vertices.
 fn behind(
     alloc: Global,
     cursor: &mut Cursor<'_>,
@@ -85,7 +85,7 @@ fn behind(
     among_names(alloc, cursor, &names, begun, told)
 }
 
-/// Reads what stands before the vertices of a model, which begin so.
+/// Reads the declarations of a model whose vertices begin so.
 fn beginning(
     alloc: Global,
     cursor: &mut Cursor<'_>,
@@ -100,7 +100,7 @@ fn beginning(
     })
 }
 
-/// Reads the word `end`, and nothing behind it. Gives its place.
+/// Reads the word `end`, and nothing after it. Gives its place.
 fn ending(cursor: &mut Cursor<'_>) -> Result<usize, NotRead>
     ensures { IfOk result (λ at. language_reader (reserved End) cursor.old ≡ took at []) }
 {
@@ -109,8 +109,8 @@ fn ending(cursor: &mut Cursor<'_>) -> Result<usize, NotRead>
     Ok(at)
 }
 
-/// Reads a model text whose vertices begin so, and nothing behind it. Faults of its declarations and of its length are
-/// told; at a fault in a vertex, and where the version can't write the model, the reading stops.
+/// Reads a model text whose vertices begin so, and nothing after it. Faults of its declarations and of its length are
+/// reported; at a fault in a vertex, and where the version can't write the model, the reading stops.
 fn text(
     alloc: Global,
     cursor: &mut Cursor<'_>,
@@ -130,7 +130,7 @@ fn text(
 }
 
 /// The model that all of the pieces spell, where it keeps every static rule. Where none is given, it isn't known that there
-/// is none: `model_read` with `sig_types` tells what is wrong.
+/// is none: `model_read` with `sig_types` says what is wrong.
 pub fn read_model(alloc: Global, pieces: &Pieces<'_>) -> Result<Model, NotRead>
     ensures { IfOk result (λ model. AreAccepted (pieces_lexemes pieces.now) (graph_of model)) }
 {

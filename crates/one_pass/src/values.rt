@@ -38,7 +38,7 @@ pub(crate) fn value(
     Ok(operand.into_expr())
 }
 
-/// Reads a comma and the value behind it.
+/// Reads a comma and the value after it.
 fn next(
     alloc: Global,
     cursor: &mut Cursor<'_>,

@@ -1,4 +1,4 @@
--- Names that stand earlier in a list, as more of them are known.
+-- Names that occur earlier in a list, as more of them are known.
 use Rattle.std.proofs.Common.{◌≡◌, ℕ, zero, suc, ◌<◌, Bool, true, false, cond, not, ◌||◌, nat_eq, List, [], ◌∷◌, ◌++◌, length, get_or, map, arith, Option, refl, sym, ap, ◌∙◌, append_assoc}
 use Rattle.std.specs.List.{list_any}
 use Rattle.std.proofs.lemmas.List.{map_push}
@@ -53,7 +53,7 @@ one_more_known xs more ys x true known is same = λ name. ap (list_any (same_byt
     by_name name false e = refl
 one_more_known xs more ys x false known is same = λ name. ap (list_any (same_bytes name)) is ∙ any-push name xs x ∙ ap (λ b. same_bytes name x || b) (same name)
 
--- a turn of a loop that tells what stands earlier
+-- a turn of a loop that reports what occurs earlier
 pub repeat_turn : (t0 t1 t2 : Option StaticFault) (keys : List (List ℕ)) (seen : List WrittenName) (n : WrittenName) (new : Bool)
     → SameNames keys (names_before [] seen) → new ≡ not (list_any (same_bytes n.name) keys)
     → t1 ≡ earliest_fault t0 (repeated_names [] seen) → t2 ≡ earliest_fault t1 (fault_where (not new) rules.DuplicateName n.at)
@@ -120,7 +120,7 @@ pub names_seen : (raws : List RawName) → map bytes_of raws ≡ map (λ (m : Wr
 names_seen [] = refl
 names_seen (r ∷ raws) = ap (λ ns. r.name ∷ ns) (names_seen raws)
 
--- a name that stands at a place is among the names
+-- a name that is at a place is among the names
 pub among_at : (name : List ℕ) (raws : List RawName) (i : ℕ) (r : RawName) → i < length raws → r ≡ get_or raws i r → same_bytes name r.name ≡ true → true ≡ list_any (same_bytes name) (map bytes_of raws)
 among_at name [] i r lt is same = absurd (omega arith)
 among_at name (x ∷ raws) zero r lt is same = rw (← is, same) refl

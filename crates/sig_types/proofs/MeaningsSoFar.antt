@@ -28,7 +28,7 @@ meaning_of-append : (ds es : List Declaration) (n : List ℕ) → meaning_of (ds
 meaning_of-append [] es n = refl
 meaning_of-append (d ∷ ds) es n = one_more (same_bytes d.name.name n) d.meaning (meaning_of (ds ++ es) n) (meaning_of ds n) (meaning_of es n) (meaning_of-append ds es n)
 
--- lists that mean the same do so with lists behind them that mean the same
+-- lists that mean the same still mean the same with such lists after them
 pub meaning_of-same : (ds es fs gs : List Declaration) → meaning_of ds ≡ meaning_of es → meaning_of fs ≡ meaning_of gs → meaning_of (ds ++ fs) ≡ meaning_of (es ++ gs)
 meaning_of-same ds es fs gs e f =
     fun_ext (λ n. meaning_of-append ds fs n ∙ ap (λ (m : List ℕ → Option Meaning). or_else (m n) (meaning_of fs n)) e ∙ ap (λ (m : List ℕ → Option Meaning). or_else (meaning_of es n) (m n)) f ∙ sym (meaning_of-append es gs n))

@@ -1,4 +1,4 @@
--- An error that names the fault that is told is told.
+-- An error that names the first fault is the right one.
 use Rattle.std.proofs.Common.{◌≡◌, ℕ, Some, Result, Err}
 use Rattle.model_core.specs.declared.static_kind.StaticKind.{StaticKind}
 use Rattle.model_core.specs.Text.Written.{WrittenModel}

@@ -1,4 +1,4 @@
--- The faults of the parts of a list, told one part after another.
+-- The faults of the parts of a list, reported one part after another.
 use Rattle.std.proofs.Common.{◌≡◌, ℕ, ◌+◌, ◌<◌, List, [], length, get_or, take, map, Option}
 use Rattle.std.specs.List.{flat_map}
 use Rattle.std.proofs.lemmas.List.{flat_map_more}
@@ -6,7 +6,7 @@ use Rattle.sig_base.proofs.Lists.{seen_more}
 use Rattle.model_core.specs.Static.FaultOrder.{StaticFault, earliest_fault}
 use Rattle.static_laws.proofs.Checks.{told_both}
 
--- a turn of a loop that tells the faults of parts
+-- a turn of a loop that reports the faults of parts
 pub told_turn : {X W : Type 0} (w : X → W) (F : W → List StaticFault) (t0 t1 t2 : Option StaticFault) (raws : List X) (i : ℕ) (x : X) → i < length raws → x ≡ get_or raws i x
     → t1 ≡ earliest_fault t0 (flat_map F (map w (take i raws))) → t2 ≡ earliest_fault t1 (F (w x)) → t2 ≡ earliest_fault t0 (flat_map F (map w (take (i + 1) raws)))
 told_turn w F t0 t1 t2 raws i x lt is e f =

@@ -1,4 +1,4 @@
--- The first part behind a limit.
+-- The first part beyond a limit.
 use Rattle.std.proofs.Common.{◌≡◌, ℕ, true, zero, suc, ◌<◌, ◌≤◌, List, [], ◌∷◌, length, get_or, map, Some, None, refl, arith}
 use Rattle.std.specs.Prelude.{slice_get}
 use Rattle.model_core.specs.declared.static_kind.StaticKind.TheVariants as rules

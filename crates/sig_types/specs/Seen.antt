@@ -1,4 +1,4 @@
--- Which plain value each value of this crate's types stands for.
+-- Which plain value each value of this crate's types represents.
 use Rattle.std.specs.Prelude.{ℕ, List}
 use Rattle.model_core.specs.declared.raw.RawName.{RawName}
 use Rattle.model_core.specs.Static.Meanings as plain

@@ -34,7 +34,7 @@ use model_print::printed_length;
 use sig_base::{List, NoMemory, TABLES_MAX, TEXT_MAX, Table, VARIABLES_MAX, VERTICES_MAX};
 use std::alloc::Global;
 
-/// The names that a model declares. Those that are declared again are told.
+/// The names that a model declares. Those that are declared again are reported.
 fn names_of(alloc: Global, raw: &RawModel, told: &mut Told) -> Result<Names, NoMemory>
     ensures means { IfOk result (λ names. meaning_of names ≡ model_meaning (written_model raw.now)) }
     ensures told { OnOk result (told.new ≡ earliest_fault told.old (repeated_names [] (map declared_name (declarations (written_model raw.now))))) }
@@ -47,7 +47,7 @@ fn names_of(alloc: Global, raw: &RawModel, told: &mut Told) -> Result<Names, NoM
     Ok(names)
 }
 
-/// Tells the declarations that are too many.
+/// Reports the declarations that are too many.
 fn tell_counts(raw: &RawModel, told: &mut Told)
     ensures { told.new ≡ earliest_fault told.old (faults_of_counts (written_model raw.now)) }
 {
@@ -56,7 +56,7 @@ fn tell_counts(raw: &RawModel, told: &mut Told)
     tell_too_many(VERTICES_MAX, raw.vertices.as_slice(), told);
 }
 
-/// The names that a model declares. Its own name, those that are declared again and those that are too many are told.
+/// The names that a model declares. Faults of its own name are reported, and names declared again, and declarations too many.
 pub fn declared(alloc: Global, raw: &RawModel, told: &mut Told) -> Result<Names, NoMemory>
     ensures means { IfOk result (λ names. meaning_of names ≡ model_meaning (written_model raw.now)) }
     ensures told { OnOk result (told.new ≡ earliest_fault told.old (faults_of_declared (written_model raw.now))) }
@@ -130,7 +130,7 @@ struct Known {
     taken: List<List<Option<Kind>>>,
 }
 
-/// What has to be known of a model before its parts are checked. What `declared` tells is told.
+/// What has to be known of a model before its parts are checked. It reports what `declared` reports.
 fn known_of(alloc: Global, raw: &RawModel, told: &mut Told) -> Result<Known, NoMemory>
     ensures means { IfOk result (λ known. meaning_of known.names ≡ model_meaning (written_model raw.now)) }
     ensures takes { IfOk result (λ known. known.taken ≡ model_takes (written_model raw.now)) }
@@ -156,7 +156,7 @@ fn is_too_long(model: &Model) -> bool
     printed_length(model) > TEXT_MAX as u64
 }
 
-/// Where nothing else is told, tells that the canonical text of a model has too many bytes.
+/// Where no other fault was found, reports that the canonical text of a model has too many bytes.
 pub fn tell_too_long(model: &Model, end_at: usize, told: &mut Told)
     ensures none { told.old ≡ None → told.new ≡ earliest_fault None (model_too_long TEXT_MAX (canonical (graph_of model.now)) end_at) }
     ensures some { (f : StaticFault) → told.old ≡ Some f → told.new ≡ told.old }
@@ -166,7 +166,7 @@ pub fn tell_too_long(model: &Model, end_at: usize, told: &mut Told)
     }
 }
 
-/// The model with numbers in place of names. Of all its faults `told` keeps the one to tell.
+/// The model with numbers in place of names. `told` keeps the first of all its faults.
 fn told_model(alloc: Global, raw: RawModel, told: &mut Told) -> Result<Model, NoMemory>
     requires { told.old ≡ None }
     ensures told { OnOk result (told.new ≡ told_fault (written_model raw)) }
@@ -184,7 +184,7 @@ fn told_model(alloc: Global, raw: RawModel, told: &mut Told) -> Result<Model, No
 pub fn check(alloc: Global, raw: RawModel) -> Result<Model, StaticError>
     // What is accepted is numbered as it is written, and breaks no rule.
     ensures accepted { IfOk result (λ model. Accepted (written_model raw) (graph_of model)) }
-    // What is told is broken, at the least place, and there no rule of the table before it.
+    // The rule is broken, at the least place, and there no rule before it in the table is.
     ensures told { (kind : Rule) (at : ℕ) → result ≡ Err (errors.Fault kind at) → IsTold (written_model raw) kind at }
 {
     let mut told = Told::new();

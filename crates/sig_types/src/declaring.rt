@@ -17,10 +17,10 @@ use std::alloc::Global;
 
 /// A part of a written model that declares a name.
 pub trait Declares {
-    // What the parts stand for.
+    // What the parts represent.
     ghost Written: { Type 0 };
 
-    // The written part that a part stands for.
+    // The written part that a part represents.
     ghost written: { Self → Written };
 
     // What the written part at a place declares.
@@ -30,12 +30,12 @@ pub trait Declares {
     fn name(&self) -> &RawName
         ensures { (place : ℕ) → (declaration place (written self.now)).name ≡ written_name result.now };
 
-    /// What its name means, where it stands at this place among its like.
+    /// What its name means, where it is at this place among parts of its kind.
     fn meaning(&self, place: usize) -> Meaning
         ensures { (declaration place (written self.now)).meaning ≡ meaning_seen result };
 }
 
-/// Declares names behind others, and tells each that is declared already.
+/// Declares names after others, and reports each that is declared already.
 pub(crate) fn declare_all<T: Declares>(
     alloc: Global,
     names: &mut Names,
@@ -54,7 +54,7 @@ pub(crate) fn declare_all<T: Declares>(
     Ok(())
 }
 
-/// Tells a name that is declared and too long.
+/// Reports a name that is declared and too long.
 pub fn tell_long_name(raw: &RawName, told: &mut Told)
     ensures { told.new ≡ earliest_fault told.old (name_too_long (written_name raw.now)) }
 {

@@ -119,7 +119,7 @@ fn form(
     }
 }
 
-/// Tells that an edge carries another number of values than its target takes, or where it can carry none, any at all.
+/// Reports that an edge carries another number of values than its target takes, or where it can carry none, any at all.
 fn tell_count(form: &RawEdgeForm, wanted: usize, given: usize, at: usize, told: &mut Told)
     ensures { told.new ≡ earliest_fault told.old (count_faults (written_edge_kind form.now) wanted given at) }
 {

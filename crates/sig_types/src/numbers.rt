@@ -69,7 +69,7 @@ pub fn bounded(
     if fits { certain as usize } else { 0 }
 }
 
-/// Tells that a first bound exceeds the second.
+/// Reports that a first bound exceeds the second.
 pub(crate) fn tell_empty(lo: &RawSigned, hi: &RawSigned, told: &mut Told)
     ensures { told.new ≡ earliest_fault told.old (empty_range (written_signed lo.now) (written_signed hi.now)) }
 {
@@ -77,7 +77,7 @@ pub(crate) fn tell_empty(lo: &RawSigned, hi: &RawSigned, told: &mut Told)
     told.note(empty, StaticKind::EmptyRange, lo.at);
 }
 
-/// Tells that from a first bound to a second there are too many values for a draw.
+/// Reports that from a first bound to a second there are too many values for a draw.
 pub(crate) fn tell_wide(lo: &RawSigned, hi: &RawSigned, told: &mut Told)
     ensures { told.new ≡ earliest_fault told.old (draw_outside (written_signed lo.now) (written_signed hi.now)) }
 {
@@ -85,7 +85,7 @@ pub(crate) fn tell_wide(lo: &RawSigned, hi: &RawSigned, told: &mut Told)
     told.note(wide, StaticKind::DrawOutside, lo.at);
 }
 
-/// Tells that an initial value is outside its range.
+/// Reports that an initial value is outside its range.
 pub(crate) fn tell_outside(lo: &RawSigned, hi: &RawSigned, initial: &RawSigned, told: &mut Told)
     ensures { told.new ≡ earliest_fault told.old (initial_outside (written_signed lo.now) (written_signed hi.now) (written_signed initial.now)) }
 {

@@ -14,10 +14,10 @@ use model_core::{
 
 /// A part of a written model that begins at a byte.
 pub trait Placed {
-    // What the parts stand for.
+    // What the parts represent.
     ghost Written: { Type 0 };
 
-    // The written part that a part stands for.
+    // The written part that a part represents.
     ghost written: { Self → Written };
 
     // The byte at which a written part begins.
@@ -28,7 +28,7 @@ pub trait Placed {
         ensures { result ≡ begins (written self.now) };
 }
 
-/// Tells the first part behind a limit.
+/// Reports the first part beyond a limit.
 pub(crate) fn tell_too_many<T: Placed>(limit: usize, parts: &[T], told: &mut Told)
     ensures { told.new ≡ earliest_fault told.old (too_many limit (map T.begins (map T.written parts.now))) }
 {

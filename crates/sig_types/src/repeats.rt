@@ -1,4 +1,4 @@
-//! Names that stand twice in a list.
+//! Names that occur twice in a list.
 
 ghost use Rattle.std.specs.Prelude.{◌≡◌, [], OnOk, map};
 ghost use Rattle.std.specs.List.{list_any};
@@ -29,7 +29,7 @@ fn is_among(raws: &[RawName], name: &[u8]) -> bool
     false
 }
 
-/// Tells each name that stands earlier in a short list.
+/// Reports each name that occurs earlier in a short list.
 fn tell_few(raws: &[RawName], told: &mut Told)
     ensures { told.new ≡ earliest_fault told.old (repeated_names [] (map written_name raws.now)) }
 {
@@ -39,7 +39,7 @@ fn tell_few(raws: &[RawName], told: &mut Told)
     }
 }
 
-/// Tells each name that stands earlier in a list of any length.
+/// Reports each name that occurs earlier in a list of any length.
 fn tell_many(alloc: Global, raws: &[RawName], told: &mut Told) -> Result<(), NoMemory>
     ensures { OnOk result (told.new ≡ earliest_fault told.old (repeated_names [] (map written_name raws.now))) }
 {
@@ -51,7 +51,7 @@ fn tell_many(alloc: Global, raws: &[RawName], told: &mut Told) -> Result<(), NoM
     Ok(())
 }
 
-/// Tells each name that stands earlier in the list.
+/// Reports each name that occurs earlier in the list.
 pub(crate) fn tell_repeated(
     alloc: Global,
     raws: &[RawName],

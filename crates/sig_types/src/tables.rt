@@ -44,7 +44,7 @@ fn is_outside(before: i128, weight: i128) -> bool
     weight <= 0 || i128::from(WEIGHTS_MAX) < before + weight
 }
 
-/// A row behind others of this sum of weights.
+/// A row after others whose weights have this sum.
 fn row(raw: &RawRow, before: i128, told: &mut Told) -> Row
     requires low { negsuc 85070591730234615865843651857942052864 ≤ℤ before }
     requires high { before ≤ℤ pos 85070591730234615865843651857942052864 }
@@ -79,7 +79,7 @@ fn rows(alloc: Global, raws: &[RawRow], told: &mut Told) -> Result<List<Row>, No
     Ok(List::from_vec(rows))
 }
 
-/// The rows of a table, whose name and length are told.
+/// The rows of a table. Faults of its name and of its length are reported.
 fn rows_of(alloc: Global, raw: &RawTable, told: &mut Told) -> Result<List<Row>, NoMemory>
     ensures { IfOk result (λ rows. CheckedPlain told.old told.new (table_faults (written_table raw.now)) (each_numbered numbering.row (written_table raw.now).rows) (map weighted_of rows)) }
 {

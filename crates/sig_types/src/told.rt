@@ -1,4 +1,4 @@
-//! The fault that is told: of those met so far the one of the least place, and at one place the first of the table.
+//! The first fault: of those met so far the one of the least place, and at one place the first of the table.
 
 ghost use Rattle.std.specs.Prelude.{◌≡◌, Bool, None, Some};
 ghost use Rattle.std.specs.Option.{option_map};
@@ -7,14 +7,14 @@ ghost use Rattle.model_core.specs.Static.FaultOrder.{StaticFault, rule_row, is_t
 use model_core::StaticKind;
 use std::marker::Model;
 
-/// A rule that is broken, and the byte at which that is told.
+/// A broken rule, and the byte at which it is reported.
 #[derive(Clone, Copy)]
 pub struct Fault {
     pub at: usize,
     pub kind: StaticKind,
 }
 
-/// The fault to tell, which contracts see as the plain one.
+/// The first fault, which contracts see as the plain one.
 #[derive(Drop)]
 pub struct Told {
     fault: Option<Fault>,
@@ -38,7 +38,7 @@ fn row(kind: StaticKind) -> u8
     kind as u8
 }
 
-/// Whether the first fault is told before the second: by place, and at one place by row.
+/// Whether the first of two faults comes first: by place, and at one place by row.
 fn is_before(a: Fault, b: Fault) -> bool
     ensures { result ≡ is_told_before (record { at = a.at; kind = a.kind }) (record { at = b.at; kind = b.kind }) }
 {
@@ -53,7 +53,7 @@ impl Told {
         Told { fault: None }
     }
 
-    /// The fault to tell.
+    /// The first fault.
     pub fn fault(&self) -> Option<Fault>
         ensures { self.now ≡ option_map (λ f. record { at = f.at; kind = f.kind }) result }
     {
@@ -69,7 +69,7 @@ impl Told {
         }
     }
 
-    /// Keeps a fault, where it is told before the one that is kept.
+    /// Keeps a fault where it comes before the one that is kept.
     fn keep(&mut self, fault: Fault)
         ensures { self.new ≡ earliest_fault self.old (fault_where Bool.true fault.kind fault.at) }
     {

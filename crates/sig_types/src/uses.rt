@@ -47,7 +47,7 @@ fn is_fit(role: Role, meaning: Meaning) -> bool
     }
 }
 
-/// What the name that these bytes spell means, which stands at this place and is used so.
+/// What the name that these bytes spell means, at this place and used so.
 #[inline(always)]
 fn used(names: &Names, role: Role, name: &[u8], at: usize, told: &mut Told) -> Option<Meaning>
     ensures told { told.new ≡ earliest_fault told.old (use_faults (meaning_of names.now) (role_seen role) (record { name = name.now; at = at })) }
@@ -88,7 +88,7 @@ fn variable_meant(meaning: Option<Meaning>, is_array: bool) -> Typed<usize>
     }
 }
 
-/// A name that is used as a variable, where it stands in the text.
+/// A name that is used as a variable, where it is in the text.
 #[inline(always)]
 pub fn spelled_variable(
     names: &Names,
@@ -154,7 +154,7 @@ fn place_of_vertex(meaning: Option<Meaning>) -> Option<usize>
     }
 }
 
-/// A name that is used as a vertex, where it stands in the text. Where it isn't one, none.
+/// A name that is used as a vertex, where it is in the text. `None` where it isn't one.
 pub fn spelled_vertex(names: &Names, name: &[u8], at: usize, told: &mut Told) -> Option<usize>
     ensures checked { CheckedPart (meaning_of names.now) told.old told.new (use_faults (meaning_of names.now) AsVertex (record { name = name.now; at = at })) (λ d. option_map (λ k. Some k) (declared_place name.now d.vertices)) result }
     ensures means { result ≡ vertex_meant (meaning_of names.now name.now) }
@@ -163,7 +163,7 @@ pub fn spelled_vertex(names: &Names, name: &[u8], at: usize, told: &mut Told) ->
     place_of_vertex(meaning)
 }
 
-/// A name that is used as a vertex. Where it isn't one, none.
+/// A name that is used as a vertex. `None` where it isn't one.
 pub(crate) fn vertex(names: &Names, raw: &RawName, told: &mut Told) -> Option<usize>
     ensures checked { CheckedPart (meaning_of names.now) told.old told.new (use_faults (meaning_of names.now) AsVertex (written_name raw.now)) (λ d. option_map (λ k. Some k) (declared_place raw.now.name d.vertices)) result }
     ensures means { result ≡ vertex_meant (meaning_of names.now raw.now.name) }

@@ -33,7 +33,7 @@ fn is_version_two(raw: &Option<RawNumber>) -> bool
     }
 }
 
-/// Tells a version that isn't known.
+/// Reports an unknown version.
 fn tell_number(raw: &Option<RawNumber>, told: &mut Told)
     ensures { told.new ≡ earliest_fault told.old (if_written number_faults (option_map written_number raw.now)) }
 {
@@ -44,7 +44,7 @@ fn tell_number(raw: &Option<RawNumber>, told: &mut Told)
     }
 }
 
-/// Tells an array of more cells than one of version 1 may have, or of none.
+/// Reports an array of more cells than one of version 1 may have, or of none.
 fn tell_size(raw: &RawVar, told: &mut Told)
     ensures { told.new ≡ earliest_fault told.old (size_faults_version_1 (written_variable raw.now)) }
 {
@@ -55,7 +55,7 @@ fn tell_size(raw: &RawVar, told: &mut Told)
     }
 }
 
-/// Tells each of these arrays that does.
+/// Reports each of these arrays that has as many.
 fn tell_sizes(raws: &[RawVar], told: &mut Told)
     ensures { told.new ≡ earliest_fault told.old (flat_map size_faults_version_1 (map written_variable raws.now)) }
 {
@@ -64,7 +64,7 @@ fn tell_sizes(raws: &[RawVar], told: &mut Told)
     }
 }
 
-/// Tells the first target behind those that a `set` of version 1 may have.
+/// Reports the first target beyond those that a `set` of version 1 may have.
 fn tell_targets(raw: &RawChange, told: &mut Told)
     ensures { told.new ≡ earliest_fault told.old (target_faults_version_1 (written_change raw.now)) }
 {
@@ -76,7 +76,7 @@ fn tell_targets(raw: &RawChange, told: &mut Told)
     }
 }
 
-/// Tells it of each of these changes.
+/// Reports it of each of these changes.
 fn tell_all_targets(raws: &[RawChange], told: &mut Told)
     ensures { told.new ≡ earliest_fault told.old (flat_map target_faults_version_1 (map written_change raws.now)) }
 {
@@ -85,7 +85,7 @@ fn tell_all_targets(raws: &[RawChange], told: &mut Told)
     }
 }
 
-/// Tells the delay of an edge, at its word `draw`, where it is drawn.
+/// Reports the delay of an edge, at its word `draw`, where it is drawn.
 fn tell_delay(raw: &RawEdgeForm, told: &mut Told)
     ensures { told.new ≡ earliest_fault told.old (delay_faults_version_1 (written_edge_kind raw.now)) }
 {
@@ -98,7 +98,7 @@ fn tell_delay(raw: &RawEdgeForm, told: &mut Told)
     }
 }
 
-/// Tells it of each of these edges.
+/// Reports it of each of these edges.
 fn tell_all_delays(raws: &[RawEdge], told: &mut Told)
     ensures { told.new ≡ earliest_fault told.old (flat_map (λ (e : WrittenEdge). delay_faults_version_1 e.kind) (map written_edge raws.now)) }
 {
@@ -107,7 +107,7 @@ fn tell_all_delays(raws: &[RawEdge], told: &mut Told)
     }
 }
 
-/// Tells the first parameter behind those that a vertex of version 1 may have, such targets, and delays that are drawn.
+/// Reports the first parameter beyond those that a vertex of version 1 may have, such targets, and delays that are drawn.
 fn tell_vertex(raw: &RawVertex, told: &mut Told)
     ensures { told.new ≡ earliest_fault told.old (vertex_faults_version_1 (written_vertex raw.now)) }
 {
@@ -116,7 +116,7 @@ fn tell_vertex(raw: &RawVertex, told: &mut Told)
     tell_all_delays(raw.edges.as_slice(), told);
 }
 
-/// Tells it of each of these vertices.
+/// Reports it of each of these vertices.
 fn tell_vertices(raws: &[RawVertex], told: &mut Told)
     ensures { told.new ≡ earliest_fault told.old (flat_map vertex_faults_version_1 (map written_vertex raws.now)) }
 {
@@ -125,7 +125,7 @@ fn tell_vertices(raws: &[RawVertex], told: &mut Told)
     }
 }
 
-/// Tells what passes a limit of version 1, and delays that are drawn.
+/// Reports what passes a limit of version 1, and delays that are drawn.
 fn tell_version_1(raw: &RawModel, told: &mut Told)
     ensures { told.new ≡ earliest_fault told.old (faults_version_1 (written_model raw.now)) }
 {
@@ -155,7 +155,7 @@ fn cells(raw: &RawVar) -> usize
     }
 }
 
-/// Tells the first array with which those of all arrays are too many.
+/// Reports the first array with which the cells of all arrays are too many.
 fn tell_cells(raws: &[RawVar], told: &mut Told)
     ensures { told.new ≡ earliest_fault told.old (cells_faults 0 (map written_variable raws.now)) }
 {
@@ -169,7 +169,7 @@ fn tell_cells(raws: &[RawVar], told: &mut Told)
     }
 }
 
-/// Tells a version that isn't known, and what a text of the version may not have.
+/// Reports an unknown version, and what a text of the version may not have.
 pub(crate) fn tell_version(raw: &RawModel, told: &mut Told)
     ensures { told.new ≡ earliest_fault told.old (version_faults (written_model raw.now)) }
 {

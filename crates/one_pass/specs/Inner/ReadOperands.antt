@@ -32,12 +32,12 @@ pub record ReadOperand (means : List ℕ → Option Meaning) (read : Parse Writt
   pub is_read : read ≡ took written after
   pub operand : IsOperand means written x kind
 
--- behind an expression stand operators and their right operands, which together are such an expression
+-- after an expression come operators and their right operands, which together are such an expression
 abbrev pub ClimbsFrom : (List ℕ → Option Meaning) → ℕ → ℕ → List Lexeme → List Lexeme → graph.Expression → Option Kind → graph.Expression → Option Kind → Type 0
 ClimbsFrom means under least before after x kind y kind' =
     (e : WrittenExpression) → IsOperand means e x kind → ReadOperand means (climb under least e before) after y kind'
 
--- behind an operator that was taken of such operators, the same: its right operand comes first
+-- after an operator that was taken of such operators, the same: its right operand comes first
 abbrev pub ClimbsOn : (List ℕ → Option Meaning) → ℕ → ℕ × graph.Operator → List Lexeme → List Lexeme → graph.Expression → Option Kind → graph.Expression → Option Kind → Type 0
 ClimbsOn means under first left after x kind y kind' =
     (least : ℕ) (before : List Lexeme) → Some first ≡ at_levels least under (infix_at before) → left ≡ behind (at_levels least under (infix_at before)) before → ClimbsFrom means under least before after x kind y kind'

@@ -22,7 +22,7 @@ use Rattle.text_laws.specs.LanguageReader.{language_reader, text_read}
 use Rattle.model_read.specs.Beginnings.{with_vertices}
 use Rattle.static_laws.specs.Checked.{Checked, NumberedAs}
 
--- between these tokens, where names mean this, stands a part without faults, which has this number
+-- between these tokens, where names mean this, there is a part without faults, which has this number
 pub record ReadSure {W B : Type 0} (f : LanguageFormat W) (means : List ℕ → Option Meaning) (faults : W → List StaticFault) (number : Declared → W → Option B) (before after : List Lexeme) (part : B) : Type 0 where
   pub written : W
   pub read : language_reader f before ≡ took written after
@@ -71,13 +71,13 @@ module _ (means : List ℕ → Option Meaning) (taken : List (List (Option Kind)
     pub parts : ReadSure (at_least_one vertex_format) means (flat_map (vertex_faults means taken)) (λ d. each_numbered (numbering.vertex d)) before after vs
     pub alike : AllBeginAlike parts.written expected
 
--- the vertices of a model of which what stands before them is known
+-- the vertices of a model whose declarations are known
 pub record ReadBehind (m : WrittenModel) (before after : List Lexeme) (t0 t1 : Option StaticFault) (g : EventGraph) : Type 0 where
   pub vertices : List WrittenVertex
   pub read : language_reader (at_least_one vertex_format) before ≡ took vertices after
   pub checked : (end_at : ℕ) → Checked t0 t1 (faults_of_parts (with_vertices m vertices end_at)) (numbered (with_vertices m vertices end_at) ≡ Some g)
 
--- a whole text, of which no token is left. What is told of it is what is told of the model
+-- a whole text, of which no token is left. Its faults are those of the model
 pub record ReadText (tokens : List Lexeme) (told : Option StaticFault) (g : EventGraph) : Type 0 where
   pub written : WrittenModel
   pub read : text_read tokens ≡ took written []

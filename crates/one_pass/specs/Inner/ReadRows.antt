@@ -11,7 +11,7 @@ AllAre Is [] [] [] = Unit {0}
 AllAre Is (w ∷ ws) (x ∷ xs) (k ∷ ks) = Is w x k × AllAre Is ws xs ks
 AllAre Is ws xs ks = ⊥
 
--- between these tokens stand such parts
+-- such parts between these tokens
 pub record ReadRow {W B K : Type 0} (f : LanguageFormat (List W)) (Is : W → B → K → Type 0) (before after : List Lexeme) (xs : List B) (ks : List K) : Type 0 where
   pub written : List W
   pub read : language_reader f before ≡ took written after

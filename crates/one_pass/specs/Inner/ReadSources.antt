@@ -18,7 +18,7 @@ pub record IsSource (means : List ℕ → Option Meaning) (s : WrittenSource) (s
   pub is_stream : natural s.stream ≡ Some stream
   pub numbers : NumberedAs means (λ d. numbering.choice d s.choice) choice
 
--- between these tokens stands such a source
+-- such a source between these tokens
 pub record ReadSource (means : List ℕ → Option Meaning) (before after : List Lexeme) (stream : ℕ) (choice : graph.Choice) : Type 0 where
   pub written : WrittenSource
   pub read : language_reader source_format before ≡ took written after

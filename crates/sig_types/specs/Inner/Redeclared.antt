@@ -1,4 +1,4 @@
--- The names that are declared again behind other declarations.
+-- The names that are declared again after other declarations.
 use Rattle.std.specs.Prelude.{List, [], ◌∷◌, ◌++◌, is_some}
 use Rattle.model_core.specs.declared.static_kind.StaticKind.TheVariants as rules
 use Rattle.model_core.specs.Static.FaultOrder.{StaticFault, fault_where}

@@ -1,4 +1,4 @@
--- Nothing is told.
+-- No fault is found.
 use Rattle.std.proofs.Common.{sym, ◌∙◌}
 use Rattle.model_core.specs.Code.WrittenViews.{written_edge}
 use Rattle.model_core.specs.Static.Meanings.{meaning_of}

@@ -1,4 +1,4 @@
--- Nothing was told of the model, so it is accepted.
+-- No fault was found in the model, so it is accepted.
 use Rattle.std.proofs.Common.{◌≡◌, [], map, sym, ap, ◌∙◌}
 use Rattle.sig_base.specs.declared.limits.TheConstants.{OPENINGS_MAX}
 use Rattle.model_lex.specs.PieceViews.{piece_of}

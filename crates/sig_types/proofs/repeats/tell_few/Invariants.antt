@@ -4,6 +4,6 @@ use Rattle.model_core.specs.Static.FaultOrder.{earliest_fault}
 use Rattle.model_core.specs.Static.PartFaults.{repeated_names}
 use Rattle.sig_types.proofs.repeats.tell_few.Given as goal
 
--- those of the names before this one are told
+-- those of the names before this one are reported
 abbrev pub invariant-loop-place : goal.invariant-loop-place
 invariant-loop-place l = l.told ≡ earliest_fault l.fn.told (repeated_names [] (map written_name (take l.place l.raws)))

@@ -5,7 +5,7 @@ use Rattle.model_core.specs.Static.PartFaults.{repeated_names}
 use Rattle.sig_types.proofs.EarlierNames.{names_before, SameNames}
 use Rattle.sig_types.proofs.repeats.tell_many.Given as goal
 
--- those of the names before this one that are told, and the names before it
+-- those of the names before this one that are reported, and the names before it
 abbrev pub invariant-loop-raw : goal.invariant-loop-raw
 invariant-loop-raw l =
     let seen = map written_name (take l.raw-index l.raws) in

@@ -6,6 +6,6 @@ use Rattle.model_core.specs.Static.VersionFaults.{delay_faults_version_1}
 use Rattle.model_core.specs.Text.Written.{WrittenEdge}
 use Rattle.sig_types.proofs.versions.tell_all_delays.Given as goal
 
--- those of the edges before this one are told
+-- those of the edges before this one are reported
 abbrev pub invariant-loop-raw : goal.invariant-loop-raw
 invariant-loop-raw l = l.told ≡ earliest_fault l.fn.told (flat_map (λ (e : WrittenEdge). delay_faults_version_1 e.kind) (map written_edge (take l.raw-index l.raws)))

@@ -5,6 +5,6 @@ use Rattle.model_core.specs.Static.FaultOrder.{earliest_fault}
 use Rattle.model_core.specs.Static.VersionFaults.{target_faults_version_1}
 use Rattle.sig_types.proofs.versions.tell_all_targets.Given as goal
 
--- those of the changes before this one are told
+-- those of the changes before this one are reported
 abbrev pub invariant-loop-raw : goal.invariant-loop-raw
 invariant-loop-raw l = l.told ≡ earliest_fault l.fn.told (flat_map target_faults_version_1 (map written_change (take l.raw-index l.raws)))

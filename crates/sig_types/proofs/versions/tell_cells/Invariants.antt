@@ -4,7 +4,7 @@ use Rattle.model_core.specs.Code.WrittenViews.{written_variable}
 use Rattle.model_core.specs.Static.VersionFaults.{cells_faults}
 use Rattle.sig_types.proofs.versions.tell_cells.Given as goal
 
--- nothing is told yet, and of all arrays those are left that aren't counted
+-- nothing is reported yet, and of all arrays those are left that aren't counted
 abbrev pub invariant-loop-raw : goal.invariant-loop-raw
 invariant-loop-raw l = record {
   told : l.told ≡ l.fn.told;
