@@ -13,7 +13,7 @@ done bytes = Given ends.Done bytes
 abbrev pub IsDone : (List ℕ → Type 0) → Answer → Type 0
 IsDone AreWritten a = (out : List ℕ) × AreWritten out × (a ≡ done out)
 
--- the text is refused, and this line tells why
+-- the text is refused, and this line says why
 abbrev pub refused : List ℕ → Answer
 refused line = Refused refusals.Refused line
 

@@ -1,4 +1,4 @@
--- Why a text reads as no model: what there is to complain of, at which byte, and the line that tells it.
+-- Why a text reads as no model: what there is to complain of, at which byte, and its line.
 use Rattle.std.specs.Prelude.{◌≡◌, ℕ, List, ◌++◌, codes, decimal, Some, None, Ok, Err}
 use Rattle.sig_base.specs.declared.limits.TheConstants.{OPENINGS_MAX}
 use Rattle.model_core.specs.declared.static_kind.StaticKind.{StaticKind}
@@ -12,7 +12,7 @@ use Rattle.model_core.specs.Static.ModelFaults.{IsTold}
 use Rattle.answer_delivery.specs.declared.complaint.Complaint.{Complaint}
 use Rattle.answer_delivery.specs.declared.complaint.Complaint.TheVariants as complaints
 
--- what is told of a broken static rule
+-- what a complaint says of a broken static rule
 abbrev pub static_message : StaticKind → List ℕ
 static_message rules.NameTooLong = codes "name too long"
 static_message rules.UnknownName = codes "unknown name"
@@ -33,7 +33,7 @@ static_message rules.VersionNeeded = codes "needs version 2"
 static_message rules.TooMany = codes "too many"
 static_message rules.ModelTooLong = codes "model too long"
 
--- what is told of a complaint
+-- what the line says of a complaint
 abbrev pub message_of : Complaint → List ℕ
 message_of complaints.BadByte = codes "bad byte"
 message_of complaints.Unexpected = codes "unexpected"
@@ -41,12 +41,12 @@ message_of complaints.TooDeep = codes "too deep"
 message_of (complaints.Static kind) = static_message kind
 message_of complaints.BadSnapshot = codes "bad snapshot"
 
--- the line that tells a message of a byte
+-- the line with a message of a byte
 abbrev pub byte_line : ℕ → List ℕ → List ℕ
 byte_line at message = codes "sigma: byte " ++ decimal at ++ codes ": " ++ message ++ codes "\n"
 
 -- This is to be complained of at this byte of the text: its first byte that begins no token; or else the first opening too
--- many; or else the place at which its tokens stop to begin a model text; or else the static fault that is told.
+-- many; or else the place at which its tokens stop to begin a model text; or else the first static fault.
 abbrev pub IsComplaint : List ℕ → Complaint → ℕ → Type 0
 IsComplaint text complaints.BadByte at = tokens_of text ≡ Err at
 IsComplaint text complaints.TooDeep at = (tokens : List Lexeme) × (tokens_of text ≡ Ok tokens) × (too_deep_at OPENINGS_MAX tokens ≡ Some at)

@@ -36,7 +36,7 @@ Delivers seen (Given end bytes) (Err failures.NoMemory) o p = StopsShort bytes (
 Delivers seen (Refused why line) (Ok (said.Refused other told)) o p = (other ≡ why) × (told ≡ line) × (p ≡ o)
 Delivers seen answer result o p = ⊥
 
--- An answer of which P holds is delivered. Memory may be refused behind a front of it where the last fact holds.
+-- An answer of which P holds is delivered. Memory may be refused after a front of it where the last fact holds.
 pub record DeliversOne {K : Type 0} (seen : K → Outlet) (P : Answer → Type 0) (Short : Type 0) (result : Result Said Failure) (o p : K) : Type 0 where
   pub answer : Answer
   pub holds : P answer

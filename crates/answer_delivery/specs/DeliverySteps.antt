@@ -16,7 +16,7 @@ Written bytes (Ok done) o p = GrowsBy o.written p.written bytes × (0 < length b
 Written bytes (Err failures.WriteFault) o p = GrowsByFront o p bytes × (p.settled ≡ false) × HasRisen o.faults p.faults
 Written bytes (Err e) o p = ⊥
 
--- what finishing the output did, behind all of the bytes
+-- what finishing the output did, after all of the bytes
 abbrev pub Closed : End → Result Said Failure → Outlet → Outlet → Type 0
 Closed end (Ok (said.Gave e)) o p = (e ≡ end) × Stays o.written p.written × (p.settled ≡ true) × (p.faults ≡ o.faults)
 Closed end (Err failures.WriteFault) o p = Stays o.written p.written × (p.settled ≡ o.settled) × HasRisen o.faults p.faults

@@ -40,7 +40,7 @@ status_of_refusal refusals.BadStart = statuses.BadStart
 status_of_refusal refusals.Finished = statuses.Finished
 status_of_refusal refusals.TooLarge = statuses.TooLarge
 
--- the line that tells why there is no answer
+-- the line that says why there is no answer
 abbrev pub failure_line : Failure → List ℕ
 failure_line failures.Usage = codes "sigma: bad command line\n"
 failure_line failures.ReadFault = codes "sigma: cannot read\n"

@@ -22,7 +22,7 @@ pub enum Complaint {
     BadSnapshot,
 }
 
-/// What is told of a broken static rule.
+/// What a complaint says of a broken static rule.
 fn static_message(kind: StaticKind) -> &'static [u8]
     ensures { result.now ≡ static_message kind }
 {
@@ -49,7 +49,7 @@ fn static_message(kind: StaticKind) -> &'static [u8]
 }
 
 impl Complaint {
-    /// What is told of it.
+    /// What the line says of it.
     fn message(self) -> &'static [u8]
         ensures { result.now ≡ message_of self }
     {
@@ -62,7 +62,7 @@ impl Complaint {
         }
     }
 
-    /// The line that tells it, for the error output. Bytes count from 0.
+    /// Its line for the error output. Bytes count from 0.
     pub fn line(self, alloc: Global, at: usize) -> Result<Text, NoMemory>
         ensures { IfOk result (λ line. line ≡ byte_line at (message_of self)) }
     {

@@ -8,7 +8,7 @@ use crate::answer::Answer;
 use crate::status::{End, Failure, Refusal};
 use sig_base::{NoMemory, Sink, Text, put};
 
-/// What there is to tell of an answer, once its bytes are on the output.
+/// What there is to report of an answer, once its bytes are on the output.
 #[derive(Drop)]
 pub enum Said {
     /// How the job ended.
@@ -27,7 +27,7 @@ pub fn write_all<K: Sink>(output: &mut K, bytes: &[u8]) -> Result<(), Failure>
     }
 }
 
-/// Finishes the output behind the bytes of an answer.
+/// Finishes the output after the bytes of an answer.
 pub fn close<K: Sink>(output: &mut K, end: End) -> Result<Said, Failure>
     ensures { Closed end result (K.seen output.old) (K.seen output.new) }
 {

@@ -72,7 +72,7 @@ pub enum End {
 }
 
 impl End {
-    /// The status that tells it.
+    /// Its status.
     pub fn status(self) -> Status
         ensures { result ≡ status_of_end self }
     {
@@ -99,7 +99,7 @@ pub enum Refusal {
 }
 
 impl Refusal {
-    /// The status that tells it.
+    /// Its status.
     pub fn status(self) -> Status
         ensures { result ≡ status_of_refusal self }
     {
@@ -134,7 +134,7 @@ impl From<NoMemory> for Failure {
 }
 
 impl Failure {
-    /// The status that tells it.
+    /// Its status.
     pub fn status(self) -> Status
         ensures { result ≡ status_of_failure self }
     {
@@ -146,7 +146,7 @@ impl Failure {
         }
     }
 
-    /// The line that tells it on the error output.
+    /// Its line on the error output.
     pub fn line(self) -> &'static [u8]
         ensures { result.now ≡ failure_line self }
     {

@@ -1,4 +1,4 @@
--- What `clap` makes of the end of the words.
+-- How `clap` takes the end of the words.
 use Rattle.std.proofs.Common.{◌≡◌, ◌∙◌, ◌&&◌, ◌||◌, ℕ, Bool, true, false, cond, not, bytes_eq, refl, ap, List, [], ◌∷◌, Some, None, codes, map, fold, find}
 use Rattle.std.specs.List.{list_any}
 use Rattle.std.specs.Option.{option_map_or}

@@ -23,7 +23,7 @@ use Rattle.command_words.proofs.WholeArguments.{whole, whole_attached, whole_das
 abbrev place : Arguments → ℕ
 place given = cond (has_command given) 2 1
 
--- the walk behind these arguments, of which the last may be pending
+-- the walk after these arguments, of which the last may be pending
 abbrev pub behind : Arguments → Option PlainArgument → Bool → Walk
 behind given pending is_behind = standing (held_for given pending) idle (place (given ++ option_to_list pending)) is_behind
 
@@ -108,7 +108,7 @@ command_turn names given pending is_behind word words more goes (joins all is al
         ∙ ap (λ b. taken names (standing (held_for all (Some (CommandWord word))) idle (cond b 2 1) is_behind) words) (sym (command_more all word))
         ∙ rest all ∙ settle_joins names all (CommandWord word) more refl
 
--- the words behind `--`
+-- the words after `--`
 behind_dashes : (names : List (List ℕ)) → known names (codes "command") ≡ false → (words : List Text) (given : Arguments) (pending : Option PlainArgument)
     → IfSome pending (λ x. is_known names x ≡ true)
     → taken names (behind given pending true) words ≡ rows_behind names (settle given pending) (Some (map (λ w. CommandWord w) words))
@@ -158,7 +158,7 @@ attached_turn names none given pending word name value words other long here (jo
         ∙ ap (λ a. taken names (standing (held_for (all ++ Setting name value ∷ []) None) idle (place a) false) words) (sym (append-nil (all ++ Setting name value ∷ [])))
         ∙ rest (all ++ Setting name value ∷ []) None two tt ∙ sym (one_joins names all (Setting name value) (whole words) here e)
 
--- an option that waits behind the last `--` gets no value
+-- an option that waits after the last `--` gets no value
 waits_behind : (names : List (List ℕ)) → known names (codes "command") ≡ false → (all : Arguments) (name : Text) → known names name ≡ true → (waiting : Waiting) (b : Bool) (words : List Text)
     → taken names (standing (awaiting name (held_for all None)) waiting (cond b 2 1) true) words ≡ None
 waits_behind names none all name here waiting b [] = rw (by_id names name none here) refl
@@ -166,7 +166,7 @@ waits_behind names none all name here waiting true (word ∷ words) = turn_secon
 waits_behind names none all name here waiting false (word ∷ words) =
     turn_command names (awaiting name (held_for all None)) waiting true word words tt ∙ rw (by_id names name none here) refl
 
--- what is left behind a name
+-- what is left after a name
 abbrev whole_behind : Text → List Text → Option Arguments
 whole_behind name [] = None
 whole_behind name (next ∷ words) = cond (is_value next) (add (Setting name next) (whole words)) None

@@ -1,4 +1,4 @@
--- What `clap` makes of one word more, and of the end of the words.
+-- How `clap` takes one word more, and the end of the words.
 use Rattle.std.proofs.Common.{◌≡◌, ◌∙◌, ℕ, Bool, true, false, bytes_eq, refl, List, [], ◌∷◌, Option, Some, None, codes}
 use Rattle.std.proofs.Math.Bool.{and-false}
 use Rattle.clap.specs.Lexer.{long_of}
@@ -29,7 +29,7 @@ abbrev pub taken : List (List ℕ) → Walk → List Text → Option (List Row)
 taken names walk [] = unless (last_fault names walk.held) (Some (finished (built_rules names) walk.held))
 taken names walk (word ∷ words) = unless (turn_fault (built_shape names) [] walk word) (taken names (walked (built_rules names) [] walk word) words)
 
--- where the walk stands between two words
+-- the walk between two words
 abbrev pub standing : Held → Waiting → ℕ → Bool → Walk
 standing held waiting position is_behind = record { held = held; waiting = waiting; position = position; is_trailing = is_behind; stopped = None }
 
@@ -86,7 +86,7 @@ unfolding walked
 turn_value names held name position word words none here is_plain =
     rw (is_plain.no_dashes, is_plain.no_long, is_plain.no_short, by_id names name none here, itself name) refl
 
--- a word that goes to the command, behind `--` or before it
+-- a word that goes to the command, after `--` or before it
 abbrev pub GoesToCommand : Waiting → Bool → Text → Type 0
 GoesToCommand waiting true word = Unit {0}
 GoesToCommand idle false word = IsPlain word

@@ -11,7 +11,7 @@ use Rattle.command_words.proofs.JoinedArguments.{Arguments, command_more, fits, 
 
 -- ---- what joins
 
--- the argument that joins is known and new, and the rest joins behind it
+-- the argument that joins is known and new, and the rest joins after it
 here_known : (names : List (List ℕ)) (given : Arguments) (x : PlainArgument) (more : Arguments) → fits names given (x ∷ more) ≡ true → is_known names x ≡ true
 here_known names given x more fit = (and_parts (is_known names x) (not (is_given given x)) (and_parts (may_join names given x) (fits names (given ++ x ∷ []) more) fit).0).0
 

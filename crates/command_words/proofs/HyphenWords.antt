@@ -81,7 +81,7 @@ one_more : (x : PlainArgument) (given : Arguments) (o : Option Arguments) → If
 one_more x given None e = tt
 one_more x given (Some all) e = ap (λ more. x ∷ more) e
 
--- an option with its value stands before what tells the rest
+-- an option with its value comes before the rest
 with_setting : (word name value : List ℕ) (some : Bool) (given : Arguments) (all_given : Option Arguments) → has_one_dash word ≡ false → Tells some given all_given
     → Tells (has_one_dash word || some) (Setting name value ∷ given) (option_map (λ more. Setting name value ∷ more) all_given)
 with_setting word name value some given all_given no_dash told = record {

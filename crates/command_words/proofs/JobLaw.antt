@@ -140,7 +140,7 @@ no_fit_job given none = go (job_asked given (named given)) refl
     go None e = refl
     go (Some job) e = absurd (let wrong : false ≡ true = sym none ∙ asks_fits given job (asks given job e) in cc)
 
--- the same of the words' arguments and what `clap` makes of them
+-- the same of the words' arguments and their matches by `clap`
 joined_job : (given : Arguments) → job_asked given (named given) ≡ option_and_then matched_job (option_map rows_for (joined option_names [] given))
 joined_job given = go (fits option_names [] given) refl
   where
@@ -157,6 +157,6 @@ whole_job words = go (whole words) refl (whole-given words) (has_hyphen (argumen
     go None e same true h = hyphen_no_job words h
     go None e same false h = absurd (let wrong : None ≡ Some (arguments_of words) = sym e ∙ no_hyphen-whole words h in cc)
 
--- the job of words without one dash is that of `clap`'s matches, behind the program's name
+-- words without one dash have the job of `clap`'s matches, after the program's name
 pub matched_job_is : (first : Text) (words : List Text) → list_any has_one_dash words ≡ false → job_of words ≡ option_and_then matched_job (clap_rows (first ∷ words))
 matched_job_is first words two = whole_job words ∙ ap (option_and_then matched_job) (sym (clap_answers first words two))

@@ -133,7 +133,7 @@ both_such IsSuch IsPart (Some g) (Some x) whole part = whole x part
 both_such IsSuch IsPart None a whole part = tt
 both_such IsSuch IsPart (Some g) None whole part = tt
 
--- one option behind others
+-- one option after others
 behind : {A B : Type 0} {IsPart : A → Type 0} {IsSuch : B → Type 0} → LawfulOptions A IsPart → LawfulOptions (A → B) (λ g. (x : A) → IsPart x → IsSuch (g x)) → LawfulOptions B IsSuch
 behind {A} {B} {IsPart} {IsSuch} (a, second) (f, first) = (
   f ⊛ a,

@@ -49,7 +49,7 @@ abbrev pub fits : List (List ℕ) → Arguments → Arguments → Bool
 fits names given [] = has_command given
 fits names given (x ∷ more) = may_join names given x && fits names (given ++ x ∷ []) more
 
--- all arguments, where those behind the first ones may join
+-- all arguments, where those after the first ones may join
 abbrev pub joined : List (List ℕ) → Arguments → Arguments → Option Arguments
 joined names given more = cond (fits names given more) (Some (given ++ more)) None
 
@@ -68,7 +68,7 @@ row_added id change missing (r ∷ rows) none = go (bytes_eq r.id id) refl (row_
 pub rows_more : (given : Arguments) (x : PlainArgument) → rows_for (given ++ x ∷ []) ≡ rows_for given ++ row_for x ∷ []
 rows_more given x = map-append row_for given (x ∷ [])
 
--- the command is there behind a word, and an option leaves that as it was
+-- after a word there is a command, and an option leaves that as it was
 pub command_more : (given : Arguments) (word : List ℕ) → has_command (given ++ CommandWord word ∷ []) ≡ true
 command_more given word = ap (has_row (codes "command")) (rows_more given (CommandWord word)) ∙ list_any-append _ (rows_for given) (row_for (CommandWord word) ∷ []) ∙ or_right (has_command given) true refl
 

@@ -23,7 +23,7 @@ built_rules names = built_word ∷ map built_option names
 abbrev pub known : List (List ℕ) → List ℕ → Bool
 known names name = list_any (λ n. pointwise nat_eq name n) names
 
--- a name that a test tells is this one
+-- a name that passes the test for this one is this one
 pub same_name : (a b : List ℕ) → bytes_eq a b ≡ true → a ≡ b
 same_name a b e = (bytes_eq-Decides a b).0 e
 

@@ -1,4 +1,4 @@
--- What `clap` holds between two words, and what becomes of the argument that is pending.
+-- What `clap` holds between two words, and how the pending argument ends.
 use Rattle.std.proofs.Common.{◌≡◌, ◌∙◌, ◌&&◌, ℕ, Bool, true, false, cond, refl, sym, ap, List, [], ◌∷◌, ◌++◌, Option, Some, None, codes, append-nil, option_map, option_to_list}
 use Rattle.std.specs.Prelude.{IfSome}
 use Rattle.clap.specs.Walk.{Held, Row, Rule, Text, has_row, more_values, settled, used}

@@ -13,7 +13,7 @@ abbrev form_with : List ℕ → Option (List ℕ) → WordForm
 form_with name (Some value) = NameWithValue name value
 form_with name None = NameAlone name
 
--- what stands behind two dashes, as `clap` cuts it
+-- what comes after two dashes, as `clap` cuts it
 abbrev pub form_cut : List ℕ × Option (List ℕ) → WordForm
 form_cut cut = form_with cut.0 cut.1
 

@@ -1,4 +1,4 @@
--- What words give where no name stands without its value before `--`.
+-- The arguments of words where each name before `--` has its value.
 use Rattle.std.proofs.Common.{◌≡◌, ℕ, cond, ap, List, [], ◌∷◌, Option, Some, None, map, option_map}
 use Rattle.command_words.specs.Arguments.{CommandWord, Setting, WordForm, TwoDashes, NameWithValue, NameAlone, OtherForm, form_of, is_value}
 use Rattle.command_words.proofs.JoinedArguments.{Arguments}

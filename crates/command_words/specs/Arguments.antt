@@ -16,7 +16,7 @@ pub data WordForm : Type 0 where
   NameAlone : List ℕ → WordForm
   OtherForm : WordForm
 
--- what stands behind the two dashes of a word is cut at the first `=`
+-- what comes after the two dashes of a word is cut at the first `=`
 abbrev pub cut_at : List ℕ → Option ℕ → WordForm
 cut_at text (Some i) = NameWithValue (take i text) (drop (i + 1) text)
 cut_at text None = NameAlone text
@@ -34,7 +34,7 @@ form_of word = if starts_with nat_eq word (codes "--") then form_behind_dashes (
 abbrev pub is_value : List ℕ → Bool
 is_value word = not (starts_with nat_eq word (codes "-"))
 
--- the last word has no value behind it
+-- the last word has no value after it
 abbrev pub last_argument : List ℕ → WordForm → List PlainArgument
 last_argument word TwoDashes = []
 last_argument word (NameWithValue name value) = Setting name value ∷ []
@@ -53,7 +53,7 @@ next_arguments word (NameWithValue name value) next words from_next behind_next 
 next_arguments word (NameAlone name) next words from_next behind_next = named_argument name word (is_value next) next from_next behind_next
 next_arguments word OtherForm next words from_next behind_next = CommandWord word ∷ from_next
 
--- What the words give. The first `--` counts for nothing, and each word behind it is to be the command. Before it,
+-- What the words give. The first `--` counts for nothing, and each word after it is to be the command. Before it,
 -- `--NAME=VALUE` gives an option, and so do `--NAME` and the next word, where that doesn't begin with `-`. Every other
 -- word is to be the command.
 abbrev pub arguments_of : List (List ℕ) → List PlainArgument

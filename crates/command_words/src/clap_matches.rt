@@ -1,4 +1,4 @@
-//! The command line as `clap` is told of it, and its matches of the words.
+//! The command line as it is described to `clap`, and how `clap` matches the words.
 
 ghost use Rattle.std.specs.Prelude.{◌≡◌, ◌∷◌, map, codes, IfOk, option_map};
 ghost use Rattle.std.specs.String.{string_bytes};
@@ -57,7 +57,7 @@ fn command_line<'a>(alloc: Global) -> Result<Command<'a>, AllocError>
     Ok(command)
 }
 
-/// The words behind the program's name, which `clap` passes over.
+/// The words after the program's name, which `clap` passes over.
 pub(crate) fn with_program(alloc: Global, words: &[String]) -> Result<Vec<&str>, NoMemory>
     ensures { IfOk result (λ named. map (λ w. w.now) named.items ≡ codes "sigma" ∷ map string_bytes words.now) }
 {
@@ -69,7 +69,7 @@ pub(crate) fn with_program(alloc: Global, words: &[String]) -> Result<Vec<&str>,
     Ok(named)
 }
 
-/// The matches of the words behind the program's name, or `None` where they break a rule of the command line.
+/// The matches of the words after the program's name, or `None` where they break a rule of the command line.
 pub(crate) fn matched<'a>(
     alloc: Global,
     words: &'a [&'a str],

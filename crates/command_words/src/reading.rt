@@ -15,9 +15,9 @@ use sig_base::{DOCUMENT_MAX, TEXT_MAX};
 pub enum Reading {
     /// The text of one model.
     Model(ModelJob),
-    /// A document: two models and a certificate, one behind the other.
+    /// A document: two models and a certificate, one after the other.
     Document(DocumentJob),
-    /// A saved document: a model and what was saved of a run of it, one behind the other.
+    /// A saved document: a model and what was saved of a run of it, one after the other.
     Saved(SavedJob),
     /// Nothing: the words say all.
     Nothing(BareJob),
@@ -67,7 +67,7 @@ pub enum SavedJob {
 /// What is asked without anything to read.
 #[derive(Drop)]
 pub enum BareJob {
-    /// What comes of a model that a number makes.
+    /// The results of a model that is generated from a number.
     Trial(TrialOptions),
 }
 

@@ -103,7 +103,7 @@ fn a_chain_to_another_model_differs(rt: HostRuntime) -> Result<(), Fail> {
     Ok(())
 }
 
-/// The verdict on this application behind one that is right.
+/// The verdict on this application after one that is right.
 fn behind_a_prune(alloc: Global, last: Result<Application, NoMemory>) -> Result<Verdict, NoMemory> {
     let last = last?;
     let mut applications = List::of_one(alloc, prune(alloc, b"RUN", 1)?)?;

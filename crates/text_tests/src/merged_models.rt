@@ -20,7 +20,7 @@ fn model_of_text(alloc: Global, text: &[u8]) -> Result<Model, NoMemory> {
     checked(alloc, text).map_err(|_| NoMemory)
 }
 
-/// What comes of merging the vertices at these places of the model that a text reads as.
+/// The result of merging the vertices at these places of the model that a text reads as.
 fn merged(alloc: Global, text: &[u8], vertex: usize, target: usize) -> Result<(), RuleError> {
     let mut model = model_of_text(alloc, text)?;
     merge(alloc, &mut model, vertex, target)
@@ -193,7 +193,7 @@ fn lengths_stay_known_behind_a_settle(rt: HostRuntime) -> Result<(), Fail> {
 const FOUR_URGENT: &[u8] =
     b"model M; var N : 0..9 = 0; watch N; vertex RUN { urgent B; } vertex B { set N := 1; schedule C after 1; } vertex C { urgent RUN when N < 10; urgent D when N > 9; } vertex D { urgent RUN when N < 5; urgent C when N >= 5; } end";
 
-/// What is known of whether the model with four such edges beside a merged one takes at most one at once, behind a settle of an
+/// What is known of whether the model with four such edges beside a merged one takes at most one at once, after a settle of an
 /// edge.
 fn single_behind_settle(
     alloc: Global,
@@ -221,7 +221,7 @@ fn edges_that_stand_alone_may_be_settled(rt: HostRuntime) {
 const THREE_URGENT: &[u8] =
     b"model M; var N : 0..9 = 0; watch N; vertex RUN { urgent B; } vertex B { set N := 1; schedule C after 1; } vertex C { urgent RUN when N > 9; urgent RUN when N < 5; urgent D when N >= 5; } vertex D { } end";
 
-/// What is known of whether the model with three such edges takes at most one at once, behind a prune of the first one, or behind a
+/// What is known of whether the model with three such edges takes at most one at once, after a prune of the first one, or after a
 /// drop of the vertex that was merged.
 fn single_behind(alloc: Global, drops: bool) -> Result<Option<bool>, RuleError> {
     let mut model = model_of_text(alloc, THREE_URGENT)?;
@@ -241,7 +241,7 @@ fn a_model_without_a_part_takes_at_most_one_edge_at_once(rt: HostRuntime) {
     }
 }
 
-/// By how much the length that is known of the text is wrong behind a drop of the vertex that was merged, if one is known.
+/// By how much the length that is known of the text is wrong after a drop of the vertex that was merged, if one is known.
 fn length_behind_drop(alloc: Global) -> Result<Option<u64>, RuleError> {
     let mut model = model_of_text(alloc, THREE_URGENT)?;
     let mut known = merged_and_measured(alloc, &mut model)?;
@@ -260,7 +260,7 @@ fn lengths_stay_known_behind_a_drop(rt: HostRuntime) {
 const TWO_DRAWN_DELAYS: &[u8] =
     b"version 2; model M; var N : 0..9 = 0; watch N; vertex RUN { urgent B; } vertex B { set N := 1; schedule C after 1; } vertex C { schedule RUN after draw from 3 in 1..4; schedule B after 1 when N > 9; schedule C after draw from 5 in 1..2 when N > 9; } end";
 
-/// Whether a text of version 2 is known to be needed behind a prune of an edge of the third vertex, and by how much the length that
+/// Whether a text of version 2 is known to be needed after a prune of an edge of the third vertex, and by how much the length that
 /// is known of the text then is wrong, if one is known.
 fn version_behind_prune(
     alloc: Global,

@@ -88,7 +88,7 @@ fn listed(alloc: Global, ranges: &[(i64, i64)]) -> Result<List<VarRange>, NoMemo
     Ok(List::from_vec(list))
 }
 
-/// What is told of ranges for the counter that turns and its two neighbours.
+/// The answer about ranges for the counter that turns and its two neighbours.
 fn told(alloc: Global, ranges: &[(i64, i64)]) -> Result<RangeVerdict, NoMemory> {
     let model = valid_model(alloc, TURNING)?;
     let ranges = listed(alloc, ranges)?;

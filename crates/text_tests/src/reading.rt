@@ -79,8 +79,8 @@ fn prefix(text: &[u8], length: usize) -> &[u8] {
     }
 }
 
-/// Why a cut text is refused. A word that is cut short is a name, and no name can stand where one of this text's reserved
-/// words does. One point is no token, and a colon can't stand before the equals sign. All other cuts leave a text that can
+/// Why a cut text is refused. A word that is cut short is a name, and no name can come where one of this text's reserved
+/// words does. One point is no token, and a colon can't come before the equals sign. All other cuts leave a text that can
 /// go on.
 fn cut(tokens: &[Token], length: usize) -> Refused {
     for token in tokens {
@@ -216,8 +216,8 @@ fn value(
     Ok(refusal(alloc, text.as_slice()))
 }
 
-/// Values with 256 openings: a front, a middle and a back, and how often the front and the back stand. Where they stand once
-/// more, the opening that is too many stands at this place.
+/// Values with 256 openings: a front, a middle and a back, and how often the front and the back are repeated. With one
+/// more of each, the opening that is too many is at this place.
 const DEEPEST: [(&[u8], &[u8], &[u8], usize, usize); 22] = [
     (b"(", b"1", b")", 256, 285),
     (b"not ", b"true", b"", 256, 1053),
@@ -256,7 +256,7 @@ fn the_deepest_texts_are_read(rt: HostRuntime) -> Result<(), Fail> {
     Ok(())
 }
 
-/// Why the head of a text is refused, with so many parentheses behind it that aren't closed.
+/// Why the head of a text is refused, with so many parentheses after it that aren't closed.
 fn unclosed(alloc: Global, head: &[u8], times: usize) -> Result<Option<Refused>, NoMemory> {
     let mut text = Vec::from_slice(alloc, head)?;
     repeated(&mut text, b"(", times)?;
@@ -298,7 +298,7 @@ fn each_part_has_openings_of_its_own(rt: HostRuntime) -> Result<(), Fail> {
 
 const TWO: &[u8] = b"model ONE; vertex A { } end model TWO; vertex B { } end prune A 1";
 
-/// Where the model's name stands that the tokens from a place on begin with, and the place behind the model.
+/// The place of the model's name, where the tokens from a place on begin with a model, and the place after the model.
 fn front(alloc: Global, text: &[u8], from: usize) -> Result<(usize, usize), Refused> {
     let tokens = tokens(alloc, text)?;
     if from > tokens.list.len() {

@@ -1,4 +1,4 @@
-//! Which static fault is told of a text, and where.
+//! Which static fault of a text is reported, and where.
 
 use model_core::{Model, RawModel, StaticKind, same_model};
 use model_lex::{ParseError, pieces, tokens};
@@ -36,7 +36,7 @@ fn is_read_at_once(alloc: Global, text: &[u8]) -> bool {
     }
 }
 
-/// The fault that is told of a text.
+/// The first fault of a text.
 fn told(alloc: Global, text: &[u8]) -> Option<(StaticKind, usize)> {
     match checked(alloc, text) {
         Err(StaticError::Fault { kind, at }) => Some((kind, at)),
@@ -44,16 +44,16 @@ fn told(alloc: Global, text: &[u8]) -> Option<(StaticKind, usize)> {
     }
 }
 
-/// Texts that break a rule in a way of their own, each with the fault that is told of it and the byte. The program's own
+/// Texts that break a rule in a way of their own, each with its first fault and the byte. The program's own
 /// tests have one for each rule.
 const BROKEN: [(&[u8], StaticKind, usize); 9] = [
-    // Both are told at one byte: the first of the table is.
+    // Both rules are broken at one byte: the first of the table is reported.
     (
         b"model M; watch X, X; vertex RUN { } end",
         StaticKind::UnknownName,
         15,
     ),
-    // A parameter, and a watched vertex, that stand twice.
+    // A parameter, and a watched vertex, that occur twice.
     (
         b"model M; var X : 0..9 = 0; vertex RUN(X, X) { } end",
         StaticKind::DuplicateName,
@@ -134,7 +134,7 @@ fn texts_that_say_their_version_are_read_at_once(rt: HostRuntime) {
     }
 }
 
-/// A text with 256 arrays of 65,536 cells, which is as many as may be, and with this behind them.
+/// A text with 256 arrays of 65,536 cells, which is as many as may be, and with this after them.
 fn with_most_cells(alloc: Global, behind: &[u8]) -> Result<Vec<u8>, NoMemory> {
     let mut text = Vec::from_slice(alloc, b"version 2; model M; ")?;
     for first in b'A'..b'Q' {

@@ -38,7 +38,7 @@ gauge_notes =
 abbrev pub gauge_seen : Standing → Look
 gauge_seen standing = record { history = gauge_notes; standing = standing }
 
--- what is told of the gauge: of TOCK, of A, of N, of TICK and of B
+-- the tally of the gauge: of TOCK, of A, of N, of TICK and of B
 abbrev pub told : RunEnd → ℕ → List Item → RunTally
 told end time items = record { end = end; time = time; items = items }
 

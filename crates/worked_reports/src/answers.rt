@@ -26,7 +26,7 @@ pub fn models_are_answered()
     ensures save { AnswersModel (models.Save (record { until = 12; seed = 42; events = 9; starts = [] })) clock (Refused refusals.Finished (codes "sigma: run finished\n")) }
 {}
 
-/// What is done has no other status and no other bytes, and a text that is refused is told.
+/// What is done has no other status and no other bytes, and a text that is refused has its line.
 pub fn answers_have_forms()
     ensures done { done (codes "x") ≡ Given ends.Done (codes "x") }
     ensures is_done { IsDone (λ out. out ≡ codes "x") (Given ends.Done (codes "x")) }

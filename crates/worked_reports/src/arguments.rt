@@ -5,7 +5,7 @@ ghost use Rattle.command_words.specs.Arguments.{CommandWord, Setting, TwoDashes,
 ghost use Rattle.command_words.specs.ArgumentValues.{number_within, whole_number, starting_values, needed, besides};
 ghost use Rattle.worked_reports.specs.CommandLines.{words_in};
 
-/// Two dashes alone, before a name, or before a name with a value, which begins behind the first `=`; any other word is of no such form.
+/// Two dashes alone, before a name, or before a name with a value, which begins after the first `=`; any other word is of no such form.
 pub fn words_have_forms()
     ensures two_dashes { form_of (codes "--") ≡ TwoDashes }
     ensures name { form_of (codes "--until") ≡ NameAlone (codes "until") }
@@ -21,7 +21,7 @@ pub fn words_have_forms()
     ensures dashes_behind { form_of (codes "run--until=1") ≡ OtherForm }
 {}
 
-/// A name takes the next word as its value, unless that begins with `-`. The first `--` counts for nothing, and each word behind it is to
+/// A name takes the next word as its value, unless that begins with `-`. The first `--` counts for nothing, and each word after it is to
 /// be the command.
 pub fn words_give_arguments()
     ensures nothing { arguments_of [] ≡ [] }
@@ -39,7 +39,7 @@ pub fn words_give_arguments()
     ensures dash_is_none { is_value (codes "-1") ≡ false }
 {}
 
-/// Words and values stand in the order in which they are given. An option is one of those that are named, each time.
+/// Words and values are in the order in which they are given. An option is one of those that are named, each time.
 pub fn arguments_are_looked_up()
     ensures commands { command_words (CommandWord (codes "a") ∷ Setting (codes "x") (codes "1") ∷ CommandWord (codes "b") ∷ []) ≡ codes "a" ∷ codes "b" ∷ [] }
     ensures values { values_of (codes "x") (Setting (codes "x") (codes "1") ∷ CommandWord (codes "x") ∷ Setting (codes "y") (codes "2") ∷ Setting (codes "x") (codes "3") ∷ []) ≡ codes "1" ∷ codes "3" ∷ [] }

@@ -27,8 +27,8 @@ pub fn items_have_names()
     ensures nothing_watched { item_names (record gauge { watch = [] }) ≡ [] }
 {}
 
-/// A row tells the run, its seed, how and when it ended, the item, its least, greatest and last value, its area or its count. A total
-/// tells the item, its least and greatest value, its area or its count.
+/// A row names the run, its seed, how and when it ended, the item, its least, greatest and last value, its area or its count. A total
+/// names the item, its least and greatest value, its area or its count.
 pub fn items_have_rows()
     ensures ended { item_rows (run_heading 3 40 (told ends.Ended 9 [])) (codes "N" ∷ []) (cell (negsuc 0) (pos 2) (pos 1) (pos 5) ∷ []) ≡ codes "3,40,ended,9,N,-1,2,1,5,\n" }
     ensures faulted { item_rows (run_heading 3 40 (told ends.Fault 9 [])) (codes "N" ∷ []) (no_value (pos 0) ∷ []) ≡ codes "3,40,fault,9,N,,,,0,\n" }

@@ -1,4 +1,4 @@
-//! How the program ends: its statuses, their numbers and the lines that tell them.
+//! How the program ends: its statuses, their numbers and their lines.
 
 ghost use Rattle.std.specs.Prelude.{◌≡◌, [], codes};
 ghost use Rattle.answer_delivery.specs.declared.answer.Answer.TheVariants.{Given, Refused};

@@ -1,4 +1,4 @@
-//! The tally of a run: what its notes tell of each cell and each event, and when it ends.
+//! The tally of a run: what its notes say of each cell and each event, and when it ends.
 
 ghost use Rattle.std.specs.Prelude.{◌≡◌, ℕ, pos, negsuc, [], ◌∷◌, Some, None};
 ghost use Rattle.sig_base.specs.declared.fault.FaultKind.TheVariants as faults;
@@ -30,7 +30,7 @@ pub fn cells_have_courses()
     ensures nothing_noted { course gauge 2 0 (On 2 0 (gauged (pos 9) (pos 9) (pos 9) (pos 9)) ∷ []) ≡ [] }
 {}
 
-/// The least, the greatest and the last value, wherever each stands in the course.
+/// The least, the greatest and the last value, wherever each comes in the course.
 pub fn courses_have_spans()
     ensures none { span_of [] ≡ None }
     ensures one { span_of (from 3 (pos 5) ∷ []) ≡ Some (spanning (pos 5) (pos 5) (pos 5)) }
@@ -74,7 +74,7 @@ pub fn runs_end_at_a_time()
     ensures no_note { end_time 20 [] Going ≡ 0 }
 {}
 
-/// All that is told of a run: areas go up to the run's time.
+/// The whole tally of a run: areas go up to the run's time.
 pub fn runs_have_tallies()
     ensures stopped { tally_of gauge 10 (gauge_seen Stopped)
         ≡ told ends.Stopped 10 (items.Count 3 ∷ cell (pos 0) (pos 5) (pos 0) (pos 15) ∷ cell (negsuc 0) (pos 1) (negsuc 0) (negsuc 4) ∷ cell (pos 2) (pos 6) (pos 4) (pos 30) ∷ items.Count 1 ∷ cell (pos 7) (pos 8) (pos 8) (pos 53) ∷ []) }

@@ -26,7 +26,7 @@ pub fn steps_are_counted()
     ensures without_it { steps_of_run strict_clock 42 [] 100 3 ≡ 3 }
 {}
 
-/// How each run stands, how many steps it made, and how many notes there are: those of the original first, and the number of
+/// How each run ends, how many steps it made, and how many notes there are: those of the original first, and the number of
 /// applications between the sizes and the runs.
 pub fn trials_have_summaries()
     ensures of_a_run { run_line (codes "original") clock 42 12 100 ≡ codes "original stopped 12 events 3 notes 3\n" }

@@ -1,4 +1,4 @@
--- The command line as `clap` is told of it: one word, and options that take one text each; and what `clap` then answers.
+-- The command line as it is described to `clap`: one word, and options that take one text each; and what `clap` then answers.
 use Rattle.std.specs.Prelude.{Bool, true, not, ◌&&◌, nat_eq, List, [], ◌∷◌, Option, Some, None, fold, codes}
 use Rattle.std.specs.List.{starts_with}
 use Rattle.clap.specs.Words.{App, Kinds, Row, Rule, Text, fault_of, found_of, matches_of, new_app, new_rule, rows_of, with_rule}
@@ -30,7 +30,7 @@ abbrev pub unless : {X : Type 0} → Kinds → Option X → Option X
 unless [] answer = answer
 unless (k ∷ ks) answer = None
 
--- the rows of the matches, where `clap` takes the words behind the program's name
+-- the rows of the matches, where `clap` takes the words after the program's name
 abbrev pub clap_rows : List Text → Option (List Row)
 clap_rows words = unless (fault_of (command_line option_names) words) (Some (matches_of (command_line option_names) words))
 
