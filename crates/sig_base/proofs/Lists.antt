@@ -1,4 +1,4 @@
--- What is true of any list: the lemmas that std doesn't have.
+-- Lemmas on any list that std doesn't have.
 use Rattle.std.proofs.Common.{◌≡◌, ℕ, zero, suc, ◌<◌, ◌+◌, Bool, true, false, cond, List, [], ◌∷◌, ◌++◌, All, map, take, drop, length, get_or, Some, refl, sym, ap, ◌∙◌, subst, arith, Option, None}
 use Rattle.std.specs.Prelude.{filter, slice_get, filter_map}
 use Rattle.std.specs.List.{AllByRecursion, flat_map, remove, cons_option}
@@ -14,7 +14,7 @@ pub map-filter : {A B : Type 0} (f : A → B) (keeps : B → Bool) (xs : List A)
 map-filter f keeps [] = refl
 map-filter f keeps (x ∷ xs) = filter-cons f (keeps (f x)) x (filter (λ y. keeps (f y)) xs) (filter keeps (map f xs)) (map-filter f keeps xs)
 
--- ---- the element behind a front
+-- ---- the element after a front
 
 pub get-behind : {A : Type 0} (front : List A) (x : A) (later : List A) → slice_get (front ++ x ∷ later) (length front) ≡ Some x
 get-behind [] x later = refl
@@ -93,7 +93,7 @@ every-always P f (x ∷ xs) = (f x, every-always P f xs)
 
 -- ---- one element of a list that a loop goes along
 
--- what holds of what each element stands for holds of what one of them stands for
+-- a fact of the view of each element holds of the view of one of them
 pub holds_of_each : {X Y : Type 0} (P : Y → Type 0) (view : X → Y) (xs : List X) (i : ℕ) (x : X) → All P (map view xs) → i < length xs → x ≡ get_or xs i x → P (view x)
 holds_of_each P view xs i x all below is =
     subst P (get_or-map view xs i x (view x) below ∙ ap view (sym is)) (all i (view x) (omega (arith, below, length-map xs view)))
@@ -102,13 +102,13 @@ holds_of_each P view xs i x all below is =
 pub one_left : {A : Type 0} (xs : List A) (i : ℕ) (x : A) → i < length xs → x ≡ get_or xs i x → drop i xs ≡ x ∷ drop (i + 1) xs
 one_left xs i x below is = drop_more xs i x below ∙ ap (λ y. y ∷ drop (i + 1) xs) (sym is)
 
--- what remains begins with what the element stands for
+-- the view of what remains begins with the view of the element
 pub remaining_more : {X Y : Type 0} (view : X → Y) (xs : List X) (i : ℕ) (x : X) → i < length xs → x ≡ get_or xs i x → map view (drop i xs) ≡ view x ∷ map view (drop (i + 1) xs)
 remaining_more view xs i x below is = ap (map view) (one_left xs i x below is)
 
 -- ---- what a test of each finds
 
--- what is found comes of an element
+-- what is found is found at some element
 pub first_found-of : {A B : Type 0} (f : A → Option B) (xs : List A) (y : B) → slice_get (filter_map f xs) 0 ≡ Some y → (x : A) × (f x ≡ Some y)
 first_found-of f [] y e = cc
 first_found-of {A} {B} f (x ∷ xs) y e = by (f x) refl (first_found-of f xs y) e where

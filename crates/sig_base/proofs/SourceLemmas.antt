@@ -11,7 +11,7 @@ Takes-more (Some x) b c i n p q =
     let r = subst (λ o. Takes o c n) p.1 q in
     (omega (arith, r.0, p.0, length-drop i x), r.1 ∙ ap Some (drop-drop n i x))
 
--- a buffer with i bytes of what was left, and the next n behind them
+-- a buffer with i bytes of what was left, and the next n after them
 pub Shows-more : (a b : Option (List ℕ)) (i n : ℕ) (old new : List ℕ) → Takes a b i → Shows a i old → take i new ≡ take i old → Shows b n (drop i new) → Shows a (i + n) new
 Shows-more None b i n old new p q e s = tt
 Shows-more (Some x) b i n old new p q e s =
@@ -19,7 +19,7 @@ Shows-more (Some x) b i n old new p q e s =
     let rest : take n (drop i new) ≡ take n (drop i x) = subst (λ o. Shows o n (drop i new)) p.1 s in
     take-add i n new ∙ ap (λ l. l ++ take n (drop i new)) front ∙ ap (λ l. take i x ++ l) rest ∙ sym (take-add i n x)
 
--- a buffer with i bytes of what was left has all of it, where nothing is left behind them
+-- a buffer with i bytes of what was left has all of it, where the source is then empty
 pub all-at_end : (a b c : Option (List ℕ)) (i n : ℕ) (buffer text : List ℕ) → Takes a b i → Shows a i buffer → text ≡ take i buffer → IsAtEnd b → Takes b c n
     → IfSome a (λ bytes. (text ≡ bytes) × (c ≡ Some []))
 all-at_end None b c i n buffer text p q e end r = tt

@@ -1,4 +1,4 @@
--- A table's sums: the last is the sum of all weights, and the first that is above x stands at the place at which the weights summed
+-- A table's sums: the last is the sum of all weights, and the first that is above x is at the place at which the weights summed
 -- so far exceed x. A later word has no smaller share.
 use Rattle.std.proofs.Common.{◌≡◌, ℕ, zero, suc, ◌<◌, ◌≤◌, ◌+◌, ◌-◌, ◌*◌, ◌/◌, ◌%◌, ◌^◌, Bool, true, false, cond, List, [], ◌∷◌, ◌++◌, length, get_or, refl, ap, ◌∙◌, arith}
 use Rattle.std.specs.Prelude.{sum, nat_lt}
@@ -86,7 +86,7 @@ share_rises a b n order =
 pub before_rises : (sums : List ℕ) (x y place : ℕ) → x ≤ y → AtMostBefore sums x place → AtMostBefore sums y place
 before_rises sums x y place order before = (before.0, λ i below. let low : get_or sums i 0 ≤ x = before.1 i below in omega arith)
 
--- where nothing is kept of a part the search begins at the first place
+-- for a part without a start the search begins at the first place
 pub start_known : (sums starts : List ℕ) (total shift : ℕ) → StartsAt sums total shift starts → (part : ℕ) → AtMostBefore sums (share (part * 2 ^ shift) total) (get_or starts part 0)
 start_known sums starts total shift started part = pick (nat_lt part (length starts)) refl
   where

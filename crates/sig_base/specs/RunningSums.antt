@@ -1,4 +1,4 @@
--- What a table keeps of its weights, so that a draw finds its row in a step or two.
+-- What a table keeps beside its weights, so that a draw finds its row in a step or two.
 use Rattle.std.specs.Prelude.{ℕ, ◌+◌, ◌*◌, ◌^◌, ◌<◌, ◌≤◌, List, [], ◌∷◌, length, slice_index_or}
 use Rattle.sig_base.specs.Stream.{share}
 
@@ -11,7 +11,7 @@ running_sums before (x ∷ xs) = (before + x) ∷ running_sums (before + x) xs
 abbrev pub AtMostBefore : List ℕ → ℕ → ℕ → Type 0
 AtMostBefore sums x place = (place ≤ length sums) × ((i : ℕ) → i < place → slice_index_or sums i 0 ≤ x)
 
--- of each part of 2 ^ shift words the place from which the share of any of its words is looked for
+-- for each part of 2 ^ shift words the place at which the search for the share of any of its words begins
 abbrev pub StartsAt : List ℕ → ℕ → ℕ → List ℕ → Type 0
 StartsAt sums total shift starts =
     (part : ℕ) → part < length starts → AtMostBefore sums (share (part * 2 ^ shift) total) (slice_index_or starts part 0)

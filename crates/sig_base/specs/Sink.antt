@@ -1,7 +1,7 @@
--- What is seen of a sink, and what writes do to the bytes that it has taken. `None` is a sink that doesn't tell them.
+-- What contracts see of a sink, and what writes do to the bytes that it has taken. `None` is a sink that doesn't show them.
 use Rattle.std.specs.Prelude.{◌≡◌, ◌++◌, ℕ, Bool, List, Option, Some, IfSome}
 
--- what is seen of a sink: the bytes that it has taken, where it tells them, the count of its failed calls, and whether all
+-- what contracts see of a sink: the bytes that it has taken, if it shows them, the count of its failed calls, and whether all
 -- that was written is finished
 pub record Outlet : Type 0 where
   pub written : Option (List ℕ)

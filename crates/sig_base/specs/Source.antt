@@ -1,12 +1,12 @@
--- What is seen of a source, and what reads do to the bytes that it has left. `None` is a source that doesn't tell them.
+-- What contracts see of a source, and what reads do to the bytes that it has left. `None` is a source that doesn't show them.
 use Rattle.std.specs.Prelude.{◌≡◌, ◌≤◌, ℕ, List, [], take, drop, length, Option, Some, IfSome}
 
--- what is seen of a source: the bytes that it has left, where it tells them, and the count of its failed calls
+-- what contracts see of a source: the bytes that it has left, if it shows them, and the count of its failed calls
 pub record Inlet : Type 0 where
   pub left : Option (List ℕ)
   pub faults : ℕ
 
--- bytes that are told stay as they were
+-- bytes that are shown stay as they were
 abbrev pub Stays : Option (List ℕ) → Option (List ℕ) → Type 0
 Stays old new = IfSome old (λ bytes. new ≡ Some bytes)
 

@@ -1,4 +1,4 @@
-//! Counts that stand still at their last value.
+//! Counts that stop at their last value.
 
 ghost use Rattle.std.specs.Prelude.{◌≡◌, ◌+◌, min};
 ghost use Rattle.sig_base.specs.Faults.{HasRisen, last_count};

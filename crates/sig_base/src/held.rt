@@ -1,10 +1,10 @@
-//! Values that are held while more is read.
+//! A holder that drops its value by one call, for functions that may return early.
 
 ghost use Rattle.std.specs.Prelude.{◌≡◌};
 
 use std::marker::Model;
 
-/// A value that is let go by one call, so that a function which may stop midway has few parts to let go.
+/// A value that is dropped by one call, so that a function which may return early has few values to drop.
 pub struct Held<T> {
     value: T,
 }
@@ -23,14 +23,14 @@ impl<T: Drop> Drop for Held<T> {
 }
 
 impl<T> Held<T> {
-    /// The value, held.
+    /// Holds the value.
     pub fn of(value: T) -> Held<T>
         ensures { result ≡ value }
     {
         Held { value }
     }
 
-    /// The value, which is held no longer.
+    /// Gives the value back.
     pub fn free(self) -> T
         ensures { result ≡ self }
     {

@@ -1,5 +1,5 @@
-//! The base that every crate of SIGMA stands on: limits, fault kinds, small list types, and the sources
-//! and sinks of bytes through which the program reaches the outside.
+//! The base of every crate of SIGMA: limits, fault kinds, small list types, tables of weights, and the
+//! sources and sinks of bytes by which the program reads and writes.
 #![tactic(auto)]
 
 mod count;

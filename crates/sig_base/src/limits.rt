@@ -1,5 +1,5 @@
-//! What a model, a text and a run may have at most. Where a limit depends on the version of a text, that of version 2 has the
-//! plain name, and beside it stands that of version 1.
+//! The limits of a model, a text and a run. Where a limit depends on the version of a text, that of version 2 has the
+//! plain name, and that of version 1 is next to it.
 
 /// Bytes of a model text, and of its canonical text.
 pub const TEXT_MAX: usize = 4_194_304;

@@ -1,4 +1,4 @@
-//! A list of values.
+//! A `Vec` that contracts see as a plain list.
 
 ghost use Rattle.std.specs.Prelude.{◌≡◌, [], ◌∷◌, ◌++◌, length, IfOk, OnOk, OnErr};
 

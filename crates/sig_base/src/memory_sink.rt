@@ -45,7 +45,7 @@ impl MemorySink {
     /// An empty sink that holds at most `capacity` bytes, and takes at most `piece` at a write. All
     /// its memory is taken here.
     ///
-    /// The calls whose numbers stand in `failing` fail, those of `finish` among them. The first call
+    /// The calls whose numbers are in `failing` fail, those of `finish` among them. The first call
     /// has the number 1. A write where the capacity is reached fails too.
     pub fn begin(
         alloc: Global,
@@ -108,7 +108,7 @@ impl Sink for MemorySink {
             (self.old.capacity - length self.old.written)) }
         ensures some { IfOk result (λ n. 0 < n) }
 
-        // What stays, and what doesn't.
+        // The state after a call that succeeds, and after one that fails.
         ensures ok { IfOk result (λ n. self.new ≡ record self.old {
           written = self.old.written ++ take n piece.now;
           calls = self.new.calls;

@@ -41,7 +41,7 @@ impl Model for MemorySource {
 impl MemorySource {
     /// A source of the content, which gives at most `piece` bytes at a read.
     ///
-    /// The calls whose numbers stand in `failing` fail. The first call has the number 1.
+    /// The calls whose numbers are in `failing` fail. The first call has the number 1.
     pub fn new(content: Text, piece: usize, failing: List<u64>) -> MemorySource
         requires { 0 < piece }
         ensures { result ≡ record { left = content; piece = piece; failing = failing; calls = 0; faults = 0 } }
@@ -81,7 +81,7 @@ impl Source for MemorySource {
         ensures shows { IfOk result (λ n. take n into.new ≡ take n self.old.left) }
         ensures end { IfOk result (λ n. n ≡ 0 → self.old.left ≡ []) }
 
-        // What stays, and what doesn't.
+        // The state after a call that succeeds, and after one that fails.
         ensures ok { IfOk result (λ n. self.new ≡ record self.old {
           left = drop n self.old.left;
           calls = self.new.calls;

@@ -1,4 +1,4 @@
-//! The name of a model, a variable, a table or a vertex.
+//! The bytes of a name, with a type of their own: a name is never a text.
 
 ghost use Rattle.std.specs.Prelude.{◌≡◌};
 

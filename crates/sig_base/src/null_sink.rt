@@ -22,7 +22,7 @@ impl Model for NullSink {
 }
 
 impl NullSink {
-    /// A sink to which nothing was written.
+    /// A new sink, not yet finished.
     pub fn new() -> NullSink
         ensures { result ≡ false }
     {

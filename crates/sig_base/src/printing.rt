@@ -33,7 +33,7 @@ pub fn put_number(out: &mut Vec<u8>, number: u64) -> Result<(), NoMemory>
     put_bytes(out, buffer.format(number).as_bytes())
 }
 
-/// Adds a word, and a number in decimal behind it.
+/// Adds a word, and then a number in decimal.
 pub fn put_counted(out: &mut Vec<u8>, word: &[u8], number: u64) -> Result<(), NoMemory>
     ensures { OnOk result (out.new.items ≡ out.old.items ++ word.now ++ decimal number) }
 {

@@ -1,4 +1,4 @@
-//! Writing all of some bytes.
+//! Writing all bytes of a slice to a sink.
 
 ghost use Rattle.std.specs.Prelude.{◌≡◌, ◌<◌, ℕ, [], false, length, take, OnOk, OnErr};
 ghost use Rattle.sig_base.specs.Faults.{HasRisen};

@@ -9,7 +9,7 @@ use crate::no_memory::Failed;
 
 /// A place that takes bytes in pieces, by calls that may fail.
 pub trait Sink {
-    // What is seen of it. The count of failed calls never falls.
+    // What contracts see of it. The count of failed calls never falls.
     ghost seen: { Self → Outlet };
 
     /// Writes bytes from the front of the piece, and answers how many.

@@ -8,13 +8,13 @@ use crate::no_memory::Failed;
 
 /// Bytes that come in pieces, from calls that may fail.
 pub trait Source {
-    // What is seen of it. The count of failed calls never falls.
+    // What contracts see of it. The count of failed calls never falls.
     ghost seen: { Self → Inlet };
 
     /// Reads into the front of the buffer, and answers how many bytes it read: 0 is the end of the
     /// input.
     ///
-    /// After `Failed` nothing is said of the buffer's bytes.
+    /// After `Failed` the buffer's bytes may be any.
     fn read(&mut self, into: &mut [u8]) -> Result<usize, Failed>
         requires { 0 < length into.old }
         ensures within { IfOk result (λ n. n ≤ length into.new) }

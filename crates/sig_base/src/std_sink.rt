@@ -14,9 +14,9 @@ use std::io::{ErrorKind, Write};
 /// A writer of std as a sink.
 ///
 /// A call that is interrupted is tried at most 100 times in all. Every other error, the hundredth
-/// interruption and a write of no byte are `Failed`. `finish` is the writer's flush. What was
-/// written is told where the writer tells it: a writer over memory does, and a terminal, a pipe or
-/// a file doesn't.
+/// interruption and a write of no byte are `Failed`. `finish` is the writer's flush. Contracts see
+/// the bytes written where the writer shows them: a writer over memory does, and a terminal, a pipe
+/// or a file doesn't.
 #[derive(Drop)]
 pub struct StdSink<W> {
     inner: W,
@@ -50,7 +50,7 @@ impl<W: Write> Sink for StdSink<W> {
         ensures steady { OnOk result (self.new.faults ≡ self.old.faults) }
         ensures failed { OnErr result (HasRisen self.old.faults self.new.faults) }
 
-        // One more at each failed call; at its last value the count stands still.
+        // One more at each failed call; the count stops at its last value.
         ensures counted { OnErr result (self.new.faults ≡ min (self.old.faults + 1) last_count) }
     {
         self.settled = false;

@@ -15,8 +15,8 @@ pub(crate) const TRIES: u32 = 100;
 /// A reader of std as a source.
 ///
 /// A call that is interrupted is tried at most 100 times in all. Every other error, and the
-/// hundredth interruption, is `Failed`. What is left is told where the reader tells it: a reader
-/// over memory does, and a terminal, a pipe or a file doesn't.
+/// hundredth interruption, is `Failed`. Contracts see the bytes left where the reader shows them: a
+/// reader over memory does, and a terminal, a pipe or a file doesn't.
 #[derive(Drop)]
 pub struct StdSource<R> {
     inner: R,
@@ -45,7 +45,7 @@ impl<R: Read> Source for StdSource<R> {
         ensures steady { OnOk result (self.new.faults ≡ self.old.faults) }
         ensures failed { OnErr result (HasRisen self.old.faults self.new.faults) }
 
-        // One more at each failed call; at its last value the count stands still.
+        // One more at each failed call; the count stops at its last value.
         ensures counted { OnErr result (self.new.faults ≡ min (self.old.faults + 1) last_count) }
     {
         for _ in 0..TRIES {

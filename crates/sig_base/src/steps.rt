@@ -1,12 +1,11 @@
-//! A counter that contracts see and that costs nothing.
+//! A counter that only contracts see: it takes no time and no memory.
 
 ghost use Rattle.std.specs.Prelude.{◌≡◌, ◌+◌, ◌<◌};
 
 use std::marker::Model;
 use std::sync::ledger::{Blank, Book, Ledger, Share};
 
-/// How many steps were counted. It holds nothing when the program runs, and contracts see it as a
-/// number.
+/// How many steps were counted. Contracts see it as a number; it has no bytes when the program runs.
 ///
 /// A counter can't be put in another's place: each is of its own ledger `L`, of which there is one
 /// blank.

@@ -23,10 +23,10 @@ pub struct Row {
     pub weight: u64,
 }
 
-/// A table of weighted values, from which a `draw` takes. Beside its rows it keeps what finds the row of a word in a step or
-/// two: the sum of all weights; of each row the sum of its weight and those before it; and of each part of the words, which are
-/// some four to eight times as many as the rows and 2^`shift` words each, a place before which no row of such a word can be.
-/// `of_rows` makes it.
+/// A table of weighted values, from which a `draw` takes. A draw finds the row of a word in a step or two by what the table
+/// keeps beside its rows: `total`, the sum of all weights; `sums`, for each row the sum of its weight and those before it; and
+/// `starts`, for each part of 2^`shift` words a place before which no row of such a word can be. There are four to eight parts
+/// for each row. `of_rows` builds the table.
 #[derive(Drop)]
 pub struct Table {
     pub name: Name,
@@ -98,8 +98,8 @@ fn start_for(starts: &[usize], shift: u32, word: u32) -> usize
     if part < starts.len() { starts[part] } else { 0 }
 }
 
-/// How many bits of a word are left out of the number of its part: so many that there are four to eight parts for each row, and
-/// at most 65,536.
+/// How many bits of a word the number of its part leaves out. So there are four to eight parts for each row, and at most
+/// 65,536.
 fn shift_for(rows: usize) -> u32
     ensures below { result < 32 }
     ensures number { result ≡ leading_zeros w32 (min rows 16383) - 2 }
@@ -143,7 +143,7 @@ impl Table {
         })
     }
 
-    /// The place of the row that has this word in its share: where the weights sum to more than 2^32, any.
+    /// The place of the row that has this word in its share. Where the weights sum to more than 2^32 it may be any place.
     pub fn place(&self, word: u32) -> usize
         ensures { sum (map (λ r. r.weight) self.now.rows) ≤ 2 ^ 32 → result ≡ weighted_pick (map (λ r. r.weight) self.now.rows) word }
     {

@@ -30,7 +30,7 @@ fn grown_length(len: usize, limit: usize) -> usize
     }
 }
 
-/// Makes room behind the bytes that were read, where there is none.
+/// Makes room after the bytes that were read, where there is none.
 fn make_room(bytes: &mut Vec<u8>, filled: usize, limit: usize) -> Result<(), TakeError>
     requires filled { filled ≤ vec_len bytes.old }
     requires within { filled ≤ limit }
@@ -46,7 +46,7 @@ fn make_room(bytes: &mut Vec<u8>, filled: usize, limit: usize) -> Result<(), Tak
     Ok(())
 }
 
-/// One read behind the bytes that were read.
+/// One read into the room after the bytes that were read.
 fn read_more<S: Source>(source: &mut S, bytes: &mut Vec<u8>, filled: usize) -> Result<usize, Failed>
     requires { filled < vec_len bytes.old }
     ensures len { vec_len bytes.new ≡ vec_len bytes.old }

@@ -1,4 +1,4 @@
-//! The bytes of a text.
+//! Bytes that contracts see as a plain list of numbers.
 
 ghost use Rattle.std.specs.Prelude.{◌≡◌};
 

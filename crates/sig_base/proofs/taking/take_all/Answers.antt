@@ -1,4 +1,4 @@
--- One read more, and the two ends: nothing was left, or one byte more than the limit was read.
+-- One read more, and the two ends: the source was empty, or one byte more than the limit was read.
 use Rattle.std.proofs.Common.{arith, refl, ◌∙◌}
 use Rattle.sig_base.proofs.SourceLemmas.{Takes-more, Shows-more, all-at_end, past_limit}
 use Rattle.sig_base.proofs.taking.take_all.Goals as goal
