@@ -34,11 +34,11 @@ function quoted(text) {
     sub(/^\*\*[^*]*\*\* \*/, "", question)
     sub(/\*.*$/, "", question)
 }
-/^\*\*Asked\.\*\* / {
+/^\*\*Question\.\*\* / { asking = 1 }
+/^$/ { asking = 0 }
+asking && /\?$/ {
     question = $0
-    sub(/\?[^?]*$/, "?", question)
-    while (match(question, /[.!] [A-Z]/)) question = substr(question, RSTART + 2)
-    sub(/^\*\*Asked\.\*\* /, "", question)
+    sub(/^\*\*Question\.\*\* /, "", question)
 }
 question != "" && match($0, /examples\/[a-z_0-9]+\.sigma/) {
     name = substr($0, RSTART + 9, RLENGTH - 15)
