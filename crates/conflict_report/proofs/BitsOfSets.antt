@@ -24,7 +24,7 @@ same-has : (old new : List ℕ) → ((i : ℕ) → get_or new i 0 ≡ get_or old
 unfolding has_vertex
 same-has old new same place = ap (λ word. bit_at word (place % 64) == 1) (same (place / 64))
 
--- ---- words of no bits behind the others
+-- ---- words of no bits after the others
 
 pub padded : {A : Type 0} (d : A) (xs : List A) (n i : ℕ) → get_or (xs ++ replicate n d) i d ≡ get_or xs i d
 padded d [] n i = replicate-get n i d

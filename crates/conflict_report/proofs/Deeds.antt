@@ -30,7 +30,7 @@ CutsOthers vertex (CutsNext v) = (v == vertex) ≡ false
 CutsOthers vertex (CutsEqual v values) = (v == vertex) ≡ false
 CutsOthers vertex (CutsAll v) = (v == vertex) ≡ false
 
--- what a deed makes of a pending list
+-- a pending list after a deed
 abbrev pub deed_done : Deed → List Entry → List Entry
 deed_done (AddsEvent e) pending = pending ++ e ∷ []
 deed_done (CutsNext vertex) pending = without_next (is_of vertex) pending
@@ -126,7 +126,7 @@ module _ (g : EventGraph) (seed : ℕ) (s : State) (clk : ℕ) (pending : List E
 
 -- ---- a step by its event
 
--- where a run stands once the outcome's deeds are done to a list
+-- the configuration of a run once the outcome's deeds are done to a list
 abbrev pub stands_after : ℕ → List Entry → Outcome → Configuration
 stands_after clk pending o = record { clock = clk; state = o.drawn.state; taken = o.drawn.taken; pending = deeds_done o.deeds pending }
 

@@ -67,7 +67,7 @@ module _ (us : List (ℕ × List ℤ)) (ws : List (ℕ × ℕ)) (v : EventVertex
 
 -- ---- what is written
 
--- what an event makes of state and words, and its deeds
+-- state and words after an event, and its deeds
 pub record EventWritten (v : EventVertex) (d : Changed) (o : Outcome) : Type 0 where
   pub variables : ChangedWithin (vertex_writes v) d.state o.drawn.state
   pub streams : ChangedWithin (vertex_streams v) d.taken o.drawn.taken

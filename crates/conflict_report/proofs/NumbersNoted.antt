@@ -25,7 +25,7 @@ pub none-holds : (k j : ℕ) → holds [] k j ≡ false
 unfolding holds
 none-holds k j = none-has j
 
--- an empty set behind the others
+-- an empty set after the others
 pub reached : (sets more : List (List ℕ)) → more ≡ sets ++ [] ∷ [] → (k j : ℕ) → holds more k j ≡ holds sets k j
 unfolding holds
 reached sets more is k j = ap (λ (ss : List (List ℕ)). has_vertex (get_or ss k []) j) is ∙ ap (λ (s : List ℕ). has_vertex s j) (padded [] sets 1 k)

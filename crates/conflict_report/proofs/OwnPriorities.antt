@@ -18,7 +18,7 @@ use Rattle.run_laws.proofs.MadeEntries.{SchedulesOnly, occur-every}
 use Rattle.run_laws.proofs.MappedPending.{next_among-every}
 use Rattle.mark_laws.proofs.EntailedMarks.{place-among}
 
--- what holds of each element, and of what stands for none, holds at each place
+-- what holds of each element, and of the one given for none, holds at each place
 at_place : {A : Type 0} (P : A → Type 0) (xs : List A) (d : A) (k : ℕ) → ((x : A) → Among x xs → P x) → P d → P (slice_index_or xs k d)
 at_place P [] d k each none = none
 at_place P (x ∷ xs) d zero each none = each x (inl refl)

@@ -1,4 +1,4 @@
--- A pending list with one more event put in, behind so many events of its vertex: it stays so where no event of the vertex is
+-- A pending list with one more event put in, after so many events of its vertex: it stays so if no event of the vertex is
 -- cancelled, and its place is found again.
 use Rattle.std.proofs.Common.{◌≡◌, ℕ, zero, suc, ◌+◌, Bool, true, false, not, cond, List, [], ◌∷◌, ◌++◌, Option, Some, None, option_map, unwrap_or, slice_get, take, refl, sym, ap, subst, arith}
 use Rattle.std.specs.List.{AllByRecursion, remove}
@@ -9,7 +9,7 @@ use Rattle.conflict_report.proofs.OtherVertices.{other-vertex, other-with_values
 use Rattle.conflict_report.proofs.Deeds.{Deed, AddsEvent, CutsNext, CutsEqual, CutsAll, CutsOthers, deed_done, deeds_done}
 
 module _ (b : Entry) (vertex : ℕ) where
-  -- the second list is the first one with b put in behind so many events of the vertex
+  -- the second list is the first one with b put in after so many events of the vertex
   pub data PutIn : ℕ → List Entry → List Entry → Type 0 where
     put_first : (xs : List Entry) → PutIn zero xs (b ∷ xs)
     behind_own : (x : Entry) → is_of vertex x ≡ true → {n : ℕ} {xs ys : List Entry} → PutIn n xs ys → PutIn (suc n) (x ∷ xs) (x ∷ ys)

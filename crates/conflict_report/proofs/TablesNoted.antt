@@ -64,7 +64,7 @@ same_reasons : (m n v w s t c d : Bool) → m ≡ n → v ≡ w → s ≡ t → 
     let r2 : Reasons = record { meet = n; variables = w; streams = t; cancels = d } in r1 ≡ r2
 same_reasons m n v w s t c d meet variables streams cancels = λ i. record { meet = meet i; variables = variables i; streams = streams i; cancels = cancels i }
 
--- the sets of a vertex tell the reasons of each pair
+-- the sets of a vertex show the reasons of each pair
 pub reasons-found : (g : EventGraph) (t : ConflictTables) (p : Partners) (a b : ℕ) → NotedBefore g (length g.vertices) t → ArePartners t a p → a < length g.vertices → b < length g.vertices → reasons_with p b ≡ reasons_of g a b
 reasons-found g t p a b noted are first second =
     let n = length g.vertices in

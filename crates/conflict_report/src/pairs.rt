@@ -22,7 +22,7 @@ fn add_if(pairs: &mut List<Pair>, partners: &Partners, a: usize, b: usize) -> Re
     }
 }
 
-/// Adds the pairs of a vertex with itself and with those behind it.
+/// Adds the pairs of a vertex with itself and with those after it.
 fn add_from(
     pairs: &mut List<Pair>,
     alloc: Global,

@@ -12,7 +12,7 @@ use std::alloc::Global;
 use std::marker::Model;
 use use_analysis::{add_vertex_reads, add_vertex_writes};
 
-/// Lists of what is touched, as it stands in the vertex. Contracts see the lists.
+/// Lists of what a vertex touches, in the vertex's own order. Contracts see the lists.
 #[derive(Drop)]
 pub(crate) struct Touched {
     pub(crate) reads: Vec<usize>,

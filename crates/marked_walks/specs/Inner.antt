@@ -1,3 +1,3 @@
--- The code of this crate, restated for its proofs. Nobody has to believe these.
+-- The code of this crate, restated for its proofs. No public clause cites these.
 pub mod Finding
 pub mod Numbers

@@ -61,7 +61,7 @@ module _ (all : Bool) (moved : List Bool) (rs : List Variable) where
   there v (y ∷ values) zero x small is = append-nil (one v (expression_of y)) ∙ ap (λ (y : Expr). one v (expression_of y)) (sym is)
   there v (y ∷ values) (suc p) x small is = there v values p x (omega arith) is
 
-  -- it is looked at, is passed over, or isn't there
+  -- it is looked at, is passed over, or is missing
   pub value_seen : (v : ℕ) (values : List Expr) (p : ℕ) (x : Expr) (vars : List ℕ) (b : Bounds) (before new : List Incoming) → p < length values → x ≡ slice_index_or values p x → vars ≡ variables_in (expression_of x) → looks_at all moved vars ≡ true → b ≡ bounds_under refined rs (expression_of x) → new ≡ before ++ record { variable = v; bounds = b } ∷ [] → new ≡ before ++ seen (v ∷ []) (drop p (map expression_of values))
   value_seen v values p x vars b before new small is read looked found added =
       added ∙ ap (λ (is : List Incoming). before ++ is)

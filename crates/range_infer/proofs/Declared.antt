@@ -54,7 +54,7 @@ pub as_many_again : (vars new : List Var) (rs old : List VarRange) → old ≡ m
 as_many_again vars new rs old are is =
     ap length are ∙ (length-map (map variable_of vars) declared_range ∙ (sym (as_many_variables (map variable_of vars) rs) ∙ (sym (ap length is) ∙ length-map new variable_of)))
 
--- what is told of ranges that may be declared, which are seen under another name
+-- the test of the length of the text, for ranges that are seen under another name
 module _ (g h : EventGraph) (ranges seen : List VarRange) (fitting : Fitting g ranges) (inductive : Inductive g ranges) (same : seen ≡ ranges) (told : Bool) (is : told ≡ nat_le (length (canonical (model_with_ranges g seen))) TEXT_MAX) where
   short : told ≡ nat_le (length (canonical (model_with_ranges g ranges))) TEXT_MAX
   short = is ∙ ap (λ (rs : List VarRange). nat_le (length (canonical (model_with_ranges g rs))) TEXT_MAX) same

@@ -61,7 +61,7 @@ module _ (g : EventGraph) (ranges : List VarRange) where
   found [] start = record { few = omega arith; before = tt; fails = inl refl }
   found (i ∷ is) start = one start i is (nat_lt i.variable start) (test i) refl refl (λ mid. found is mid)
 
--- ---- what that tells
+-- ---- what that shows
 
 module _ (g : EventGraph) (ranges : List VarRange) (fitting : Fitting g ranges) (start : ℕ) (few : start ≤ length g.variables) (begins : (w : ℕ) → w < start → LiesIn (range_at ranges w) (variable_at g w).initial) (wrong : start < length g.variables → LiesIn (range_at ranges start) (variable_at g start).initial → ⊥) where
   abbrev out : ℕ

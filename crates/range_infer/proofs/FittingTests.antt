@@ -1,4 +1,4 @@
--- What the tests of ranges tell.
+-- What the tests of ranges show.
 use Rattle.std.proofs.Common.{◌≡◌, ℕ, ◌<◌, ℤ, int_le, Bool, true, false, not, ◌&&◌, ◌||◌, List, length, map, slice_index_or, Option, Some, None, refl, sym, ◌∙◌, ap, ap₂}
 use Rattle.std.specs.Prelude.{IfSome}
 use Rattle.std.specs.Ordering.{int_eq}
@@ -34,7 +34,7 @@ module _ (g : EventGraph) (v : ℕ) (r : VarRange) where
         fixed = stays_told (is_fixed g v) (and_second (int_le r.lo r.hi && int_le w.lo r.lo && int_le r.hi w.hi) _ e);
       }
 
--- what stands at a place of the code's list
+-- the element at a place of the code's list
 pub variable_there : (vars : List Var) (v : ℕ) (found : Var) → v < length vars → found ≡ slice_index_or vars v found → slice_index_or (map variable_of vars) v no_variable ≡ variable_of found
 variable_there vars v found small is = get_or-map variable_of vars v found no_variable small ∙ sym (ap variable_of is)
 

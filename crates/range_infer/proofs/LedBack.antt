@@ -72,7 +72,7 @@ one_replaced a b r new d model pushed set is =
 
 -- ---- one replaced range after the other is put back
 
--- so far as this, where those that stand there lead where those did that stood there first
+-- so far as this: putting back the rest leads where putting back all led at first
 pub record PutBackTo (n : ℕ) (first now : RangesLeft) : Type 0 where
   pub model : now.model.now ≡ first.model.now
   pub before : take n now.replaced.items ≡ take n first.replaced.items

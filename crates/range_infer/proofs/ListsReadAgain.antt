@@ -1,4 +1,4 @@
--- What is taken by the parts in the lists of the variables that moved stands for what all parts give.
+-- What the parts in the lists of the variables that moved give serves in place of what all parts give.
 use Rattle.std.proofs.Common.{◌≡◌, inr, ℕ, zero, suc, ◌+◌, ◌<◌, Bool, true, false, List, [], ◌∷◌, ◌++◌, below_more, length, map, slice_index_or, Contains, sym, ◌∙◌, ap, subst, arith}
 use Rattle.std.specs.List.{flat_map}
 use Rattle.model_core.specs.EventGraph.{EventGraph}

@@ -43,7 +43,7 @@ module _ (g : EventGraph) (ranges : List VarRange) (keeps : KeepsParts g) (fitti
   abbrev Fits : Entry → Type 0
   Fits = EntryFits g ranges fitting keeps
 
-  -- the state lies within the ranges, and so does what is kept of the values of pending entries
+  -- the state lies within the ranges, and what is kept of the values of pending entries lies within them too
   pub record Sound (c : Configuration) : Type 0 where
     pub inside : IsTrue (in_range h c.state)
     pub pending : AllByRecursion Fits c.pending

@@ -75,7 +75,7 @@ high_left Equal n r = omega (arith, ints, clamps)
 high_left NotEqual n r = down_by (int_eq r.hi n) r.hi
 high_left op n r = ≤ℤ_refl r.hi
 
--- above and at least are told with their operands the other way round
+-- above and at least are below and at most with their operands swapped
 lt_swapped : (x n : ℤ) (b : Bool) → int_lt n x ≡ b → int_le x n ≡ not b
 lt_swapped x n true e = grind (arith, ints)
 lt_swapped x n false e = grind (arith, ints)

@@ -13,7 +13,7 @@ use Rattle.range_infer.proofs.OpenEnds.{open_ends, at_most_two_each}
 use Rattle.range_infer.proofs.RoundsEnd.{growing_after, bounded_more, few_rounds}
 use Rattle.range_infer.proofs.PassedOver.{StandsFor, stands_again}
 
--- the ranges after so many rounds, of which each late one changed something, and what stands for all that is taken under them
+-- the ranges after so many rounds, of which each late one changed something, and a list in place of all that is taken under them
 pub record Turn (g : EventGraph) (rounds : ℕ) (ranges : List VarRange) (takes : List Incoming) : Type 0 where
   pub reached : ranges ≡ after_rounds g rounds
   pub stand : StandsFor g ranges takes

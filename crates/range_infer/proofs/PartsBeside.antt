@@ -1,4 +1,4 @@
--- What stands at the place of a part in a list made of all parts.
+-- The element at the place of a part in a list that is built from all parts.
 use Rattle.std.proofs.Common.{◌≡◌, ℕ, zero, suc, ◌+◌, ◌<◌, List, [], ◌∷◌, ◌++◌, append-nil, append_assoc, length, map, take, slice_index_or, sym, ◌∙◌, ap, ap₂, arith}
 use Rattle.std.specs.List.{flat_map}
 use Rattle.std.proofs.lemmas.List.{get_or-map, length-map}
@@ -27,7 +27,7 @@ one_more view f [] i x small is = absurd (omega arith)
 one_more view f (y ∷ xs) zero x small is = append-nil (f (view y)) ∙ ap (λ z. f (view z)) (sym is)
 one_more view f (y ∷ xs) (suc i) x small is = ap (λ zs. f (view y) ++ zs) (one_more view f xs i x (omega arith) is) ∙ sym (append_assoc (f (view y)) (flat_map f (map view (take i xs))) (f (view x)))
 
--- what the parts before place i have given where a loop stands there, and that the ranges stayed
+-- what the parts before place i have given when a loop is at i, and that the ranges stayed
 pub record GivenSoFar {A B : Type 0} (view : A → B) (see : EventGraph → List Variable → B → List Incoming) (xs : List A) (i : ℕ) (first now : RangesLeft) (before given : List Incoming) : Type 0 where
   pub out : given ≡ before ++ flat_map (see (graph_of first.model.now) (variables_left first)) (map view (take i xs))
   pub left : StaysLeft first now

@@ -108,7 +108,7 @@ module _ (P : Incoming → Type 0) where
           let found = among-contained parts p (are_all p v (contained-among (part_vars (map parts_read us) p) v reads) is) in
           one_of (vertex_part_seen g false moved rs p) (one_at p.vertex us) u (one_of (part_seen g false moved rs us) parts p held found) stands
 
-      -- of a vertex the part at a place, which stands in this list
+      -- of a vertex the part at a place, which is in this list
       part_held : {A R : Type 0} (gives : A → List Incoming) (reads : A → R) (vars : R → List ℕ) (xs : List A) (p : PartPlace) (u : EventVertex)
           → flat_map vars (one_at p.place (map reads xs)) ≡ vertex_part_vars p (parts_read u) → vertex_part_seen g false moved rs p u ≡ flat_map gives (one_at p.place xs)
           → ((x : A) → list_any (is_moved moved) (vars (reads x)) ≡ false → gives x ≡ [])

@@ -26,7 +26,7 @@ pub same_op : (op : Op) → op_of (operator_of op) ≡ op
 same_op ops.Add = refl
 same_op op = refl
 
--- ---- one walk behind another
+-- ---- one walk after another
 
 abbrev pub walk : Walk → List PostfixItem → Walk
 walk = fold walked
@@ -72,13 +72,13 @@ module _ (kept : List (List Variable)) (found : List Bounds) where
       (compared_left op a c b rs)
   known_left e b rs = refl
 
--- ---- what is left behind an expression
+-- ---- what is left after an expression
 
 abbrev left_behind : Expression → Option Bool → List Variable → List Variable
 left_behind e None rs = rs
 left_behind e (Some b) rs = refined e b rs
 
--- nothing is told
+-- the expression says nothing of the ranges
 untold : (e : Expression) (m : Option Bool) (rs : List Variable) → ((b : Bool) → refined e b rs ≡ rs) → rs ≡ left_behind e m rs
 untold e None rs stays = refl
 untold e (Some b) rs stays = sym (stays b)
@@ -87,7 +87,7 @@ negated_behind : (a : Expression) (m : Option Bool) (rs : List Variable) → lef
 negated_behind a None rs = refl
 negated_behind a (Some b) rs = refl
 
--- where both operands are told of, the right one is evaluated where the left one has the value
+-- if the value of the operator gives the values of both operands, the right one is evaluated where the left one has its value
 told_beside : (op : Operator) (a : Expression) (b : Bool) (rs : List Variable) → tells_of_both op b ≡ true → refined a b rs ≡ beside refined op a rs
 told_beside And a true rs told = refl
 told_beside And a false rs told = cc
@@ -139,7 +139,7 @@ module _ (kept : List (List Variable)) (found : List Bounds) where
     operands_found Or = guarded_found ops.Or false
     operands_found op = plain_found op
 
-    -- both operands are told of
+    -- the values of both operands are known
     told_found : (op : Operator) (b : Bool) → tells_of_both op b ≡ true → walk (standing rs kept found) (postfix_of a (Some b) ++ (postfix_of c (Some b) ++ items.Operator (op_of op) ∷ [])) ≡ standing (refined (Binary op a c) b rs) kept (operator_bounds op (bounds rs a) (bounds (beside refined op a rs) c) ∷ found)
     told_found op b told =
         let holds = refined a b rs in
@@ -149,7 +149,7 @@ module _ (kept : List (List Variable)) (found : List Bounds) where
         (ap (λ (o : Operator). standing (refined c b holds) kept (operator_bounds o (bounds rs a) (bounds holds c) ∷ found)) (same_operator op)
         ∙ ap₂ (λ (vs ws : List Variable). standing vs kept (operator_bounds op (bounds rs a) (bounds ws c) ∷ found)) (told_left op a c b rs told) (told_beside op a b rs told)))
 
-    -- and where they aren't, the comparison itself tells
+    -- and if they aren't, the comparison itself says what is left
     left_found : (op : Operator) (m : Option Bool) (fs : List Bounds) → tells_both op m ≡ false → walk (standing rs kept fs) (left_by op a c m) ≡ standing (left_behind (Binary op a c) m rs) kept fs
     left_found op None fs none = refl
     left_found op (Some b) fs none = compared_left kept fs op a c b rs ∙ ap (λ (vs : List Variable). standing vs kept fs) (untold_left op a c b rs none)
@@ -192,7 +192,7 @@ module _ (c a b : Expression) (test : IsFound c) (first : IsFound a) (second : I
 
 -- ---- all forms
 
--- an expression that tells nothing, and whose bounds were found under the same ranges
+-- an expression that says nothing of the ranges, and whose bounds were found under the same ranges
 nothing_told : (e : Expression) (m : Option Bool) (rs : List Variable) (kept : List (List Variable)) (found : List Bounds) → ((b : Bool) → refined e b rs ≡ rs) → standing rs kept found ≡ standing (left_behind e m rs) kept found
 nothing_told e m rs kept found stays = ap (λ (vs : List Variable). standing vs kept found) (untold e m rs stays)
 

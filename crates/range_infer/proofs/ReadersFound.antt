@@ -1,4 +1,4 @@
--- Each part stands in the list of each variable that it reads.
+-- Each part is in the list of each variable that it reads.
 use Rattle.std.proofs.Common.{◌≡◌, ◌⊎◌, inl, inr, ℕ, zero, suc, ◌+◌, ◌-◌, ◌<◌, ◌==◌, Bool, true, false, not, cond, List, [], ◌∷◌, ◌++◌, length, slice_index_or, refl, sym, ◌∙◌, ap, ap₂, subst, arith}
 use Rattle.std.specs.Prelude.{slice_get}
 use Rattle.std.specs.List.{flat_map}
@@ -38,7 +38,7 @@ module _ {A : Type 0} (put : ℕ → Lists → A → Lists) (keeps : (k : ℕ) (
   each-keeps k lists (x ∷ xs) = keeps-trans lists (put k lists x) (put_each put (k + 1) (put k lists x) xs) (keeps k lists x) (each-keeps (k + 1) (put k lists x) xs)
 
   module _ (n v : ℕ) (p : PartPlace) (x : A) where
-    -- what is put for one of the elements, wherever it stands
+    -- what is put for one of the elements, wherever it is
     each-among : ((k : ℕ) (lists : Lists) → length lists ≡ n → IsReader (put k lists x) v p) → (k : ℕ) (lists : Lists) → length lists ≡ n → (xs : List A) → Among x xs → IsReader (put_each put k lists xs) v p
     each-among there k lists long [] among = absurd among
     each-among there k lists long (y ∷ xs) (inl same) =

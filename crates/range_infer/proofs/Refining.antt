@@ -113,7 +113,7 @@ where_holds-holds s v w op n h left = number (is_number_scalar w) refl where
   number true is = nonempty (int_le r.lo r.hi) is
   number false is = h
 
--- ---- what a value of both operands tells
+-- ---- what a value of both operands shows
 
 same_one : (r : OrFault ℤ) (y : ℤ) → (r >>= λ x. Ok x) ≡ Ok y → r ≡ Ok y
 same_one (Ok x) y e = e
@@ -136,7 +136,7 @@ both_are Or false a r both (true, is) e =
     cc
 both_are op b a r both is e = cc
 
--- what a comparison with a literal, or any other operator, tells of its left operand
+-- what a comparison with a literal, or any other operator, shows of its left operand
 compared : (op : Operator) (b : Bool) (a n : ℤ) (r : OrFault ℤ) (range : VarRange) → ((x : ℤ) → r ≡ Ok x → x ≡ n) → cond (decided op a) (Ok a) (r >>= operate op a) ≡ Ok (number_of b) → LiesIn range a → LiesIn (numbers_left (cond b op (opposite_comparison op)) n range) a
 compared And true a n r range is e lies = lies
 compared And false a n r range is e lies = lies

@@ -16,7 +16,7 @@ use Rattle.model_core.specs.Ranges.OtherRanges.{LiesIn, declared_range, with_ran
 use Rattle.model_core.specs.Ranges.Incoming.{nearest_declared, overlap, kept_range}
 use Rattle.model_core.specs.Ranges.Inductive.{Encloses}
 
--- where a number stands to a range, with the tests that tell it
+-- on which side of a range a number lies, with the tests that show it
 data Stands (lo hi x : ℤ) : Type 0 where
   inside : lo ≤ℤ x → x ≤ℤ hi → within lo hi x ≡ true → Stands lo hi x
   under : x <ℤ lo → within lo hi x ≡ false → int_lt x lo ≡ true → Stands lo hi x

@@ -63,14 +63,14 @@ pub(crate) fn quiet_index(model: &Model, var: usize, index: &Bounds) -> bool
     lies_inside(index, size_at(model, var))
 }
 
-/// Whether what the left operand of this operator is tells nothing of the ranges under which the right one is evaluated.
+/// Whether the value of this operator's left operand changes nothing about the ranges under which the right one is evaluated.
 fn stays_beside(op: Op) -> bool
     ensures { result ≡ true → (first : Expression) (ranges : List Variable) → beside refined (operator_of op) first ranges ≡ ranges }
 {
     !matches!(op, Op::And | Op::Or)
 }
 
-/// The bounds of an expression, as `bounds_left` finds them. Those of variables and numbers are told without a call.
+/// The bounds of an expression, as `bounds_left` finds them. Those of variables and numbers need no call.
 #[cycle(bounds_left)]
 #[inline(always)]
 fn operand_left(left: &mut RangesLeft, expr: &Expr) -> Result<Bounds, NoMemory>

@@ -81,7 +81,7 @@ fn first_outside(model: &Model, ranges: &[VarRange], start: usize, takes: &[Inco
     first
 }
 
-/// What is told of ranges that fit.
+/// The verdict on ranges that fit.
 fn check_fitting(
     alloc: Global,
     model: &Model,

@@ -55,7 +55,7 @@ fn add_value(
 }
 
 /// Adds what targets take of the values beside them, if one of these is looked at.
-// Behind the first round few are. So values that aren't are passed over together.
+// After the first round few are. So values that aren't are passed over together.
 fn add_targets(
     out: &mut Vec<Incoming>,
     left: &mut RangesLeft,
@@ -416,7 +416,7 @@ pub(crate) fn incoming(
 }
 
 /// What a model's variables take, where their ranges were these and are those now, by the parts that read one that moved.
-// Mostly these are few, and stand in the lists of the variables that moved. Else all parts are gone through.
+// Mostly these are few, and the lists of the variables that moved have them. Else all parts are gone through.
 pub(crate) fn taken_again(
     alloc: Global,
     model: &Model,

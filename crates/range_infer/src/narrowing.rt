@@ -74,8 +74,8 @@ fn redeclare_if_short(
     Ok(false)
 }
 
-/// Declares ranges that fit a model and that no run leaves. The model then means the same. Refused with 1 where they don't
-/// fit, with 2 where a run might leave them, and with 3 where the text would be too long; the model is then as it was.
+/// Declares ranges that fit a model and that no run leaves. The model then means the same. Refused with 1 if they don't fit,
+/// with 2 if a run might leave them, and with 3 if the text would be too long; the model is then as it was.
 pub fn narrow(alloc: Global, model: &mut Model, ranges: &List<VarRange>) -> Result<(), RuleError>
     ensures done { OnOk result (MayNarrow (graph_of model.old) ranges.now × (graph_of model.new ≡ model_with_ranges (graph_of model.old) ranges.now)) }
     ensures refused { IfErr result (NarrowRefused (graph_of model.old) ranges.now) }

@@ -11,7 +11,7 @@ use sig_base::{List, NoMemory};
 use std::alloc::Global;
 use use_analysis::add_variables;
 
-/// A value that reads variables so many times is long. A shorter one is evaluated sooner as it stands.
+/// A value that reads variables so many times is long. A shorter one is evaluated sooner as a tree.
 const LONG: usize = 16;
 
 /// The variables that a value reads, and its postfix form, where it is long.

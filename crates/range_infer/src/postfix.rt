@@ -1,5 +1,5 @@
-//! Values in postfix form: each operator stands behind its operands, so that one walk over a list finds the bounds. Where a part
-//! is evaluated under other ranges, items before it say which.
+//! Values in postfix form: each operator comes after its operands, so that one walk over a list finds the bounds. If a part is
+//! evaluated under other ranges, items before it say which.
 #![tactic(auto, using(crate::proofs::PostfixBounds::same_op))]
 
 ghost use Rattle.std.specs.Prelude.{◌≡◌, [], ◌∷◌, ◌++◌, not, None, OnOk, IfOk};
@@ -30,9 +30,9 @@ pub(crate) enum PostfixItem {
     Negated,
     /// The other truth value.
     Opposite,
-    /// What an operator makes of the last operand, and of what the variable at this place holds.
+    /// The result of an operator on the last operand and the value of the variable at this place.
     Beside(Op, usize),
-    /// What an operator makes of the last two operands.
+    /// The result of an operator on the last two operands.
     Operator(Op),
     /// What a test decides: it is the last operand but two.
     Chosen,
@@ -216,7 +216,7 @@ fn add_right(items: &mut Vec<PostfixItem>, op: Op, expr: &Expr) -> Result<(), No
     }
 }
 
-/// Adds the postfix form of an expression. Behind it the ranges are those where the expression has this value, or those before
+/// Adds the postfix form of an expression. After it the ranges are those where the expression has this value, or those before
 /// it.
 #[cycle(add_postfix)]
 fn add_postfix(

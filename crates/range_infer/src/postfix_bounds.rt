@@ -31,7 +31,7 @@ fn behind(before: &mut Vec<Bounds>, last: Bounds, next: Bounds) -> Result<Bounds
     Ok(next)
 }
 
-/// The bounds of what an operator makes of the last two operands.
+/// The bounds of an operator's result on the last two operands.
 #[inline(always)]
 fn operated(before: &mut Vec<Bounds>, op: Op, last: Bounds) -> Bounds
     ensures { result ∷ reverse before.new.items ≡ operated op (last ∷ reverse before.old.items) }
@@ -104,7 +104,7 @@ fn put_back(left: &mut RangesLeft, kept: &mut Vec<usize>)
     }
 }
 
-/// The ranges that are left after one more item of ranges. Of ranges that are kept is told how many were replaced before.
+/// The ranges that are left after one more item of ranges. For ranges that are kept, it notes how many were replaced before.
 fn ranges_after(
     left: &mut RangesLeft,
     kept: &mut Vec<usize>,
@@ -164,7 +164,7 @@ fn bounds_of_items(left: &mut RangesLeft, items: &[PostfixItem]) -> Result<Bound
     Ok(last)
 }
 
-/// The bounds of a value under the ranges that are left: of a long one by its postfix form, and of another as it stands.
+/// The bounds of a value under the ranges that are left: of a long one by its postfix form, and of another as a tree.
 pub(crate) fn value_bounds(
     left: &mut RangesLeft,
     value: &Expr,

@@ -189,7 +189,7 @@ fn readers_of(readers: &[List<PartPlace>], var: usize) -> &[PartPlace]
 }
 
 /// Whether the lists of the variables that moved are gone through sooner than so many parts, which are all. One list alone is.
-/// A part that stands in several lists is gone through as often, so they may have an eighth of all parts together.
+/// Several may have an eighth of all parts together, since a part in several lists is gone through once for each.
 pub(crate) fn are_few(moved: &[bool], readers: &[List<PartPlace>], parts: usize) -> bool {
     let mut lists: usize = 0;
     let mut count: usize = 0;
@@ -202,7 +202,7 @@ pub(crate) fn are_few(moved: &[bool], readers: &[List<PartPlace>], parts: usize)
     lists <= 1 || count <= parts / 8
 }
 
-/// The parts that read a variable that moved. One that reads two of them stands there twice.
+/// The parts that read a variable that moved. One that reads two of them is there twice.
 pub(crate) fn readers_of_moved(
     alloc: Global,
     moved: &[bool],

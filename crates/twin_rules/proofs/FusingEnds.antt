@@ -54,7 +54,7 @@ fusing-determined {g} {h} {k} (fuse_first keep gone found later) (fuse_first kee
     let same : (keep_too, gone_too) ≡ (keep, gone) = cc in
     fusing-determined later (subst (λ (p : ℕ × ℕ). Fused (fused g p.0 p.1) k) same later_too)
 
--- what each fusing keeps is kept, and what holds between a graph and what fusing makes of it holds along the way
+-- what each fusing keeps is kept, and what holds between a graph and its fused one holds along the way
 pub along : (Ok : EventGraph → Type 0) (R : EventGraph → EventGraph → Type 0) → ((g : EventGraph) → R g g) → ((g h k : EventGraph) → R g h → R h k → R g k) → ((g : EventGraph) (keep gone : ℕ) → Ok g → first_failed (fuse_conditions g keep gone) ≡ None → Ok (fused g keep gone) × R g (fused g keep gone)) → {g h : EventGraph} → Ok g → Fused g h → Ok h × R g h
 along Ok R refl_R trans_R one {g} ok (no_twins none) = (ok, refl_R g)
 along Ok R refl_R trans_R one {g} {h} ok (fuse_first keep gone found later) =

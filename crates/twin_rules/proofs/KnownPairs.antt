@@ -10,14 +10,12 @@ use Rattle.model_core.specs.Rules.Conditions.{first_failed}
 use Rattle.model_core.specs.Rules.Fuse.{fuse_conditions, are_twins}
 use Rattle.model_core.proofs.BothTrue.{and_first, and_second}
 use Rattle.model_core.proofs.Among.{either_true}
+use Rattle.twin_rules.proofs.AlikeByTests.{mapped-none}
+use Rattle.twin_rules.proofs.NextPlaces.{last-or-before, first-or-after}
 use Rattle.twin_rules.proofs.StillAsked.{alike_told}
 use Rattle.twin_rules.specs.Inner.AskedPairs.{are_alike, NoneAlikeBefore, NoneAlikeWith}
 
 -- where one of the first conditions fails, one of all fails
-mapped-none : (o : Option ℕ) → is_none (option_map suc o) ≡ is_none o
-mapped-none None = refl
-mapped-none (Some k) = refl
-
 first-fail : (n : ℕ) (cs : List Bool) → is_none (first_failed (take n cs)) ≡ false → false ≡ is_none (first_failed cs)
 first-fail zero cs e = cc
 first-fail (suc n) [] e = cc
@@ -28,7 +26,7 @@ first-fail (suc n) (false ∷ cs) e = refl
 pub no-twins : (g : EventGraph) (keep gone : ℕ) → are_alike g keep gone ≡ false → false ≡ are_twins g keep gone
 no-twins g keep gone fails = first-fail 5 (fuse_conditions g keep gone) fails
 
--- a vertex isn't alike with one that doesn't stand behind it
+-- a vertex isn't alike with one that doesn't come after it
 not-behind : (g : EventGraph) (keep gone : ℕ) → gone ≤ keep → are_alike g keep gone ≡ false
 not-behind g keep gone behind =
     let out : nat_lt keep gone ≡ false = grind (arith, nat_tests) in
@@ -37,19 +35,13 @@ not-behind g keep gone behind =
 pub none-behind : (g : EventGraph) (keep y : ℕ) → y < keep + 1 → are_alike g keep y ≡ false
 none-behind g keep y less = not-behind g keep y (omega (arith, less))
 
-last-or-before : (k place : ℕ) → k < place + 1 → (k < place) ⊎ (k ≡ place)
-last-or-before k place less = grind arith
-
 pub one-more-known : (g : EventGraph) (keep gone : ℕ) → ((y : ℕ) → y < gone → are_alike g keep y ≡ false) → are_alike g keep gone ≡ false → (y : ℕ) → y < gone + 1 → are_alike g keep y ≡ false
 one-more-known g keep gone none here y less = by (last-or-before y gone less) where
   by : (y < gone) ⊎ (y ≡ gone) → are_alike g keep y ≡ false
   by (inl before) = none y before
   by (inr same) = ap (are_alike g keep) same ∙ here
 
-from-or-after : (place y : ℕ) → place ≤ y → (y ≡ place) ⊎ (place + 1 ≤ y)
-from-or-after place y at = grind arith
-
--- those from a place on that are passed over, one more, and those behind it
+-- those from a place on that are passed over, one more, and those after it
 pub passed-on : (g : EventGraph) (keep from place to : ℕ) → ((y : ℕ) → from ≤ y → y < place → are_alike g keep y ≡ false) → are_alike g keep place ≡ false → ((y : ℕ) → place + 1 ≤ y → y < to → are_alike g keep y ≡ false) → (y : ℕ) → from ≤ y → y < to → are_alike g keep y ≡ false
 passed-on g keep from place to none here more y at less = by (cases_lt y place) where
   behind : (y ≡ place) ⊎ (place + 1 ≤ y) → are_alike g keep y ≡ false
@@ -58,7 +50,7 @@ passed-on g keep from place to none here more y at less = by (cases_lt y place) 
 
   by : (y < place) ⊎ (place ≤ y) → are_alike g keep y ≡ false
   by (inl before) = none y at before
-  by (inr from_here) = behind (from-or-after place y from_here)
+  by (inr from_here) = behind (first-or-after place y from_here)
 
 pub known-until : (g : EventGraph) (keep from to : ℕ) → ((y : ℕ) → y < from → are_alike g keep y ≡ false) → ((y : ℕ) → from ≤ y → y < to → are_alike g keep y ≡ false) → (y : ℕ) → y < to → are_alike g keep y ≡ false
 known-until g keep from to none more y less = by (cases_lt y from) where

@@ -6,6 +6,7 @@ pub mod FusingEnds
 pub mod NoLongerFused
 pub mod StillApart
 pub mod FirstFound
+pub mod NextPlaces
 pub mod FusedSoFar
 pub mod Marking
 pub mod StillAsked

@@ -1,9 +1,10 @@
--- Marks that are written over one another in one walk, each taken from its own place or the one behind.
+-- Marks that are written over one another in one walk, each taken from its own place or the next one.
 use Rattle.std.proofs.Common.{◌≡◌, ◌⊎◌, inl, inr, ℕ, zero, suc, ◌+◌, ◌<◌, ◌≤◌, nat_lt, Bool, true, false, ◌||◌, cond, List, [], ◌∷◌, length, refl, sym, ◌∙◌, ap, arith}
 use Rattle.std.proofs.Math.ListN.{set}
 use Rattle.std.proofs.lemmas.List.{length-set, get_or-set_same, get_or-set_other}
 use Rattle.std.proofs.lemmas.Bool.{cases_lt}
 use Rattle.twin_rules.specs.Inner.AskedPairs.{has_changed, place_before}
+use Rattle.twin_rules.proofs.NextPlaces.{last-or-before}
 
 pub or-false : (a : Bool) → a ≡ (a || false)
 or-false true = refl
@@ -22,9 +23,6 @@ at-or-behind gone k = by (nat_lt k gone) where
   by : (b : Bool) → k ≤ cond b k (k + 1)
   by true = omega arith
   by false = omega arith
-
-last-or-before : (k place : ℕ) → k < place + 1 → (k < place) ⊎ (k ≡ place)
-last-or-before k place less = grind arith
 
 pub one-more-marked : (more : ℕ → Bool) (gone : ℕ) (old now : List Bool) (place : ℕ) (b : Bool) → place < length now → b ≡ (has_changed now (place_before gone place) || more (place_before gone place)) → MarkedSoFar more gone old now place → MarkedSoFar more gone old (set now place b) (place + 1)
 one-more-marked more gone old now place b below is so_far = record {

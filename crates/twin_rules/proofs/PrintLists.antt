@@ -1,4 +1,4 @@
--- The front of a list that is kept in a longer one: what stands there, and one element changed or taken away.
+-- The front of a list that is kept in a longer one: its elements, and one of them changed or taken away.
 use Rattle.std.proofs.Common.{◌≡◌, ◌≢◌, ℕ, zero, suc, ◌+◌, ◌-◌, ◌<◌, ◌≤◌, ◌==◌, false, List, [], ◌∷◌, ◌++◌, take, drop, set, get_or, length, slice_get, None, Some, refl, sym, ◌∙◌, ap, ap₂, arith}
 use Rattle.std.specs.List.{remove, copy_within}
 use Rattle.std.proofs.lemmas.Bool.Decides.{nat_tests}
@@ -45,7 +45,7 @@ module _ {X : Type 0} where
   set-none (x ∷ xs) (suc n) zero y none = cc
   set-none (x ∷ xs) (suc n) (suc k) y none = set-none xs n k y none
 
-  -- what stands behind a place is moved onto it
+  -- the elements after a place are moved onto it
   pub moved-up : (xs : List X) (n k : ℕ) → k < n → n ≤ length xs → take (n - 1) (copy_within xs (k + 1) n k) ≡ remove (take n xs) k
   moved-up xs n k below fits =
       let more = n - (k + 1) in

@@ -12,6 +12,7 @@ use Rattle.twin_rules.specs.declared.print.Print.{Print}
 use Rattle.twin_rules.specs.Inner.AskedPairs.{has_changed}
 use Rattle.twin_rules.specs.Inner.Fingerprints.{half}
 use Rattle.twin_rules.specs.Inner.HeldPrints.{number_in, aims_at, IsPrintBut, ArePrints, ArePrintsBut, ArePrintsOfAll, IsRenewed}
+use Rattle.twin_rules.proofs.NextPlaces.{last-or-before}
 use Rattle.twin_rules.proofs.VertexPrints.{aims-same}
 
 -- the aims of the vertices before this place, and of those that haven't changed, are as they shall be
@@ -30,9 +31,6 @@ nothing-renewed g old changed prints = record {
   by x p is (inl none) = absurd (omega (arith, none))
   by x p is (inr stays) = (prints x p is).aims stays
 
-here-or-not : (x place : ℕ) → x < place + 1 → (x < place) ⊎ (x ≡ place)
-here-or-not x place less = grind arith
-
 module _ (g : EventGraph) (old now : List Print) (changed : List Bool) (place : ℕ) (so_far : RenewedSoFar g old now changed place) where
   -- one that hasn't changed is as it shall be
   pub one-passed : has_changed changed place ≡ false → RenewedSoFar g old now changed (place + 1)
@@ -46,7 +44,7 @@ module _ (g : EventGraph) (old now : List Print) (changed : List Bool) (place : 
     at x p is (inr same) = (so_far.kept x p is).aims (inr (ap (has_changed changed) same ∙ stays))
 
     by : (x : ℕ) (p : Print) → slice_get now x ≡ Some p → (x < place + 1) ⊎ (has_changed changed x ≡ false) → p.aims ≡ aims_at g old x
-    by x p is (inl less) = at x p is (here-or-not x place less)
+    by x p is (inl less) = at x p is (last-or-before x place less)
     by x p is (inr stays) = (so_far.kept x p is).aims (inr stays)
 
   abbrev number_of : Option Print → ℕ

@@ -5,6 +5,7 @@ use Rattle.std.specs.Prelude.{replicate}
 use Rattle.std.proofs.lemmas.List.{get_or-set_same, get_or-set_other, get_or_past}
 use Rattle.sig_base.specs.declared.limits.TheConstants.{VERTICES_MAX}
 use Rattle.twin_rules.specs.Inner.AskedPairs.{has_changed}
+use Rattle.twin_rules.proofs.NextPlaces.{first-or-after}
 
 -- from this place on it is known where vertices have changed; `ahead` is the first of those
 pub record SkipsFrom (changed : List Bool) (next : List ℕ) (from ahead : ℕ) : Type 0 where
@@ -17,9 +18,6 @@ skips-nothing changed next from past = record {
   far = λ v k at behind less. let beyond : get_or next v v ≡ v = get_or_past next v v (omega (arith, past, at)) in absurd (omega (arith, beyond, behind, less));
 }
 
-here-or-later : (p k : ℕ) → p ≤ k → (k ≡ p) ⊎ (p + 1 ≤ k)
-here-or-later p k at = grind arith
-
 later-apart : (p v : ℕ) → p + 1 ≤ v → v ≢ p
 later-apart p v later e = absurd (omega (arith, later, e))
 
@@ -29,13 +27,13 @@ one-before changed next p ahead below skips = by (has_changed changed p) refl wh
   by b is = record { near = near b is; far = far } where
     near : (b : Bool) → has_changed changed p ≡ b → (k : ℕ) → p ≤ k → k < cond b p ahead → has_changed changed k ≡ false
     near true is k at less = absurd (omega (arith, at, less))
-    near false is k at less = either (here-or-later p k at) where
+    near false is k at less = either (first-or-after p k at) where
       either : (k ≡ p) ⊎ (p + 1 ≤ k) → has_changed changed k ≡ false
       either (inl same) = ap (has_changed changed) same ∙ is
       either (inr later) = skips.near k later less
 
     far : (v k : ℕ) → p ≤ v → v ≤ k → k < get_or (set next p (cond b p ahead)) v v → has_changed changed k ≡ false
-    far v k at behind less = either (here-or-later p v at) where
+    far v k at behind less = either (first-or-after p v at) where
       either : (v ≡ p) ⊎ (p + 1 ≤ v) → has_changed changed k ≡ false
       either (inl same) =
           let there : get_or (set next p (cond b p ahead)) v v ≡ cond b p ahead = ap (λ j. get_or (set next p (cond b p ahead)) j j) same ∙ get_or-set_same next p (cond b p ahead) p below in

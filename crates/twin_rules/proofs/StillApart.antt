@@ -83,7 +83,7 @@ module _ (g : EventGraph) (keep gone : ℕ) (are : AreAlike g keep gone) where
   self : (a : ℕ) → (a == a) ≡ true
   self a = grind (arith, nat_tests)
 
-  -- a vertex is told apart from another one if their places in the result are
+  -- a vertex differs from another one if their places in the result differ
   apart-before : (x v : ℕ) → (x == gone) ≡ false → (f v == p x) ≡ false → (v == x) ≡ false
   apart-before x v apart e = by (v == x) refl where
     by : (b : Bool) → (v == x) ≡ b → b ≡ false
@@ -113,7 +113,7 @@ module _ (g : EventGraph) (keep gone : ℕ) (are : AreAlike g keep gone) where
   abbrev one_cancels : ℕ → EventVertex → Bool
   one_cancels x v = list_any (cancels x) v.edges
 
-  keep-apart : (keep == gone) ≡ false
+  pub keep-apart : (keep == gone) ≡ false
   keep-apart = let e = are.first in grind (arith, nat_tests)
 
   pub uncancelled-before : (x : ℕ) → (x == gone) ≡ false → can_be_cancelled h (p x) ≡ false → can_be_cancelled g x ≡ false

@@ -18,10 +18,11 @@ use Rattle.model_core.proofs.EachOne.{every-fails, either_false}
 use Rattle.bound_laws.proofs.Soundness.NumberRows.{not_true}
 use Rattle.twin_rules.specs.declared.asked.Asked.{Asked}
 use Rattle.twin_rules.specs.Inner.AskedPairs.{are_alike, is_before_pair, has_changed, NoneAlike, NoneAlikeBefore, place_before, some_leads}
+use Rattle.twin_rules.proofs.AlikeByTests.{none-is_none}
 use Rattle.twin_rules.proofs.AlikeVertices.{AreAlike, alike_said, changes_decided, edges_decided}
 use Rattle.twin_rules.proofs.StillApart.{NoneLeads, alike-before}
 
--- ---- the conditions, told both ways
+-- ---- the conditions, as a test and as a record
 
 pub alike_tells : (g : EventGraph) (x y : ℕ) → AreAlike g x y → are_alike g x y ≡ true
 alike_tells g x y are =
@@ -34,12 +35,8 @@ alike_tells g x y are =
     let edges : same_edges_for x y a.edges b.edges ≡ true = (edges_decided (map (edge_renumbered (standing_for x y)) a.edges) (map (edge_renumbered (standing_for x y)) b.edges)).1 are.edges in
     λ i. is_none (first_failed (exist i ∷ unwatched i ∷ uncancelled i ∷ same i ∷ edges i ∷ []))
 
-none-of : (o : Option ℕ) → is_none o ≡ true → o ≡ None
-none-of None e = refl
-none-of (Some n) e = cc
-
 pub alike_told : (g : EventGraph) (x y : ℕ) → are_alike g x y ≡ true → AreAlike g x y
-alike_told g x y told = alike_said g x y (none-of (first_failed (take 5 (fuse_conditions g x y))) told)
+alike_told g x y told = alike_said g x y (none-is_none (first_failed (take 5 (fuse_conditions g x y))) told)
 
 -- ---- places before and after
 
@@ -107,7 +104,7 @@ came_before gone keep last x y told = either (either_true (nat_lt x (place_witho
 
 -- ---- what was asked
 
--- with no pair behind it, nothing was asked
+-- with no pair before it, nothing was looked at
 pub nothing-asked : (g : EventGraph) (a : Asked) → a.keep ≡ 0 → a.gone ≡ 0 → NoneAlike g a
 nothing-asked g a keep gone x y asked =
     let before = and_first (is_before_pair a.keep a.gone x y) _ (and_first (is_before_pair a.keep a.gone x y && not (has_changed a.changed x)) _ asked) in

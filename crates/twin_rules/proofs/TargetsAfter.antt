@@ -1,4 +1,4 @@
--- Where no edge leads to a vertex, none does when two others are fused, but to the one that stands for both.
+-- Where no edge leads to a vertex, none does when two others are fused, but to the one in place of both.
 use Rattle.std.proofs.Common.{◌≡◌, ℕ, ◌+◌, ◌<◌, ◌==◌, nat_lt, Bool, true, false, ◌&&◌, ◌||◌, cond, List, map, refl, sym, ◌∙◌, ap, ap₂, arith}
 use Rattle.std.specs.List.{list_any}
 use Rattle.std.proofs.lemmas.Bool.Decides.{nat_tests}
@@ -14,7 +14,7 @@ use Rattle.twin_rules.specs.Inner.AskedPairs.{place_before, some_leads}
 use Rattle.twin_rules.specs.Inner.MarkedVertices.{has_mark, one_marks}
 use Rattle.twin_rules.specs.Inner.LedTo.{NoneLeadsTo, MarksTargets}
 use Rattle.twin_rules.proofs.AlikeVertices.{AreAlike}
-use Rattle.twin_rules.proofs.StillApart.{none-at, placed, places_same}
+use Rattle.twin_rules.proofs.StillApart.{none-at, placed, keep-apart, places_same}
 use Rattle.twin_rules.proofs.StillAsked.{stays-apart, and-back}
 use Rattle.twin_rules.proofs.BarredAfter.{none-after, leads-after}
 
@@ -38,15 +38,12 @@ module _ (g : EventGraph) (keep gone : ℕ) (are : AreAlike g keep gone) where
   abbrev p : ℕ → ℕ
   p = place_without gone
 
-  keep-apart : (keep == gone) ≡ false
-  keep-apart = let first = are.first in grind (arith, nat_tests)
-
-  -- what doesn't lead there doesn't lead there afterwards, where `keep` isn't there
+  -- an edge that doesn't lead to a place other than `keep` doesn't lead there afterwards
   elsewhere : (x t : ℕ) → (x == gone) ≡ false → (keep == x) ≡ false → (t == x) ≡ false → (f t == p x) ≡ false
   elsewhere x t apart other none = by (t == gone) refl where
     by : (b : Bool) → (t == gone) ≡ b → (f t == p x) ≡ false
     by false stays = leads-after g keep gone are x apart t none stays
-    by true is = ap (λ b. p (cond b keep t) == p x) is ∙ (places_same g keep gone are x x apart apart keep keep-apart ∙ other)
+    by true is = ap (λ b. p (cond b keep t) == p x) is ∙ (places_same g keep gone are x x apart apart keep (keep-apart g keep gone are) ∙ other)
 
   edges-elsewhere : (x : ℕ) → (x == gone) ≡ false → (keep == x) ≡ false → (es : List EventEdge) → list_any (leads_to x) es ≡ false → list_any (leads_to (p x)) (map (edge_renumbered f) es) ≡ false
   edges-elsewhere x apart other es none = none-after (edge_renumbered f) (leads_to x) (leads_to x) (leads_to (p x)) (λ e here too. elsewhere x e.target apart other here) es none none

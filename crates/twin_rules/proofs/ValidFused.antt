@@ -1,4 +1,4 @@
--- What fusing makes of a valid model can be written and keeps the static rules.
+-- The result of fusing a valid model can be written and keeps the static rules.
 use Rattle.std.proofs.Common.{◌≡◌, ℕ, zero, suc, ◌-◌, ◌<◌, ◌≤◌, ◌==◌, Bool, true, false, cond, List, [], ◌∷◌, map, length, slice_get, slice_index_or, Some, refl, sym, ap, arith, ◌∙◌}
 use Rattle.std.specs.List.{remove}
 use Rattle.std.proofs.lemmas.List.{length-map}

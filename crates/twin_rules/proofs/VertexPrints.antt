@@ -1,4 +1,4 @@
--- What prints of vertices don't depend on: new places of the targets of edges, where each is told by its number.
+-- Fingerprints of vertices don't depend on new places of the targets of edges, since each target counts by its number.
 use Rattle.std.proofs.Common.{◌≡◌, ℕ, ◌==◌, false, List, [], ◌∷◌, map, refl, ap, ap₂}
 use Rattle.model_core.specs.EventGraph.{EventVertex, EventEdge}
 use Rattle.model_core.specs.Rules.Drop.{edge_renumbered, vertex_renumbered}

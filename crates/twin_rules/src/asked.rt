@@ -1,5 +1,5 @@
-//! Which pairs of vertices were looked at and aren't alike, so that after a fuse only those are looked at again in which
-//! something changed.
+//! Which pairs of vertices were looked at and aren't alike. After a fuse only pairs of which a vertex has changed are looked at
+//! again.
 
 ghost use Rattle.std.specs.Prelude.{◌≡◌, ◌<◌, ◌≤◌, ◌||◌, ℕ, Some, map, true, false, cond, ◌==◌};
 ghost use Rattle.std.specs.List.{list_any};
@@ -21,7 +21,7 @@ pub(crate) struct Asked {
     keep: usize,
     gone: usize,
     changed: [bool; VERTICES_MAX],
-    /// For each place one that isn't before it, and not behind the next vertex that has changed.
+    /// For each place one from it on that isn't after the next vertex that has changed.
     next: [u16; VERTICES_MAX],
 }
 
@@ -100,7 +100,7 @@ impl Asked {
         }
     }
 
-    /// No place behind the next vertex, from this place on, that has changed.
+    /// A place that isn't after the next vertex, from this place on, that has changed.
     fn next_changed(&self, from: usize) -> usize
         ensures { result ≡ next_changed self.now from }
     {
@@ -110,7 +110,7 @@ impl Asked {
         }
     }
 
-    /// The next vertex that has changed, from this place on, where it is told which is the next one behind it.
+    /// The next vertex that has changed, from this place on, where `next` is the next one after it.
     fn next_from(&self, place: usize, next: usize) -> usize
         ensures { result ≡ cond (has_changed self.now.changed place) place next }
     {
@@ -142,7 +142,7 @@ impl Asked {
         self.changed = [false; VERTICES_MAX];
     }
 
-    /// Whether the vertex has changed, or changes when `gone` is taken away. It may be told that no edge leads to `gone`.
+    /// Whether the vertex has changed, or changes when `gone` is taken away. If `led` is false, no edge leads to `gone`.
     fn changes(&self, model: &Model, vertex: usize, gone: usize, led: bool) -> bool
         requires { led ≡ false → NoneLeadsTo (graph_of model.now) gone }
         ensures { result ≡ (has_changed self.now.changed vertex || some_leads (graph_of model.now) vertex gone) }
@@ -190,8 +190,8 @@ impl Asked {
         }
     }
 
-    /// Follows the model when its first twins, `keep` and `gone`, are fused, before which it may be known that no pair is
-    /// alike. It may be told that no edge leads to `gone`.
+    /// Follows the model when its first twins, `keep` and `gone`, are fused. `known` may say that no pair before them is alike;
+    /// if `led` is false, no edge leads to `gone`.
     pub(crate) fn fuse(&mut self, model: &Model, keep: usize, gone: usize, led: bool, known: bool)
         requires asked { NoneAlike (graph_of model.now) self.old }
         requires found { first_twins (graph_of model.now) ≡ Some (keep, gone) }

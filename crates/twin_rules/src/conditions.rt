@@ -37,8 +37,8 @@ fn failed_before_limits(model: &Model, keep: usize, gone: usize) -> Option<u8>
     None
 }
 
-/// Whether the result is within the limits. It may be told that the model is, so that the result needn't be measured where
-/// the vertex that is kept has no longer name.
+/// Whether the result is within the limits. If the model is (`short`), and the vertex that stays has no longer name, the result
+/// needn't be measured.
 pub(crate) fn is_within_limits(model: &Model, short: bool, keep: usize, gone: usize) -> bool
     requires short { short ≡ true → has_short_text (graph_of model.now) ≡ true }
     requires holds { first_failed (take 5 (fuse_conditions (graph_of model.now) keep gone)) ≡ None }
@@ -51,7 +51,7 @@ pub(crate) fn is_within_limits(model: &Model, short: bool, keep: usize, gone: us
     }
 }
 
-/// The first condition of fuse that fails, by its number from 1. It may be told that the model is within the limits.
+/// The first condition of fuse that fails, by its number from 1. `short` may say that the model is within the limits.
 pub(crate) fn failed_fuse(model: &Model, short: bool, keep: usize, gone: usize) -> Option<u8>
     requires short { short ≡ true → has_short_text (graph_of model.now) ≡ true }
     ensures { result ≡ first_failed (fuse_conditions (graph_of model.now) keep gone) }

@@ -1,5 +1,5 @@
-//! Prints of what vertices do: numbers that are the same where the vertices do the same, so that most of those that don't
-//! are told apart at once. The targets of edges are left out.
+//! Fingerprints of what vertices do: vertices that do the same have the same numbers, so most pairs that don't are found
+//! different at once. The targets of edges are left out.
 
 ghost use Rattle.std.specs.Prelude.{◌≡◌, ℕ, map};
 ghost use Rattle.std.specs.Option.{option_map};
@@ -26,12 +26,12 @@ pub(crate) fn half(print: u64) -> u32
     (mixed(print, 0) >> 32) as u32
 }
 
-/// What a list of which may be printed.
+/// Parts of which a list has a fingerprint.
 trait Printed {
-    // What the parts stand for.
+    // The plain type of the parts.
     ghost Plain: { Type 0 };
 
-    // The plain value that a part stands for.
+    // The plain value of a part.
     ghost plain: { Self → Plain };
 
     // Its print.

@@ -13,7 +13,7 @@ use crate::prints::Prints;
 use crate::row::{Row, next_like};
 use model_core::Model;
 
-/// Whether two vertices may be fused. `known` stays where it is known that they are alike only if they may.
+/// Whether two vertices may be fused. `known` stays true if it is known that they are alike only if they may.
 fn are_twins(
     model: &Model,
     short: bool,
@@ -42,7 +42,7 @@ fn are_twins(
     within
 }
 
-/// The first vertex that may be fused into the one at this place. `known` stays where it is known that none before it is
+/// The first vertex that may be fused into the one at this place. `known` stays true if it is known that none before it is
 /// alike.
 fn first_twin_of(
     model: &Model,
@@ -75,8 +75,8 @@ fn first_twin_of(
     None
 }
 
-/// The first two vertices that may be fused, where no pair that was asked is alike. It may be told that the model is within
-/// the limits. `known` stays where it is known that no pair before them is alike.
+/// The first two vertices that may be fused, if no pair that was looked at is alike. `short` may say that the model is within
+/// the limits. `known` stays true if it is known that no pair before them is alike.
 pub(crate) fn first_twins_in(
     model: &Model,
     short: bool,

@@ -1,6 +1,6 @@
 //! What is kept of a vertex while twins are fused.
 
-/// What is kept of a vertex, by which most vertices that do something else are told apart from it at once. Prints are kept
+/// What is kept of a vertex, by which most vertices that do something else are found different at once. Fingerprints are kept
 /// by halves, so that those of all vertices take little room.
 #[derive(Clone, Copy)]
 pub(crate) struct Print {
@@ -8,7 +8,7 @@ pub(crate) struct Print {
     pub(crate) doing: u32,
     /// The print of the numbers of the vertices that its edges lead to.
     pub(crate) aims: u32,
-    /// The number that stands for it wherever an edge leads to it. It stays when the vertex moves up.
+    /// Its number in the fingerprints of edges that lead to it. It stays when the vertex moves up.
     pub(crate) number: u16,
     /// Whether it is watched, or its events are cancelled.
     pub(crate) barred: bool,

@@ -75,7 +75,7 @@ impl Prints {
         self.count += 1;
     }
 
-    /// Keeps nothing of the vertex at this place, and the rest of those behind it at the places that they get.
+    /// Keeps nothing of the vertex at this place. The vertices after it move up.
     pub(crate) fn forget(&mut self, gone: usize)
         ensures { self.new ≡ remove self.old gone }
     {
@@ -97,7 +97,7 @@ impl Prints {
         }
     }
 
-    /// The number that stands for the vertex at this place.
+    /// The number of the vertex at this place, in fingerprints.
     fn number(&self, place: usize) -> u64
         ensures { result ≡ number_in self.now place }
     {

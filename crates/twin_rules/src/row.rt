@@ -1,4 +1,4 @@
-//! One vertex beside those behind it, most of which are told apart from it at once.
+//! One vertex beside those after it, most of which are found different at once.
 
 ghost use Rattle.std.specs.Prelude.{◌≡◌, ◌<◌, ◌≤◌, ℕ, false};
 ghost use Rattle.model_core.specs.EventGraph.{EventGraph};
@@ -14,7 +14,7 @@ use crate::print::Print;
 use crate::prints::Prints;
 use model_core::Model;
 
-/// A vertex that is compared with those behind it.
+/// A vertex that is compared with those after it.
 #[derive(Drop)]
 pub(crate) struct Row {
     /// What is kept of it.
@@ -35,7 +35,7 @@ fn led_to(model: &Model, place: usize) -> Marks
     }
 }
 
-/// Whether two vertices of which this is kept may be alike, where it is told whether the first leads to one of the two.
+/// Whether two vertices of which this is kept may be alike, if the caller says whether the first leads to one of the two.
 fn prints_agree(own: Print, other: Print, leads: bool) -> bool
     ensures { result ≡ prints_agree own other leads }
 {
@@ -52,7 +52,7 @@ fn may_do_the_same(prints: &Prints, keep: usize, gone: usize) -> bool
     }
 }
 
-/// The next vertex from this place on that may be alike with the one at `keep`, or a place behind all vertices.
+/// The next vertex from this place on that may be alike with the one at `keep`, or a place after all vertices.
 pub(crate) fn next_like(
     model: &Model,
     prints: &Prints,
@@ -87,7 +87,7 @@ impl Row {
         }
     }
 
-    /// Whether the vertex may be alike with the one at this place. It tells that they aren't from little.
+    /// Whether the vertex may be alike with the one at this place, as far as fingerprints show.
     pub(crate) fn may_fit(&self, prints: &Prints, gone: usize) -> bool
         ensures { (g : EventGraph) (keep : ℕ) → ArePrints g prints.now → IsRow g prints.now keep self.now → result ≡ false → are_alike g keep gone ≡ false }
     {

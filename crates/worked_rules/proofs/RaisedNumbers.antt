@@ -4,7 +4,7 @@ use Rattle.std.specs.Prelude.{slice_index}
 use Rattle.model_core.specs.Rules.MarkedPlaces.{is_among}
 use Rattle.use_analysis.specs.UseNumbers.{changed_where, raised_at}
 
--- the number at a place, where so many places stand before the first
+-- the number at a place, with so many places before the first
 raised_there : (vars : List ℕ) (before count v place : ℕ) → before + v ≡ place → v < count → slice_index (changed_where (is_among vars) (λ n. n + 1) before (replicate count 0)) v ≡ cond (is_among vars place) 1 0
 raised_there vars before zero v place is small = absurd (omega (arith, small))
 raised_there vars before (suc count) zero place is small = ap (λ k. cond (is_among vars k) 1 0) (omega (arith, is))

@@ -52,7 +52,7 @@ one_settled =
     [])
 
 -- RUN leads to the last vertex, and each to the one before it, by an edge of another kind; FAR leads to RUN and to itself,
--- and nothing to it; SEEN, which is watched behind a variable, leads to NEXT
+-- and nothing to it; SEEN, which is watched after a variable, leads to NEXT
 abbrev pub led : EventGraph
 led =
     over_x (WatchedVariable 0 ∷ WatchedVertex 6 ∷ [])

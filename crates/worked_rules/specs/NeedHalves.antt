@@ -40,7 +40,7 @@ abbrev pub each_form : ℕ → ℕ → Expression
 each_form v w =
     If (Binary Above (Scalar v) (Negative (Number (pos 3)))) (Binary Add (Cell w (Scalar v)) Clock) (If (Not (Truth false)) (Scalar w) (Scalar v))
 
--- of the variables at 0 to 3, A goes, which stands at 1
+-- of the variables at 0 to 3, A goes, which is at 1
 abbrev pub before_slice : EventGraph
 before_slice = record {
   name = codes "SLICE";

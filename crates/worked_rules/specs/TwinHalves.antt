@@ -17,7 +17,7 @@ twinned watch vertices = record {
   vertices = vertices;
 }
 
--- ---- two that take a value, and stand apart: KEEP is the second vertex, and GONE the fourth
+-- ---- two that take a value, with others between them: KEEP is the second vertex, and GONE the fourth
 
 -- The edge carries a value to one of the two.
 abbrev pub carrying_to : ℕ → EventEdge

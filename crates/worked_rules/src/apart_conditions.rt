@@ -12,8 +12,8 @@ ghost use Rattle.worked_rules.specs.UrgentModels.{compared_with, when_y_is, foll
 
 /// Each comparison of Y with a number beside each with the same number, the next and the one before: `=`, `<>`, `<`, `<=`,
 /// `>` and `>=`.
-// `<>` with 2 beside `>` with 1 is met by 3 alone, which stands behind the number of the first; beside `<` the number before
-// it is; and so the other way round. A number itself is what `=` and a far `<=` meet. A cell and the clock are compared as a
+// `<>` with 2 beside `>` with 1 is met by 3 alone, which comes after the number of the first; beside `<` by the number before
+// it; and so the other way round. A number itself is what `=` and a far `<=` meet. A cell and the clock are compared as a
 // variable is: with itself, and not with a cell at another index or of another array. X, which is 0 to 3, is never 5.
 pub fn comparisons_exclude_one_another()
     ensures with_the_same { compared_with 1 1
@@ -52,7 +52,7 @@ pub fn comparisons_exclude_one_another()
 {}
 
 /// A comparison has one of six operators, and on its right a number with a sign or without.
-// operators, in their order: `=` to `>=` alone; numbers: 7, -7, no second sign, no variable and no sum behind a sign.
+// operators, in their order: `=` to `>=` alone; numbers: 7, -7, no second sign, no variable and no sum after a sign.
 pub fn some_conditions_compare()
     ensures operators { map (λ op. is_some (comparison_of (Binary op y (whole 1)))) operators
         ≡ false ∷ false ∷ false ∷ false ∷ false ∷ false ∷ false ∷ true ∷ true ∷ true ∷ true ∷ true ∷ true ∷ false ∷ false ∷ [] }
@@ -69,7 +69,7 @@ pub fn one_condition_excludes_the_other()
 {}
 
 /// A plain urgent edge is the only urgent one, and its condition is the literal `true`.
-// in turn: behind others that do the same later, and that cancel; two of them; one beside a conditional one, in both orders;
+// in turn: after others that do the same later, and that cancel; two of them; one beside a conditional one, in both orders;
 // conditional alone, beside one that schedules in time; the literal `false`; a condition that always holds; none; and of
 // each kind that isn't urgent.
 pub fn urgent_edges_are_plain()

@@ -35,7 +35,7 @@ pub fn edges_have_conditions()
 
 /// Vertices are reached over edges of each kind, also those that are never taken, as far as they go.
 // RUN: the first; A: over an edge whose condition is `false`; B, C, D: each over one that cancels in another way, from the
-// vertex behind it; SEEN: watched, and NEXT from there; FAR and LOST: though they lead to others, and to themselves.
+// vertex after it; SEEN: watched, and NEXT from there; FAR and LOST: though they lead to others, and to themselves.
 pub fn vertices_are_reached_as_far_as_edges_go()
     ensures marks { reached_marks led ≡ true ∷ false ∷ true ∷ true ∷ true ∷ true ∷ true ∷ true ∷ false ∷ [] }
     ensures others { unreached led ≡ 1 ∷ 8 ∷ [] }

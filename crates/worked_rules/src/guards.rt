@@ -52,14 +52,13 @@ pub fn comparisons_take_up_what_is_left()
         ≡ span 0 9 ∷ span 0 9 ∷ span 0 9 ∷ span 0 9 ∷ span 0 9 ∷ span 0 9 ∷ [] }
 {}
 
-/// A variable that clips is told of as any other, and goes on to clip; an array isn't.
+/// What is known of a variable that clips narrows it as any other, and it goes on to clip; an array isn't narrowed.
 pub fn clipped_variables_are_told_of()
     ensures scalar { refined (comparison Below 0 (whole 5)) true (clipped (bounded_by [] (pos 0) (pos 9)) ∷ []) ≡ clipped (bounded_by [] (pos 0) (pos 4)) ∷ [] }
     ensures array { refined (comparison Below 0 (whole 5)) true (array 3 (clipped (bounded_by [] (pos 0) (pos 9))) ∷ []) ≡ array 3 (clipped (bounded_by [] (pos 0) (pos 9))) ∷ [] }
 {}
 
-/// The variable on the left alone takes what a comparison tells, and only a scalar of numbers, where the right side is a
-/// literal.
+/// A comparison narrows the variable on its left alone, and only if this is a scalar of numbers and the right side a literal.
 // first: the others stay; a truth value, an array, its cell: nothing; the number first; a variable on the right; a sum on
 // the left; the clock on the right; an operator that compares nothing; a truth value by itself, a literal, and an `if`.
 pub fn other_conditions_leave_all()
@@ -73,8 +72,8 @@ pub fn other_conditions_leave_all()
         ≡ declared_ones ∷ declared_ones ∷ declared_ones ∷ declared_ones ∷ [] }
 {}
 
-/// `not` turns what is known; an `and` that is true and an `or` that is false tell of both operands, the left one first; the
-/// others tell nothing.
+/// `not` turns what is known; an `and` that is true and an `or` that is false narrow by both operands, the left one first; the
+/// others narrow nothing.
 // not: once, twice, and of what is false; both: of one variable, and of two; no `and` that is false, no `or` that is true,
 // no other operator; order: the left one leaves 0..4, of which the right one leaves nothing; within one another.
 pub fn conditions_are_told_together()
@@ -107,7 +106,7 @@ pub fn parts_are_bounded_under_guards()
         ≡ truth_bounds true true false ∷ truth_bounds true true false ∷ number_bounds (pos 0) (pos 9) true ∷ [] }
 {}
 
-/// Ranges stand in place of the declared ones, each for the variable at its place; a variable that has none keeps its own.
+/// Ranges replace the declared ones, each for the variable at its place; a variable that has none keeps its own.
 pub fn other_ranges_are_taken()
     ensures given { map (bounds_in guarded (span 2 3 ∷ range (neg_ℤ (pos 1)) (pos 1) ∷ [])) (Scalar 0 ∷ Scalar 1 ∷ Scalar 4 ∷ [])
         ≡ number_bounds (pos 2) (pos 3) true ∷ number_bounds (neg_ℤ (pos 1)) (pos 1) true ∷ number_bounds (pos 4) (pos 4) true ∷ [] }

@@ -1,4 +1,4 @@
-//! Which vertices are in conflict, by models in which each reason, each way of scheduling and each priority stands alone.
+//! Which vertices are in conflict, by models in which each reason, each way of scheduling and each priority occurs alone.
 
 ghost use Rattle.std.specs.Prelude.{◌≡◌, ◌++◌, ◌∷◌, [], true, false, codes};
 ghost use Rattle.model_core.specs.Conflicts.Priorities.{priorities_of};
@@ -9,7 +9,7 @@ ghost use Rattle.worked_rules.specs.MeetingModels.{over_variables_alone, over_st
 
 /// One of the two sets what the other reads (the first, the second), or both set it. Two that read it are in no conflict.
 // SETA ASKA: the first writes what the second reads; ASKB SETB: the second what the first reads; SETC PUTC: both write it;
-// SETA SETA and the like: a vertex with itself; no ASKA ASKA and no ASKD SEED: reading alone; no RUN: it uses no variable.
+// SETA SETA and others: a vertex with itself; no ASKA ASKA and no ASKD SEED: reading alone; no RUN: it uses no variable.
 pub fn some_touch_a_variable()
     ensures { conflict_text over_variables_alone
         ≡ codes "SETA SETA variables\n"
@@ -36,7 +36,7 @@ pub fn some_draw_from_a_stream()
 /// One cancels events of the other, or of a vertex that an edge of the other names, whatever that edge does.
 // A B: the first cancels the second, the next; C D: the second the first, all; E F: those of what the second schedules, that
 // carry nothing; G H: the second those of what the first schedules at once; J K: both cancel those of one vertex; no M N:
-// both schedule one; A A, D D and the like: one that cancels names what it cancels; no B B, no F F, no G G; RUN A and RUN D:
+// both schedule one; A A, D D: one that cancels names what it cancels; no B B, no F F, no G G; RUN A and RUN D:
 // RUN schedules what they cancel.
 pub fn some_cancel_the_other()
     ensures { conflict_text over_cancels_alone
@@ -109,7 +109,7 @@ pub fn edges_that_are_never_taken_count()
         ++ codes "C readers - writers DREW,MATE,NOW watched no\n" }
 {}
 
-/// All reasons that hold are told, in their order, with commas.
+/// All reasons that hold are listed, in their order, with commas.
 // ALL NEXT: all three; ALL HALF: the last two; ALL PART: the first and the last; HALF PART: both cancel ALL; HALF HALF: no
 // variable.
 pub fn reasons_are_told_together()

@@ -10,7 +10,7 @@ ghost use Rattle.worked_runs.specs.Building.{whole, at_variable, at_cell, set, d
 ghost use Rattle.worked_rules.specs.NeedHalves.{four_clipped, taken_over, drawn_of, giving_edge, one_strict, before_slice, behind_slice};
 
 /// What is needed at once, by one of U, V, W and X each time.
-// nothing; a watched variable, behind a vertex of another number; the first vertex's parameters, both, and not the second's;
+// nothing; a watched variable, after a vertex of another number; the first vertex's parameters, both, and not the second's;
 // what an edge cancels by its values, and not where it cancels the next or all; what conditions of each kind of edge read,
 // and delays, but no value; no drawn delay.
 pub fn some_are_needed_at_once()
@@ -53,7 +53,7 @@ pub fn needed_ones_are_made_of_needed_ones()
 
 /// What is drawn from the stream of a needed one is needed, wherever it is drawn; and where a delay is drawn from the
 /// stream.
-// before and behind; through a third; of another stream; what is drawn twice, from two streams; a delay of the stream, and
+// before and after; through a third; of another stream; what is drawn twice, from two streams; a delay of the stream, and
 // of another; where one number alone can be drawn; of a delay that is never drawn.
 pub fn streams_are_needed_one_by_one()
     ensures before { unneeded (four_clipped x_watched [] (drawn_of 1 54 ∷ drawn_of 0 54 ∷ drawn_of 2 53 ∷ []) []) ≡ 2 ∷ 3 ∷ [] }
@@ -76,8 +76,8 @@ pub fn slices_list_all()
     ensures none { first_failed (slice_conditions (four_clipped (WatchedVariable 0 ∷ []) [] taken_over []) []) ≡ Some 1 }
 {}
 
-/// What is left of each part without one variable: those behind it move up by one, and those ahead of it stay.
-// the watch list: a variable behind, a vertex, a variable ahead; parameters; a `set` of four, of which the first and the
+/// What is left of each part without one variable: those after it move up by one, and those ahead of it stay.
+// the watch list: a variable after it, a vertex, a variable ahead; parameters; a `set` of four, of which the first and the
 // last go with their sides; one that goes whole and one that stays; a draw that goes, and one into a cell, whose index is
 // numbered anew; values that edges carry, of each kind; a delay and a condition, of each form of expression; a drawn delay
 // and a table, which stay; edges with no values, with fewer, of the one variable and of the other, and to a vertex that takes

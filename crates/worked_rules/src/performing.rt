@@ -9,8 +9,8 @@ ghost use Rattle.worked_runs.specs.TwoEvents.{soon, waiting, at_5, words_of_54};
 ghost use Rattle.worked_rules.specs.PerformedEvents.{four_soon, dividing, entries_apart};
 
 /// The event at a place is taken with all others left, and another one is found by how many of its vertex are ahead of it.
-// taken: in the midst, and beyond the last; ahead: at each place, the place itself not counted; behind: none ahead, one, and
-// more than there are; then: the first stands ahead, of the same vertex, which counts no more; of another; behind; and what
+// taken: in the midst, and beyond the last; ahead: at each place, the place itself not counted; after: none ahead, one, and
+// more than there are; then: the first is ahead, of the same vertex, which counts no more; of another; after; and what
 // was scheduled or cancelled besides.
 pub fn events_have_places()
     ensures taken { taken_at four_soon 1 ≡ Some (record { entry = soon 2; others = soon 1 ∷ soon 1 ∷ soon 2 ∷ [] }) }
@@ -22,7 +22,7 @@ pub fn events_have_places()
     ensures then_ahead { place_then four_soon 3 1 2 (soon 2 ∷ soon 1 ∷ soon 2 ∷ []) ≡ 0 }
 {}
 
-/// A fault of the first or of the second is that of both, and there is none of either where one isn't there.
+/// A fault of the first or of the second is that of both, and there is none of either if one is missing.
 pub fn faults_are_of_both()
     ensures first { performed_both dividing 0 (waiting ((pos 0 ∷ []) ∷ []) [] (soon 1 ∷ soon 2 ∷ [])) 0 1 ≡ Some (Err (record { time = 5; kind = faults.DivisionByZero })) }
     ensures second { performed_both dividing 0 (waiting ((pos 0 ∷ []) ∷ []) [] (soon 1 ∷ soon 2 ∷ [])) 1 0 ≡ Some (Err (record { time = 5; kind = faults.DivisionByZero })) }
@@ -32,7 +32,7 @@ pub fn faults_are_of_both()
 
 /// Entries are equal in their time, their priority, their vertex and their values.
 // each of these once, of a list in which each differs from the first in one of them, or carries another number of values;
-// twice where it stands twice.
+// twice if it is there twice.
 pub fn entries_are_counted()
     ensures once { map (λ e. times_held e entries_apart) entries_apart ≡ 1 ∷ 1 ∷ 1 ∷ 1 ∷ 1 ∷ 1 ∷ [] }
     ensures twice { times_held (soon 1) four_soon ≡ 2 }

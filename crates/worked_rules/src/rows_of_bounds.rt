@@ -75,7 +75,7 @@ pub fn truths_are_put_together()
 {}
 
 /// `and` and `or` are quiet where the left one is, and the right one is or is never looked at.
-// the left one may fault; the right one may, behind true, false and either.
+// the left one may fault; the right one may, after true, false and either.
 pub fn operands_may_not_be_looked_at()
     ensures left { map (λ e. (seen_bounds e).quiet) (Binary And over_x_is_1 (Truth true) ∷ Binary And over_x_is_1 (Truth false) ∷ Binary Or over_x_is_1 (Truth true) ∷ Binary Or over_x_is_1 (Truth false) ∷ [])
         ≡ false ∷ false ∷ false ∷ false ∷ [] }
@@ -104,7 +104,7 @@ pub fn quiet_conditions_are_decided()
     ensures proved { map (λ e. proved (seen_bounds e)) (Binary AtMost five_over_x (whole 9) ∷ Truth true ∷ Truth false ∷ b ∷ []) ≡ false ∷ true ∷ false ∷ false ∷ [] }
 {}
 
-/// A draw's bounds are the least and the greatest of what it may give, wherever they stand.
+/// A draw's bounds are the least and the greatest of its values, wherever these are in the table.
 // none; one; the least first, in the midst and last, the greatest last, first and in the midst; no table.
 pub fn draws_have_bounds()
     ensures tables { map (λ values. rows_bounds (map (λ v. record { value = v; weight = 1 }) values)) ([] ∷ (pos 7 ∷ []) ∷ (pos 1 ∷ pos 2 ∷ pos 3 ∷ []) ∷ (pos 3 ∷ pos 1 ∷ pos 2 ∷ []) ∷ (pos 2 ∷ pos 3 ∷ pos 1 ∷ []) ∷ [])
@@ -129,7 +129,7 @@ pub fn parts_of_changes_are_quiet()
 
 /// Which edges never fault.
 // a delay at 0 and below; one that may fault at 0 or above; drawn delays from 0 and from below, and from a table whose least
-// value is below 0 and stands in its second row; edges without one, of each kind, with a value that may fault and
+// value is below 0 and in its second row; edges without one, of each kind, with a value that may fault and
 // without.
 pub fn parts_of_edges_are_quiet()
     ensures delays { map (λ delay. quiet_edge bounded (schedule 0 delay)) (x ∷ whole 0 ∷ minus 1 ∷ Binary Subtract x (whole 1) ∷ Binary Greatest five_over_x (whole 1) ∷ []) ≡ true ∷ true ∷ false ∷ false ∷ false ∷ [] }

@@ -60,7 +60,7 @@ pub fn variables_keep_some()
         ≡ Some (span 3 5) ∷ Some (span 0 4) ∷ Some (span 0 0) ∷ None ∷ Some (span 4 9) ∷ Some (span 9 9) ∷ None ∷ Some (span 0 9) ∷ [] }
 {}
 
-/// Where there are fewer values than variables, or more, those are taken that stand side by side.
+/// If there are fewer values than variables, or more, those are taken that are side by side.
 pub fn values_are_taken_side_by_side()
     ensures fewer { assigned five_kinds (0 ∷ 1 ∷ []) (whole 3 ∷ []) ≡ takes_in 0 (pos 3) (pos 3) ∷ [] }
     ensures more { assigned five_kinds (0 ∷ []) (whole 3 ∷ whole 4 ∷ []) ≡ takes_in 0 (pos 3) (pos 3) ∷ [] }

@@ -7,9 +7,9 @@ ghost use Rattle.model_core.specs.Rules.Fuse.{fuse_conditions, fused, first_twin
 ghost use Rattle.worked_runs.specs.Building.{plain_edge, set, whole, urgent, plus_one};
 ghost use Rattle.worked_rules.specs.TwinHalves.{to, apart_twins, last_and_mid, two_that_take, one_that_takes, cut_by_the_last, rich_changes, rich_edges, rich_twins, one_rich, changes_apart_by_one, edges_apart_by_one, two_pairs, three_alike, alone, long_twins};
 
-/// Two vertices that take values, of which edges carry some to each, are fused: who names the second names the first, and
-/// what stands behind it moves up by one, in edges and in the watch list.
-// takes: with parameters, with watched vertices between and behind; result: RUN's edges to KEEP, to GONE, to RUN, to MID and
+/// Two vertices that take values, of which edges carry some to each, are fused: all that named the second names the first, and
+/// the vertices after it move up by one, in edges and in the watch list.
+// takes: with parameters, with watched vertices between and after; result: RUN's edges to KEEP, to GONE, to RUN, to MID and
 // to LAST; KEEP's own, MID's to GONE; LAST's to itself, and its place in the watch list; a watched variable, and a watched
 // vertex ahead of GONE, stay.
 pub fn two_become_one()
@@ -18,9 +18,9 @@ pub fn two_become_one()
 {}
 
 /// Each half of a condition fails alone.
-// 1: the first must stand ahead of the second, and the second be there; 2: either is watched; 3: either is cancelled, in
+// 1: the first must be ahead of the second, and the second exist; 2: either is watched; 3: either is cancelled, in
 // each way, and those of another vertex may be; 4: another parameter, one less, the other order, other changes; 5: other
-// edges, of the vertices between and behind; those of a third vertex don't count.
+// edges, of the vertices between and after; those of a third vertex don't count.
 pub fn each_half_of_fuse_fails_alone()
     ensures backwards { first_failed (fuse_conditions two_that_take 3 1) ≡ Some 1 }
     ensures itself { first_failed (fuse_conditions two_that_take 1 1) ≡ Some 1 }

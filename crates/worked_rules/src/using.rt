@@ -8,7 +8,7 @@ ghost use Rattle.use_analysis.specs.UseNumbers.{raised_at, lowered_at, no_number
 ghost use Rattle.worked_runs.specs.Building.{urgent, whole};
 ghost use Rattle.worked_rules.specs.UsingModels.{expressions, users_in_turn, using, after_delay, after_stream};
 
-/// The variables of an expression stand in all its parts, from left to right, each as often as it stands there.
+/// The variables of an expression occur in all its parts, from left to right, each as often as it occurs there.
 // a number, a truth value, the clock: none; a scalar; a cell: its array and its index; `-`, `not`; both operands; all three
 // parts of an `if`; one variable twice.
 pub fn variables_stand_in_expressions()
@@ -22,7 +22,7 @@ pub fn variables_stand_in_expressions()
 // condition is read; I: a delay; J: a value, the second; K, L: of a cancelling edge too; M: a condition of one for all; N,
 // O: two targets are written and two right sides read; P: a second change; Q: what takes a cell; R: an array is written by
 // its cells, of a `set` and of a draw, in the order of the text, and read where a cell is; S: a second edge, and a later
-// item of the watch list; T: nobody. Nobody reads what a draw takes from.
+// item of the watch list; T: no use. No vertex reads what a draw takes from.
 pub fn variables_are_used_in_each_way()
     ensures { uses_text using
         ≡ codes "A readers - writers RUN watched yes\n"
@@ -56,8 +56,8 @@ pub fn streams_are_drawn_from()
     ensures delays { map has_drawn_delay (after_stream 52 ∷ after_delay (whole 1) ∷ urgent 0 ∷ []) ≡ true ∷ false ∷ false ∷ [] }
 {}
 
-/// A part moves the number of each variable that it has by one, once however often the variable stands in it.
-// 0 and 2, of which 2 stands twice: 1 more, 1 less; 1 and 3: as they were; 9: there is none; a list of none; the first and
+/// A part moves the number of each variable that it has by one, once however often the variable occurs in it.
+// 0 and 2, of which 2 occurs twice: 1 more, 1 less; 1 and 3: as they were; 9: there is none; a list of none; the first and
 // the last place.
 pub fn numbers_are_moved()
     ensures raised { raised_at (2 ∷ 0 ∷ 2 ∷ 9 ∷ []) (5 ∷ 6 ∷ 7 ∷ 8 ∷ []) ≡ 6 ∷ 6 ∷ 8 ∷ 8 ∷ [] }

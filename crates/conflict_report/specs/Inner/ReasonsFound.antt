@@ -37,7 +37,7 @@ pub record ArePartners (t : ConflictTables) (vertex : ℕ) (p : Partners) : Type
   pub streams : (j : ℕ) → has_vertex p.streams j ≡ hold_common t.by_stream t.by_stream vertex j
   pub cancels : (j : ℕ) → has_vertex p.cancels j ≡ (hold_common t.by_cancelled t.by_named vertex j || hold_common t.by_named t.by_cancelled vertex j)
 
--- the reasons that the sets tell of a vertex
+-- the reasons that the sets of a vertex show
 abbrev pub reasons_with : Partners → ℕ → Reasons
 reasons_with p vertex = record {
   meet = has_vertex p.meet vertex;
@@ -46,6 +46,6 @@ reasons_with p vertex = record {
   cancels = has_vertex p.cancels vertex;
 }
 
--- the pair of two vertices, where the reasons that the sets of the first tell are a conflict
+-- the pair of two vertices, if the reasons that the sets of the first show are a conflict
 abbrev pub pair_with : Partners → ℕ → ℕ → List Pair
 pair_with p a b = cond (is_conflict (reasons_with p b)) (record { a = a; b = b; reasons = reasons_with p b } ∷ []) []

@@ -1,5 +1,5 @@
--- Expressions in postfix form, in which each operator stands behind its operands, and their bounds by a walk over that. Where a
--- part is evaluated under other ranges, items before it say which.
+-- Expressions in postfix form, in which each operator comes after its operands, and their bounds by a walk over that. If a part
+-- is evaluated under other ranges, items before it say which.
 use Rattle.std.specs.Prelude.{ℕ, ◌^◌, ℤ, pos, neg_ℤ, Bool, true, false, not, cond, List, [], ◌∷◌, ◌++◌, slice_set, Option, Some, None}
 use Rattle.std.specs.Option.{option_map}
 use Rattle.model_core.specs.declared.op.Op.{Op}
@@ -14,7 +14,7 @@ use Rattle.model_core.specs.Ranges.Refined.{opposite_comparison, where_holds, te
 use Rattle.range_infer.specs.declared.postfix.PostfixItem.{PostfixItem}
 use Rattle.range_infer.specs.declared.postfix.PostfixItem.TheVariants as items
 
--- the operator of the code that stands for this one
+-- the operator of the code for this one
 abbrev pub op_of : Operator → Op
 op_of Add = ops.Add
 op_of Subtract = ops.Sub
@@ -34,7 +34,7 @@ op_of Or = ops.Or
 
 -- ---- the items of an expression
 
--- Of an expression behind whose items the ranges are those where it has a value, or, with no value, those before it.
+-- The items of an expression. After them the ranges are those where it has a value, or, with no value, those before it.
 abbrev pub Form : Type 0
 Form = Option Bool → List PostfixItem
 
@@ -110,7 +110,7 @@ abbrev pub put_back_kept : List Variable → List (List Variable) → List Bound
 put_back_kept ranges [] found = record { ranges = ranges; kept = []; found = found }
 put_back_kept ranges (r ∷ kept) found = record { ranges = r; kept = kept; found = found }
 
--- what an operator makes of the last two operands, and a test of the last three
+-- the result of an operator on the last two operands, and of a test on the last three
 abbrev pub operated : Op → List Bounds → List Bounds
 operated op (b ∷ a ∷ found) = operator_bounds (operator_of op) a b ∷ found
 operated op found = found
@@ -124,7 +124,7 @@ chosen found = found
 abbrev pub cell_bounds : List Variable → ℕ → Bounds → Bounds
 cell_bounds ranges v index = variable_bounds (ranged_at ranges v) (quiet_index (ranged_at ranges v) index)
 
--- what an operator makes of the last operand and of a variable
+-- the result of an operator on the last operand and a variable
 abbrev pub beside_bounds : List Variable → Op → ℕ → Bounds → Bounds
 beside_bounds ranges op v a = operator_bounds (operator_of op) a (variable_bounds (ranged_at ranges v) true)
 

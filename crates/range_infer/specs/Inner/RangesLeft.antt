@@ -1,4 +1,4 @@
--- The ranges that are left of a model's variables, and what stood in place of those that were replaced.
+-- The ranges that are left of a model's variables, and those that were there before they were replaced.
 use Rattle.std.specs.Prelude.{◌≡◌, List, [], ◌∷◌, length, take, drop, slice_set}
 use Rattle.model_core.specs.EventGraph.{Variable}
 use Rattle.model_core.specs.Code.Views.{graph_of}

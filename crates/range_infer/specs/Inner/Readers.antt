@@ -41,7 +41,7 @@ ends_with_part parts p = option_map_or (λ last. is_same_part last p) (slice_get
 abbrev pub with_part : PartPlace → List PartPlace → List PartPlace
 with_part p parts = cond (ends_with_part parts p) parts (parts ++ p ∷ [])
 
--- lists in which something is put for one element after the other, which stand at places from this one on
+-- lists in which something is put for one element after the other, at places from this one on
 abbrev pub put_each : {A : Type 0} → (ℕ → List (List PartPlace) → A → List (List PartPlace)) → ℕ → List (List PartPlace) → List A → List (List PartPlace)
 put_each put k lists [] = lists
 put_each put k lists (x ∷ xs) = put_each put (k + 1) (put k lists x) xs

@@ -14,7 +14,7 @@ use Rattle.twin_rules.specs.declared.asked.Asked.{Asked}
 abbrev pub are_alike : EventGraph → ℕ → ℕ → Bool
 are_alike g keep gone = is_none (first_failed (take 5 (fuse_conditions g keep gone)))
 
--- the same, told from what is known of each vertex and from what they do
+-- the two vertices meet these conditions, tested in another order
 abbrev pub alike_by : EventGraph → ℕ → ℕ → Bool
 alike_by g keep gone =
     let a = vertex_at g keep in

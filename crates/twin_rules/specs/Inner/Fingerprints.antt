@@ -1,4 +1,4 @@
--- Prints of what vertices do. Equal parts have equal prints, and that is all that is asked of them.
+-- Fingerprints of what vertices do. Equal parts have equal fingerprints, and no proof uses more.
 use Rattle.std.specs.Prelude.{ℕ, ◌+◌, ◌*◌, ◌/◌, ◌%◌, ◌^◌, Bool, true, false, List, [], ◌∷◌, map, Option, Some, None, unsigned_abs}
 use Rattle.model_core.specs.EventGraph.{EventVertex, EventEdge, EdgeKind, Schedule, Urgent, CancelNext, CancelEqual, CancelAll, Delay, Fixed, Drawn, StateChange, Set, Draw, Choice, Uniform, ByTable, Location, Operator, Add, Subtract, Multiply, Divide, Remainder, Least, Greatest, Equal, NotEqual, Below, AtMost, Above, AtLeast, And, Or, Expression, Number, Truth, Clock, Scalar, Cell, Negative, Not, Binary, If}
 

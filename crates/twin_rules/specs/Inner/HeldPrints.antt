@@ -9,7 +9,7 @@ use Rattle.twin_rules.specs.Inner.AskedPairs.{has_changed}
 use Rattle.twin_rules.specs.Inner.Fingerprints.{half, vertex_print, aims_print}
 use Rattle.twin_rules.specs.Inner.MarkedVertices.{is_barred}
 
--- the number that stands for the vertex at this place; one of which nothing is kept has that of all these
+-- the number of the vertex at this place; all vertices of which nothing is kept have one number
 abbrev pub number_in : List Print → ℕ → ℕ
 number_in known v = option_map_or (λ (p : Print). p.number) (slice_get known v) VERTICES_MAX
 

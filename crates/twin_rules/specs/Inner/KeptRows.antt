@@ -1,4 +1,4 @@
--- One vertex beside another one, told apart from what is kept of both.
+-- One vertex beside another one, compared by what is kept of both.
 use Rattle.std.specs.Prelude.{◌≡◌, ℕ, Bool, false, not, ◌&&◌, ◌||◌, ◌==◌, List, slice_get}
 use Rattle.model_core.specs.EventGraph.{EventGraph}
 use Rattle.twin_rules.specs.declared.print.Print.{Print}
@@ -6,7 +6,7 @@ use Rattle.twin_rules.specs.declared.row.Row.{Row}
 use Rattle.twin_rules.specs.Inner.AskedPairs.{some_leads}
 use Rattle.twin_rules.specs.Inner.MarkedVertices.{has_mark}
 
--- two vertices of which this is kept may be alike, where it is told whether the first leads to one of the two
+-- two vertices of which this is kept may be alike; `leads` says whether the first leads to one of the two
 abbrev pub prints_agree : Print → Print → Bool → Bool
 prints_agree own other leads = own.doing == other.doing && (own.aims == other.aims || leads) && not own.barred && not other.barred
 

@@ -1,4 +1,4 @@
--- One pair more, for the reasons that the sets tell.
+-- One pair more, for the reasons that the sets show.
 use Rattle.std.proofs.Common.{[], ◌∷◌, ◌++◌, cond, ap, ◌∙◌, arith}
 use Rattle.std.proofs.lemmas.List.{length-map}
 use Rattle.model_core.specs.declared.reasons.Reasons.{Reasons}

@@ -1,4 +1,4 @@
--- The value at the place is looked at, is passed over, or isn't there.
+-- The value at the place is looked at, is passed over, or is missing.
 use Rattle.std.proofs.Common.{◌∙◌, sym, ap}
 use Rattle.model_core.specs.Code.Views.{expression_of}
 use Rattle.range_infer.specs.Inner.RangesLeft.{variables_left}

@@ -1,4 +1,4 @@
--- What the check of ranges told, and whether the text was short.
+-- What the check of ranges said, and whether the text was short.
 use Rattle.std.proofs.Common.{subst, arith}
 use Rattle.std.proofs.lemmas.Grind.{common_steps}
 use Rattle.model_core.specs.Code.Views.{graph_of}

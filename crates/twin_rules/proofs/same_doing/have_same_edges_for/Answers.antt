@@ -1,4 +1,4 @@
--- Where edges at one place differ, so do the lists.
+-- Where edges at one place differ, the lists differ.
 use Rattle.std.proofs.Common.{arith}
 use Rattle.std.proofs.lemmas.Bool.{false≢true}
 use Rattle.model_core.specs.Rules.Drop.{edge_renumbered}

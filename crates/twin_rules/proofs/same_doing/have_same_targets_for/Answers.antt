@@ -1,4 +1,4 @@
--- Where targets at one place differ, so do the edges.
+-- Where targets at one place differ, the edges differ.
 use Rattle.std.proofs.Common.{arith, ◌∙◌, sym, ap, ℕ}
 use Rattle.model_core.specs.declared.vertex.Edge.{Edge}
 use Rattle.model_core.specs.EventGraph.{EventEdge}

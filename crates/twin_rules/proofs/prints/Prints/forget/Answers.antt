@@ -1,4 +1,4 @@
--- What stands behind it moves up.
+-- The elements after it move up.
 use Rattle.std.proofs.Common.{◌∙◌, ◌-◌, ap, take, rules, List}
 use Rattle.std.specs.List.{remove}
 use Rattle.twin_rules.specs.declared.print.Print.{Print}
