@@ -1,4 +1,4 @@
--- Where a vertex is when the one at `gone` is taken away and the one at `keep` stands for it.
+-- The place of a vertex once the one at `gone` is taken away and the one at `keep` replaces it.
 use Rattle.std.proofs.Common.{◌≡◌, ◌⊎◌, inl, inr, ℕ, zero, suc, ◌-◌, ◌<◌, ◌==◌, nat_lt, Bool, true, false, cond, List, [], ◌∷◌, map, slice_get, slice_index_or, refl, sym, ◌∙◌, ap, ap₂, arith}
 use Rattle.std.proofs.lemmas.Bool.Decides.{nat_tests}
 use Rattle.std.specs.List.{remove}
@@ -50,7 +50,7 @@ module _ (keep gone : ℕ) (first : keep < gone) where
   keep-apart : (keep == gone) ≡ false
   keep-apart = grind (arith, nat_tests)
 
-  -- nothing names `gone` any more
+  -- no part names `gone` any more
   pub standing-apart : (v : ℕ) → (s v == gone) ≡ false
   standing-apart v = by (v == gone) refl where
     by : (b : Bool) → (v == gone) ≡ b → (cond b keep v == gone) ≡ false
@@ -84,7 +84,7 @@ module _ (keep gone : ℕ) (first : keep < gone) where
     by (before less is) small = omega (arith, is, less, within)
     by (behind more is) small = omega (arith, is, more, small)
 
-  -- a vertex that isn't one of the two is told apart from all others
+  -- a vertex that isn't one of the two keeps apart from all others
   pub record Other (t : ℕ) : Type 0 where
     pub not_keep : (t == keep) ≡ false
     pub not_gone : (t == gone) ≡ false
@@ -106,7 +106,7 @@ module _ (keep gone : ℕ) (first : keep < gone) where
         by true is = (let e : (keep == t) ≡ false = (let a = other.not_keep in grind (arith, nat_tests)) in e) ∙ (let e : false ≡ (v == t) = (let a = other.not_gone in grind (arith, nat_tests)) in e)
         by false is = refl
 
-  -- edges that are equal once `keep` stands for `gone` lead to the same places of the result
+  -- edges that are equal once `keep` replaces `gone` lead to the same places of the result
   fold-edge : (e : EventEdge) → edge_renumbered f (edge_renumbered s e) ≡ edge_renumbered f e
   fold-edge e = ap (λ k. record e { target = place_without gone k }) (standing-again e.target)
 

@@ -1,4 +1,4 @@
--- The canonical text of a model in which one vertex stands for another: that of the model as it is, with the one named
+-- The canonical text of a model in which one vertex replaces another: that of the model as it is, with the one named
 -- in place of the other, and without the lines of the other.
 use Rattle.std.proofs.Common.{◌≡◌, ℕ, ◌<◌, false, List, [], ◌∷◌, ◌++◌, map, Option, refl, sym, ◌∙◌, ap, ap₂}
 use Rattle.std.specs.Prelude.{codes}

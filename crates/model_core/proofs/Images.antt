@@ -1,4 +1,4 @@
--- Lists of images: what stands at a place, what is shown of it, and what they are put together to.
+-- Lists of images: the item at a place, its view, and the list that all are joined to.
 use Rattle.std.proofs.Common.{◌≡◌, ℕ, zero, suc, List, [], ◌∷◌, ◌++◌, map, slice_get, slice_index_or, refl, ap}
 use Rattle.std.specs.List.{flat_map, remove}
 use Rattle.std.specs.Option.{option_map_or}

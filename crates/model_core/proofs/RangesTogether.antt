@@ -1,4 +1,4 @@
--- Numbers in the ranges of two lists of variables, one behind the other.
+-- Numbers in the ranges of two lists of variables, one after the other.
 use Rattle.std.proofs.Common.{◌≡◌, ℤ, true, List, [], ◌∷◌, ◌++◌, length, take, drop, refl}
 use Rattle.std.proofs.lemmas.Bool.{and_from}
 use Rattle.model_core.specs.EventGraph.{Variable}

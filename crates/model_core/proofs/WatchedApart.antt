@@ -1,4 +1,4 @@
--- What is watched once stays watched once where vertices take new places, if those that are watched are told apart.
+-- What is watched once stays watched once where vertices take new places, if those that are watched keep apart from all others.
 use Rattle.std.proofs.Common.{◌≡◌, ℕ, ◌+◌, ◌<◌, ◌==◌, nat_eq, false, List, [], ◌∷◌, map, arith}
 use Rattle.std.specs.List.{AllByRecursion, IsDistinct}
 use Rattle.std.proofs.lemmas.Bool.Decides.{nat_tests}

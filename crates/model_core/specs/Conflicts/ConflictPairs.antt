@@ -9,7 +9,7 @@ use Rattle.model_core.specs.Conflicts.Conflict.{reasons_of, in_conflict}
 abbrev pub conflict_if : EventGraph → ℕ → ℕ → List Pair
 conflict_if g a b = cond (in_conflict g a b) (record { a = a; b = b; reasons = reasons_of g a b } ∷ []) []
 
--- the pairs of a vertex with itself and with those behind it
+-- the pairs of a vertex with itself and with those after it
 abbrev pub conflicts_from : EventGraph → ℕ → List Pair
 conflicts_from g a = flat_map (conflict_if g a) (range_with_len a (length g.vertices - a))
 

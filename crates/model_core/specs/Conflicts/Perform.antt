@@ -27,7 +27,7 @@ place_behind vertex (suc n) (e ∷ es) = suc (place_behind vertex (cond (is_of v
 
 -- The place of the second event in the pending list that the first one left. Where the first one cancels no event of the
 -- second one's vertex, the second still has those of its vertex ahead of it that it had, but for the first event: what is
--- scheduled stands behind.
+-- scheduled comes after them.
 abbrev pub place_then : List Entry → ℕ → ℕ → ℕ → List Entry → ℕ
 place_then before first second vertex after =
     place_behind vertex (events_ahead vertex (remove before first) (place_without first second)) after

@@ -26,7 +26,7 @@ with_ranges (v ∷ vs) (r ∷ ranges) = with_range v r ∷ with_ranges vs ranges
 abbrev pub model_with_ranges : EventGraph → List VarRange → EventGraph
 model_with_ranges g ranges = record g { variables = with_ranges g.variables ranges }
 
--- what a number that names no range stands for
+-- the range of a number that names none
 abbrev pub no_range : VarRange
 no_range = record { lo = pos 0; hi = pos 0 }
 

@@ -44,13 +44,13 @@ abbrev pub where_holds : Operator → Option ℤ → Variable → Variable
 where_holds op None v = v
 where_holds op (Some n) v = cond (is_number_scalar v) (unless_empty v (numbers_left op n (declared_range v))) v
 
--- what a comparison, which is true or false, tells of the variable on its left
+-- the ranges that a comparison, which is true or false, leaves for the variable on its left
 abbrev pub refined_by : Operator → Expression → Expression → Bool → List Variable → List Variable
 refined_by op (Scalar v) right b ranges =
     slice_set ranges v (where_holds (cond b op (opposite_comparison op)) (literal_number right) (ranged_at ranges v))
 refined_by op left right b ranges = ranges
 
--- an `and` that is true, or an `or` that is false, tells this of both operands
+-- an `and` that is true, or an `or` that is false: both operands have that truth value
 abbrev pub tells_of_both : Operator → Bool → Bool
 tells_of_both And b = b
 tells_of_both Or b = not b

@@ -1,9 +1,9 @@
--- Which condition of a rule an error tells.
+-- Which condition of a rule an error names.
 use Rattle.std.specs.Prelude.{◌≡◌, ℕ, Option, Some}
 use Rattle.model_core.specs.declared.rule_error.RuleError.{RuleError}
 use Rattle.model_core.specs.declared.rule_error.RuleError.TheVariants as errors
 
--- a refusal tells the condition that fails first; want of memory tells nothing of it
+-- a refusal names the condition that fails first; want of memory names none
 abbrev pub TellsCondition : RuleError → Option ℕ → Type 0
 TellsCondition (errors.Refused condition) failed = failed ≡ Some condition
 TellsCondition errors.NoMemory failed = Unit {0}

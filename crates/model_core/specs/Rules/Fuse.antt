@@ -1,4 +1,4 @@
--- Fuse: of two vertices that do the same, the second is taken away, and the first stands for both.
+-- Fuse: of two vertices that do the same, the second is taken away, and the first replaces it.
 use Rattle.std.specs.Prelude.{◌≡◌, ℕ, ◌==◌, nat_lt, nat_le, nat_eq, Bool, not, ◌&&◌, cond, List, [], ◌∷◌, map, length, Option, Some, None, is_none, filter, filter_map, slice_get}
 use Rattle.std.specs.List.{list_any, range_with_len, remove}
 use Rattle.std.specs.Option.{option_map}
@@ -47,7 +47,7 @@ same_edges_for keep gone a b = pointwise same_event_edge (map (edge_renumbered (
 abbrev pub has_short_text : EventGraph → Bool
 has_short_text g = nat_le (length (canonical g)) TEXT_MAX
 
--- 1: both vertices exist, and the one that is kept stands first;
+-- 1: both vertices exist, and the one that is kept comes first;
 -- 2: neither is watched;
 -- 3: no edge of the model cancels either;
 -- 4: they have the same parameters and the same changes;

@@ -1,4 +1,4 @@
--- The least sets of which marks tell the places, as relations: what pairs entail, the variables that are needed, and the vertices
+-- The least sets whose places are marked, as relations: what pairs entail, the variables that are needed, and the vertices
 -- that can be reached.
 use Rattle.std.specs.Prelude.{ℕ, ◌<◌, List, length, Contains}
 use Rattle.model_core.specs.EventGraph.{EventEdge, EventGraph, WatchedVertex}

@@ -1,4 +1,4 @@
--- That a run goes on from a moment as the whole run does, and where two runs stand alike but for the order of scheduling.
+-- That a run goes on from a moment as the whole run does, and when two configurations differ in the order of scheduling alone.
 use Rattle.std.specs.Prelude.{◌≡◌, ℕ, ◌+◌, ◌≤◌, ℤ, List, Some}
 use Rattle.model_core.specs.EventGraph.{EventGraph}
 use Rattle.model_core.specs.Run.Step.{Configuration}

@@ -1,4 +1,4 @@
--- Which written snapshot is good for a model, the place of one that isn't, and the saved run that a good one stands for.
+-- Which written snapshot is good for a model, the place of one that isn't, and the saved run of a good one.
 use Rattle.std.specs.Prelude.{ℕ, suc, ◌+◌, ◌-◌, ◌*◌, ◌^◌, ℤ, pos, neg_ℤ, Bool, false, not, ◌&&◌, ◌==◌, nat_lt, cond, List, [], ◌∷◌, ◌++◌, length, map, replicate, slice_set, Option, Some, None, unwrap_or}
 use Rattle.std.specs.Option.{option_map, option_map_or, is_some}
 use Rattle.std.specs.List.{flat_map, list_all}
@@ -99,7 +99,7 @@ first_bad_part (p ∷ parts) = cond p.good (first_bad_part parts) (Some p.at)
 abbrev pub bad_at : EventGraph → WrittenSnapshot → Option ℕ
 bad_at g w = first_bad_part (snapshot_parts g w)
 
--- ---- what a good one stands for
+-- ---- the saved run of a good one
 
 abbrev pub with_taken : List WrittenStream → List ℕ → List ℕ
 with_taken [] taken = taken

@@ -49,7 +49,7 @@ faults_version_1 m = flat_map size_faults_version_1 m.variables ++ flat_map vert
 abbrev pub counted_cells : WrittenVariable → ℕ
 counted_cells v = option_map_or (λ n. cond (nat_le n ARRAY_CELLS_MAX) n 0) (written_or natural 0 v.size) 0
 
--- the first array that passes the limit on the cells of all together, where so many stand before these
+-- the first array that passes the limit on the cells of all together, where so many cells come before these
 abbrev pub cells_faults : ℕ → List WrittenVariable → List StaticFault
 cells_faults before [] = []
 cells_faults before (v ∷ vs) = cond (nat_lt CELLS_MAX (before + counted_cells v)) (fault_where true rules.TooMany v.at) (cells_faults (before + counted_cells v) vs)

@@ -7,7 +7,7 @@ use Rattle.model_core.specs.Text.Lexing.{Lexeme, LexemeKind, NameOf, Reserved, N
 use Rattle.model_core.specs.Text.Written.{WrittenName, WrittenNumber}
 use Rattle.model_core.specs.Text.Grammar.{Grammar, gives, ◌>>=◌, ◌or◌, many}
 
--- the sorts of tokens that a grammar tells apart: any name, the name with this spelling, any number, this reserved word,
+-- the sorts of tokens that a grammar distinguishes: any name, the name with this spelling, any number, this reserved word,
 -- this symbol
 pub data TokenSort : Type 0 where
   AName : TokenSort
@@ -22,7 +22,7 @@ sort_of (Reserved w) = AWord w
 sort_of (NumberOf value exact) = ANumber
 sort_of (Mark s) = ASymbol s
 
--- the sort of a token, as one asks who looks for a token of a sort: only who looks for a spelling sees that of a name
+-- the sort of a token, as a search for a token of a sort sees it: only a search for a spelling sees that of a name
 abbrev pub sort_as : TokenSort → LexemeKind → TokenSort
 sort_as (ASpelled bytes) (NameOf spelling) = ASpelled spelling
 sort_as s kind = sort_of kind
@@ -37,7 +37,7 @@ pub data Format (R : Type 0) (V : Type 0) : Type 0 → Type 1 where
   Many : {A : Type 0} → Format R V A → Format R V (List A)
   ByRule : R → Format R V V
 
--- one token of this sort, of which a value is made
+-- one token of this sort, and the value of it
 abbrev pub single : {A : Type 0} → TokenSort → (Lexeme → A) → Grammar A
 single s f [] value left = ⊥
 single s f (t ∷ tokens) value left = (sort_as s t.kind ≡ s) × (f t ≡ value) × (tokens ≡ left)

@@ -7,7 +7,7 @@ use Rattle.model_core.specs.Text.Written.{WrittenModel}
 use Rattle.model_core.specs.Text.DocumentText.{BeginsWithModel}
 use Rattle.model_core.specs.Text.SnapshotGrammar.{WrittenSnapshot, IsSnapshot}
 
--- The tokens of the text are one model text and one snapshot behind it, written so. The openings of the snapshot aren't
+-- The tokens of the text are one model text and then one snapshot, written so. The openings of the snapshot aren't
 -- counted.
 pub record SpellsSaved (text : List ℕ) (m : WrittenModel) (s : WrittenSnapshot) : Type 0 where
   pub tokens : List Lexeme

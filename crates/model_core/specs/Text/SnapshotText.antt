@@ -33,7 +33,7 @@ abbrev pub noted_line : Option (List ℤ) → List ℕ
 noted_line None = []
 noted_line (Some values) = codes "noted" ++ noted_values values ++ codes "\n"
 
--- values in parentheses, or nothing where there are none
+-- values in parentheses, or no text where there are none
 abbrev pub carried_text : List ℤ → List ℕ
 carried_text [] = []
 carried_text (x ∷ xs) = codes "(" ++ comma_values (x ∷ xs) ++ codes ")"
