@@ -2,7 +2,8 @@
 use Rattle.std.proofs.Common.{◌≡◌, ℕ, ◌≤◌, ◌+◌, Bool, true, false, List, [], ◌∷◌, ◌++◌, length, slice_get, Option, Some, None, is_some, refl, sym, ◌∙◌, ap, arith}
 use Rattle.std.specs.Prelude.{codes}
 use Rattle.std.specs.List.{remove}
-use Rattle.std.specs.Option.{option_map_or, option_and_then}
+use Rattle.std.specs.Option.{option_map_or}
+use Rattle.std.proofs.lemmas.Option.{option_and_then_some}
 use Rattle.model_core.specs.EventGraph.{EventGraph, EventVertex, EventEdge, Variable, has_drawn_delay}
 use Rattle.model_core.specs.Text.Canonical.{edge_line, edge_word, vertex_name, in_parentheses, expression_texts, timing_text, condition_text}
 use Rattle.model_core.specs.Text.Spellable.{Extent, SpellableEdge, expression_openings, values_openings, kind_openings}
@@ -90,12 +91,8 @@ settled_is_proved g vertex edge none e is =
 
 -- ---- a model that keeps the rules
 
-found_edge : (o : Option EventVertex) (edge : ℕ) (e : EventEdge) → option_and_then (λ (v : EventVertex). slice_get v.edges edge) o ≡ Some e → (v : EventVertex) × (o ≡ Some v) × (slice_get v.edges edge ≡ Some e)
-found_edge None edge e is = cc
-found_edge (Some v) edge e is = (v, refl, is)
-
 -- each of its edges keeps them
 pub edge_keeps : (g : EventGraph) (vertex edge : ℕ) (e : EventEdge) → KeepsParts g → edge_at g vertex edge ≡ Some e → KeepsEdge g.variables (length g.tables) (parameters_of g) e
 edge_keeps g vertex edge e k is =
-    let (v, there, is_it) = found_edge (slice_get g.vertices vertex) edge e is in
+    let (v, there, is_it) = option_and_then_some (λ (v : EventVertex). slice_get v.edges edge) (slice_get g.vertices vertex) e is (λ v at makes. (v, at, makes)) in
     every_item (KeepsEdge g.variables (length g.tables) (parameters_of g)) v.edges edge e (every_item (KeepsVertex g.variables (length g.tables) (parameters_of g)) g.vertices vertex v k.vertices there).edges is_it

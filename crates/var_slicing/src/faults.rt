@@ -33,7 +33,7 @@ fn add_faulting_target(
     Ok(())
 }
 
-/// The same for targets.
+/// Adds the variables of such targets, unless they are marked.
 fn add_faulting_targets(
     out: &mut Vec<usize>,
     marks: &[bool],
@@ -49,7 +49,7 @@ fn add_faulting_targets(
     Ok(())
 }
 
-/// The same for a change.
+/// Adds the variables of a change in which something that may fault is stored, unless they are marked.
 fn add_faulting_change(
     out: &mut Vec<usize>,
     marks: &[bool],
@@ -76,7 +76,7 @@ fn add_faulting_change(
     }
 }
 
-/// The same for changes.
+/// Adds the variables of changes in which something that may fault is stored, unless they are marked.
 fn add_faulting_changes(
     out: &mut Vec<usize>,
     marks: &[bool],
@@ -111,7 +111,7 @@ fn add_faulting_value(
     Ok(())
 }
 
-/// The same for parameters.
+/// Adds such parameters, unless they are marked.
 fn add_faulting_values(
     out: &mut Vec<usize>,
     marks: &[bool],
@@ -127,7 +127,7 @@ fn add_faulting_values(
     Ok(())
 }
 
-/// The same for what a scheduling edge carries.
+/// Adds such parameters of the target of a scheduling edge, unless they are marked.
 fn add_faulting_carried(
     out: &mut Vec<usize>,
     marks: &[bool],
@@ -149,7 +149,7 @@ fn add_faulting_carried(
     }
 }
 
-/// The same for what scheduling edges carry.
+/// Adds such parameters of the targets of scheduling edges, unless they are marked.
 fn add_all_faulting_carried(
     out: &mut Vec<usize>,
     marks: &[bool],

@@ -133,7 +133,7 @@ fn leave_edge(alloc: Global, staying: &Staying, vertices: &[Vertex], edge: &mut 
     renumber_form(staying, &mut edge.form);
 }
 
-/// The same for edges to these vertices.
+/// Takes out of edges to these vertices the values that they carry for parameters that go.
 fn leave_edges(alloc: Global, staying: &Staying, vertices: &[Vertex], edges: &mut Vec<Edge>)
     ensures { map edge_of edges.new.items ≡ map (edge_left_in (map (λ (v : Vertex). v.params) vertices.now) staying.now) (map edge_of edges.old.items) }
 {
@@ -142,7 +142,7 @@ fn leave_edges(alloc: Global, staying: &Staying, vertices: &[Vertex], edges: &mu
     }
 }
 
-/// The same for the edges of all vertices, whose parameters stay as they are.
+/// Takes out of all edges the values that they carry for parameters that go. The parameters stay as they are.
 fn leave_all_edges(alloc: Global, staying: &Staying, vertices: &mut Vec<Vertex>)
     ensures { map vertex_of vertices.new.items ≡ map (edges_left_in (map (λ (v : Vertex). v.params) vertices.old.items) staying.now) (map vertex_of vertices.old.items) }
 {

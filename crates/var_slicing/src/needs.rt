@@ -121,7 +121,7 @@ impl Needs {
         add_delay_stream(&mut self.delays, edge)
     }
 
-    /// The same for edges.
+    /// Adds what edges compare, and what their conditions and delays read.
     fn add_edges(&mut self, model: &Model, edges: &[Edge]) -> Result<(), NoMemory>
         ensures { OnOk result (collected_of self.new ≡ with_edges (graph_of model.now) (map edge_of edges.now) (collected_of self.old)) }
     {
@@ -131,7 +131,7 @@ impl Needs {
         Ok(())
     }
 
-    /// The same for the edges of vertices.
+    /// Adds what the edges of vertices compare, and what their conditions and delays read.
     fn add_all_edges(&mut self, model: &Model, vertices: &[Vertex]) -> Result<(), NoMemory>
         ensures { OnOk result (collected_of self.new ≡ with_all_edges (graph_of model.now) (map vertex_of vertices.now) (collected_of self.old)) }
     {
@@ -175,7 +175,7 @@ impl Needs {
         }
     }
 
-    /// The same for changes.
+    /// Adds what the targets of changes need, and from which streams they draw.
     fn add_changes(&mut self, known: &[bool], changes: &[Change]) -> Result<(), NoMemory>
         ensures { OnOk result (collected_of self.new ≡ with_changes known.now (map change_of changes.now) (collected_of self.old)) }
     {
@@ -185,7 +185,7 @@ impl Needs {
         Ok(())
     }
 
-    /// The same for the changes of vertices.
+    /// Adds what the targets of all changes of vertices need, and from which streams they draw.
     fn add_all_changes(&mut self, known: &[bool], vertices: &[Vertex]) -> Result<(), NoMemory>
         ensures { OnOk result (collected_of self.new ≡ with_all_changes known.now (map vertex_of vertices.now) (collected_of self.old)) }
     {

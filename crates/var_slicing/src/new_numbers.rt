@@ -34,7 +34,7 @@ pub(crate) fn renumber_expr(staying: &Staying, expr: &mut Expr)
     }
 }
 
-/// The same for an index, where there is one.
+/// Gives the variables of an index, where there is one, their new numbers.
 fn renumber_index(staying: &Staying, index: &mut Option<Expr>)
     ensures { option_map expression_of index.new ≡ option_map (expression_renumbered (rank staying.now)) (option_map expression_of index.old) }
 {
@@ -43,7 +43,7 @@ fn renumber_index(staying: &Staying, index: &mut Option<Expr>)
     }
 }
 
-/// The same for a target.
+/// Gives a target and the variables of its index their new numbers.
 pub(crate) fn renumber_target(staying: &Staying, target: &mut Target)
     ensures { location_of target.new ≡ location_renumbered (rank staying.now) (location_of target.old) }
 {
@@ -51,7 +51,7 @@ pub(crate) fn renumber_target(staying: &Staying, target: &mut Target)
     renumber_index(staying, &mut target.index);
 }
 
-/// The same for a delay.
+/// Gives the variables of a delay their new numbers.
 fn renumber_delay(staying: &Staying, delay: &mut Delay)
     ensures { edge_delay_of delay.new ≡ delay_renumbered (rank staying.now) (edge_delay_of delay.old) }
 {
@@ -64,7 +64,7 @@ fn renumber_delay(staying: &Staying, delay: &mut Delay)
     }
 }
 
-/// The same for what an edge does.
+/// Gives the variables of what an edge does their new numbers.
 pub(crate) fn renumber_form(staying: &Staying, form: &mut EdgeForm)
     ensures { edge_kind_of form.new ≡ kind_left staying.now (edge_kind_of form.old) }
 {

@@ -84,7 +84,7 @@ fn add_target_beside(
     add_reads_beside(pairs, known, target.var, value)
 }
 
-/// The same for targets.
+/// Adds what the indexes and right sides of targets read beside their variables.
 pub(crate) fn add_targets_beside(
     pairs: &mut Vec<(usize, usize)>,
     known: &[bool],
