@@ -63,7 +63,7 @@ merge_is_made g k h before between after none false true d m (no_drop, same, unn
       noted ∙ ap (λ (before : List RuleApplication). before ++ a ∷ []) unnoted,
     )
 
--- the same where the drop behind the merge may be made as well
+-- the same where the drop after the merge may be made as well
 pub merge_on_is_made : (g k h : EventGraph) (before between after : List RuleApplication) → NoEdgeRule g → (dropped merged : Bool) → dropped ≡ false → merged ≡ true → Made (drop_of g (unreached g)) dropped g k before between → MadeOn (λ g. merge_of g (first_merge g)) merged k h between after → MadeOn first_rule true g h before after
 merge_on_is_made g k h before between after none dropped true d m drop (next, middle, merge, more) = (next, middle, merge_is_made g k next before between middle none dropped true d refl drop merge, more)
 merge_on_is_made g k h before between after none dropped false d m drop merge = cc

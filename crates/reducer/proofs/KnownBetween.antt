@@ -1,4 +1,4 @@
--- What is known of a model behind a merge, and behind the drop that follows it.
+-- What is known of a model after a merge, and after the drop that follows it.
 use Rattle.std.proofs.Common.{◌≡◌, ℕ, Bool, true, false, not, List, [], ◌∷◌, length, refl, sym, subst}
 use Rattle.model_core.specs.EventGraph.{EventGraph, EventVertex}
 use Rattle.model_core.specs.Text.Canonical.{vertex_name}

@@ -26,7 +26,7 @@ module _ (leaves : LeavesEdges) (g : EventGraph) (none : NoEdgeRule g) where
   none-sliced : IsValid g → (ks : List ℕ) → first_failed (slice_conditions g ks) ≡ None → NoEdgeRule (sliced g ks)
   none-sliced valid ks holds = record { refuted = leaves.prune_sliced g ks valid holds ∙ none.refuted; settled = leaves.settle_sliced g ks valid holds ∙ none.settled }
 
--- ---- any application behind the rules of edges
+-- ---- any application after the rules of edges
 
 abbrev IsLater : RuleApplication → Type 0
 IsLater (Prune name number) = ⊥

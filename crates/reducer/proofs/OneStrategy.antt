@@ -3,7 +3,7 @@ use Rattle.std.proofs.Common.{◌≡◌, List, [], ◌∷◌, Option, Some, None
 use Rattle.model_core.specs.EventGraph.{EventGraph}
 use Rattle.model_core.specs.Rules.Reduction.{RuleApplication, first_rule, applied, Strategy}
 
--- what the strategy makes of a graph: the applications, and the graph to which they lead
+-- the strategy's result on a graph: the applications, and the graph to which they lead
 pub record Result : Type 0 where
   pub applications : List RuleApplication
   pub graph : EventGraph

@@ -40,7 +40,7 @@ led_on leaves one_valid g h k before between after true e led (a, is, made, note
 }
 led_on leaves one_valid g h k before between after false e led made = cc
 
--- where the drop behind the application may be made as well
+-- where the drop after the application may be made as well
 module _ (leaves : LeavesEdges) (one_valid : (g h : EventGraph) (a : RuleApplication) → IsValid g → applied g a ≡ Some h → IsValid h) where
   pub led_further : (g h k : EventGraph) (before between after : List RuleApplication) (made : Bool) → made ≡ true → Led g h before between → MadeOn first_rule made h k between after → Led g k before after
   led_further g h k before between after false e led made = cc

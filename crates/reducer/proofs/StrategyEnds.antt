@@ -1,4 +1,4 @@
--- Each application behind the rules of edges leaves less, so the strategy ends: a drop fewer vertices, a merge fewer with
+-- Each application after the rules of edges leaves less, so the strategy ends: a drop fewer vertices, a merge fewer with
 -- a plain urgent edge, a slice fewer variables.
 use Rattle.std.proofs.Common.{◌≡◌, ℕ, zero, suc, ◌+◌, ◌<◌, ◌≤◌, ◌==◌, Bool, true, false, not, ◌&&◌, cond, List, [], ◌∷◌, map, length, Option, Some, None, is_some, refl, sym, ap, ap₂, ◌∙◌, subst, arith}
 use Rattle.std.specs.Prelude.{filter, count_by}
@@ -155,7 +155,7 @@ merge_leaves_less takes g first second holds =
     let (long, fewer) = takes g first second holds in
     omega (arith, long, fewer)
 
--- ---- any application behind the rules of edges
+-- ---- any application after the rules of edges
 
 listed : (ks others : List ℕ) → first_failed (lists_some ks ∷ lists_exactly ks others ∷ []) ≡ None → (k : ℕ) × (rest : List ℕ) × (ks ≡ k ∷ rest) × (others ≡ k ∷ rest)
 listed [] others holds = cc

@@ -29,7 +29,7 @@ settled_edges g (e ∷ es) = one (test_of rules.Settle g e) (settled_edges g es)
   one true go = ap (λ es. record e { condition = Truth true } ∷ es) go
   one false go = ap (λ es. e ∷ es) go
 
--- the applications to the edges that are left are those to the next one, and then to those behind it
+-- the applications to the edges that are left are those to the next one, and then to those after it
 applied_next : (rule : EdgeRule) (g : EventGraph) (name : List ℕ) (before : ℕ) (b : Bool) (es : List EventEdge) → applied_or_not rule name before b (λ k. applied_behind rule g name k es) ≡ application_here rule name before b ++ applied_behind rule g name (next_before rule before b) es
 applied_next rule g name before true es = refl
 applied_next rule g name before false es = refl
@@ -69,7 +69,7 @@ read_behind (x ∷ xs) (suc k) d = read_behind xs k d
 pub same_there : {A : Type 0} (xs ys : List A) (k : ℕ) (x : A) → drop k ys ≡ drop k xs → x ≡ get_or ys k x → x ≡ get_or xs k x
 same_there xs ys k x same is = is ∙ sym (read_behind ys k x) ∙ ap (λ zs. get_or zs 0 x) same ∙ read_behind xs k x
 
--- one edge more is settled or not, which stands in its own place
+-- one edge more is settled or not, at its own place
 pub one_further : (before : ℕ) (b : Bool) → before + 1 ≡ next_before rules.Settle before b
 one_further before true = refl
 one_further before false = refl

@@ -31,7 +31,7 @@ with_edges v es = record v { edges = es }
 abbrev pub name_of : EventVertex → List ℕ
 name_of v = v.name
 
--- ---- the vertex behind a front is found by its name
+-- ---- the vertex after a front is found by its name
 
 -- no vertex of the front has this name
 abbrev pub NotNamed : List ℕ → List EventVertex → Type 0
@@ -89,7 +89,7 @@ is_first rules.Settle g vs vertex edge ready there =
     ∙ ap (λ (o : Option (ℕ × ℕ)). option_or (at_edge h Settle o) (later_rule h)) there
 
 module _ (g : EventGraph) (front : List EventVertex) (v : EventVertex) (later : List EventVertex) (unnamed : NotNamed v.name front) where
-  -- the graph whose vertex behind the front has these edges
+  -- the graph whose vertex after the front has these edges
   abbrev at_edges : List EventEdge → EventGraph
   at_edges es = with_vertices g (front ++ with_edges v es ∷ later)
 
@@ -149,7 +149,7 @@ module _ (g : EventGraph) (front : List EventVertex) (v : EventVertex) (later : 
         first_edge-behind test 0 front (with_edges v (kept ++ e ∷ es)) later kept e es clean none refl passes ∙ ap (λ i. Some (i, length kept)) (let same : 0 + length front ≡ length front = omega arith in same) in
         is_first rule g vs (length front) (length kept) (all_ready (kept ++ e ∷ es) ready) place ∙ ap (λ (name : List ℕ). Some (application_by rule name (length kept + 1))) (name_there kept e es)
 
-    -- what the edges behind those that stay are to give
+    -- what the edges after those that stay are to give
     abbrev Sweeps : List EventEdge → List EventEdge → List RuleApplication → List EventEdge → Type 0
     Sweeps kept es applications left = AreFirst (at_edges (kept ++ es)) applications (at_edges (kept ++ left))
 

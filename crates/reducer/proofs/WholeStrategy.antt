@@ -77,7 +77,7 @@ whole_strategy keep one_valid leaves takes g valid =
     let (later, h, strategy) = later_rules_end one_valid leaves takes (after_settle (after_prune g)) (settled_valid keep g valid) (none_left keep g valid) in
     (_, h, with_sweeps keep g valid later h strategy)
 
--- the same of what the parts are known to give: the graph after each, and the applications noted so far
+-- the whole from what the parts are known to give: the graph after each, and the applications noted so far
 pub strategy_made : ChainsKeep → (g pruned settled left : EventGraph) (at_first after_prunes after_settles all : List RuleApplication) → IsValid g
     → pruned ≡ after_prune g → settled ≡ after_settle pruned
     → at_first ≡ [] → after_prunes ≡ at_first ++ applied_to_all rules.Prune g g.vertices → after_settles ≡ after_prunes ++ applied_to_all rules.Settle pruned pruned.vertices → Finished settled left after_settles all

@@ -1,4 +1,4 @@
--- The code of this crate, restated for its proofs. No public clause cites these, and nobody has to believe them.
+-- The code of this crate, restated for its proofs. No public clause cites these.
 pub mod Sweep
 pub mod LaterRules
 pub mod Progress

@@ -1,4 +1,4 @@
-//! The rules behind those of edges: drop, merge and slice, one application at a time, but that a merge and a drop of its second
+//! The rules after those of edges: drop, merge and slice, one application at a time, but that a merge and a drop of its second
 //! vertex alone are made together. Between two applications it is kept what is known of the model: after a merge only what can
 //! have changed is looked at again.
 
@@ -38,8 +38,8 @@ pub(crate) struct Underway {
     progress: Progress,
 }
 
-/// Applies the first rule again and again, until none is applicable, where no rule of edges is, and notes that behind the
-/// applications before.
+/// Applies the first rule again and again, until none is applicable, where no rule of edges is, and notes that after the earlier
+/// applications.
 pub(crate) fn apply_later_rules(
     alloc: Global,
     model: Model,
@@ -88,7 +88,7 @@ fn note_drop(
 }
 
 impl Underway {
-    /// Applies the first rule, where no rule of edges is applicable, and notes that, or says that there is none. Behind a merge
+    /// Applies the first rule, where no rule of edges is applicable, and notes that, or says that there is none. After a merge
     /// that leaves a vertex which can't be reached it drops that vertex as well.
     fn apply_one(&mut self, alloc: Global) -> Result<bool, NoMemory>
         requires underway { IsUnderway self.old }
@@ -116,7 +116,7 @@ impl Underway {
         self.drop_sought(alloc)
     }
 
-    /// The same, where they have to be sought.
+    /// Seeks the vertices that can't be reached, drops them and notes that, or says that there are none.
     fn drop_sought(&mut self, alloc: Global) -> Result<bool, NoMemory>
         requires { IsUnderway self.old }
         ensures by_rule { IfOk result (λ made. ByRule drop_rule made self.old self.new) }
@@ -171,7 +171,7 @@ impl Underway {
         Ok(true)
     }
 
-    /// Merges these two, which is noted and told.
+    /// Merges these two, which is noted in the certificate and in what is kept.
     fn merge_these(&mut self, alloc: Global, first: usize, second: usize) -> Result<(), NoMemory>
         requires valid { IsValid (graph_of self.old.model) }
         requires all { unreached (graph_of self.old.model) ≡ [] }
@@ -185,7 +185,7 @@ impl Underway {
         }
     }
 
-    /// The same, where all vertices can be reached then.
+    /// Merges these two, where all vertices can be reached then.
     fn merge_beside(&mut self, alloc: Global, first: usize, second: usize) -> Result<(), NoMemory>
         requires merging { IsMerging (graph_of self.old.model) first second self.old.progress }
         requires all { unreached (merged (graph_of self.old.model) first second) ≡ [] }
@@ -197,7 +197,7 @@ impl Underway {
         merge_holding(alloc, &mut self.model, known, first, second, left)
     }
 
-    /// The same, where the second one alone can't be reached then: it gives away what it does, and is dropped.
+    /// Merges these two, where the second one alone can't be reached then: it gives away what it does, and is dropped.
     fn merge_away(&mut self, alloc: Global, first: usize, second: usize) -> Result<(), NoMemory>
         requires valid { IsValid (graph_of self.old.model) }
         requires merging { IsMerging (graph_of self.old.model) first second self.old.progress }

@@ -1,4 +1,4 @@
-//! The names of vertices and of variables, as an application tells them.
+//! The names of vertices and of variables, as an application has them.
 
 ghost use Rattle.std.specs.Prelude.{◌≡◌, map, IfOk};
 ghost use Rattle.model_core.specs.Code.Views.{graph_of};

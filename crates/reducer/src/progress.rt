@@ -28,7 +28,7 @@ pub(crate) struct Progress {
 }
 
 impl Progress {
-    /// What is known of a model that nobody has looked at.
+    /// What is known of a new model.
     pub(crate) fn begin(alloc: Global, model: &Model) -> Result<Progress, NoMemory>
         ensures { IfOk result (λ progress. IsProgress (graph_of model.now) progress) }
     {
@@ -41,7 +41,7 @@ impl Progress {
     }
 }
 
-/// Whether a merge, which was told, leaves its second vertex as the only one that can't be reached, where all could be before.
+/// Whether a merge, which was noted, leaves its second vertex as the only one that can't be reached, where all could be before.
 pub(crate) fn is_left_alone(pairs: &KeptPairs, second: usize) -> bool
     requires there { second < length pairs.now }
     ensures { (g : EventGraph) (first : ℕ) → unreached g ≡ [] → first_failed (merge_conditions g first second) ≡ None

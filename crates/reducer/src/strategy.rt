@@ -20,7 +20,7 @@ pub struct Reduced {
     pub applications: List<Application>,
 }
 
-/// The strategy's result. Neither prune nor settle applies anew to what was swept: the rules behind them leave bounds and
+/// The strategy's result. Neither prune nor settle applies anew to what was swept: the rules after them leave bounds and
 /// conditions of edges as they were.
 pub fn reduce(alloc: Global, model: Model) -> Result<Reduced, NoMemory>
     requires { IsValid (graph_of model) }

@@ -12,7 +12,7 @@ use merge_rules::{merging_brings_no_rule_of_edges, merging_takes_an_urgent_edge}
 use reduction_cert::chains_keep_the_meaning;
 use var_slicing::slicing_leaves_the_rules_of_edges;
 
-/// The strategy's applications are a chain, and what they make of a valid model is valid and means the same.
+/// The strategy's applications are a chain, and their result on a valid model is valid and means the same.
 pub fn strategies_keep_the_meaning()
     ensures chain { (g : EventGraph) (applications : List RuleApplication) (h : EventGraph)
         → Strategy g applications h → Chain g applications h }

@@ -32,7 +32,7 @@ pub(crate) fn sweep(
     Ok(())
 }
 
-/// The same for these vertices, over the model's variables.
+/// Applies the rule wherever it applies in these vertices, over the model's variables, and notes each application.
 fn sweep_vertices(
     alloc: Global,
     rule: EdgeRule,
@@ -50,7 +50,7 @@ fn sweep_vertices(
     Ok(())
 }
 
-/// The same for one vertex.
+/// Applies the rule wherever it applies in one vertex, and notes each application.
 fn sweep_vertex(
     alloc: Global,
     rule: EdgeRule,
@@ -92,7 +92,7 @@ fn prune_edges(
     Ok(())
 }
 
-/// Moves the edge at a place up behind those that were kept, unless its condition never holds, and says how many are kept then.
+/// Moves the edge at a place up to those that were kept, unless its condition never holds, and says how many are kept then.
 fn keep(edges: &mut Vec<Edge>, refuted: bool, kept: usize, place: usize) -> usize
     requires before { kept ≤ place }
     requires there { place < length edges.old.items }
@@ -149,7 +149,7 @@ fn settle_edge(edge: &mut Edge, proved: bool)
     }
 }
 
-/// Notes the application to the edge behind so many, where the rule applies to it.
+/// Notes the application to the edge after so many, where the rule applies to it.
 fn note_edge(
     alloc: Global,
     rule: EdgeRule,

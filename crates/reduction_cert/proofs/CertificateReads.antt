@@ -1,4 +1,4 @@
--- What a call that reads a certificate told is so: what it read is one, and where it stopped is where none goes on.
+-- The answer of a call that reads a certificate is right: what it read is one, and where it stopped none goes on.
 use Rattle.std.proofs.Common.{◌≡◌, ℕ, Bool, true, false, List, [], ◌∷◌, ◌++◌, map, refl, subst}
 use Rattle.std.specs.Prelude.{Result, Ok, Err, IfOk}
 use Rattle.std.proofs.lemmas.List.{map-id}

@@ -1,4 +1,4 @@
--- An application leaves no more variables than there were, so counts of uses that served before it serve behind it.
+-- An application leaves no more variables than there were, so counts of uses that served before it serve after it.
 use Rattle.std.proofs.Common.{◌≡◌, ◌≤◌, ℕ, zero, suc, length, replicate, Option, Some, None, refl, sym, ap, subst, arith}
 use Rattle.std.specs.Prelude.{slice_index}
 use Rattle.std.specs.Option.{option_map_or}

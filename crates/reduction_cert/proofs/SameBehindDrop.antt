@@ -64,7 +64,7 @@ module _ (conditions : (g : EventGraph) (f : EventVertex → EventVertex) (gone 
   )
   made_for g name target later rest false h is refused = refused
 
--- what the rule's answer tells
+-- what the rule's answer says
 pub merge_told : (second : SecondVertex) (g : EventGraph) (name target : List ℕ) (first last : ℕ) (h : EventGraph) → two_vertices_named g name target ≡ Some (first, last) → (given : Result (Unit {0}) RuleError)
     → OnOk given ((first_failed (merge_conditions g first last) ≡ None) × (h ≡ merged_leaving second g first last))
     → IfErr given (λ e. TellsCondition e (first_failed (merge_conditions g first last)))
@@ -85,7 +85,7 @@ pub merge_applied : (g : EventGraph) (name target : List ℕ) (made : Bool) (h :
 merge_applied g name target true h (first, last, named, holds, same) = merge_named g name target first last named ∙ ap (λ o. unless_failed o (merged g first last)) holds ∙ ap Some (sym same)
 merge_applied g name target false h refused = refused
 
--- ---- what stands next
+-- ---- the next application
 
 pub only_one : {A : Type 0} (xs : List A) (x : A) → length xs ≡ 1 → x ≡ get_or xs 0 x → xs ≡ x ∷ []
 only_one [] x one at = absurd (omega (arith, one))

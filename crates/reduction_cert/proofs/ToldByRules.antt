@@ -1,4 +1,4 @@
--- What a rule's answer tells of its application.
+-- What a rule's answer says of its application.
 use Rattle.std.proofs.Common.{◌≡◌, ℕ, Bool, true, false, cond, List, Option, Some, None, Result, Ok, Err, is_ok, OnOk, IfOk, IfErr, refl, sym, ap, ◌∙◌, subst}
 use Rattle.std.specs.Option.{option_map_or}
 use Rattle.sig_base.specs.declared.no_memory.NoMemory.{NoMemory}
@@ -46,7 +46,7 @@ pub told_ok : {P E : Type 0} (given : Result (Unit {0}) E) → is_ok given ≡ t
 told_ok (Ok done) made p = p
 told_ok (Err e) made p = cc
 
--- what was told before a rule holds of what it made, and where it made nothing it is forgotten
+-- what was found before a rule holds of the rule's result, and where there is none it is forgotten
 pub kept_known : (result h : EventGraph) (failed : Option ℕ) (made : Bool) (told known : Known) → (made ≡ true → (failed ≡ None) × (h ≡ result)) → (failed ≡ None → IsKnown result told)
     → (made ≡ true → known ≡ told) → (made ≡ false → (g : EventGraph) → IsKnown g known) → IsKnown h known
 kept_known result h failed true told known done is kept forgotten =

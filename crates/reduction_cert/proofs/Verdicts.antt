@@ -1,4 +1,4 @@
--- What a verdict tells: that applications are a chain to a graph or to another, or which one is bad.
+-- What a verdict says: that applications are a chain to a graph or to another, or which one is bad.
 use Rattle.std.proofs.Common.{◌≡◌, ◌≢◌, ◌↔◌, ℕ, Bool, true, false, cond, IsTrue, List, [], ◌∷◌, Option, Some, None, refl, sym, ◌∙◌, ap, ap₂}
 use Rattle.std.specs.Option.{option_map_or, option_and_then, option_eq}
 use Rattle.model_core.specs.EventGraph.{EventGraph}
@@ -84,12 +84,12 @@ verdict-Differs g applications h = (
 
 -- ---- the code's test
 
--- what tells whether two graphs are equal is their sameness
+-- two graphs are equal exactly where their comparison says so
 pub told_by_parts : (r : Bool) (g h : EventGraph) → IsTrue r ↔ (g ≡ h) → same_graph g h ≡ r
 told_by_parts true g h (to, from) = (graphs_decide g h).1 (to refl)
 told_by_parts false g h (to, from) = unlike g h (same_graph g h) refl (λ same. let never : false ≡ true = from same in cc)
 
--- where no application was bad, the verdict on what they were made of: they were read where they lie, and made on a copy
+-- where no application was bad, the verdict on the original: the applications were read where they lie, and made on a copy
 pub told_at_end : (g copy : EventGraph) (applications read : List RuleApplication) (k h : EventGraph) (bad : Option ℕ) (r b : Bool) → copy ≡ g → read ≡ applications → bad ≡ None → bad ≡ first_bad copy read → graph_reached copy read ≡ Some k → IsTrue r ↔ (k ≡ h) → r ≡ b → cond b Sound Differs ≡ verdict g applications h
 told_at_end g copy applications read k h bad r b same listed none is reached test tells =
     ap (λ b. cond b Sound Differs) (sym (told_by_parts r k h test ∙ tells))

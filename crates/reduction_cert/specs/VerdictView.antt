@@ -1,4 +1,4 @@
--- Which plain verdict the checker's answer stands for.
+-- The plain verdict of the checker's answer.
 use Rattle.model_core.specs.Rules.Verdict as plain
 use Rattle.reduction_cert.specs.declared.checking.Verdict.{Verdict}
 use Rattle.reduction_cert.specs.declared.checking.Verdict.TheVariants as verdicts

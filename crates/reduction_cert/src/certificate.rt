@@ -55,7 +55,7 @@ fn put_merge(out: &mut Vec<u8>, vertex: &Name, target: &Name) -> Result<(), NoMe
     put_texts(out, &[target.as_slice(), b"\n"])
 }
 
-/// Adds names, each behind a space.
+/// Adds names, each after a space.
 fn put_names(out: &mut Vec<u8>, names: &[Name]) -> Result<(), NoMemory>
     ensures { OnOk result (out.new.items ≡ out.old.items ++ flat_map (λ (name : List ℕ). codes " " ++ name) names.now) }
 {

@@ -27,7 +27,7 @@ pub fn applications_add_no_variables()
     ensures { (g h : EventGraph) (a : RuleApplication) → applied g a ≡ Some h → length h.variables ≤ length g.variables }
 {}
 
-/// What an application makes of a valid model is valid and means the same, and so is what a chain of them
+/// The result of an application to a valid model is valid and means the same, and so is the model that a chain of them
 /// reaches.
 pub fn chains_keep_the_meaning()
     ensures one_valid { (g h : EventGraph) (a : RuleApplication) → IsValid g → applied g a ≡ Some h → IsValid h }

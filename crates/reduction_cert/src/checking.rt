@@ -70,7 +70,7 @@ fn led_to(
     }
 }
 
-/// Makes the applications, in order, up to the first bad one, and tells its number from 1.
+/// Makes the applications, in order, up to the first bad one, and gives its number from 1.
 fn apply_all(
     alloc: Global,
     model: &mut Model,
@@ -135,8 +135,9 @@ fn list_anew(
     Ok(())
 }
 
-/// Makes one application, behind which others stand from a place on, and says whether it names what the model has and meets the
-/// conditions of its rule. Where the next one drops the target of a merge, that gives away what it does, so that it isn't copied.
+/// Makes one application, which others follow from a place on, and says whether it names what the model has and meets the
+/// conditions of its rule. Where the next one drops the target of a merge, the target gives away what it does, so that this isn't
+/// copied.
 fn apply_before(
     alloc: Global,
     model: &mut Model,
@@ -206,7 +207,7 @@ fn apply(
     }
 }
 
-/// Keeps what was told before a rule, where the rule was made. Where it wasn't, nothing is known any more.
+/// Keeps what is known of a rule's result, where the rule was made. Where it wasn't, nothing is known any more.
 fn keep_where_made(known: &mut Known, made: bool) -> bool
     ensures is { result ≡ made }
     ensures kept { made ≡ true → known.new ≡ known.old }

@@ -44,7 +44,7 @@ fn name(alloc: Global, cursor: &mut Cursor<'_>) -> Result<Name, Stop>
     Ok(name.name)
 }
 
-/// Reads names as long as one comes, behind those that were read.
+/// Reads names as long as one comes, after those that were read.
 fn and_more_names(
     alloc: Global,
     cursor: &mut Cursor<'_>,
@@ -184,7 +184,7 @@ fn whole(alloc: Global, cursor: &mut Cursor<'_>) -> Result<List<Application>, St
 /// Reads the pieces from a place on, which all together must be one certificate, as its applications. A place is here the
 /// number of pieces before it.
 ///
-/// `Unexpected` tells the first byte from which no continuation makes a certificate: that of a piece, or the text's length.
+/// `Unexpected` has the first byte from which no continuation makes a certificate: that of a piece, or the text's length.
 /// No openings are counted.
 pub fn read_certificate_pieces(
     alloc: Global,

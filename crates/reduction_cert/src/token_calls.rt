@@ -14,7 +14,7 @@ use std::alloc::Global;
 /// Reads the tokens from a place on, which all together must be one certificate, as its applications. A place is here the
 /// number of tokens before it.
 ///
-/// `Unexpected` tells the first byte from which no continuation makes a certificate: that of a token, or the text's length.
+/// `Unexpected` has the first byte from which no continuation makes a certificate: that of a token, or the text's length.
 /// No openings are counted.
 pub fn read_certificate(
     alloc: Global,

@@ -82,7 +82,7 @@ fn version_without(model: &Model, version_two: Option<bool>, vertices: &[usize])
     version_two
 }
 
-/// Makes what is known of the lines of what vertices do what is known of them behind a drop of these.
+/// Turns what is known of the lengths of lines of each vertex into what is known after a drop of these.
 fn keep_bodies_without(bodies: &mut Bodies, vertices: &[usize])
     ensures is { bodies.new ≡ bodies_without bodies.old vertices.now }
     ensures are { (g : EventGraph) → AreBodies g bodies.old → first_failed (drop_conditions g vertices.now) ≡ None → AreBodies (dropped g vertices.now) bodies.new }
@@ -95,7 +95,7 @@ fn keep_bodies_without(bodies: &mut Bodies, vertices: &[usize])
     }
 }
 
-/// Makes what is known of a model what is known of it behind a drop of these vertices, told before it.
+/// Turns what is known of a model into what is known after a drop of these vertices. It is called before the drop.
 pub fn know_without(model: &Model, known: &mut Known, vertices: &[usize])
     requires known { IsKnown (graph_of model.now) known.old }
     ensures single { known.new.single ≡ still_single known.old.single }

@@ -1,4 +1,4 @@
--- The rules behind those of edges, one application at a time: what the code makes of a model, and what it notes of that.
+-- The rules after those of edges, one application at a time: the result of the code, and what it notes.
 use Rattle.std.specs.Prelude.{◌≡◌, ℕ, Bool, true, false, List, [], ◌∷◌, ◌++◌, Option, Some, None}
 use Rattle.model_core.specs.EventGraph.{EventGraph}
 use Rattle.model_core.specs.Static.Reading.{IsValid}
@@ -44,7 +44,7 @@ pub data MaybeDropped (g h : EventGraph) (before after : List RuleApplication) :
   nothing_more : h ≡ g → after ≡ before → MaybeDropped g h before after
   dropped_too : Made (drop_of g (unreached g)) true g h before after → MaybeDropped g h before after
 
--- The application that the rule gives is made and noted, if there is one, and maybe the drop behind it.
+-- The application that the rule gives is made and noted, if there is one, and maybe the drop after it.
 abbrev pub MadeOn : (EventGraph → Option RuleApplication) → Bool → EventGraph → EventGraph → List RuleApplication → List RuleApplication → Type 0
 MadeOn rule true g h before after = (next : EventGraph) × (between : List RuleApplication) × Made (rule g) true g next before between × MaybeDropped next h between after
 MadeOn rule false g h before after = Made (rule g) false g h before after

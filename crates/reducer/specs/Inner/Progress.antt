@@ -26,7 +26,7 @@ pub record IsProgress (g : EventGraph) (p : Progress) : Type 0 where
   pub reached : p.all_reached ≡ true → unreached g ≡ []
   pub pairs : ArePairs g p.pairs
 
--- two vertices may be merged, and that this will be done was told
+-- two vertices may be merged, and what is kept of pairs is that of the result already
 pub record IsMerging (g : EventGraph) (first second : ℕ) (p : Progress) : Type 0 where
   pub holds : first_failed (merge_conditions g first second) ≡ None
   pub known : IsKnown g p.known

@@ -14,7 +14,7 @@ abbrev pub application_by : EdgeRule → List ℕ → ℕ → RuleApplication
 application_by rules.Prune name edge = Prune name edge
 application_by rules.Settle name edge = Settle name edge
 
--- the edges that stand where the rule was applied to an edge
+-- the edges in place of an edge to which the rule was applied
 abbrev pub instead : EdgeRule → EventEdge → List EventEdge
 instead rules.Prune e = []
 instead rules.Settle e = unconditional e ∷ []
@@ -31,12 +31,12 @@ left_by_sweep rule g e = cond (test_of rule g e) (instead rule e) (e ∷ [])
 abbrev pub swept_vertex : EdgeRule → EventGraph → EventVertex → EventVertex
 swept_vertex rule g v = record v { edges = flat_map (left_by_sweep rule g) v.edges }
 
--- the application to an edge behind so many, where the rule applies, and those to the edges behind it
+-- the application to an edge after so many, where the rule applies, and those to the edges after it
 abbrev pub applied_or_not : EdgeRule → List ℕ → ℕ → Bool → (ℕ → List RuleApplication) → List RuleApplication
 applied_or_not rule name before true later = application_by rule name (before + 1) ∷ later (before + width rule)
 applied_or_not rule name before false later = later (before + 1)
 
--- the applications to a vertex's edges, behind so many
+-- the applications to a vertex's edges, after so many
 abbrev pub applied_behind : EdgeRule → EventGraph → List ℕ → ℕ → List EventEdge → List RuleApplication
 applied_behind rule g name before [] = []
 applied_behind rule g name before (e ∷ es) = applied_or_not rule name before (test_of rule g e) (λ k. applied_behind rule g name k es)
@@ -53,10 +53,10 @@ applied_to_all rule g vs = flat_map (applied_to rule g) vs
 abbrev pub settled_if_proved : EventGraph → EventEdge → EventEdge
 settled_if_proved g e = cond (test_of rules.Settle g e) (unconditional e) e
 
--- the application to an edge behind so many, where the rule applies
+-- the application to an edge after so many, where the rule applies
 abbrev pub application_here : EdgeRule → List ℕ → ℕ → Bool → List RuleApplication
 application_here rule name before applies = cond applies (application_by rule name (before + 1) ∷ []) []
 
--- how many edges stand before the next one
+-- how many edges are before the next one
 abbrev pub next_before : EdgeRule → ℕ → Bool → ℕ
 next_before rule before applies = before + cond applies (width rule) 1

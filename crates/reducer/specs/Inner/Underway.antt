@@ -1,4 +1,4 @@
--- A model under way: what is right of it, and what one rule makes of it.
+-- A model while rules are applied to it: what is right of it, and the result of one rule.
 use Rattle.std.specs.Prelude.{ℕ, Bool, Option, map}
 use Rattle.model_core.specs.EventGraph.{EventGraph}
 use Rattle.model_core.specs.Static.Reading.{IsValid}
@@ -36,7 +36,7 @@ pub record ByRule (rule : EventGraph → Option RuleApplication) (some : Bool) (
   pub made : MadeUnderway rule some old new
   pub known : IsProgress (graph_of new.model) new.progress
 
--- the same, and maybe the drop behind it
+-- it is made and noted, if there is one, and maybe the drop after it; and what is known then is right
 pub record ByRuleOn (rule : EventGraph → Option RuleApplication) (some : Bool) (old new : Underway) : Type 0 where
   pub made : MadeOn rule some (graph_of old.model) (graph_of new.model) (map application_of old.applications.items) (map application_of new.applications.items)
   pub known : IsProgress (graph_of new.model) new.progress

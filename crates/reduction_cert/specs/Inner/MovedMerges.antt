@@ -13,7 +13,7 @@ use Rattle.model_read.specs.NamesPlaced.{names_of_vertices}
 abbrev pub BeginsWithDrop : List ℕ → List RuleApplication → Type 0
 BeginsWithDrop name later = (rest : List RuleApplication) × (later ≡ Drop (name ∷ []) ∷ rest)
 
--- these applications make of the second graph what they make of the first, and the two have the same names and as many variables
+-- these applications have one result on both graphs, and the two have the same names and as many variables
 pub record Serves (later : List RuleApplication) (g h : EventGraph) : Type 0 where
   pub bad : first_bad g later ≡ first_bad h later
   pub reached : graph_reached g later ≡ graph_reached h later

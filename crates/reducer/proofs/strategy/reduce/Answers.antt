@@ -1,4 +1,4 @@
--- What the sweeps and the rules behind them are known to leave and to note is the whole strategy.
+-- What the sweeps and the rules after them leave and note is the whole strategy.
 use Rattle.std.proofs.Common.{map, ap}
 use Rattle.std.proofs.lemmas.Result.{IfOk-weaker}
 use Rattle.model_core.specs.Code.Views.{graph_of, application_of}

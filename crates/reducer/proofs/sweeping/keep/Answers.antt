@@ -1,4 +1,4 @@
--- The edge stays behind, stands where it is to stand, or moves there.
+-- The edge goes, is at its new place already, or moves there.
 use Rattle.std.proofs.Common.{◌∙◌, ap, not}
 use Rattle.std.proofs.lemmas.List.Filters.{FiltersInPlace-more_no, FiltersInPlace-more_here, FiltersInPlace-more_swap}
 use Rattle.reducer.proofs.SweepCode.{some_there}

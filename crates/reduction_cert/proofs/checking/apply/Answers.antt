@@ -1,4 +1,4 @@
--- Nothing is known behind a slice, and a merge whose second vertex stays is the rule's application.
+-- Nothing is known after a slice, and a merge whose second vertex stays is the rule's application.
 use Rattle.std.proofs.Common.{◌≡◌, Some, None, cond, sym, ap, subst}
 use Rattle.std.proofs.lemmas.Result.{IfOk-weaker}
 use Rattle.model_core.specs.Code.Views.{graph_of, application_of}

@@ -1,4 +1,4 @@
--- The next application drops the target of the merge, or the application is made as it stands.
+-- The next application drops the target of the merge, or the application is made by itself.
 use Rattle.std.proofs.Common.{sym, ap, subst, map, drop}
 use Rattle.std.proofs.lemmas.Result.{IfOk-weaker}
 use Rattle.model_core.specs.Code.Views.{graph_of, application_of}

@@ -1,4 +1,4 @@
--- What is known was told before, and holds of the result.
+-- What is known was found before the rule, and holds of its result.
 use Rattle.std.proofs.Common.{rules, ◌∙◌, Some, None, cond, sym, ap}
 use Rattle.model_core.specs.declared.rule_refused.RuleRefused.{RuleRefused}
 use Rattle.model_core.specs.Code.Views.{graph_of}

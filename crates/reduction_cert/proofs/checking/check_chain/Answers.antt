@@ -1,4 +1,4 @@
--- What the applications make of the copy they make of the original.
+-- The applications have the same result on the copy as on the original.
 use Rattle.std.proofs.Common.{◌≡◌, IfOk, map, subst}
 use Rattle.model_core.specs.Code.Views.{graph_of, application_of}
 use Rattle.model_core.specs.Rules.Verdict.{verdict}

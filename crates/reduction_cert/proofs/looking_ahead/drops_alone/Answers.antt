@@ -1,4 +1,4 @@
--- The application at the place is the first of those that stand from there on.
+-- The application at the place is the first of those from there on.
 use Rattle.std.proofs.Common.{◌≡◌, ◌∙◌, ◌+◌, ◌≤◌, sym, ap, map, drop, List, [], ◌∷◌, length, arith}
 use Rattle.std.proofs.lemmas.Bool.{ltb-true}
 use Rattle.std.proofs.lemmas.Bool.Decides.{nat_tests}

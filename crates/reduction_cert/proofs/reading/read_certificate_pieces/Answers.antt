@@ -1,4 +1,4 @@
--- The reader of the grammar tells.
+-- The answer is that of the reader of the grammar.
 use Rattle.std.proofs.Common.{◌≡◌, ◌∙◌, drop, map, refl, sym}
 use Rattle.model_core.specs.Code.Views.{application_of}
 use Rattle.model_core.specs.Text.CertificateText.{certificate_format}

@@ -1,4 +1,4 @@
--- The law tells what is left.
+-- The law says what is left.
 use Rattle.model_core.specs.Code.Views.{graph_of}
 use Rattle.model_core.specs.Rules.Drop.{dropped}
 use Rattle.reduction_cert.proofs.LengthLeft.{length_left}

@@ -1,4 +1,4 @@
--- Where none of them needs version 2 of a text, the law tells that nothing has changed.
+-- Where none of them needs version 2 of a text, the law says that nothing has changed.
 use Rattle.std.proofs.Common.{◌≡◌, ◌∙◌, Bool, Option, Some, None, sym}
 use Rattle.model_core.specs.EventGraph.{EventGraph}
 use Rattle.model_core.specs.Text.VersionNeeded.{needs_version_two}

@@ -1,4 +1,4 @@
--- All vertices can be reached then, and nobody has looked at what is left.
+-- All vertices can be reached then, and nothing is kept of what is left.
 use Rattle.std.proofs.Common.{length, sym, subst}
 use Rattle.model_core.specs.EventGraph.{EventGraph}
 use Rattle.model_core.specs.Code.Views.{graph_of}

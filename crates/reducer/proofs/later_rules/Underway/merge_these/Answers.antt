@@ -1,4 +1,4 @@
--- The second vertex stands at one of the places of which something is known.
+-- The place of the second vertex is one of those of which something is known.
 use Rattle.std.proofs.Common.{◌<◌, length, arith}
 use Rattle.std.proofs.lemmas.Bool.{ltb-true}
 use Rattle.model_core.specs.Run.Step.{vertex_at}
