@@ -8,14 +8,14 @@ some_there (x ∷ xs) zero below = (x, refl)
 some_there (x ∷ xs) (suc i) below = some_there xs i (omega arith)
 
 -- seen by view, the first k of ys are what is left of the items of xs before place i, and from there on ys is as xs was. What
--- is left of items may go by the place from which they stand
+-- is left of items may go by the place from which they begin
 pub record LeftInPlace {X A : Type 0} (view : X → A) (left : ℕ → List A → List A) (xs ys : List X) (k i : ℕ) : Type 0 where
   pub so_far : map view (take k ys) ++ left i (map view (drop i xs)) ≡ left 0 (map view xs)
   pub rest : drop i ys ≡ drop i xs
   pub behind : k ≤ i
   pub long : length ys ≡ length xs
 
--- the item of ys at place i moves up behind the first k, if it stays: so the list is zs, and r items are kept
+-- the item of ys at place i moves up after the first k, if it stays: so the list is zs, and r items are kept
 abbrev pub MovedUp : {X : Type 0} → Bool → ℕ → ℕ → ℕ → List X → List X → Type 0
 MovedUp stays k i r ys zs = record {
   count : r ≡ k + cond stays 1 0;
@@ -32,7 +32,7 @@ no_more : (b : Bool) (k i r : ℕ) → k ≤ i → r ≡ k + cond b 1 0 → r �
 no_more true k i r behind count = omega arith
 no_more false k i r behind count = omega arith
 
--- the loop ends at the length that is told, of all items
+-- the loop ends at the length of all items
 module _ {X A : Type 0} {view : X → A} {left : ℕ → List A → List A} {xs ys : List X} {k i : ℕ} (h : LeftInPlace view left xs ys k i) {end told : ℕ} where
   -- the item x at place i is written anew as y, and then kept or not
   pub one_left : (x y : X) (b : Bool) {r : ℕ} {zs : List X} → i < end → end ≡ told → told ≡ length xs → x ≡ get_or ys i x

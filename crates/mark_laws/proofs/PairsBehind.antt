@@ -1,4 +1,4 @@
--- Pairs of a place and one behind it, and the lists of the places behind.
+-- Pairs of a place and one of its successors, and the lists of successors.
 use Rattle.std.proofs.Common.{◌≡◌, ◌⊎◌, inl, inr, ℕ, zero, suc, ◌+◌, List, [], ◌∷◌, ap, subst, arith}
 use Rattle.model_core.specs.Rules.Needed.{each_beside}
 use Rattle.model_core.proofs.Among.{Among, among-map, among-of_map, among-front, among-back, among-either}

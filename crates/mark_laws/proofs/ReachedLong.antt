@@ -1,4 +1,4 @@
--- Each vertex has a mark that tells whether it can be reached.
+-- Each vertex has a mark, which says whether it can be reached.
 use Rattle.std.proofs.Common.{◌≡◌, length, ◌||◌, List, Bool, map, ◌∙◌}
 use Rattle.std.specs.List.{range_with_len}
 use Rattle.std.proofs.lemmas.List.FromFn.{length-map-range_with_len}

@@ -1,12 +1,12 @@
--- The places behind each place, as lists and as pairs.
+-- The successors of each place, as lists and as pairs.
 use Rattle.std.specs.Prelude.{ℕ, ◌+◌, List, [], ◌∷◌, ◌++◌, slice_index_or}
 use Rattle.model_core.specs.Rules.Needed.{each_beside}
 
--- the places behind a place
+-- the successors of a place
 abbrev pub places_behind : List (List ℕ) → ℕ → List ℕ
 places_behind next k = slice_index_or next k []
 
--- each place beside each of those behind it, where so many places stand before these
+-- each place with each of its successors, where so many places come before these
 abbrev pub pairs_from : ℕ → List (List ℕ) → List (ℕ × ℕ)
 pairs_from before [] = []
 pairs_from before (ks ∷ next) = each_beside before ks ++ pairs_from (before + 1) next

@@ -1,3 +1,3 @@
-//! Laws of marks on places: what a walk that marks what follows from the first places has found, and how the places that
-//! stay are numbered anew. They stand in `proofs/`, for the crates that walk and those that read the marks.
+//! Laws of marks on places: the places that a walk from some first places has marked, and the new numbers of the places that
+//! stay. They are in `proofs/`, for the crates that walk and those that read the marks.
 #![tactic(auto)]

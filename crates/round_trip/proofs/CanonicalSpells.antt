@@ -109,7 +109,7 @@ module _ (g : EventGraph) (h : IsSpellable g) (back : ReadsBack g) where
         whole.2.2,
       )
 
-  -- the model's text stands at the front of any text whose other tokens are known
+  -- the model's text is at the front of any text whose other tokens are known
   pub canonical-before : (rest : List ℕ) (left : List Lexeme) → Lexes (0 + length (canonical g)) rest left → (w : WrittenModel) × (tokens : List Lexeme) × (tokens_of (canonical g ++ rest) ≡ Ok tokens) × BeginsWithModel tokens w left × (numbered w ≡ Some g) × VariablesByKind w × FitsVersion w.version g
   unfolding IsModel
   canonical-before rest left lexed =

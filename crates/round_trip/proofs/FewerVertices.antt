@@ -23,7 +23,7 @@ among-some x (with_it y some) (inl e) = inl e
 among-some x (with_it y some) (inr h) = inr (among-some x some h)
 among-some x (without y some) h = inr (among-some x some h)
 
--- some of a graph's vertices stay, and f tells the new place of each that edges or the watch list name. Named holds of those,
+-- some of a graph's vertices stay, and f gives the new place of each that edges or the watch list name. Named holds of those,
 -- and Told of those that are watched
 pub record Stay (g : EventGraph) (kept : List EventVertex) (f : ℕ → ℕ) (Named Told : ℕ → Type 0) : Type 0 where
   pub some : SomeOf kept g.vertices

@@ -113,7 +113,7 @@ writes-right_side : {c m : List ℕ} {i j k : ℕ} {H : WrittenExpression → Ty
 writes-right_side {H = H} o first second =
     writes-then (writes-made (λ x y. (x, y)) {J = Takes H (λ p. (p.0 ≡ o) × H p.1)} first (λ x g. takes (λ e h. (g, h)))) (λ rest e. tt) second
 
--- a chain of this level, and an operand behind an operator
+-- a chain of this level, and an operand after an operator
 pub writes-chain : {k m : List ℕ} {h i j l : ℕ} {G H : WrittenExpression → Type 0} (J : WrittenExpression → Type 0) {ops : LanguageFormat Operator} (r s : Level) (o : Operator) (c : List ℕ) → Into (by_rule level_format r) (Spells level_format (chain ops s))
     → Writes (ByRule r) k Ends h i G → Writes ops (32 ∷ c) Any i j (λ p. p ≡ o) → Writes (ByRule s) m Ends j l H → ((a b : WrittenExpression) → G a → H b → J (joining a (o, b))) → Writes (chain ops s) (k ++ ((32 ∷ c) ++ m)) Ends h l J
 writes-chain {k} {m} {h} {H = H} J {ops = ops} r s o c inverse first operator second joins = record {

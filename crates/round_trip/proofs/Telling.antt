@@ -1,4 +1,4 @@
--- What a format tells of the values that it spells from the tokens of a text, and of the openings that they take.
+-- Facts of all values that a format spells from the tokens of a text, and of the openings that they take.
 use Rattle.std.proofs.Common.{◌≡◌, ℕ, zero, suc, ◌+◌, ◌≤◌, Bool, true, false, List, [], ◌∷◌, refl, sym, ap, subst, inl, inr, arith}
 use Rattle.std.specs.Prelude.{Option, Some, None}
 use Rattle.std.specs.List.{AllByRecursion}
@@ -32,7 +32,7 @@ Telling A = ℕ → A → ℕ → Type 0
 pub record Tells {A : Type 0} (levels : Level → Grammar WrittenExpression) (f : LanguageFormat A) (R : Telling A) : Type 0 where
   pub run : (k : ℕ) (tokens : List Lexeme) (v : A) (left : List Lexeme) → Sound k tokens → derives levels f tokens v left → (j : ℕ) × R k v j × Sound j left
 
--- a function that makes of what Q holds of what R holds of
+-- a function that maps each value with Q to one with R
 pub record Then {A B : Type 0} (Q : Telling A) (R : Telling B) (k : ℕ) (f : A → B) (i : ℕ) : Type 0 where
   pub made : (x : A) (j : ℕ) → Q i x j → R k (f x) j
 
@@ -138,7 +138,7 @@ tells-number = tells-token ANumber _ AWrittenNumber (λ t good same k j s. by-ki
 
 -- ---- parts in a row
 
--- a part behind another one
+-- a part after another one
 pub record Behind {A B : Type 0} (Q : Telling A) (R : Telling B) (k : ℕ) (y : B) (j : ℕ) : Type 0 where
   pub value : A
   pub between : ℕ

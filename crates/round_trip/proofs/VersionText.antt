@@ -1,4 +1,4 @@
--- The line of the version reads back, where it stands and where it doesn't.
+-- The line of the version reads back, where the text has it and where it doesn't.
 use Rattle.std.proofs.Common.{◌≡◌, inr, Bool, true, false, refl}
 use Rattle.std.specs.Prelude.{pos, Option, Some, None, codes}
 use Rattle.std.specs.Option.{option_map}

@@ -1,4 +1,4 @@
--- What a rule makes of a model needs version 2 of a text only where the model did, so that its first line is no longer.
+-- The result of a rule needs version 2 of a text only where the model did, so that its first line is no longer.
 use Rattle.std.proofs.Common.{◌≡◌, inl, inr, ℕ, zero, suc, Bool, true, false, ◌||◌, List, [], ◌∷◌, ◌++◌, map, length, nat_lt, refl, sym, ◌∙◌, ap}
 use Rattle.std.specs.Prelude.{codes}
 use Rattle.std.specs.List.{flat_map, list_any}

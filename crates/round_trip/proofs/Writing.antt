@@ -1,4 +1,4 @@
--- From text to value in one step: what a text is read as by a format, wherever it stands, and how many openings it takes.
+-- From text to value in one step: the value that a format reads from a text, wherever it is, and how many openings it takes.
 use Rattle.std.proofs.Common.{◌≡◌, ℕ, suc, ◌+◌, List, [], ◌∷◌, ◌++◌, length, refl, sym, ap, ◌∙◌, subst, inl, inr, arith, append_assoc, length-append}
 use Rattle.std.specs.Prelude.{Option, Some, None}
 use Rattle.sig_base.specs.declared.limits.TheConstants.{OPENINGS_MAX}
@@ -126,7 +126,7 @@ writes-more {p = p} {a = a} {b = b} {F = F} {H = H} {i = i} first follows second
 pub writes-rule : (r : Level) {a : List ℕ} {F : List ℕ → Type 0} {i j : ℕ} {G : WrittenExpression → Type 0} → Writes (level_format r) a F i j G → Writes (ByRule r) a F i j G
 writes-rule r first = record { run = λ at. let f = first.run at in (f.0, f.1, f.2, λ left. ((f.3 left).0, by-format level_format r (f.1 ++ left) f.0 left (f.3 left).1), f.4) }
 
--- ---- blanks before and behind
+-- ---- blanks before and after
 
 pub blank_before : {A : Type 0} {f : LanguageFormat A} {a : List ℕ} {F : List ℕ → Type 0} {i j : ℕ} {G : A → Type 0} → Writes f a F i j G → Writes f (32 ∷ a) F i j G
 blank_before {a = a} first = record {

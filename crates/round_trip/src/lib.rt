@@ -1,5 +1,5 @@
-//! What a text spells can be written again: laws of the definitions of model texts, certificates and documents alone, with
-//! no code.
+//! Laws of printing and reading back: the models, certificates and documents that a text spells can be written again. The
+//! functions have empty bodies.
 #![tactic(auto)]
 
 ghost use Rattle.std.specs.Prelude.{◌≡◌, ◌↔◌, ◌++◌, ℕ, List, length, Some, Ok};

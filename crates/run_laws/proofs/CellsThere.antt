@@ -1,4 +1,4 @@
--- Which cells a state in range has.
+-- The cells of a state in range.
 use Rattle.std.proofs.Common.{◌≡◌, ℕ, ◌<◌, ℤ, pos, negsuc, nat_lt, Bool, true, false, cond, length, Ok, refl, arith, IsTrue}
 use Rattle.std.proofs.lemmas.Bool.Decides.{nat_tests}
 use Rattle.std.proofs.lemmas.List.{length-map}

@@ -1,5 +1,5 @@
 -- Vertices may be mapped to those of another model that do the same: where live ones lead to live ones alone, and those
--- that are watched or cancelled are told apart from all live ones, the runs stay the same.
+-- that are watched or cancelled keep apart from all live ones, the runs stay the same.
 use Rattle.std.proofs.Common.{◌≡◌, ◌≤◌, ◌^◌, ℕ, ℤ, Bool, true, false, not, cond, ◌&&◌, ◌+◌, ◌==◌, nat_lt, List, [], ◌∷◌, map, slice_index_or, Some, None, Ok, refl, sym, ◌∙◌, ap, ap₂, subst, arith}
 use Rattle.std.proofs.lemmas.Bool.Decides.{nat_tests}
 use Rattle.std.proofs.lemmas.List.{map-append, length-map}
@@ -35,13 +35,13 @@ abbrev pub WatchedTold : (ℕ → Type 0) → Watched → Type 0
 WatchedTold Told (WatchedVariable v) = Unit {0}
 WatchedTold Told (WatchedVertex v) = Told v
 
--- an edge that schedules leads to a live vertex, and one that cancels to one that is told apart
+-- an edge that schedules leads to a live vertex, and one that cancels to one that keeps apart
 abbrev pub MayLead : (Live Told : ℕ → Type 0) → EdgeKind → ℕ → Type 0
 MayLead Live Told (Schedule delay priority) t = Live t
 MayLead Live Told Urgent t = Live t
 MayLead Live Told kind t = Told t
 
--- f maps each live vertex to one that does the same, and tells those that are watched or cancelled apart from live ones
+-- f maps each live vertex to one that does the same, and keeps those that are watched or cancelled apart from live ones
 pub record Mapping (g : EventGraph) (f : ℕ → ℕ) (vertices : List EventVertex) (Live Told : ℕ → Type 0) : Type 0 where
   pub apart : (t : ℕ) → Told t → (k : ℕ) → Live k → (f k == f t) ≡ (k == t)
   pub does : (k : ℕ) → Live k → DoesAs f (vertex_at g k) (slice_index_or vertices (f k) no_vertex)

@@ -1,4 +1,4 @@
--- How many words were taken from each stream.
+-- Counts of the words taken from each stream.
 use Rattle.std.proofs.Common.{◌≡◌, ℕ, replicate}
 use Rattle.model_core.specs.Run.Changes.{taken_from}
 use Rattle.run_laws.proofs.InRange.{replicate-get}

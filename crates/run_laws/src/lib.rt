@@ -1,6 +1,6 @@
-//! Laws of runs: what stays along them, how they go on, when two of them show the same, and what of a run an event spares.
-//! The functions do nothing: what they ensure holds of all models. The diagrams by which two runs are compared stand in
-//! `proofs/`, and are proved once for all rules.
+//! Laws of runs: facts that a run keeps, how it goes on, when two runs show the same, and what an event leaves as it is.
+//! The functions have empty bodies: what they ensure holds of all models. The diagrams by which two runs are compared are in
+//! `proofs/`, proved once for all rules.
 #![tactic(auto)]
 
 mod going_on;

@@ -10,7 +10,7 @@ earliest-append : (told : Option StaticFault) (fs gs : List StaticFault) → ear
 earliest-append told [] gs = refl
 earliest-append told (f ∷ fs) gs = earliest-append (earlier_fault told f) fs gs
 
--- ---- what is told, one after another
+-- ---- first faults of parts, one after another
 
 pub told_both : (t0 t1 t2 : Option StaticFault) (fs gs : List StaticFault) → t1 ≡ earliest_fault t0 fs → t2 ≡ earliest_fault t1 gs → t2 ≡ earliest_fault t0 (fs ++ gs)
 told_both t0 t1 t2 fs gs e f = f ∙ ap (λ t. earliest_fault t gs) e ∙ sym (earliest-append t0 fs gs)
@@ -34,7 +34,7 @@ noted t0 t1 fs e = record { told = e; unbroken = λ h. h }
 pub behind : (t0 : Option StaticFault) {t1 t2 : Option StaticFault} {gs : List StaticFault} {P : Type 0} (fs : List StaticFault) → t1 ≡ earliest_fault t0 fs → Checked t1 t2 gs P → Checked t0 t2 (fs ++ gs) P
 behind t0 {t1 = t1} fs e c = made (λ p. p.1) (both (noted t0 t1 fs e) c)
 
--- a part with more faults behind it
+-- a part with more faults after it
 pub before : {t0 t1 : Option StaticFault} (t2 : Option StaticFault) {fs : List StaticFault} {P : Type 0} (gs : List StaticFault) → Checked t0 t1 fs P → t2 ≡ earliest_fault t1 gs → Checked t0 t2 (fs ++ gs) P
 before {t1 = t1} t2 gs c e = made (λ p. p.0) (both c (noted t1 t2 gs e))
 

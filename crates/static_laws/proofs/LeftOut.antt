@@ -1,4 +1,4 @@
--- Lists that may be left out.
+-- Optional lists: a list that may be left out of a text.
 use Rattle.std.proofs.Common.{◌≡◌, List, [], map, Option, Some, None, refl}
 use Rattle.std.specs.Option.{option_map}
 use Rattle.model_core.specs.Text.Numbering.{each_numbered, written_or}

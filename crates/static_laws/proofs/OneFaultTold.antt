@@ -1,4 +1,4 @@
--- A written model is accepted, or exactly one fault of it is told.
+-- A written model is accepted, or has exactly one first fault.
 use Rattle.std.proofs.Common.{◌≡◌, ◌↔◌, ℕ, ◌≤◌, false, inl, inr, List, [], ◌∷◌, ◌++◌, Option, Some, None, refl, sym, ap, ◌∙◌, arith, subst}
 use Rattle.std.specs.Prelude.{slice_get}
 use Rattle.std.specs.List.{Contains}
@@ -48,7 +48,7 @@ some_same e = cc
 one_place : (j k : StaticKind) → rule_row j ≡ rule_row k → j ≡ k
 one_place j k e = some_same (sym (at_its_place j) ∙ ap (slice_get rules_in_order) e ∙ at_its_place k)
 
--- ---- the fault that is told
+-- ---- the first fault
 
 both_ways : (a b : ℕ) → a ≤ b → b ≤ a → a ≡ b
 both_ways a b h k = omega arith
@@ -56,7 +56,7 @@ both_ways a b h k = omega arith
 abbrev fault_of : StaticKind → ℕ → StaticFault
 fault_of kind at = record { at = at; kind = kind }
 
--- two faults are one where neither is told before the other
+-- two faults are one where neither comes before the other
 one_fault : (f g : StaticFault) → is_told_before g f ≡ false → is_told_before f g ≡ false → f ≡ g
 one_fault f g a b = ap (λ kind. fault_of kind f.at) one_kind ∙ ap (fault_of g.kind) one_byte
   where
@@ -68,7 +68,7 @@ one_fault f g a b = ap (λ kind. fault_of kind f.at) one_kind ∙ ap (fault_of g
         (not_before_row f.at (rule_row f.kind) (rule_row g.kind) (subst (λ at. is_told_before (fault_of g.kind at) f ≡ false) (sym one_byte) a))
         (not_before_row g.at (rule_row g.kind) (rule_row f.kind) (subst (λ at. is_told_before (fault_of f.kind at) g ≡ false) one_byte b)))
 
--- of lists that have the same faults the same one is told
+-- lists that have the same faults have the same first one
 pub same_told : (fs gs : List StaticFault) → ((f : StaticFault) → Contains fs f → Contains gs f) → ((f : StaticFault) → Contains gs f → Contains fs f) → earliest_fault None fs ≡ earliest_fault None gs
 same_told fs gs to from = by_case (earliest_fault None fs) refl (earliest_fault None gs) refl
   where
@@ -99,7 +99,7 @@ module _ (m : WrittenModel) where
       least : IsLeast (model_faults m) f
       least = earliest_is_least (model_faults m) f e
 
-  -- no two faults are told
+  -- no two faults are first
   one_told : (f g : StaticFault) → IsTold m f.kind f.at → IsTold m g.kind g.at → f ≡ g
   one_told f g t u = ap (λ kind. fault_of kind f.at) one_kind ∙ ap (fault_of g.kind) one_byte
     where

@@ -1,4 +1,4 @@
--- The check of a whole model from those of its parts, and what is told of it.
+-- The check of a whole model from those of its parts, and its first fault.
 use Rattle.std.proofs.Common.{◌≡◌, List, [], ◌∷◌, ◌++◌, Option, Some, None, refl, sym, ap, ◌∙◌}
 use Rattle.std.specs.List.{flat_map}
 use Rattle.sig_base.specs.declared.limits.TheConstants.{TEXT_MAX}
@@ -45,13 +45,13 @@ module _ (m : WrittenModel) where
   others_told [] f e = cc
   others_told (x ∷ fs) f e = refl
 
-  -- the faults of the version may be told before those of the parts
+  -- the faults of the version may come before those of the parts
   pub version_first : {P : Type 0} (t0 t1 : Option StaticFault) → t0 ≡ earliest_fault None (version_faults m) → Checked t0 t1 (faults_of_parts m) P → Checked None t1 (faults_of_parts m ++ version_faults m) P
   version_first t0 t1 e c =
       let b = behind None (version_faults m) e c in
       record { told = b.told ∙ either_order (version_faults m) (faults_of_parts m); unbroken = λ n. c.unbroken (left_empty (faults_of_parts m) (version_faults m) n) }
 
-  -- with the fault of the length where there is no other, the told fault is that of the model
+  -- with the fault of the length where there is no other, the first fault is that of the model
   pub all_told : (g : EventGraph) (t1 t2 : Option StaticFault) → Checked None t1 (faults_of_parts m ++ version_faults m) (numbered m ≡ Some g)
       → (t1 ≡ None → t2 ≡ earliest_fault None (model_too_long TEXT_MAX (canonical g) m.end_at)) → ((f : StaticFault) → t1 ≡ Some f → t2 ≡ t1) → t2 ≡ told_fault m
   all_told g None t2 c none some =
@@ -59,7 +59,7 @@ module _ (m : WrittenModel) where
       none refl ∙ ap (earliest_fault None) (sym (long_told g (c.unbroken nothing) (faults_of_parts m ++ version_faults m) nothing))
   all_told g (Some f) t2 c none some = some f refl ∙ c.told ∙ ap (earliest_fault None) (sym (others_told (faults_of_parts m ++ version_faults m) f (sym c.told)))
 
-  -- the parts of a model in which nothing is told are numbered
+  -- the parts of a model without a fault are numbered
   parts_unbroken : (fs : List StaticFault) → or_too_long m TEXT_MAX fs ≡ [] → fs ≡ []
   parts_unbroken [] e = refl
   parts_unbroken (f ∷ fs) e = cc

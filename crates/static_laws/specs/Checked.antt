@@ -1,11 +1,11 @@
--- What the check of a part does: it tells the part's faults, and where there are none the part is numbered.
+-- The check of a part: it finds the part's first fault, and where there is none the part is numbered.
 use Rattle.std.specs.Prelude.{◌≡◌, ℕ, List, [], Option, Some}
 use Rattle.model_core.specs.Text.Numbering.{Declared}
 use Rattle.model_core.specs.Static.FaultOrder.{StaticFault, earliest_fault}
 use Rattle.model_core.specs.Static.Meanings.{Meaning}
 use Rattle.static_laws.specs.PlacedMeanings.{PlacedAs}
 
--- these faults are told, and where there are none something holds
+-- the first of these faults is found, and where there is none something holds
 pub record Checked (before after : Option StaticFault) (faults : List StaticFault) (Holds : Type 0) : Type 0 where
   pub told : after ≡ earliest_fault before faults
   pub unbroken : faults ≡ [] → Holds

@@ -7,6 +7,6 @@ use Rattle.model_core.specs.Static.RuleTable.{name_too_long}
 use Rattle.model_core.specs.Static.PartFaults.{repeated_names}
 use Rattle.model_core.specs.Static.ModelFaults.{faults_of_counts}
 
--- the faults that are told before the declared parts are looked at
+-- the faults that are found before the declared parts are checked
 abbrev pub faults_of_declared : WrittenModel → List StaticFault
 faults_of_declared m = name_too_long m.name ++ repeated_names [] (map declared_name (declarations m)) ++ faults_of_counts m

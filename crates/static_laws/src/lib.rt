@@ -1,5 +1,5 @@
-//! Laws of the static rules: one fault is told or a model is accepted, and what is accepted keeps the rules by itself, without
-//! the places of a text. The functions do nothing: what they ensure holds of all written models.
+//! Laws of the static rules: a written model has one first fault or is accepted, and what is accepted keeps the rules by
+//! itself, without the places of a text. The functions have empty bodies: what they ensure holds of all written models.
 #![tactic(auto)]
 
 mod static_law;

@@ -1,4 +1,4 @@
-//! Laws of static rules. The functions do nothing: what they ensure holds of all written models.
+//! Laws of static rules. The functions have empty bodies: what they ensure holds of all written models.
 
 ghost use Rattle.std.specs.Prelude.{◌≡◌, ◌↔◌, Some, None};
 ghost use Rattle.model_core.specs.Text.Numbering.{numbered};
@@ -10,7 +10,7 @@ ghost use Rattle.model_core.specs.Static.FaultOrder.{StaticFault};
 ghost use Rattle.model_core.specs.Static.ModelFaults.{IsTold, told_fault, Accepted};
 ghost use Rattle.static_laws.specs.FitsVersion.{FitsVersion};
 
-/// A written model is accepted as a model, or exactly one of its static faults is told: of those with the least
+/// A written model is accepted as a model, or it has exactly one first static fault: of those with the least
 /// place the first of the table.
 pub fn one_fault_is_told()
     ensures told { (m : WrittenModel) (f : StaticFault) → told_fault m ≡ Some f ↔ IsTold m f.kind f.at }

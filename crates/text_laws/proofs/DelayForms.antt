@@ -1,4 +1,4 @@
--- The word `draw` tells a drawn delay from one that an expression gives: no expression begins with it.
+-- The word `draw` distinguishes a drawn delay from an expression: no expression begins with it.
 use Rattle.std.proofs.Common.{◌≡◌, Bool, true, false, List, [], ◌∷◌, refl, ◌∙◌, arith}
 use Rattle.std.proofs.lemmas.Bool.{or_parts}
 use Rattle.model_core.specs.declared.token.Word.TheVariants as words
@@ -56,7 +56,7 @@ no_expression tokens e =
 
 -- ---- the two forms
 
--- behind the word a delay is drawn
+-- after the word a delay is drawn
 pub drawn_form : (tokens : List Lexeme) → begins_as (AWord words.Draw) tokens ≡ true → language_reader delay_format tokens ≡ language_reader drawn_format tokens
 unfolding delay_format level_lookahead
 drawn_form tokens e = rw (begins-apart (level_firsts Whole) (AWord words.Draw ∷ []) tokens refl (rw e refl)) refl

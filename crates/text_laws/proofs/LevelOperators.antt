@@ -61,7 +61,7 @@ at_level (suc (suc (suc (suc (suc n))))) t tokens found few e = absurd (omega ar
 climb-one : (level : ℕ) (a : WrittenExpression) (tokens : List Lexeme) → climb (suc level) level a tokens ≡ rung level a tokens
 climb-one level a tokens = climb-more level level a tokens (omega arith) ∙ ap (and_next (rung level)) (climb-none level level a tokens (omega arith))
 
--- an operator comes, and then its right operand and what stands behind that
+-- an operator comes, and then its right operand and the rest
 pub rung-some : (level : ℕ) (a : WrittenExpression) (o : Operator) (t : Lexeme) (tokens : List Lexeme) → level ≤ 4 → infix_of_kind t.kind ≡ Some (level, o)
     → rung level a (t ∷ tokens) ≡ and_next (λ b. climb (suc level) (next_level level) (joining a (o, b))) (of_level (operand_level level) tokens)
 unfolding right_sides

@@ -75,11 +75,11 @@ unfolding climb
 climb-none zero least a tokens h = refl
 climb-none (suc level) least a tokens h = rw (le-ltb least (suc level) h) refl
 
--- one level more stands behind the others
+-- one level more comes after the others
 more : (level least : ℕ) (r : Parse WrittenExpression) → least ≤ level → and_next (rung level) (and_next (climb level least) r) ≡ and_next (climb (suc level) least) r
 more level least r h = next-next (rung level) (climb level least) r ∙ same_next _ _ r (λ a left e. sym (climb-more level least a left h))
 
--- where no `not` comes, or none may come, all levels stand behind an operand of a product
+-- where no `not` comes, or none may come, all levels come after an operand of a product
 pub from-unary : (under : ℕ) (tokens : List Lexeme) → under ≤ 5 → (3 ≤ under → begins_as (AWord words.Not) tokens ≡ false) → of_level (operand_level under) tokens ≡ and_next (climb under 0) (of_level Unary tokens)
 unfolding climb
 from-unary zero tokens few plain = sym (next-took (of_level Unary tokens))
@@ -88,7 +88,7 @@ from-unary (suc level) tokens few plain =
     ∙ ap (and_next (rung level)) (from-unary level tokens (omega arith) (λ h. plain (omega arith)))
     ∙ more level 0 (of_level Unary tokens) (omega arith)
 
--- where `not` comes, the levels from `and` on stand behind the negated operand
+-- where `not` comes, the levels from `and` on come after the negated operand
 from-negation : (above : ℕ) (tokens : List Lexeme) → above ≤ 2 → begins_as (AWord words.Not) tokens ≡ true → of_level (operand_level (suc (suc (suc above)))) tokens ≡ and_next (climb (suc (suc (suc above))) 3) (language_reader not_format tokens)
 unfolding climb level_format
 from-negation zero tokens few e = level-is Negation tokens ∙ (rw e (sym (next-took (language_reader not_format tokens)))) ∙ same_next _ _ (language_reader not_format tokens) (λ a left e. sym (climb-none 3 3 a left (omega arith)))

@@ -79,7 +79,7 @@ next-low (suc zero) n h = omega arith
 next-low (suc (suc zero)) n h = omega arith
 next-low (suc (suc (suc k))) n h = omega arith
 
--- an operator of these levels comes: its right operand is read, and then what stands behind both
+-- an operator of these levels comes: its right operand is read, and then the rest
 one_operator : (under least k : ℕ) (o : Operator) (a : WrittenExpression) (t : Lexeme) (tokens : List Lexeme) → under ≤ 5 → least ≤ k → k < under → infix_of_kind t.kind ≡ Some (k, o)
     → climb under least a (t ∷ tokens) ≡ and_next (λ b. climb under (next_level k) (joining a (o, b))) (of_level (operand_level k) tokens)
 one_operator zero least k o a t tokens few low high e = absurd (omega arith)

@@ -4,7 +4,7 @@ use Rattle.model_core.specs.Text.Lexing.{Lexeme}
 use Rattle.model_core.specs.Text.Format.{TokenSort, sort_as, Format, Yields, Single, Apply, Either, Many, ByRule}
 use Rattle.text_laws.specs.FirstTokens.{same_sort, begins_among, Lookahead, first_sorts}
 
--- the value that was taken and the tokens that are left, or the tokens from the first that can't stand where it stands
+-- the value that was taken and the tokens that are left, or the tokens from the first that can't be at its place
 abbrev pub Parse : Type 0 → Type 0
 Parse A = Result (A × List Lexeme) (List Lexeme)
 

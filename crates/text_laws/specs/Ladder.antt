@@ -49,17 +49,17 @@ operand_level (suc (suc (suc zero))) = Negation
 operand_level (suc (suc (suc (suc zero)))) = Conjunction
 operand_level _ = Disjunction
 
--- the least level of an operator that may stand behind one of this level and its operands: comparisons don't chain
+-- the least level of an operator that may come after one of this level and its operands: comparisons don't chain
 abbrev pub next_level : ℕ → ℕ
 next_level (suc (suc zero)) = 3
 next_level k = k
 
--- what is read behind an operand: operators of this level, each with its right operand
+-- read after an operand: operators of this level, each with its right operand
 abbrev pub rung : ℕ → WrittenExpression → Parser WrittenExpression
 rung (suc (suc zero)) a tokens = and_next (λ x. took (compared a x)) (language_reader (maybe (right_side comparing Sum)) tokens)
 rung k a tokens = and_next (λ xs. took (grouped a xs)) (language_reader (Many (right_side (operators_of k) (operand_level k))) tokens)
 
--- what is read behind an operand: operators of the levels from the least one up to the one below `under`
+-- read after an operand: operators of the levels from the least one up to the one below `under`
 unfoldable pub climb : ℕ → ℕ → WrittenExpression → Parser WrittenExpression
 climb zero least a tokens = took a tokens
 climb (suc level) least a tokens = if nat_lt least (suc level) then and_next (rung level) (climb level least a tokens) else took a tokens

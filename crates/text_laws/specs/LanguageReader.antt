@@ -63,7 +63,7 @@ level_lookahead = record { first_of = level_firsts; stops_of = level_stops; rank
 abbrev pub language_reader : {A : Type 0} → LanguageFormat A → Parser A
 language_reader f = format_at level_lookahead level_format f
 
--- what tokens read as, and what is left of them, or the tokens from the first that can't stand where it stands
+-- what tokens read as, and what is left of them, or the tokens from the first that can't be at its place
 abbrev pub text_and_rest : List Lexeme → Parse WrittenModel
 text_and_rest tokens = language_reader text_format tokens
 

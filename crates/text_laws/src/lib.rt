@@ -1,6 +1,6 @@
-//! Laws of texts: tokens spell one text at most, and where they spell none there is one first wrong place. The functions do
-//! nothing: what they ensure holds of all tokens and texts. What a reader computes by a grammar, and that it computes what the
-//! grammar derives, stands in `specs/` and `proofs/`, once for all grammars.
+//! Laws of texts: tokens spell one text at most, and where they spell none there is one first wrong place. The functions have
+//! empty bodies: what they ensure holds of all tokens and texts. The reader that a grammar gives, and the proof that it computes what the
+//! grammar derives, are in `specs/` and `proofs/`, once for all grammars.
 #![tactic(auto)]
 
 mod reading_laws;

@@ -1,4 +1,4 @@
-//! Laws of the grammars of model texts and of certificates, and of what texts read as. The functions do nothing: what they
+//! Laws of the grammars of model texts and of certificates, and of what texts read as. The functions have empty bodies: what they
 //! ensure holds of all tokens and texts.
 
 ghost use Rattle.std.specs.Prelude.{◌≡◌, ◌⊎◌, ◌++◌, ℕ, ◌≤◌, List, length, None};

@@ -38,7 +38,7 @@ not_sound a (Ok x) p = record {
 }
 not_sound a (Err f) p = record { shape = truth_shape; inside = λ z e. cc; safe = λ e. let (y, never) = p.safe e in cc }
 
--- what `and` makes of 1 and a right value
+-- `and` at 1 and a right value
 and-value-cases : (t : Bool) (a b : Bounds) (y : ℤ) → a.can_true ≡ true → y ≡ number_of t → cond t b.can_true b.can_false ≡ true → TruthIn (operator_bounds And a b) y
 and-value-cases true a b y can is e = record { truth = true; value = is; can = and_from a.can_true b.can_true can e }
 and-value-cases false a b y can is e = record { truth = false; value = is; can = or_right a.can_false _ (and_from a.can_true b.can_false can e) }
@@ -77,7 +77,7 @@ and_sound a b (Ok x) s p q =
     subst (λ w. BoundsHold kinds.Truth (operator_bounds And a b) (cond (int_eq w (pos 0)) (Ok w) (s >>= λ y. Ok y))) (sym i.value) (and-cases i.truth a b s i.can (λ e. q (let is : x ≡ pos 1 = one_value i.truth x i.value e in cc)))
 and_sound a b (Err f) s p q = record { shape = truth_shape; inside = λ z e. cc; safe = λ e. let (y, never) = p.safe (and_first a.quiet _ e) in cc }
 
--- what `or` makes of 0 and a right value
+-- `or` at 0 and a right value
 or-value-cases : (t : Bool) (a b : Bounds) (y : ℤ) → a.can_false ≡ true → y ≡ number_of t → cond t b.can_true b.can_false ≡ true → TruthIn (operator_bounds Or a b) y
 or-value-cases true a b y can is e = record { truth = true; value = is; can = or_right a.can_true _ (and_from a.can_false b.can_true can e) }
 or-value-cases false a b y can is e = record { truth = false; value = is; can = and_from a.can_false b.can_false can e }

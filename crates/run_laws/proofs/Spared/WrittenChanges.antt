@@ -16,7 +16,7 @@ use Rattle.run_laws.proofs.Spared.SetPlaces.{ChangedWithin, written-none, writte
 use Rattle.run_laws.proofs.Spared.NamedVariables.{OfPlaces, stores-named, parameters-named, targets-named}
 use Rattle.run_laws.proofs.Spared.InTurn.{in_turn-written}
 
--- what a change makes of state and words
+-- state and words after a change
 pub record ChangeWritten (c : StateChange) (d e : Changed) : Type 0 where
   pub variables : ChangedWithin (change_writes c) d.state e.state
   pub streams : ChangedWithin (change_streams c) d.taken e.taken

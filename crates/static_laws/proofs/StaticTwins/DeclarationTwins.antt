@@ -65,7 +65,7 @@ word_within : (b : Bool) → Twin [] (Some (number_of b)) (λ z. (pos 0 ≤ℤ z
 word_within true = record { kept = λ e. (pos 1, refl, (omega (arith, ints), omega (arith, ints))); unbroken = λ y s q. refl }
 word_within false = record { kept = λ e. (pos 0, refl, (omega (arith, ints), omega (arith, ints))); unbroken = λ y s q. refl }
 
--- what is broken of a range variable behind its size, and what it is numbered as
+-- what is broken of a range variable after its size, and what it is numbered as
 module _ (lo hi start : WrittenSigned) where
   abbrev bounds_faults : List StaticFault
   bounds_faults = literal_too_large lo ++ literal_too_large hi ++ empty_range lo hi ++ literal_too_large start ++ initial_outside lo hi start
@@ -192,7 +192,7 @@ weights ys = sum_by (λ (r : Weighted). r.weight) ys
 weights-cons : (y : Weighted) (ys : List Weighted) → weights (y ∷ ys) ≡ y.weight + weights ys
 weights-cons y ys = sum_by-cons (λ (r : Weighted). r.weight) y ys
 
--- the rows behind others of this sum of weights
+-- the rows after others of this sum of weights
 rows_twin : (before : ℕ) (rs : List WrittenRow) → before ≤ WEIGHTS_MAX → Twin (rows_faults (pos before) rs) (each_numbered numbering.row rs) (λ ys. AllByRecursion KeepsRow ys × (before + weights ys ≤ WEIGHTS_MAX))
 rows_twin before [] h = record { kept = λ e. ([], refl, (tt, omega arith)); unbroken = λ y s q. refl }
 rows_twin before (r ∷ rs) h = record {

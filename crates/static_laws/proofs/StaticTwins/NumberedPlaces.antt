@@ -51,7 +51,7 @@ each_zip {A} {B} f [] ys e = none ys (same_Some [] ys e)
     none (z ∷ zs) h = cc
 each_zip {A} {B} f (x ∷ xs) ys e = let p = of_each f x xs ys e in subst (λ zs. AllZip (λ x y. f x ≡ Some y) (x ∷ xs) zs) p.made (p.is_a, each_zip f xs p.b p.is_b)
 
--- what the item at a place is numbered as stands at that place
+-- what the item at a place is numbered as is at that place
 pub each_at : {A B : Type 0} (f : A → Option B) (xs : List A) (ys : List B) (k : ℕ) (x : A) → each_numbered f xs ≡ Some ys → slice_get xs k ≡ Some x → (y : B) × (slice_get ys k ≡ Some y) × (f x ≡ Some y)
 each_at f [] ys k x e h = cc
 each_at {A} {B} f (z ∷ xs) ys k x e h = let p = of_each f z xs ys e in subst (λ zs. (y : B) × (slice_get zs k ≡ Some y) × (f x ≡ Some y)) p.made (at_place k h p.a p.b p.is_a (λ j g. each_at f xs p.b j x p.is_b g))

@@ -1,4 +1,4 @@
--- No name of a list is told as repeated exactly where its names are distinct, and so are the numbers that they stand for.
+-- No name of a list is reported as repeated exactly where its names are distinct, and then their numbers are.
 use Rattle.std.proofs.Common.{◌≡◌, ◌↔◌, Bool, false, List, [], ◌∷◌, map, ℕ, refl, sym, ◌∙◌}
 use Rattle.std.specs.List.{AllByRecursion, AllZip, IsDistinct, list_any}
 use Rattle.std.proofs.lemmas.Cmp.{nat_list_eq_equiv}
@@ -18,7 +18,7 @@ names_of ns = map (λ (n : WrittenName). n.name) ns
 abbrev IsNew : List (List ℕ) → List ℕ → Type 0
 IsNew earlier name = list_any (same_bytes name) earlier ≡ false
 
--- what is new behind one more name is new and isn't that name
+-- what is new after one more name is new and isn't that name
 behind : (earlier : List (List ℕ)) (name : List ℕ) (ns : List (List ℕ)) → AllByRecursion (IsNew (name ∷ earlier)) ns → AllByRecursion (IsNew earlier) ns × AllByRecursion (λ m. same_bytes name m ≡ false) ns
 behind earlier name [] h = (tt, tt)
 behind earlier name (m ∷ ns) h =
@@ -54,7 +54,7 @@ all_new (n ∷ ns) = (refl, all_new ns)
 pub distinct_names : (ns : List WrittenName) → repeated_names [] ns ≡ [] ↔ IsDistinct same_bytes (names_of ns)
 distinct_names ns = (λ e. (not_repeated [] ns e).1, λ d. none_repeated [] ns (all_new (names_of ns)) d)
 
--- ---- the same of what names stand for
+-- ---- the same of the numbers of names
 
 module _ {A B : Type 0} (R : A → B → Type 0) (e : A → A → Bool) (f : B → B → Bool) (same : (a b : A) (x y : B) → R a x → R b y → e a b ≡ f x y) where
   apart : (a : A) (x : B) (as_ : List A) (xs : List B) → R a x → AllZip R as_ xs → AllByRecursion (λ b. e a b ≡ false) as_ → AllByRecursion (λ y. f x y ≡ false) xs

@@ -40,7 +40,7 @@ between least most n = (λ e. (at_least e, at_most e), λ (a, b). both a b)
 pub not_above : (limit k : ℕ) → nat_lt limit k ≡ false ↔ k ≤ limit
 not_above limit k = (λ e. grind (arith, nat_tests), λ h. grind (arith, nat_tests))
 
--- where a test tells of a fact, so does the fault of its failing
+-- where a test decides a fact, the fault of its failing decides it too
 pub told_by : {P : Type 0} (b : Bool) (kind : StaticKind) (at : ℕ) → (b ≡ false ↔ P) → fault_where b kind at ≡ [] ↔ P
 told_by b kind at t = (λ e. t.0 ((broken_not b kind at).0 e), λ p. (broken_not b kind at).1 (t.1 p))
 
@@ -107,7 +107,7 @@ priority_twin n = natural_between 1 255 n.value rules.LiteralTooLarge rules.Prio
 pub stream_twin : (n : WrittenNumber) → Twin (number_too_large n ++ stream_outside n) (natural n) (λ k. (0 ≤ k) × (k ≤ 63))
 stream_twin n = natural_between 0 63 n.value rules.LiteralTooLarge rules.StreamOutside n.at
 
--- a weight is 0, or too large behind others of this sum
+-- a weight is 0, or too large after others of this sum
 abbrev is_outside : ℕ → ℕ → ℤ → Bool
 is_outside before limit n = le_z n (pos 0) || lt_z (pos limit) (pos before +ℤ n)
 

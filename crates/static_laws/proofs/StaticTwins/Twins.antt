@@ -58,7 +58,7 @@ twin_two h fs gs (Some a) (Some b) P Q R to from t u = record {
   unbroken = λ y s r. let both = from a b (subst R (sym (same_Some (h a b) y s)) r) in both_empty fs gs (t.unbroken a refl both.0) (u.unbroken b refl both.1);
 }
 
--- a part, and what follows it and may tell of it
+-- a part, and faults after it that may be its own
 pub twin_then : {A B : Type 0} (fs gs : List StaticFault) (o : Option A) (f : A → Option B) (P : A → Type 0) (R : B → Type 0)
     → ((a : A) → P a → Twin gs (f a) R) → ((a : A) (y : B) → f a ≡ Some y → R y → P a) → Twin fs o P → Twin (fs ++ gs) (o >>= f) R
 twin_then fs gs None f P R next from t = record {
@@ -70,7 +70,7 @@ twin_then fs gs (Some a) f P R next from t = record {
   unbroken = λ y s r. let p = from a y s r in both_empty fs gs (t.unbroken a refl p) ((next a p).unbroken y s r);
 }
 
--- further faults, which tell of what the part is numbered as
+-- further faults, which decide a fact of what the part is numbered as
 pub twin_and : {B : Type 0} (fs gs : List StaticFault) (o : Option B) (P C : B → Type 0) → ((y : B) → o ≡ Some y → P y → (gs ≡ [] ↔ C y)) → Twin fs o P → Twin (fs ++ gs) o (λ y. P y × C y)
 twin_and fs gs o P C tells t = record {
   kept = λ e. let (y, s, p) = t.kept (left_empty fs gs e) in (y, s, (p, (tells y s p).0 (right_empty fs gs e)));
@@ -83,7 +83,7 @@ twin_before gs fs o C P tells t = record {
   unbroken = λ y s q. both_empty gs fs ((tells y s).1 q.0) (t.unbroken y s q.1);
 }
 
--- faults before them that tell of something else
+-- faults before them, which decide another fact
 pub twin_behind : {B : Type 0} (gs fs : List StaticFault) (o : Option B) (C : Type 0) (P : B → Type 0) → (gs ≡ [] ↔ C) → Twin fs o P → Twin (gs ++ fs) o (λ y. C × P y)
 twin_behind gs fs o C P tells t = record {
   kept = λ e. let (y, s, p) = t.kept (right_empty gs fs e) in (y, s, (tells.0 (left_empty gs fs e), p));

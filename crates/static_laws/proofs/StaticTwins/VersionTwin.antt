@@ -35,7 +35,7 @@ use Rattle.static_laws.proofs.StaticTwins.VertexTwins.{numbered_parameters, edge
 
 -- ---- what version 1 allows
 
--- two lists of faults that tell of two tests
+-- two lists of faults that decide two tests
 both_fit : (fs gs : List StaticFault) (a b : Bool) → (fs ≡ [] ↔ a ≡ false) → (gs ≡ [] ↔ b ≡ false) → fs ++ gs ≡ [] ↔ (a || b) ≡ false
 both_fit fs gs a b p q = (λ e. neither (p.0 (left_empty fs gs e)) (q.0 (right_empty fs gs e)), λ e. let n = either_false a b e in both_empty fs gs (p.1 n.0) (q.1 n.1))
   where
@@ -142,7 +142,7 @@ cells_are v y e h = ap (λ size. option_map_or (λ n. cond (nat_le n ARRAY_CELLS
     counted : (k limit : ℕ) → k ≤ limit → cond (nat_le k limit) k 0 ≡ k
     counted k limit h = let few : nat_le k limit ≡ true = grind (arith, nat_tests) in rw few refl
 
--- the cells of these arrays behind so many others
+-- the cells of these arrays after so many others
 cells_few : (vs : List WrittenVariable) (ys : List Variable) (before : ℕ) → before ≤ CELLS_MAX → each_numbered numbering.variable vs ≡ Some ys → AllByRecursion KeepsVariable ys → cells_faults before vs ≡ [] ↔ before + cells ys ≤ CELLS_MAX
 cells_few [] ys before h e k = (λ n. subst (λ zs. before + cells zs ≤ CELLS_MAX) (same_Some [] ys e) (omega (arith, h)), λ n. refl)
 cells_few (v ∷ vs) ys before h e k =

@@ -47,7 +47,7 @@ module _ (means : List ℕ → Option Meaning) (d : Declared) (variables : List 
   abbrev Stands : List ℕ → ℕ → Type 0
   Stands name k = (w : Watched) × (numbering.watched_or d (declared_place name d.variables) (declared_place name d.vertices) ≡ Some w) × (watch_number (length d.variables) w ≡ k)
 
-  -- it is a variable of that number, or else a vertex behind all variables
+  -- it is a variable of that number, or else a vertex, numbered after all variables
   record AsVariable (name : List ℕ) (x : ℕ) : Type 0 where
     there : declared_place name d.variables ≡ Some x
     within : x < length d.variables

@@ -1,5 +1,5 @@
 -- A model text has one word `end`, its last token. So tokens begin with a text exactly where they are one up to and with
--- their first word `end`, and a token that can't stand where it stands is the same in both.
+-- their first word `end`, and the first token that can't be at its place is the same in both.
 use Rattle.std.proofs.lemmas.List.{append_cancel_right}
 use Rattle.std.proofs.Common.{◌≡◌, ℕ, suc, zero, Bool, true, false, List, [], ◌∷◌, ◌++◌, ◌⊎◌, inl, inr, refl, sym, ap, ◌∙◌, subst, append_assoc, append-nil}
 use Rattle.std.specs.Prelude.{not, ◌&&◌}
@@ -29,7 +29,7 @@ has_no_end (Either p q) = has_no_end p && has_no_end q
 has_no_end (Many p) = has_no_end p
 has_no_end (ByRule r) = true
 
--- the front goes on behind these tokens
+-- the front goes on after these tokens
 abbrev GoesOn : List Lexeme → Type 0
 GoesOn u = (rest : List Lexeme) → front_to_end (u ++ rest) ≡ u ++ front_to_end rest
 
@@ -53,7 +53,7 @@ one_token t true e ok rest = absurd (
     )
 one_token t false e ok rest = rw e refl
 
--- a spelling tells nothing of reserved words
+-- a spelling is no reserved word
 no-word : (s : TokenSort) (k : LexemeKind) (w : Word) → same_sort (sort_as s k) (AWord w) ≡ same_sort (sort_of k) (AWord w)
 no-word (ASpelled bytes) (NameOf spelling) w = refl
 no-word (ASpelled bytes) (Reserved v) w = refl

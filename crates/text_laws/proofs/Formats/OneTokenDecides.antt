@@ -25,7 +25,7 @@ pub text-fine : fine level_lookahead text_format ≡ true
 unfolding level_lookahead signed_format literal_format kind_format variable_format row_format table_format watch_format target_format choice_format source_format change_format values_format when_format delay_format timing_format schedule_format urgent_format cancelled_format cancel_format edge_format vertex_format version_format text_format
 text-fine = refl
 
--- nothing goes on behind the word `end`
+-- no token goes on after the word `end`
 pub text-ends : stop_sorts level_lookahead text_format ≡ []
 unfolding level_lookahead signed_format literal_format kind_format variable_format row_format table_format watch_format target_format choice_format source_format change_format values_format when_format delay_format timing_format schedule_format urgent_format cancelled_format cancel_format edge_format vertex_format version_format text_format
 text-ends = refl

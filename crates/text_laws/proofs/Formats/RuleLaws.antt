@@ -67,7 +67,7 @@ head-low t low (Either p q) = max-low (head_rank t p) (head_rank t q) 16 (head-l
 head-low t low (Many p) = head-low t low p
 head-low t low (ByRule r) = low r
 
--- how the head ranks of two parts stand to that of both
+-- the head ranks of two parts are at most that of both
 ranks : (b : Bool) (j k m n l most : ℕ) → l + cond b 0 1 ≤ m → k ≤ 16 → m * 16 + cond b (max j k) j ≤ most → (m * 16 + j ≤ most) × (l * 16 + k ≤ most)
 ranks true j k m n l most h low few = (omega arith, omega arith)
 ranks false j k m n l most h low few = (omega arith, omega arith)

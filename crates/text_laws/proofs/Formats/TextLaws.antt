@@ -54,7 +54,7 @@ stuck-is_wrong f ok tokens rest e =
     let a = language-viable f tokens rest e in
     record { front = a.0; whole = a.3; can_begin = (a.1 ++ [], a.2, a.4 []); cant_go_on = cant_go_on f ok a.0 rest (subst (λ (l : List Lexeme). language_reader f l ≡ stuck rest) a.3 e) }
 
--- the same of a token that is left behind a whole
+-- a token that is left after a whole, in the same way
 pub left-is_wrong : {A : Type 0} (f : LanguageFormat A) → fine level_lookahead f ≡ true → (tokens : List Lexeme) (x : A) (t : Lexeme) (rest : List Lexeme) → language_reader f tokens ≡ took x (t ∷ rest) → FirstWrong f tokens (t ∷ rest)
 left-is_wrong f ok tokens x t rest e =
     let a = derives-framed (by_rule level_format) (rule-framed level_format) f tokens x (t ∷ rest) (sound level_lookahead level_format f tokens x (t ∷ rest) e) in
