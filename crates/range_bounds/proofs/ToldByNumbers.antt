@@ -15,6 +15,7 @@ use Rattle.model_core.specs.EventGraph.{EventGraph, EventEdge, Operator, Express
 use Rattle.model_core.specs.Rules.BoundsOf.{bounds_of, refuted}
 use Rattle.model_core.specs.Rules.Exclusive.{same_expression, is_comparison, literal_number, Comparison, comparison_of, some_meets_both, is_negation_of, compare_apart, exclusive}
 use Rattle.model_core.specs.Rules.UrgentEdges.{is_urgent, each_pair, urgent_conditions}
+use Rattle.model_core.proofs.EachOne.{either_false}
 use Rattle.model_core.proofs.SameExpressions.{same_itself, same_told}
 use Rattle.range_bounds.specs.declared.alike.Compared.{Compared}
 use Rattle.range_bounds.specs.LiveEdges.{is_live, may_take_any_condition}
@@ -154,14 +155,10 @@ module _ (g : EventGraph) where
     one true same = ap (λ cs. x.condition ∷ cs) same
     one false same = same
 
-  neither : (a b : Bool) → (a || b) ≡ false → (a ≡ false) × (b ≡ false)
-  neither true b e = cc
-  neither false b e = (refl, e)
-
   none_live : (es : List EventEdge) → list_any (is_live g) es ≡ false → live_conditions g es ≡ []
   none_live [] none = refl
   none_live (e ∷ es) none =
-      let (here, later) = neither (is_live g e) (list_any (is_live g) es) none in
+      let (here, later) = either_false (is_live g e) (list_any (is_live g) es) none in
       ap (λ (b : Bool). map (λ (e : EventEdge). e.condition) (cond b (e ∷ filter (is_live g) es) (filter (is_live g) es))) here ∙ none_live es later
 
   -- where no other one is live, it excludes them
@@ -175,7 +172,7 @@ module _ (g : EventGraph) where
     by true = ap₂ (λ p q. p && q) (all_live c es ∙ ap (list_all (exclusive g c)) (none_live es behind)) pairs
     by false = pairs
   aside_given c (x ∷ es) (suc k) before behind =
-      let (here, later) = neither (is_live g x) (list_any (is_live g) (take k es)) before in
+      let (here, later) = either_false (is_live g x) (list_any (is_live g) (take k es)) before in
       behind_none x (with_place (given c) k es) here ∙ aside_given c es k later behind
 
   -- the urgent edges still exclude each other, whatever condition that one gets
@@ -185,7 +182,7 @@ module _ (g : EventGraph) where
     by false live is others may = ap (each_pair (exclusive g)) (calm_given c es k is) ∙ pairs
     by true true is others may = cc
     by true false is others may =
-        let (before, behind) = neither (list_any (is_live g) (take k es)) (list_any (is_live g) (drop (suc k) es)) (sym (list_any-append (is_live g) (take k es) (drop (suc k) es)) ∙ others) in
+        let (before, behind) = either_false (list_any (is_live g) (take k es)) (list_any (is_live g) (drop (suc k) es)) (sym (list_any-append (is_live g) (take k es) (drop (suc k) es)) ∙ others) in
         aside_given c es k before behind
 
 -- a comparison of the same with a number

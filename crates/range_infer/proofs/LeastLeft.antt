@@ -11,7 +11,7 @@ use Rattle.model_core.specs.declared.var_range.VarRange.{VarRange}
 use Rattle.model_core.specs.Ranges.OtherRanges.{LiesIn}
 use Rattle.model_core.specs.Ranges.Refined.{numbers_left}
 use Rattle.model_core.specs.Ranges.Inductive.{Encloses}
-use Rattle.range_infer.proofs.NumbersLeft.{by_test}
+use Rattle.range_infer.proofs.NumbersLeft.{of_eq, up_by, down_by, by_test}
 
 pub all_left : (op : Operator) (n x : ℤ) (r : VarRange) → LiesIn r x → compares op x n ≡ true → LiesIn (numbers_left op n r) x
 all_left Equal n x r i e = by_test Equal true n x r i (ap (λ (b : Bool). Ok (number_of b)) e)
@@ -27,22 +27,11 @@ record EndsHold (op : Operator) (n : ℤ) (r : VarRange) : Type 0 where
   low : LiesIn r (numbers_left op n r).lo × (compares op (numbers_left op n r).lo n ≡ true)
   high : LiesIn r (numbers_left op n r).hi × (compares op (numbers_left op n r).hi n ≡ true)
 
-of_eq : (a b : ℤ) → a ≡ b → int_eq a b ≡ true
-of_eq a b e = grind (arith, ints)
-
 of_other : (a b : ℤ) → (a ≡ b → ⊥) → not (int_eq a b) ≡ true
 of_other a b e = by (int_eq a b) refl where
   by : (t : Bool) → int_eq a b ≡ t → not t ≡ true
   by true same = absurd (e (grind (arith, ints)))
   by false other = refl
-
-low_lies : (b : Bool) (lo : ℤ) → lo ≤ℤ cond b (lo +ℤ pos 1) lo
-low_lies true lo = omega (arith, ints)
-low_lies false lo = omega (arith, ints)
-
-high_lies : (b : Bool) (hi : ℤ) → cond b (hi -ℤ pos 1) hi ≤ℤ hi
-high_lies true hi = omega (arith, ints)
-high_lies false hi = omega (arith, ints)
 
 low_other : (b : Bool) (lo n : ℤ) → int_eq lo n ≡ b → cond b (lo +ℤ pos 1) lo ≡ n → ⊥
 low_other true lo n e same = let is : lo ≡ n = grind (arith, ints) in omega (arith, ints, is, same)
@@ -74,8 +63,8 @@ ends_hold Equal n r is some = record {
   high = (record { low = omega (arith, ints, clamps, some); high = omega (arith, ints, clamps) }, of_eq (int_min r.hi n) n (omega (arith, ints, clamps, some)));
 }
 ends_hold NotEqual n r is some =
-    let from_lo = low_lies (int_eq r.lo n) r.lo in
-    let to_hi = high_lies (int_eq r.hi n) r.hi in
+    let from_lo = up_by (int_eq r.lo n) r.lo in
+    let to_hi = down_by (int_eq r.hi n) r.hi in
     record {
       low = (record { low = from_lo; high = omega (arith, ints, some, to_hi) }, of_other (numbers_left NotEqual n r).lo n (low_other (int_eq r.lo n) r.lo n refl));
       high = (record { low = omega (arith, ints, some, from_lo); high = to_hi }, of_other (numbers_left NotEqual n r).hi n (high_other (int_eq r.hi n) r.hi n refl));

@@ -20,6 +20,9 @@ number_of-injective true false e = cc
 number_of-injective false true e = cc
 number_of-injective false false e = refl
 
+pub of_eq : (a b : ℤ) → a ≡ b → int_eq a b ≡ true
+of_eq a b e = grind (arith, ints)
+
 not_not : (a b : Bool) → not a ≡ b → a ≡ not b
 not_not true b e = ap not e
 not_not false b e = ap not e
@@ -53,11 +56,11 @@ not_equal_left : (n x : ℤ) (r : VarRange) → LiesIn r x → int_eq x n ≡ fa
 not_equal_left n x r i e = record { low = moved_low _ n r.lo x refl e i.low; high = moved_high _ n r.hi x refl e i.high }
 
 -- what is left lies in the range
-up_by : (b : Bool) (lo : ℤ) → lo ≤ℤ cond b (lo +ℤ pos 1) lo
+pub up_by : (b : Bool) (lo : ℤ) → lo ≤ℤ cond b (lo +ℤ pos 1) lo
 up_by true lo = omega (arith, ints)
 up_by false lo = omega (arith, ints)
 
-down_by : (b : Bool) (hi : ℤ) → cond b (hi -ℤ pos 1) hi ≤ℤ hi
+pub down_by : (b : Bool) (hi : ℤ) → cond b (hi -ℤ pos 1) hi ≤ℤ hi
 down_by true hi = omega (arith, ints)
 down_by false hi = omega (arith, ints)
 

@@ -12,6 +12,7 @@ use Rattle.model_core.specs.Ranges.Inductive.{is_fixed, Encloses, FitsVariable}
 use Rattle.model_core.specs.Ranges.Inference.{grown_range, ends_moved, next_range, round}
 use Rattle.model_core.specs.Ranges.Incoming.{incoming}
 use Rattle.range_infer.proofs.NarrowModels.{fits_everywhere}
+use Rattle.range_infer.proofs.NumbersLeft.{of_eq}
 use Rattle.range_infer.proofs.OneRound.{Growing, all-holds, all-inside, variable_given, variables_given}
 use Rattle.std.specs.List.{fold}
 use Rattle.model_core.proofs.SameExpressions.{number_told}
@@ -40,11 +41,8 @@ pub record EndMoves (jumps : Bool) (declared x y : ℤ) : Type 0 where
   pub stays : x ≡ declared → y ≡ declared
   pub lands : jumps ≡ true → (y ≡ x) ⊎ (y ≡ declared)
 
-equal_test : (x d : ℤ) → x ≡ d → int_eq x d ≡ true
-equal_test x d e = grind (arith, ints)
-
 closed : (d x : ℤ) → x ≡ d → open_end d x ≡ 0
-closed d x e = ap (λ (b : Bool). cond b 0 1) (equal_test x d e)
+closed d x e = ap (λ (b : Bool). cond b 0 1) (of_eq x d e)
 
 no_more : (jumps : Bool) (d x y : ℤ) → EndMoves jumps d x y → open_end d y ≤ open_end d x
 no_more jumps d x y m = by (int_eq x d) refl where

@@ -1,15 +1,12 @@
 -- Each turn makes one round more, or ends.
-use Rattle.std.proofs.Common.{◌≡◌, ◌∙◌, sym, ap, subst, length, Bool, true, false, refl, arith}
+use Rattle.std.proofs.Common.{◌≡◌, ◌∙◌, sym, ap, subst, length, refl, arith}
+use Rattle.std.proofs.lemmas.Bool.{false≢true}
 use Rattle.std.proofs.lemmas.List.{length-map}
 use Rattle.model_core.specs.Code.Views.{graph_of, variable_of}
 use Rattle.model_core.specs.Ranges.Inference.{IsInferred}
 use Rattle.range_infer.proofs.OneRound.{variables_given}
 use Rattle.range_infer.proofs.OneTurn.{first_turn, as_many, few, is_round, many_next, inferred, next_turn}
 use Rattle.range_infer.proofs.inferring.make_rounds.Goals as goal
-
-not_true_too : (b : Bool) → b ≡ false → b ≡ true → ⊥
-not_true_too true e f = cc
-not_true_too false e f = cc
 
 pub incoming-requires-clause-many : goal.incoming-requires-clause-many
 incoming-requires-clause-many c =
@@ -68,5 +65,5 @@ loop-takes-preserved c =
     let keeps = ((c.validity_is_by_parts.ensures.by_parts g).0 c.requires.valid).0.parts in
     let turn = c.loop-takes in
     let made = is_round g keeps turn.rounds turn.ranges.items turn.takes.items turn.invariant _ c.as_slice-before.result.now c.as_slice-in-loop-takes.result.now c.in_ok-next.next.items refl c.as_slice-before.ensures.value c.as_slice-in-loop-takes.ensures.value c.in_ok-next.ensures in
-    let changes : c.in_ok-next.next.items ≡ turn.ranges.items → ⊥ = λ same. not_true_too c.same_ranges.result c.if-same_ranges.false (c.same_ranges.ensures.1 (c.as_slice-after.ensures.value ∙ (same ∙ sym c.as_slice-before.ensures.value))) in
+    let changes : c.in_ok-next.next.items ≡ turn.ranges.items → ⊥ = λ same. false≢true (sym c.if-same_ranges.false ∙ c.same_ranges.ensures.1 (c.as_slice-after.ensures.value ∙ (same ∙ sym c.as_slice-before.ensures.value))) in
     next_turn g keeps turn.rounds turn.ranges.items turn.takes.items turn.invariant c.in_ok-next.next.items made changes c.as_slice-before.result.now c.as_slice-after.result.now c.in_ok-takes-2.takes.items c.as_slice-before.ensures.value c.as_slice-after.ensures.value c.in_ok-takes-2.ensures
