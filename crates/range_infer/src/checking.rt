@@ -22,7 +22,7 @@ use std::alloc::Global;
 /// The first variable whose initial value lies outside its range, or how many variables there are.
 fn first_wrong_start(model: &Model, ranges: &[VarRange]) -> usize
     requires many { length ranges.now ≡ length model.now.vars }
-    ensures few { result ≤ length model.now.vars }
+    ensures within { result ≤ length model.now.vars }
     ensures before { (w : ℕ) → w < result → LiesIn (range_at ranges.now w) (variable_at (graph_of model.now) w).initial }
     ensures wrong { result < length model.now.vars → LiesIn (range_at ranges.now result) (variable_at (graph_of model.now) result).initial → ⊥ }
 {
@@ -57,8 +57,8 @@ fn holds_incoming(model: &Model, ranges: &[VarRange], taken: &Incoming) -> bool
 
 fn first_after(model: &Model, ranges: &[VarRange], first: usize, taken: &Incoming) -> usize
     requires many { length ranges.now ≡ length model.now.vars }
-    requires few { first ≤ length model.now.vars }
-    ensures few { result ≤ length model.now.vars }
+    requires within { first ≤ length model.now.vars }
+    ensures within { result ≤ length model.now.vars }
     ensures value { result ≡ first_after (graph_of model.now) ranges.now first taken.now }
 {
     if taken.variable < first && !holds_incoming(model, ranges, taken) {
@@ -71,7 +71,7 @@ fn first_after(model: &Model, ranges: &[VarRange], first: usize, taken: &Incomin
 /// The first of this variable and those that keep something outside their ranges of what they take.
 fn first_outside(model: &Model, ranges: &[VarRange], start: usize, takes: &[Incoming]) -> usize
     requires many { length ranges.now ≡ length model.now.vars }
-    requires few { start ≤ length model.now.vars }
+    requires within { start ≤ length model.now.vars }
     ensures { result ≡ fold (first_after (graph_of model.now) ranges.now) start takes.now }
 {
     let mut first = start;

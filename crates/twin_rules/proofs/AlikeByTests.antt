@@ -9,7 +9,7 @@ use Rattle.model_core.specs.Run.Step.{vertex_at}
 use Rattle.model_core.specs.Rules.Conditions.{first_failed}
 use Rattle.model_core.specs.Rules.Merge.{is_watched_vertex}
 use Rattle.model_core.specs.Rules.Fuse.{can_be_cancelled, same_changes, same_edges_for}
-use Rattle.twin_rules.specs.Inner.AskedPairs.{are_alike, alike_by}
+use Rattle.twin_rules.specs.Inner.ComparedPairs.{are_alike, alike_by}
 
 abbrev all_of : List Bool → Bool
 all_of [] = true

@@ -13,7 +13,7 @@ use Rattle.model_core.proofs.Among.{either_true}
 use Rattle.twin_rules.proofs.AlikeByTests.{mapped-none}
 use Rattle.twin_rules.proofs.NextPlaces.{last-or-before, first-or-after}
 use Rattle.twin_rules.proofs.StillAsked.{alike_told}
-use Rattle.twin_rules.specs.Inner.AskedPairs.{are_alike, NoneAlikeBefore, NoneAlikeWith}
+use Rattle.twin_rules.specs.Inner.ComparedPairs.{are_alike, NoneAlikeBefore, NoneAlikeWith}
 
 -- where one of the first conditions fails, one of all fails
 first-fail : (n : ℕ) (cs : List Bool) → is_none (first_failed (take n cs)) ≡ false → false ≡ is_none (first_failed cs)

@@ -3,7 +3,7 @@ use Rattle.std.proofs.Common.{◌≡◌, ◌⊎◌, inl, inr, ℕ, zero, suc, �
 use Rattle.std.proofs.Math.ListN.{set}
 use Rattle.std.proofs.lemmas.List.{length-set, get_or-set_same, get_or-set_other}
 use Rattle.std.proofs.lemmas.Bool.{cases_lt}
-use Rattle.twin_rules.specs.Inner.AskedPairs.{has_changed, place_before}
+use Rattle.twin_rules.specs.Inner.ComparedPairs.{has_changed, place_before}
 use Rattle.twin_rules.proofs.NextPlaces.{last-or-before}
 
 pub or-false : (a : Bool) → a ≡ (a || false)

@@ -14,10 +14,10 @@ use Rattle.model_core.proofs.PlacesChanged.{apart-turned}
 use Rattle.model_core.proofs.PlacesTakenOff.{get-without}
 use Rattle.model_core.proofs.FusedPlaces.{fused-get, standing-itself}
 use Rattle.twin_rules.specs.declared.print.Print.{Print}
-use Rattle.twin_rules.specs.Inner.AskedPairs.{has_changed, place_before, some_leads}
+use Rattle.twin_rules.specs.Inner.ComparedPairs.{has_changed, place_before, some_leads}
 use Rattle.twin_rules.specs.Inner.Fingerprints.{half, vertex_print, aims_print}
 use Rattle.twin_rules.specs.Inner.MarkedVertices.{is_barred}
-use Rattle.twin_rules.specs.Inner.HeldPrints.{number_in, ArePrints, ArePrintsBut}
+use Rattle.twin_rules.specs.Inner.KeptFingerprints.{number_in, ArePrints, ArePrintsBut}
 use Rattle.twin_rules.proofs.AlikeVertices.{AreAlike}
 use Rattle.twin_rules.proofs.StillApart.{placed}
 use Rattle.twin_rules.proofs.StillAsked.{stays-apart, and-back}

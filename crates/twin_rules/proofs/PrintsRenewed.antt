@@ -9,9 +9,9 @@ use Rattle.mark_laws.proofs.EntailedMarks.{same-place}
 use Rattle.model_core.specs.EventGraph.{EventGraph}
 use Rattle.model_core.specs.Run.Step.{vertex_at}
 use Rattle.twin_rules.specs.declared.print.Print.{Print}
-use Rattle.twin_rules.specs.Inner.AskedPairs.{has_changed}
+use Rattle.twin_rules.specs.Inner.ComparedPairs.{has_changed}
 use Rattle.twin_rules.specs.Inner.Fingerprints.{half}
-use Rattle.twin_rules.specs.Inner.HeldPrints.{number_in, aims_at, IsPrintBut, ArePrints, ArePrintsBut, ArePrintsOfAll, IsRenewed}
+use Rattle.twin_rules.specs.Inner.KeptFingerprints.{number_in, aims_at, IsPrintBut, ArePrints, ArePrintsBut, ArePrintsOfAll, IsRenewed}
 use Rattle.twin_rules.proofs.NextPlaces.{last-or-before}
 use Rattle.twin_rules.proofs.VertexPrints.{aims-same}
 

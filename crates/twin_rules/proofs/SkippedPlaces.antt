@@ -4,7 +4,7 @@ use Rattle.std.proofs.Common.{◌≡◌, ◌≢◌, ◌⊎◌, inl, inr, ℕ, ze
 use Rattle.std.specs.Prelude.{replicate}
 use Rattle.std.proofs.lemmas.List.{get_or-set_same, get_or-set_other, get_or_past}
 use Rattle.sig_base.specs.declared.limits.TheConstants.{VERTICES_MAX}
-use Rattle.twin_rules.specs.Inner.AskedPairs.{has_changed}
+use Rattle.twin_rules.specs.Inner.ComparedPairs.{has_changed}
 use Rattle.twin_rules.proofs.NextPlaces.{first-or-after}
 
 -- from this place on it is known where vertices have changed; `ahead` is the first of those

@@ -16,7 +16,7 @@ use Rattle.model_core.proofs.FusedPlaces.{BesideIt, before, behind, beside, at-w
 use Rattle.twin_rules.proofs.AlikeVertices.{AreAlike}
 use Rattle.twin_rules.proofs.ValidFused.{length_h}
 use Rattle.model_core.proofs.Images.{at-map}
-use Rattle.twin_rules.specs.Inner.AskedPairs.{place_before}
+use Rattle.twin_rules.specs.Inner.ComparedPairs.{place_before}
 
 -- ---- tests that nothing passes
 

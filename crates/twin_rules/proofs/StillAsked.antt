@@ -17,7 +17,7 @@ use Rattle.model_core.proofs.Among.{either_true, first_true, second_true}
 use Rattle.model_core.proofs.EachOne.{every-fails, either_false}
 use Rattle.bound_laws.proofs.Soundness.NumberRows.{not_true}
 use Rattle.twin_rules.specs.declared.asked.Asked.{Asked}
-use Rattle.twin_rules.specs.Inner.AskedPairs.{are_alike, is_before_pair, has_changed, NoneAlike, NoneAlikeBefore, place_before, some_leads}
+use Rattle.twin_rules.specs.Inner.ComparedPairs.{are_alike, is_before_pair, has_changed, NoneAlike, NoneAlikeBefore, place_before, some_leads}
 use Rattle.twin_rules.proofs.AlikeByTests.{none-is_none}
 use Rattle.twin_rules.proofs.AlikeVertices.{AreAlike, alike_said, changes_decided, edges_decided}
 use Rattle.twin_rules.proofs.StillApart.{NoneLeads, alike-before}

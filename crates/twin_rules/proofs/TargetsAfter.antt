@@ -10,7 +10,7 @@ use Rattle.model_core.specs.Rules.MarkedPlaces.{place_without}
 use Rattle.model_core.specs.Rules.Fuse.{fused_place, fused}
 use Rattle.model_core.proofs.EachOne.{either_false}
 use Rattle.twin_rules.specs.declared.marks.Marks.{Marks}
-use Rattle.twin_rules.specs.Inner.AskedPairs.{place_before, some_leads}
+use Rattle.twin_rules.specs.Inner.ComparedPairs.{place_before, some_leads}
 use Rattle.twin_rules.specs.Inner.MarkedVertices.{has_mark, one_marks}
 use Rattle.twin_rules.specs.Inner.LedTo.{NoneLeadsTo, MarksTargets}
 use Rattle.twin_rules.proofs.AlikeVertices.{AreAlike}

@@ -9,9 +9,9 @@ use Rattle.model_core.specs.Rules.Merge.{leads_to}
 use Rattle.model_core.specs.Rules.Fuse.{standing_for}
 use Rattle.model_core.proofs.EachOne.{either_false}
 use Rattle.twin_rules.specs.declared.print.Print.{Print}
-use Rattle.twin_rules.specs.Inner.AskedPairs.{are_alike, some_leads}
+use Rattle.twin_rules.specs.Inner.ComparedPairs.{are_alike, some_leads}
 use Rattle.twin_rules.specs.Inner.Fingerprints.{half, list_print, change_print, edge_print, vertex_print}
-use Rattle.twin_rules.specs.Inner.HeldPrints.{number_in, aims_at, ArePrints}
+use Rattle.twin_rules.specs.Inner.KeptFingerprints.{number_in, aims_at, ArePrints}
 use Rattle.twin_rules.specs.Inner.KeptRows.{prints_agree}
 use Rattle.twin_rules.proofs.AlikeVertices.{AreAlike}
 use Rattle.twin_rules.proofs.StillAsked.{alike_told}

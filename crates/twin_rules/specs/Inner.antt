@@ -1,7 +1,7 @@
 -- The code of this crate, restated for its proofs. No public clause cites these.
-pub mod AskedPairs
+pub mod ComparedPairs
 pub mod Fingerprints
 pub mod MarkedVertices
-pub mod HeldPrints
+pub mod KeptFingerprints
 pub mod KeptRows
 pub mod LedTo

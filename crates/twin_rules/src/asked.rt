@@ -9,7 +9,7 @@ ghost use Rattle.model_core.specs.Rules.MarkedPlaces.{place_without};
 ghost use Rattle.model_core.specs.Rules.Fuse.{fused, first_twins};
 ghost use Rattle.model_core.specs.Code.Views.{graph_of, edge_of};
 ghost use Rattle.twin_rules.specs.Inner.LedTo.{NoneLeadsTo};
-ghost use Rattle.twin_rules.specs.Inner.AskedPairs.{is_before_pair, has_changed, was_asked, next_changed, SkipsUnchanged, NoneAlike, NoneAlikeBefore, place_before, some_leads};
+ghost use Rattle.twin_rules.specs.Inner.ComparedPairs.{is_before_pair, has_changed, was_asked, next_changed, SkipsUnchanged, NoneAlike, NoneAlikeBefore, place_before, some_leads};
 
 use model_core::{Edge, Model};
 use sig_base::VERTICES_MAX;

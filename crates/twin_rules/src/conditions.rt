@@ -3,8 +3,8 @@
 ghost use Rattle.std.specs.Prelude.{◌≡◌, ◌<◌, ◌&&◌, true, None, take, length};
 ghost use Rattle.model_core.specs.Rules.Conditions.{first_failed};
 ghost use Rattle.model_core.specs.Rules.Fuse.{fused, has_short_text, fuse_conditions};
-ghost use Rattle.twin_rules.specs.Inner.AskedPairs.{are_alike, alike_by};
-ghost use Rattle.twin_rules.specs.Inner.HeldPrints.{ArePrints};
+ghost use Rattle.twin_rules.specs.Inner.ComparedPairs.{are_alike, alike_by};
+ghost use Rattle.twin_rules.specs.Inner.KeptFingerprints.{ArePrints};
 ghost use Rattle.twin_rules.specs.Inner.MarkedVertices.{is_barred};
 ghost use Rattle.model_core.specs.Code.Views.{graph_of};
 

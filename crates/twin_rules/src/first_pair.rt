@@ -3,8 +3,8 @@
 ghost use Rattle.std.specs.Prelude.{◌≡◌, ◌<◌, true, false, length};
 ghost use Rattle.model_core.specs.Rules.Fuse.{has_short_text, are_twins, first_twin_of, first_twins};
 ghost use Rattle.model_core.specs.Code.Views.{graph_of};
-ghost use Rattle.twin_rules.specs.Inner.AskedPairs.{are_alike, SkipsUnchanged, NoneAlike, NoneAlikeBefore, NoneAlikeWith};
-ghost use Rattle.twin_rules.specs.Inner.HeldPrints.{ArePrints};
+ghost use Rattle.twin_rules.specs.Inner.ComparedPairs.{are_alike, SkipsUnchanged, NoneAlike, NoneAlikeBefore, NoneAlikeWith};
+ghost use Rattle.twin_rules.specs.Inner.KeptFingerprints.{ArePrints};
 ghost use Rattle.twin_rules.specs.Inner.KeptRows.{IsRow};
 
 use crate::asked::Asked;

@@ -5,7 +5,7 @@ ghost use Rattle.std.specs.List.{list_any};
 ghost use Rattle.sig_base.specs.declared.limits.TheConstants.{VERTICES_MAX as LIMIT};
 ghost use Rattle.model_core.specs.Run.History.{watches};
 ghost use Rattle.model_core.specs.Code.Views.{graph_of, edge_of, vertex_of, watched_of};
-ghost use Rattle.twin_rules.specs.Inner.AskedPairs.{place_before};
+ghost use Rattle.twin_rules.specs.Inner.ComparedPairs.{place_before};
 ghost use Rattle.twin_rules.specs.Inner.LedTo.{MarksTargets};
 ghost use Rattle.twin_rules.specs.Inner.MarkedVertices.{has_mark, marks_at, one_marks, is_barred};
 

@@ -6,10 +6,10 @@ ghost use Rattle.sig_base.specs.declared.limits.TheConstants.{VERTICES_MAX as LI
 ghost use Rattle.model_core.specs.Run.Step.{vertex_at};
 ghost use Rattle.model_core.specs.Code.Views.{graph_of, edge_of};
 ghost use Rattle.twin_rules.specs.declared.print.Print.{Print as Kept};
-ghost use Rattle.twin_rules.specs.Inner.AskedPairs.{has_changed};
+ghost use Rattle.twin_rules.specs.Inner.ComparedPairs.{has_changed};
 ghost use Rattle.twin_rules.specs.Inner.Fingerprints.{half, aims_print, vertex_print};
 ghost use Rattle.twin_rules.specs.Inner.MarkedVertices.{has_mark};
-ghost use Rattle.twin_rules.specs.Inner.HeldPrints.{number_in, aims_at, ArePrints, ArePrintsBut, ArePrintsOfAll, IsRenewed};
+ghost use Rattle.twin_rules.specs.Inner.KeptFingerprints.{number_in, aims_at, ArePrints, ArePrintsBut, ArePrintsOfAll, IsRenewed};
 
 use crate::asked::Asked;
 use crate::fingerprint::{half, mixed, vertex_print};

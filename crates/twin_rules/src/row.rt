@@ -3,8 +3,8 @@
 ghost use Rattle.std.specs.Prelude.{◌≡◌, ◌<◌, ◌≤◌, ℕ, false};
 ghost use Rattle.model_core.specs.EventGraph.{EventGraph};
 ghost use Rattle.model_core.specs.Code.Views.{graph_of};
-ghost use Rattle.twin_rules.specs.Inner.AskedPairs.{are_alike, some_leads, SkipsUnchanged, NoneAlike};
-ghost use Rattle.twin_rules.specs.Inner.HeldPrints.{ArePrints};
+ghost use Rattle.twin_rules.specs.Inner.ComparedPairs.{are_alike, some_leads, SkipsUnchanged, NoneAlike};
+ghost use Rattle.twin_rules.specs.Inner.KeptFingerprints.{ArePrints};
 ghost use Rattle.twin_rules.specs.Inner.MarkedVertices.{has_mark};
 ghost use Rattle.twin_rules.specs.Inner.KeptRows.{prints_agree, IsRow};
 

@@ -57,7 +57,7 @@ pub fn needed_ones_are_made_of_needed_ones()
 // of another; where one number alone can be drawn; of a delay that is never drawn.
 pub fn streams_are_needed_one_by_one()
     ensures before { unneeded (four_clipped x_watched [] (drawn_of 1 54 ∷ drawn_of 0 54 ∷ drawn_of 2 53 ∷ []) []) ≡ 2 ∷ 3 ∷ [] }
-    ensures behind { unneeded (four_clipped x_watched [] (drawn_of 0 54 ∷ drawn_of 1 54 ∷ drawn_of 2 53 ∷ []) []) ≡ 2 ∷ 3 ∷ [] }
+    ensures after { unneeded (four_clipped x_watched [] (drawn_of 0 54 ∷ drawn_of 1 54 ∷ drawn_of 2 53 ∷ []) []) ≡ 2 ∷ 3 ∷ [] }
     ensures through_a_third { unneeded (four_clipped x_watched [] (drawn_of 3 53 ∷ drawn_of 1 53 ∷ drawn_of 1 54 ∷ drawn_of 0 54 ∷ []) []) ≡ 2 ∷ [] }
     ensures none { unneeded (four_clipped [] [] (drawn_of 0 54 ∷ drawn_of 1 54 ∷ []) []) ≡ 0 ∷ 1 ∷ 2 ∷ 3 ∷ [] }
     ensures of_a_delay_of_one_number { unneeded (four_clipped [] [] (drawn_of 0 54 ∷ drawn_of 1 53 ∷ []) (plain_edge (Schedule (Drawn 53 (Uniform (pos 3) (pos 3))) 5) 0 [] ∷ [])) ≡ 0 ∷ 2 ∷ 3 ∷ [] }

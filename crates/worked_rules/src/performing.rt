@@ -16,7 +16,7 @@ pub fn events_have_places()
     ensures taken { taken_at four_soon 1 ≡ Some (record { entry = soon 2; others = soon 1 ∷ soon 1 ∷ soon 2 ∷ [] }) }
     ensures none_taken { taken_at four_soon 4 ≡ None }
     ensures ahead { map (events_ahead 1 four_soon) (0 ∷ 1 ∷ 2 ∷ 3 ∷ 4 ∷ []) ≡ 0 ∷ 1 ∷ 1 ∷ 2 ∷ 2 ∷ [] }
-    ensures behind { map (λ n. place_behind 2 n four_soon) (0 ∷ 1 ∷ 2 ∷ []) ≡ 1 ∷ 3 ∷ 4 ∷ [] }
+    ensures after { map (λ n. place_behind 2 n four_soon) (0 ∷ 1 ∷ 2 ∷ []) ≡ 1 ∷ 3 ∷ 4 ∷ [] }
     ensures then_of_the_same { place_then four_soon 0 2 1 (soon 3 ∷ soon 1 ∷ soon 2 ∷ []) ≡ 1 }
     ensures then_of_another { place_then four_soon 0 3 2 (soon 2 ∷ soon 3 ∷ soon 2 ∷ []) ≡ 2 }
     ensures then_ahead { place_then four_soon 3 1 2 (soon 2 ∷ soon 1 ∷ soon 2 ∷ []) ≡ 0 }

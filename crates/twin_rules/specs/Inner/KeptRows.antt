@@ -3,7 +3,7 @@ use Rattle.std.specs.Prelude.{◌≡◌, ℕ, Bool, false, not, ◌&&◌, ◌||�
 use Rattle.model_core.specs.EventGraph.{EventGraph}
 use Rattle.twin_rules.specs.declared.print.Print.{Print}
 use Rattle.twin_rules.specs.declared.row.Row.{Row}
-use Rattle.twin_rules.specs.Inner.AskedPairs.{some_leads}
+use Rattle.twin_rules.specs.Inner.ComparedPairs.{some_leads}
 use Rattle.twin_rules.specs.Inner.MarkedVertices.{has_mark}
 
 -- two vertices of which this is kept may be alike; `leads` says whether the first leads to one of the two

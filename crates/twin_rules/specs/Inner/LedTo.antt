@@ -2,7 +2,7 @@
 use Rattle.std.specs.Prelude.{◌≡◌, ℕ, false}
 use Rattle.model_core.specs.EventGraph.{EventGraph}
 use Rattle.twin_rules.specs.declared.marks.Marks.{Marks}
-use Rattle.twin_rules.specs.Inner.AskedPairs.{some_leads}
+use Rattle.twin_rules.specs.Inner.ComparedPairs.{some_leads}
 use Rattle.twin_rules.specs.Inner.MarkedVertices.{has_mark}
 
 -- no edge of any vertex leads to the one at this place

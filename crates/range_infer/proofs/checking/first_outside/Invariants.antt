@@ -6,6 +6,6 @@ use Rattle.range_infer.proofs.checking.first_outside.Given as goal
 
 abbrev pub invariant-loop-taken : goal.invariant-loop-taken
 invariant-loop-taken l = record {
-  few : l.first ≤ length l.model.vars;
+  within : l.first ≤ length l.model.vars;
   value : l.first ≡ fold (first_after (graph_of l.model) l.ranges) l.start (take l.taken-index l.takes);
 }

@@ -1,7 +1,7 @@
 use Rattle.std.proofs.Common.{◌≡◌, ℕ, ◌<◌, ◌-◌, true, false, length}
 use Rattle.model_core.specs.Rules.Fuse.{are_twins, first_twin_of}
 use Rattle.model_core.specs.Code.Views.{graph_of}
-use Rattle.twin_rules.specs.Inner.AskedPairs.{are_alike}
+use Rattle.twin_rules.specs.Inner.ComparedPairs.{are_alike}
 use Rattle.twin_rules.proofs.FirstFound.{first_passing}
 use Rattle.twin_rules.proofs.first_pair.first_twin_of.Given as goal
 

@@ -3,7 +3,7 @@ use Rattle.std.proofs.Common.{ℕ, arith, ap, sym, ◌∙◌, length, Option, su
 use Rattle.std.specs.Option.{option_map}
 use Rattle.model_core.specs.Rules.Fuse.{first_twin_of, first_twins}
 use Rattle.model_core.specs.Code.Views.{graph_of}
-use Rattle.twin_rules.specs.Inner.AskedPairs.{NoneAlikeWith}
+use Rattle.twin_rules.specs.Inner.ComparedPairs.{NoneAlikeWith}
 use Rattle.twin_rules.proofs.FirstFound.{found-here, missed-here, none-found}
 use Rattle.twin_rules.proofs.KnownPairs.{none-before-here, one-more-row}
 use Rattle.twin_rules.proofs.first_pair.first_twins_in.Goals as goal

@@ -2,7 +2,7 @@ use Rattle.std.proofs.Common.{◌≡◌, ℕ, ◌<◌, true, false, length}
 use Rattle.std.specs.Option.{option_map}
 use Rattle.model_core.specs.Rules.Fuse.{first_twin_of, first_twins}
 use Rattle.model_core.specs.Code.Views.{graph_of}
-use Rattle.twin_rules.specs.Inner.AskedPairs.{are_alike}
+use Rattle.twin_rules.specs.Inner.ComparedPairs.{are_alike}
 use Rattle.twin_rules.proofs.FirstFound.{first_found}
 use Rattle.twin_rules.proofs.first_pair.first_twins_in.Given as goal
 

@@ -4,8 +4,8 @@ use Rattle.model_core.specs.EventGraph.{EventGraph}
 use Rattle.model_core.specs.Rules.Fuse.{fused}
 use Rattle.model_core.specs.Code.Views.{graph_of}
 use Rattle.twin_rules.specs.declared.print.Print.{Print}
-use Rattle.twin_rules.specs.Inner.AskedPairs.{NoneAlike, NoneAlikeBefore}
-use Rattle.twin_rules.specs.Inner.HeldPrints.{ArePrintsBut}
+use Rattle.twin_rules.specs.Inner.ComparedPairs.{NoneAlike, NoneAlikeBefore}
+use Rattle.twin_rules.specs.Inner.KeptFingerprints.{ArePrintsBut}
 use Rattle.twin_rules.specs.Inner.LedTo.{MarksTargets}
 use Rattle.twin_rules.proofs.AlikeVertices.{conditions_say}
 use Rattle.twin_rules.proofs.FirstTwins.{first-are-twins}

@@ -1,7 +1,7 @@
 use Rattle.std.proofs.Common.{length}
 use Rattle.model_core.specs.Code.Views.{graph_of}
-use Rattle.twin_rules.specs.Inner.AskedPairs.{NoneAlike, SkipsUnchanged}
-use Rattle.twin_rules.specs.Inner.HeldPrints.{ArePrints}
+use Rattle.twin_rules.specs.Inner.ComparedPairs.{NoneAlike, SkipsUnchanged}
+use Rattle.twin_rules.specs.Inner.KeptFingerprints.{ArePrints}
 use Rattle.twin_rules.specs.Inner.LedTo.{MarksTargets}
 use Rattle.twin_rules.proofs.FusedSoFar.{FusedSoFar}
 use Rattle.twin_rules.proofs.fusing_all.fuse_all.Given as goal

@@ -1,6 +1,6 @@
 use Rattle.std.proofs.Common.{◌≡◌, ℕ, ◌<◌, ◌≤◌, ◌-◌, false, length}
 use Rattle.model_core.specs.Code.Views.{graph_of}
-use Rattle.twin_rules.specs.Inner.AskedPairs.{are_alike}
+use Rattle.twin_rules.specs.Inner.ComparedPairs.{are_alike}
 use Rattle.twin_rules.proofs.row.next_like.Given as goal
 
 abbrev pub invariant-loop-gone : goal.invariant-loop-gone

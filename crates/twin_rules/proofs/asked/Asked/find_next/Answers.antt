@@ -2,7 +2,7 @@
 use Rattle.std.proofs.Common.{refl, rules, arith, sym, ◌∙◌, ap, subst, cond, set, ◌≡◌, ◌-◌, ◌+◌, ◌≤◌, ℕ, List, Bool}
 use Rattle.std.proofs.lemmas.List.{length-set}
 use Rattle.sig_base.specs.declared.limits.TheConstants.{VERTICES_MAX}
-use Rattle.twin_rules.specs.Inner.AskedPairs.{has_changed}
+use Rattle.twin_rules.specs.Inner.ComparedPairs.{has_changed}
 use Rattle.twin_rules.proofs.SkippedPlaces.{SkipsFrom, skips-nothing, one-before, either-small}
 use Rattle.twin_rules.proofs.asked.Asked.find_next.Goals as goal
 

@@ -3,7 +3,7 @@ use Rattle.std.proofs.Common.{◌∙◌, sym, ap, ap₂, cond, ◌==◌, ℕ}
 use Rattle.model_core.specs.Rules.MarkedPlaces.{place_without}
 use Rattle.model_core.specs.Code.Views.{graph_of}
 use Rattle.model_core.proofs.EachOne.{either_false}
-use Rattle.twin_rules.specs.Inner.AskedPairs.{has_changed, place_before, some_leads}
+use Rattle.twin_rules.specs.Inner.ComparedPairs.{has_changed, place_before, some_leads}
 use Rattle.twin_rules.proofs.AlikeVertices.{conditions_say}
 use Rattle.twin_rules.proofs.FirstTwins.{first-are-twins}
 use Rattle.twin_rules.proofs.StillAsked.{still-asked}

@@ -1,7 +1,7 @@
 -- One mark after the other, and all in the end.
 use Rattle.std.proofs.Common.{ℕ, rules, refl, arith, ap, ◌∙◌, ◌||◌}
 use Rattle.model_core.specs.Code.Views.{graph_of}
-use Rattle.twin_rules.specs.Inner.AskedPairs.{has_changed, some_leads}
+use Rattle.twin_rules.specs.Inner.ComparedPairs.{has_changed, some_leads}
 use Rattle.twin_rules.proofs.Marking.{nothing-marked, one-more-marked, all-marked}
 use Rattle.twin_rules.proofs.asked.Asked.mark.Goals as goal
 

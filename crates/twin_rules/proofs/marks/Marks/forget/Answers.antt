@@ -1,6 +1,6 @@
 -- One mark after the other, and all in the end.
 use Rattle.std.proofs.Common.{ℕ, false, rules, arith, sym, ap, ◌∙◌}
-use Rattle.twin_rules.specs.Inner.AskedPairs.{has_changed, place_before}
+use Rattle.twin_rules.specs.Inner.ComparedPairs.{has_changed, place_before}
 use Rattle.twin_rules.proofs.Marking.{nothing-marked, one-more-marked, all-marked, or-false}
 use Rattle.twin_rules.proofs.marks.Marks.forget.Goals as goal
 

@@ -2,7 +2,7 @@ use Rattle.std.proofs.Common.{◌≡◌, map, drop}
 use Rattle.model_core.specs.EventGraph.{EventEdge}
 use Rattle.model_core.specs.Code.Views.{edge_of}
 use Rattle.twin_rules.specs.Inner.Fingerprints.{list_print_on, aims_print}
-use Rattle.twin_rules.specs.Inner.HeldPrints.{number_in}
+use Rattle.twin_rules.specs.Inner.KeptFingerprints.{number_in}
 use Rattle.twin_rules.proofs.prints.Prints.aims.Given as goal
 
 -- the edges from this one on make the print of all of the print so far

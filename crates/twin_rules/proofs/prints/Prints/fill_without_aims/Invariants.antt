@@ -1,6 +1,6 @@
 use Rattle.std.proofs.Common.{◌≡◌, length}
 use Rattle.model_core.specs.Code.Views.{graph_of}
-use Rattle.twin_rules.specs.Inner.HeldPrints.{ArePrintsOfAll}
+use Rattle.twin_rules.specs.Inner.KeptFingerprints.{ArePrintsOfAll}
 use Rattle.twin_rules.proofs.prints.Prints.fill_without_aims.Given as goal
 
 -- what is kept is kept of the vertices before this place

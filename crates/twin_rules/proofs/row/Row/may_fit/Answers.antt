@@ -1,7 +1,7 @@
 -- Vertices that are alike fit.
 use Rattle.std.proofs.Common.{◌≡◌, ◌∙◌, sym, false}
 use Rattle.std.proofs.lemmas.Bool.{false≢true}
-use Rattle.twin_rules.specs.Inner.AskedPairs.{some_leads}
+use Rattle.twin_rules.specs.Inner.ComparedPairs.{some_leads}
 use Rattle.twin_rules.proofs.TellingApart.{told-apart}
 use Rattle.twin_rules.proofs.row.Row.may_fit.Goals.{then-self, else-self}
 use Rattle.twin_rules.proofs.row.Row.may_fit.Goals as goal

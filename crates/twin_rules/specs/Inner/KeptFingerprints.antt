@@ -5,7 +5,7 @@ use Rattle.sig_base.specs.declared.limits.TheConstants.{VERTICES_MAX}
 use Rattle.model_core.specs.EventGraph.{EventGraph}
 use Rattle.model_core.specs.Run.Step.{vertex_at}
 use Rattle.twin_rules.specs.declared.print.Print.{Print}
-use Rattle.twin_rules.specs.Inner.AskedPairs.{has_changed}
+use Rattle.twin_rules.specs.Inner.ComparedPairs.{has_changed}
 use Rattle.twin_rules.specs.Inner.Fingerprints.{half, vertex_print, aims_print}
 use Rattle.twin_rules.specs.Inner.MarkedVertices.{is_barred}
 
