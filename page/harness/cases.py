@@ -43,7 +43,7 @@ def unescaped(text):
 def stored_cases():
     """Each case of the folder `cases`: where it stands, its words, its input, and its output, line and status."""
     found = []
-    for name in sorted(os.listdir(f"{TOP}/cases")):
+    for name in sorted(f"{kind}/{it}" for kind in ("asked", "drawn") for it in os.listdir(f"{TOP}/cases/{kind}")):
         now = None
         with open(f"{TOP}/cases/{name}", encoding="utf-8", errors="surrogateescape", newline="\n") as lines:
             for number, line in enumerate(lines, 1):

@@ -1,6 +1,9 @@
 # Completion of sigma for bash: its commands, and the options of a command that aren't given yet. Files come behind < and >.
 _sigma() {
     local word=${COMP_WORDS[COMP_CWORD]} before=${COMP_WORDS[COMP_CWORD - 1]} command='' given=' ' options='' each
+    # share/make writes from share/commands: commands of bash
+    local commands=' check print describe uses conflicts run replicate save resume reduce certify fuse narrow trial '
+    # By hand.
     COMPREPLY=()
     case $word in
         '<' | '>' | '>>') word='' before='<' ;;
@@ -16,18 +19,18 @@ _sigma() {
     for each in "${COMP_WORDS[@]:1:COMP_CWORD-1}"; do
         case $each in
             --*) given+="$each " ;;
-            check | print | describe | uses | conflicts | reduce | certify | fuse | narrow | run | replicate | save | resume | trial)
-                command=${command:-$each}
-                ;;
+            *) case $commands in *" $each "*) command=${command:-$each} ;; esac ;;
         esac
     done
     case $command in
-        '') options='check print describe uses conflicts run replicate save resume reduce certify fuse narrow trial' ;;
+        '') options=$commands ;;
+        # share/make writes from share/commands: options of each command in bash
         run) options='--until --seed --events --start --room' ;;
         replicate) options='--until --seed --events --runs --start' ;;
         save) options='--until --seed --events --start' ;;
         resume) options='--until --events --room' ;;
         trial) options='--seed --vertices --until --events' ;;
+        # By hand.
     esac
     for each in $options; do
         case $given in
