@@ -1,4 +1,4 @@
--- A fact about the pending list holds after an event, where cancelling keeps it and so does each event that edges schedule:
+-- A fact about the pending list holds after an event, where cancelling and each event that edges schedule keep it:
 -- above all a fact about each pending event, where it holds of each one that edges schedule.
 use Rattle.std.proofs.Common.{◌≡◌, ℕ, ◌+◌, ℤ, Bool, true, false, cond, List, [], ◌∷◌, ◌++◌, Ok, refl, subst}
 use Rattle.std.specs.List.{AllByRecursion}

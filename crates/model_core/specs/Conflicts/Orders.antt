@@ -42,8 +42,8 @@ pub data Commute : Option (Result Configuration Fault) → Option (Result Config
   both_fault : (f h : Fault) → Commute (Some (Err f)) (Some (Err h))
   both_give : {c d : Configuration} → SameButForOrder c d → Commute (Some (Ok c)) (Some (Ok d))
 
--- While the first event occurs, after which d stands, the second one, e, stays pending, at its place then. To all else the
--- first does what it does where the second isn't pending.
+-- While the first event occurs, which gives d, the second one, e, stays pending, at its place then. Apart from it the
+-- first gives what it gives where the second isn't pending.
 pub record StaysPending (g : EventGraph) (seed : ℕ) (c : Configuration) (first second : ℕ) (e : Entry) (d : Configuration) : Type 0 where
   pub there : slice_get d.pending (place_then c.pending first second e.vertex d.pending) ≡ Some e
   pub unseen : perform g seed (record c { pending = remove c.pending second }) (place_without second first) ≡ Some (Ok (record d { pending = remove d.pending (place_then c.pending first second e.vertex d.pending) }))
