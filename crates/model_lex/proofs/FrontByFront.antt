@@ -1,4 +1,4 @@
--- A text is cut front by front into what `tokens_of` computes.
+-- Front by front, a text is cut into the tokens that `tokens_of` computes.
 use Rattle.std.proofs.Common.{◌≡◌, ◌↔◌, ℕ, zero, suc, ◌+◌, ◌≤◌, List, [], ◌∷◌, length, drop, refl, sym, ◌∙◌, ap, subst, arith}
 use Rattle.std.specs.Prelude.{Result}
 use Rattle.std.proofs.lemmas.List.{length-drop}

@@ -1,4 +1,4 @@
--- What bytes begin with, and how long it is.
+-- The front of bytes, and its length.
 use Rattle.std.proofs.Common.{◌≡◌, ℕ, ◌<◌, ◌≤◌, Bool, true, false, cond, List, [], ◌∷◌, length, take, drop, refl, ap, ◌∙◌, arith, slice_index}
 use Rattle.std.specs.Prelude.{◌==◌, nat_eq, nat_lt}
 use Rattle.std.specs.List.{prefix_len, take_while, starts_with, list_all}

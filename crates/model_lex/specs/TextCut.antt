@@ -1,4 +1,4 @@
--- That a text is cut into tokens, as a relation.
+-- How a text is cut into tokens, as a relation.
 use Rattle.std.specs.Prelude.{ℕ, ◌+◌, List, [], ◌∷◌, drop, Result, Ok}
 use Rattle.model_core.specs.Text.Lexing.{Lexeme, front, front_length, after_front}
 

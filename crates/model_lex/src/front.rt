@@ -1,4 +1,4 @@
-//! What a text has at a place: blanks and comments are passed over, tokens are added to a list.
+//! One step through a text: blanks and comments are passed over, and a token is added to a list.
 
 ghost use Rattle.std.specs.Prelude.{◌≡◌, ◌≢◌, ◌<◌, ◌+◌, ◌^◌, ◌∷◌, ◌++◌, [], ℕ, Err, drop, length, map, IfOk, OnOk, vec_len, vec_capacity};
 ghost use Rattle.model_core.specs.Text.Lexing.{Neither, symbol_among, all_symbols};

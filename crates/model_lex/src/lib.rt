@@ -1,4 +1,4 @@
-//! The tokens of a text, and the errors of those that read them.
+//! Cuts a text into its tokens; and the errors of readers of tokens.
 #![tactic(auto)]
 
 mod classes;

@@ -7,7 +7,7 @@ ghost use Rattle.model_lex.specs.PieceViews.{piece_of};
 use crate::numbers::literal_value;
 use model_core::{Symbol, Token, TokenKind, Word};
 
-/// What a piece of a text is.
+/// The kind of a piece of a text.
 #[derive(Clone, Copy, PartialEq, Eq)]
 pub enum PieceKind {
     /// A word that isn't reserved.

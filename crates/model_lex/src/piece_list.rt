@@ -1,4 +1,4 @@
-//! A text with its pieces.
+//! A text with its tokens as pieces.
 
 ghost use Rattle.std.specs.Prelude.{◌≡◌, map, Ok};
 ghost use Rattle.model_core.specs.Text.Lexing.{tokens_of};

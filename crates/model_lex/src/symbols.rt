@@ -1,4 +1,4 @@
-//! The symbols.
+//! The symbols of one byte and of two.
 
 ghost use Rattle.std.specs.Prelude.{◌≡◌, [], ◌∷◌};
 ghost use Rattle.model_core.specs.Text.Lexing.{symbol_among, Neither};

@@ -1,4 +1,4 @@
-//! A text with its tokens.
+//! A text with its tokens, as values and as pieces.
 
 ghost use Rattle.std.specs.Prelude.{◌≡◌, map, Ok};
 ghost use Rattle.model_core.specs.Text.Lexing.{tokens_of};

@@ -1,4 +1,4 @@
-//! The reserved words.
+//! The reserved words, and whether a word is one.
 
 ghost use Rattle.std.specs.Prelude.{◌≡◌, ◌<◌, length, map};
 ghost use Rattle.model_lex.specs.PieceViews.{piece_kind};
@@ -8,7 +8,7 @@ ghost use Rattle.model_lex.specs.Inner.Fronts.{words_with_first};
 use crate::piece::PieceKind;
 use model_core::Word;
 
-/// What a word is: a reserved word or a name.
+/// The kind of a word: a reserved word or a name.
 #[inline(always)]
 pub(crate) fn word_kind(word: &[u8]) -> PieceKind
     requires { 0 < length word.now }
@@ -17,7 +17,7 @@ pub(crate) fn word_kind(word: &[u8]) -> PieceKind
     kind_with(word[0], word)
 }
 
-/// What a word is, where it begins with the letter. It is compared with the reserved words that do, of which there are at
+/// The kind of a word that begins with the letter. It is compared with the reserved words that do, of which there are at
 /// most four. Each comparison is inlined, so that it looks at no byte of these words: they are in the code.
 #[inline(always)]
 fn kind_with(letter: u8, word: &[u8]) -> PieceKind
@@ -92,7 +92,7 @@ fn kind_with(letter: u8, word: &[u8]) -> PieceKind
     }
 }
 
-/// What a word is, where these are the reserved words.
+/// The kind of a word, where these are the reserved words.
 #[inline(always)]
 fn kind_among(words: &[(&[u8], Word)], word: &[u8]) -> PieceKind
     ensures { piece_kind word.now result ≡ word_among (map (λ w. (w.0.now, w.1)) words.now) word.now }

@@ -50,7 +50,7 @@ front_at bytes =
     else (if is_ascii_digit (slice_index bytes 0) then number_at (prefix_len is_ascii_digit bytes) bytes
     else symbol_among all_symbols bytes)))
 
--- What a function returned, seen by view, is what the text gives, unless memory ran out.
+-- A function's result, seen by view, is that of the text, unless memory ran out.
 abbrev pub Gives : {X Y : Type 0} → (X → Y) → Result X LexError → Result Y ℕ → Type 0
 Gives view (Ok x) read = read ≡ Ok (view x)
 Gives view (Err (errors.BadByte at)) read = read ≡ Err at
