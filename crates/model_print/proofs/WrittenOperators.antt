@@ -1,4 +1,4 @@
--- What operators and sizes are written as, where the code has asked which they are.
+-- The texts of operators and sizes, where the code has found out which they are.
 use Rattle.std.proofs.Common.{◌≡◌, ◌∙◌, ℕ, zero, suc, List, ◌++◌, append_assoc, ap, sym, refl, arith}
 use Rattle.std.specs.Prelude.{codes, decimal}
 use Rattle.model_core.specs.EventGraph.{Operator, Add, Subtract, Multiply, Divide, Remainder, Least, Greatest, Equal, NotEqual, Below, AtMost, Above, AtLeast, And, Or, Expression}

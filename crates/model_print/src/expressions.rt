@@ -1,4 +1,4 @@
-//! Expressions.
+//! The text of an expression, with parentheses exactly where they are needed.
 
 ghost use Rattle.std.specs.Prelude.{◌≡◌, ◌++◌, map};
 ghost use Rattle.model_core.specs.Text.Canonical.{truth_text, level as level_of, operand, expression_text, expression_texts, joined, in_parentheses};

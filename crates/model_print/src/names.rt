@@ -1,4 +1,4 @@
-//! The names of what a model refers to by its place. A place that nothing has prints as nothing.
+//! Names of variables, vertices and tables, by their place. A place that nothing has prints as nothing.
 
 ghost use Rattle.model_core.specs.Text.Canonical.{table_name, variable_name, vertex_name};
 ghost use Rattle.model_core.specs.Code.Views.{graph_of};

@@ -1,4 +1,4 @@
-//! Where a text goes as it is made: onto a page with room for it, after other bytes that grow, or into a count of its bytes
+//! The pens, which take a text as it is made: onto a page with room for it, after other bytes, or into a count of its bytes
 //! alone.
 
 ghost use Rattle.std.specs.Prelude.{◌≡◌, ◌≤◌, ◌-◌, ◌^◌, ℕ, min, List, [], ◌++◌, codes, decimal, vec_capacity, IfOk};

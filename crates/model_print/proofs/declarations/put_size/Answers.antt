@@ -1,4 +1,4 @@
--- what is put, piece by piece
+-- the text is put piece by piece
 use Rattle.model_print.proofs.WrittenOperators.{size_written}
 use Rattle.model_print.proofs.Putting.{three}
 use Rattle.model_print.proofs.declarations.put_size.Goals as goal

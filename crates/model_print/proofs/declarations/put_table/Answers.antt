@@ -1,4 +1,4 @@
--- what is put, piece by piece
+-- the text is put piece by piece
 use Rattle.model_print.proofs.Putting.{five}
 use Rattle.model_print.proofs.declarations.put_table.Goals as goal
 

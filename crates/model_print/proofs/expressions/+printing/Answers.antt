@@ -1,4 +1,4 @@
--- what is put, piece by piece
+-- the text is put piece by piece
 use Rattle.std.proofs.Common.{rules, sym, ◌∙◌}
 use Rattle.std.specs.Prelude.{codes}
 use Rattle.model_core.specs.Text.Canonical.{operator_text}

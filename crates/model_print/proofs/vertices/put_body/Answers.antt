@@ -1,4 +1,4 @@
--- what is put, piece by piece
+-- the text is put piece by piece
 use Rattle.model_print.proofs.Putting.{two}
 use Rattle.model_print.proofs.vertices.put_body.Goals as goal
 

@@ -1,4 +1,4 @@
--- what is put, piece by piece
+-- the text is put piece by piece
 use Rattle.std.proofs.Common.{arith}
 use Rattle.std.proofs.lemmas.Grind.{common_steps}
 use Rattle.model_print.proofs.Putting.{put_as, three}

@@ -1,4 +1,4 @@
--- what is put, piece by piece
+-- the text is put piece by piece
 use Rattle.std.proofs.Common.{rules}
 use Rattle.model_print.proofs.Putting.{put_as, three}
 use Rattle.model_print.proofs.vertices.put_source.Goals as goal

@@ -1,4 +1,4 @@
--- what is put, piece by piece
+-- the text is put piece by piece
 use Rattle.model_print.proofs.Putting.{seven}
 use Rattle.model_print.proofs.vertices.put_vertex.Goals as goal
 

@@ -1,4 +1,4 @@
--- what is put, piece by piece
+-- the text is put piece by piece
 use Rattle.std.proofs.Common.{map}
 use Rattle.model_core.specs.Code.Views.{graph_of, vertex_of}
 use Rattle.model_core.specs.Rules.PlacedEdges.{with_place}
