@@ -1,4 +1,4 @@
--- What a call of a level returns, from what the calls of its operands returned.
+-- The result of a call of a level, from the results of the calls of its operands.
 use Rattle.std.proofs.Common.{◌≡◌, ℕ, ◌≤◌, List, None, sym, ap, ◌∙◌, subst}
 use Rattle.std.specs.Prelude.{Result, Ok, Err}
 use Rattle.model_core.specs.declared.raw.RawExpr.{RawExpr}

@@ -46,7 +46,7 @@ never_deep text tokens left r at g e = subst (λ (q : Result RawModel ParseError
 
 -- ---- a front
 
--- what is left after the front, by its place among all tokens
+-- the tokens after the front, by their place among all tokens
 left-place : (all left : List Lexeme) (from : ℕ) (front : List Lexeme) → from ≤ length all → drop from all ≡ front ++ left → (length left ≤ length all) × (drop (length all - length left) all ≡ left)
 left-place all left from front h e =
     let size : length (drop from all) ≡ length all - from = length-drop from all in

@@ -1,4 +1,4 @@
--- What a call that reads returns.
+-- The results of a call that reads.
 use Rattle.std.specs.Prelude.{◌≡◌, ℕ, List, Result, Ok, Err}
 use Rattle.model_core.specs.Text.Lexing.{Lexeme}
 use Rattle.text_laws.specs.FormatReader.{Parse, took, stuck}
@@ -11,7 +11,7 @@ use Rattle.model_read.specs.declared.stop.Stop.TheVariants as stops
 abbrev pub Stops : {B : Type 0} → Stop → List Lexeme → Parse B → Type 0
 Stops e left parse = e ≡ stops.Unexpected → parse ≡ stuck left
 
--- What a call returned, seen by view, is what was taken, and the call left the same tokens.
+-- A call's result, seen by view, is what was taken, and the call left the same tokens.
 abbrev pub Returned : {A B : Type 0} → (A → B) → Result A Stop → List Lexeme → Parse B → Type 0
 Returned view (Ok x) left parse = parse ≡ took (view x) left
 Returned view (Err e) left parse = Stops e left parse

@@ -1,4 +1,4 @@
-//! What is left to read of a text's tokens.
+//! The tokens of a text that are left to read.
 
 ghost use Rattle.std.specs.Prelude.{◌≡◌, ◌≢◌, ℕ, ◌+◌, ◌≤◌, true, false, None, List, [], drop, length, map, slice_range, IfOk, IfErr};
 ghost use Rattle.std.specs.Option.{option_map, is_some, IfSome};

@@ -1,4 +1,4 @@
-//! What comes before the vertices: variables, tables and the watch list.
+//! The declarations, before the vertices: variables, tables and the watch list.
 
 ghost use Rattle.std.specs.Prelude.{refl, map};
 ghost use Rattle.std.specs.Option.{option_map};

@@ -129,7 +129,7 @@ fn urgent(alloc: Global, cursor: &mut Cursor<'_>) -> Result<RawEdge, Stop>
     })
 }
 
-/// What is between `cancel` and the condition.
+/// The part of an edge between `cancel` and the condition.
 #[derive(Drop)]
 struct Cancellation {
     target: RawName,
@@ -137,7 +137,7 @@ struct Cancellation {
     form: RawEdgeForm,
 }
 
-/// Reads what is between `cancel` and the condition.
+/// Reads the part between `cancel` and the condition.
 #[tactic(auto, unfolding(model_core::specs::Text::Language::cancelled_format))]
 fn cancelled(alloc: Global, cursor: &mut Cursor<'_>) -> Result<Cancellation, Stop>
     ensures { Returned written_cancel result cursor.new (language_reader cancelled_format cursor.old) }

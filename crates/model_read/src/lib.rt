@@ -1,4 +1,4 @@
-//! Reads a model text from its tokens; and the places of names, in a table, for what is read of a model that is there already.
+//! Reads a model text from its tokens. Also a table of the places of names, for texts that refer to a known model.
 #![tactic(auto)]
 
 mod changes;

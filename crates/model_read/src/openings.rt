@@ -1,4 +1,4 @@
-//! How deep the parts of a text go, counted before its grammar is tried.
+//! The limit on openings in each part of a text, counted before the grammar is tried.
 
 ghost use Rattle.std.specs.Prelude.{◌≡◌, ◌<◌, ◌≤◌, ℕ, List, length, map, slice_index_or, take, true};
 ghost use Rattle.std.specs.Option.{IfSome};
@@ -21,7 +21,7 @@ fn ends_part(kind: PieceKind) -> bool
     }
 }
 
-/// What a token is to a count of openings: the end of a part, an opening, or neither.
+/// How a count of openings takes a token: as the end of a part, as an opening, or as neither.
 #[derive(Clone, Copy)]
 enum Counted {
     End,
@@ -29,7 +29,7 @@ enum Counted {
     Other,
 }
 
-/// What a symbol is to a count of openings.
+/// How a count of openings takes a symbol.
 #[inline(always)]
 fn count_of_symbol(symbol: Symbol) -> Counted
     ensures { IsCounted result (Mark symbol) }
@@ -58,7 +58,7 @@ fn count_of_symbol(symbol: Symbol) -> Counted
     }
 }
 
-/// What a token of the kind is to a count of openings.
+/// How a count of openings takes a token of the kind.
 #[inline(always)]
 fn count_of(kind: PieceKind) -> Counted
     ensures { (bytes : List ℕ) → IsCounted result (piece_kind bytes kind) }

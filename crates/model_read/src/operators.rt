@@ -1,4 +1,4 @@
-//! The operators with two operands, written between these.
+//! The operators between two operands, and their levels.
 
 ghost use Rattle.std.specs.Prelude.{◌≡◌, ℕ, List, Some};
 ghost use Rattle.std.specs.Option.{option_map};

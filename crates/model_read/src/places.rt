@@ -1,4 +1,4 @@
-//! The places of names, in a table.
+//! A table of the places of names.
 
 ghost use Rattle.std.specs.Prelude.{◌≡◌, ℕ, None, List, [], ◌∷◌, ◌++◌, map, OnOk, IfOk};
 ghost use Rattle.model_core.specs.Code.Views.{variable_of, vertex_of};

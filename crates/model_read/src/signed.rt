@@ -1,4 +1,4 @@
-//! Numbers with a sign, what a variable is declared to hold, and initial values.
+//! Numbers with a sign, kinds of variables with their ranges, and initial values.
 
 ghost use Rattle.model_core.specs.Code.WrittenViews.{written_signed, written_kind, written_literal};
 ghost use Rattle.model_core.specs.Text.Written.{WrittenSigned};

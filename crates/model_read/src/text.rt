@@ -1,4 +1,4 @@
-//! A whole model text.
+//! Reads a whole model text, and the text that pieces begin with.
 
 ghost use Rattle.std.specs.Prelude.{◌≡◌, ℕ, ◌≤◌, List, None, Some, length, drop, IfOk};
 ghost use Rattle.sig_base.specs.declared.limits.TheConstants.{OPENINGS_MAX};
@@ -24,7 +24,7 @@ use model_lex::{ParseError, Pieces, pieces_stand_in_text};
 use sig_base::{Held, List, OPENINGS_MAX};
 use std::alloc::Global;
 
-/// What a text says of its version: the byte of its word `version`, and the number after it.
+/// The line of the version: the byte of its word `version`, and the number after it.
 #[derive(Clone, Copy)]
 struct RawVersion {
     at: usize,

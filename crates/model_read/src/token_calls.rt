@@ -1,4 +1,4 @@
-//! The readers of whole texts for those who have the tokens as a list: what is read are the pieces beside them.
+//! The readers of whole texts for users with a list of tokens. They read the pieces beside the list.
 
 ghost use Rattle.std.specs.Prelude.{◌≡◌, ℕ, ◌≤◌, None, Some, Err, length, drop, IfOk};
 ghost use Rattle.sig_base.specs.declared.limits.TheConstants.{OPENINGS_MAX};

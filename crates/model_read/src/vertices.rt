@@ -1,4 +1,4 @@
-//! Vertices.
+//! The vertices of a model.
 
 ghost use Rattle.std.specs.Prelude.{map};
 ghost use Rattle.std.specs.Option.{option_map};

@@ -1,4 +1,4 @@
--- What is between `cancel` and the condition, as plain data.
+-- The part of an edge between `cancel` and the condition, as plain data.
 use Rattle.std.specs.Prelude.{ℕ, map, Option}
 use Rattle.std.specs.Option.{option_map}
 use Rattle.model_core.specs.Code.WrittenViews.{written_name, written_expression, written_edge_kind}

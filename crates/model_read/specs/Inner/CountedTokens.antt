@@ -1,4 +1,4 @@
--- What a token is to a count of openings.
+-- How a count of openings takes a token.
 use Rattle.std.specs.Prelude.{◌≡◌, Bool, true, false}
 use Rattle.model_core.specs.Text.Lexing.{LexemeKind}
 use Rattle.model_core.specs.Text.Openings.{ends_part, is_opening}

@@ -1,4 +1,4 @@
--- What a text says of its version, as plain data.
+-- The line of the version, as plain data.
 use Rattle.model_core.specs.Code.WrittenViews.{written_number}
 use Rattle.model_core.specs.Text.Language.{VersionLine}
 use Rattle.model_read.specs.declared.text.RawVersion.{RawVersion}
