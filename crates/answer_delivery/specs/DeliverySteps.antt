@@ -1,4 +1,4 @@
--- What the two steps of delivering did: writing bytes, and finishing the output.
+-- The two steps of delivering: writing bytes, and finishing the output.
 use Rattle.std.specs.Prelude.{◌≡◌, ◌<◌, ℕ, true, false, List, [], length, Result, Ok, Err}
 use Rattle.sig_base.specs.Faults.{HasRisen}
 use Rattle.sig_base.specs.Sink.{Outlet, GrowsBy}

@@ -1,4 +1,4 @@
--- With which status a call ends that has no answer. The table of statuses says it row by row.
+-- The status of a call that has no answer. The table of statuses says it row by row.
 use Rattle.answer_delivery.specs.declared.status.Failure.{Failure}
 use Rattle.answer_delivery.specs.declared.status.Failure.TheVariants as failures
 use Rattle.answer_delivery.specs.declared.status.Status.{Status}

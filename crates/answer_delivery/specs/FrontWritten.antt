@@ -1,4 +1,4 @@
--- When only the first of some bytes were written.
+-- That only the first of some bytes were written.
 use Rattle.std.specs.Prelude.{◌≤◌, ℕ, List, length, take}
 use Rattle.sig_base.specs.Sink.{Outlet, GrowsBy}
 

@@ -1,4 +1,4 @@
-//! What is answered to a text, and the answers that refuse one.
+//! The answer to a text, and the answers that refuse one.
 
 ghost use Rattle.std.specs.Prelude.{◌≡◌, IfOk};
 ghost use Rattle.answer_delivery.specs.AnswerForms.{refused, too_long};
@@ -9,7 +9,7 @@ use crate::status::{End, Refusal};
 use sig_base::{NoMemory, Text};
 use std::alloc::Global;
 
-/// What a job answers to a text.
+/// The answer of a job to a text.
 #[derive(Drop)]
 pub enum Answer {
     /// How it ends, and the bytes for the output.

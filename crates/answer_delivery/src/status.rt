@@ -1,4 +1,4 @@
-//! How the program ends.
+//! How the program ends: statuses, ends of jobs, refusals and failures.
 
 ghost use Rattle.std.specs.Prelude.{◌≡◌};
 ghost use Rattle.answer_delivery.specs.declared.status.Failure.TheVariants.{NoMemory as OutOfMemory};

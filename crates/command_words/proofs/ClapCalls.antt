@@ -1,4 +1,4 @@
--- What the code's calls of `clap` come to.
+-- The results of the code's calls of `clap`.
 use Rattle.std.proofs.Common.{◌≡◌, ◌≢◌, ◌∙◌, true, false, List, [], ◌∷◌, refl, sym, ap, fold, inl, inr, subst, Option, Some, None, Result, Ok, Err, IfOk, IsErrOf, codes, option_and_then, option_map}
 use Rattle.std.specs.List.{list_any}
 use Rattle.std.proofs.lemmas.Bool.{and_parts}

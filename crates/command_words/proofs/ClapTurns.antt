@@ -19,7 +19,7 @@ unless_first (k ∷ ks) next answer = refl
 abbrev pub built_shape : List (List ℕ) → Shape
 built_shape names = record (built (command_line [])).top { rules = built_rules names }
 
--- what is amiss at the end of the words
+-- the error at the end of the words
 abbrev pub last_fault : List (List ℕ) → Held → Kinds
 last_fault names held = or_else (settle_fault (built_rules names) false held)
     (or_else (defaults_fault (settled (built_rules names) held).rows (built_rules names)) (check_fault (built_shape names) (finished (built_rules names) held) false))

@@ -1,4 +1,4 @@
--- Which limits what a job asks for keeps. That words ask for nothing beyond them is a law.
+-- The limits of each job. A law says that words ask for nothing beyond them.
 use Rattle.std.specs.Prelude.{◌<◌, ◌≤◌, ◌^◌}
 use Rattle.sig_base.specs.declared.limits.TheConstants.{STOP_MAX, EVENTS_MAX, RUNS_MAX}
 use Rattle.command_words.specs.declared.reading.BareJob.TheVariants as bare

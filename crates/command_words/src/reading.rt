@@ -1,4 +1,4 @@
-//! What a job reads, if anything, and what it asks of that. What goes by it has no case for a job that reads something else.
+//! What a job reads, if anything, and what it asks of that: one type for each thing that is read.
 
 ghost use Rattle.std.specs.Prelude.{◌≡◌};
 ghost use Rattle.command_words.specs.Readings.{limit_of};

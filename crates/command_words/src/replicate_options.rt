@@ -1,8 +1,8 @@
-//! What replications of a model are asked for.
+//! The options of `replicate`.
 
 use sig_base::List;
 
-/// What replications are asked for.
+/// The options of `replicate`.
 #[derive(Drop)]
 pub struct ReplicateOptions {
     /// The stop time of each run, in ticks.

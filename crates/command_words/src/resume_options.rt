@@ -1,6 +1,6 @@
-//! What a saved run is asked for when it goes on.
+//! The options of `resume`.
 
-/// What a saved run is asked for when it goes on.
+/// The options of `resume`.
 #[derive(Clone, Copy, Debug)]
 pub struct ResumeOptions {
     /// The stop time, in ticks.

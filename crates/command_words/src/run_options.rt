@@ -1,4 +1,4 @@
-//! What a run of a model is asked for.
+//! The options of `run`.
 
 use sig_base::List;
 
@@ -8,7 +8,7 @@ pub const ROOM_MAX: usize = 4_194_304;
 /// The pending events for which a run has room from its beginning where none is asked for.
 pub const ROOM_USUAL: usize = 4_096;
 
-/// What a run is asked for.
+/// The options of `run`.
 #[derive(Drop)]
 pub struct RunOptions {
     /// The stop time, in ticks.

@@ -1,8 +1,8 @@
-//! What a run that is saved is asked for.
+//! The options of `save`.
 
 use sig_base::List;
 
-/// What a run that is saved is asked for.
+/// The options of `save`.
 #[derive(Drop)]
 pub struct SaveOptions {
     /// The stop time, in ticks.

@@ -1,9 +1,9 @@
-//! What a trial is asked for.
+//! The options of `trial`.
 
 /// The most vertices that a made model can have.
 pub const VERTICES_MADE_MAX: usize = 500;
 
-/// What a trial is asked for.
+/// The options of `trial`.
 #[derive(Clone, Copy, Debug)]
 pub struct TrialOptions {
     /// The number that makes the model, and the seed of the random streams.

@@ -1,4 +1,4 @@
--- What a loop over locations has left to add, after one location more with the value beside it.
+-- The rest that a loop over locations has to add, after one location more with the value beside it.
 use Rattle.std.proofs.Common.{◌≡◌, ℕ, zero, suc, ◌<◌, ◌+◌, List, [], ◌∷◌, ◌++◌, map, zip, drop, length, get_or, refl, sym, ap, ◌∙◌, append_assoc, add-one, codes}
 use Rattle.std.specs.Prelude.{slice_get}
 use Rattle.std.specs.Option.{option_map_or}

@@ -1,4 +1,4 @@
--- What parts of a format read, one after another or left out.
+-- Parts of a format, read one after another or left out.
 use Rattle.std.proofs.Common.{◌≡◌, ℕ, true, false, List, Option, Some, None, Result, Ok, Err, refl}
 use Rattle.std.specs.Prelude.{IfOk}
 use Rattle.model_core.specs.Text.Lexing.{Lexeme}

@@ -1,4 +1,4 @@
--- What is read of a whole, from what is read of its parts.
+-- The whole that was read, from the parts that were read.
 use Rattle.std.proofs.Common.{◌≡◌, ℕ, Bool, true, false, cond, List, [], ◌∷◌, refl, sym, ap, ◌∙◌}
 use Rattle.std.specs.Prelude.{Ok, Err}
 use Rattle.model_core.specs.declared.token.Symbol.TheVariants as symbols

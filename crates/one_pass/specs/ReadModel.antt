@@ -1,4 +1,4 @@
--- What a model is that was read from tokens.
+-- The promise about a model that was read from tokens.
 use Rattle.std.specs.Prelude.{List}
 use Rattle.sig_base.specs.declared.limits.TheConstants.{OPENINGS_MAX}
 use Rattle.model_core.specs.EventGraph.{EventGraph}

@@ -1,4 +1,4 @@
-//! The vertices of a text, as far as others need them before they are read.
+//! The names and parameters of vertices, found before the vertices are read.
 
 ghost use Rattle.std.specs.Prelude.{◌≡◌, ◌↔◌, map};
 ghost use Rattle.std.specs.Bool.{IsTrue};

@@ -1,4 +1,4 @@
-//! Refusal of what breaks a static rule, where it is known only that some rule is broken.
+//! Giving up where some static rule is broken.
 
 ghost use Rattle.std.specs.Prelude.{◌≡◌, ◌≢◌, None, OnOk, OnErr};
 

@@ -1,4 +1,4 @@
-//! A whole model text.
+//! Reads and checks a whole model text.
 
 ghost use Rattle.std.specs.Prelude.{◌≡◌, [], map, Option, None, IfOk};
 ghost use Rattle.model_core.specs.declared.token.Word.TheVariants.{End};

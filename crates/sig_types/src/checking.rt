@@ -130,7 +130,7 @@ struct Known {
     taken: List<List<Option<Kind>>>,
 }
 
-/// What has to be known of a model before its parts are checked. It reports what `declared` reports.
+/// The names and the kinds of parameters, which the checks of parts need. It reports what `declared` reports.
 fn known_of(alloc: Global, raw: &RawModel, told: &mut Told) -> Result<Known, NoMemory>
     ensures means { IfOk result (λ known. meaning_of known.names ≡ model_meaning (written_model raw.now)) }
     ensures takes { IfOk result (λ known. known.taken ≡ model_takes (written_model raw.now)) }

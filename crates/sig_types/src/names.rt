@@ -11,7 +11,7 @@ use sig_base::{Name, NoMemory};
 use std::alloc::Global;
 use std::marker::Model;
 
-/// What a name means: a variable, a table or a vertex, with its place among its like.
+/// What a name means: a variable, a table or a vertex, with its place among those of its kind.
 #[derive(Clone, Copy)]
 pub enum Meaning {
     Variable {

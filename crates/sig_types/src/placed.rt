@@ -1,4 +1,4 @@
-//! Parts that have a place, and lists of them that are too long.
+//! Parts with a place, and lists of parts that are too long.
 
 ghost use Rattle.std.specs.Prelude.{◌≡◌, ℕ, map};
 ghost use Rattle.model_core.specs.Code.WrittenViews.{written_name, written_variable, written_row, written_table, written_target, written_change, written_edge, written_vertex};

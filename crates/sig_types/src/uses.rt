@@ -1,4 +1,4 @@
-//! Names where they are used: as a variable, a table, a vertex, or to be watched.
+//! Uses of names: as a variable, a table or a vertex, or in the watch list.
 
 ghost use Rattle.std.specs.Prelude.{◌≡◌, ℕ, Bool, Some};
 ghost use Rattle.std.specs.Option.{option_map};

@@ -80,7 +80,7 @@ pub fn parameters(
     Ok(vars)
 }
 
-/// What a vertex has beside its name.
+/// The parts of a vertex beside its name.
 #[derive(Drop)]
 struct VertexParts {
     params: List<usize>,

@@ -1,4 +1,4 @@
-//! The watch list.
+//! The check of the watch list.
 
 ghost use Rattle.std.specs.Prelude.{[], ◌++◌, IfOk, map};
 ghost use Rattle.std.specs.List.{flat_map};
@@ -18,7 +18,7 @@ use model_core::{RawName, Watch};
 use sig_base::{List, NoMemory};
 use std::alloc::Global;
 
-/// What the names of a watch list mean.
+/// The meanings of the names of a watch list.
 fn all_watched(
     alloc: Global,
     names: &Names,

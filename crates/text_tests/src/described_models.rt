@@ -1,4 +1,4 @@
-//! The English sentences of what a text reads as.
+//! The English sentences of the model that a text reads as.
 
 ghost use Rattle.std.specs.Prelude.{◌≤◌, length};
 

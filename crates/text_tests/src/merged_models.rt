@@ -193,7 +193,7 @@ fn lengths_stay_known_behind_a_settle(rt: HostRuntime) -> Result<(), Fail> {
 const FOUR_URGENT: &[u8] =
     b"model M; var N : 0..9 = 0; watch N; vertex RUN { urgent B; } vertex B { set N := 1; schedule C after 1; } vertex C { urgent RUN when N < 10; urgent D when N > 9; } vertex D { urgent RUN when N < 5; urgent C when N >= 5; } end";
 
-/// What is known of whether the model with four such edges beside a merged one takes at most one at once, after a settle of an
+/// Whether the model with four such edges beside a merged one takes at most one at once, if known, after a settle of an
 /// edge.
 fn single_behind_settle(
     alloc: Global,
@@ -221,7 +221,7 @@ fn edges_that_stand_alone_may_be_settled(rt: HostRuntime) {
 const THREE_URGENT: &[u8] =
     b"model M; var N : 0..9 = 0; watch N; vertex RUN { urgent B; } vertex B { set N := 1; schedule C after 1; } vertex C { urgent RUN when N > 9; urgent RUN when N < 5; urgent D when N >= 5; } vertex D { } end";
 
-/// What is known of whether the model with three such edges takes at most one at once, after a prune of the first one, or after a
+/// Whether the model with three such edges takes at most one at once, if known, after a prune of the first one, or after a
 /// drop of the vertex that was merged.
 fn single_behind(alloc: Global, drops: bool) -> Result<Option<bool>, RuleError> {
     let mut model = model_of_text(alloc, THREE_URGENT)?;

@@ -1,4 +1,4 @@
-//! What is answered of models, job by job, and the forms of answers: the job's own bytes, and no other status.
+//! The answers about models, job by job, and the forms of answers: the job's own bytes, and no other status.
 
 ghost use Rattle.std.specs.Prelude.{◌≡◌, ◌++◌, [], Some, None, codes};
 ghost use Rattle.command_words.specs.declared.reading.Reading.TheVariants as readings;
@@ -26,7 +26,7 @@ pub fn models_are_answered()
     ensures save { AnswersModel (models.Save (record { until = 12; seed = 42; events = 9; starts = [] })) clock (Refused refusals.Finished (codes "sigma: run finished\n")) }
 {}
 
-/// What is done has no other status and no other bytes, and a text that is refused has its line.
+/// A job that is done has no other status and no other bytes, and a text that is refused has its line.
 pub fn answers_have_forms()
     ensures done { done (codes "x") ≡ Given ends.Done (codes "x") }
     ensures is_done { IsDone (λ out. out ≡ codes "x") (Given ends.Done (codes "x")) }

@@ -1,4 +1,4 @@
-//! What the words of a command line give, and how the values of options are read.
+//! The arguments that the words of a command line give, and how the values of options are read.
 
 ghost use Rattle.std.specs.Prelude.{◌≡◌, pos, neg_ℤ, true, false, [], ◌∷◌, Some, None, codes};
 ghost use Rattle.command_words.specs.Arguments.{CommandWord, Setting, TwoDashes, NameWithValue, NameAlone, OtherForm, form_of, is_value, arguments_of, command_words, values_of, has_only_options};

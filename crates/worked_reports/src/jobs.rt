@@ -8,7 +8,7 @@ ghost use Rattle.command_words.specs.declared.trial_options.TheConstants.{VERTIC
 ghost use Rattle.command_words.specs.Jobs.{job_of};
 ghost use Rattle.worked_reports.specs.CommandLines.{asked, a_run};
 
-/// What a command line may ask for at most, and the room that it asks for where it says nothing of that.
+/// The most that a command line may ask for, and the room that it asks for where it says nothing of that.
 pub fn limits_of_jobs_have_these_numbers()
     ensures room { ROOM_MAX ≡ 4_194_304 }
     ensures usual_room { ROOM_USUAL ≡ 4_096 }

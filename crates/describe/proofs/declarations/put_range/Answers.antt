@@ -1,4 +1,4 @@
--- what is added, piece by piece
+-- the text is added piece by piece
 use Rattle.std.proofs.Common.{rules, append_assoc}
 use Rattle.describe.proofs.PiecesAdded.{all_added}
 use Rattle.describe.proofs.declarations.put_range.Goals as goal

@@ -1,4 +1,4 @@
--- what is added, piece by piece
+-- the text is added piece by piece
 use Rattle.std.proofs.Common.{rules, append_assoc, append-nil}
 use Rattle.describe.proofs.ArrayPhrases.{array_phrase}
 use Rattle.describe.proofs.declarations.put_subject.Goals as goal

@@ -1,4 +1,4 @@
--- what is added, piece by piece
+-- the text is added piece by piece
 use Rattle.describe.proofs.PiecesAdded.{all_added, six_behind}
 use Rattle.describe.proofs.description.put_description.Goals as goal
 

@@ -1,4 +1,4 @@
--- what is added, piece by piece
+-- the text is added piece by piece
 use Rattle.std.proofs.Common.{rules, append_assoc, append-nil}
 use Rattle.describe.proofs.PiecesAdded.{all_added}
 use Rattle.describe.proofs.edges.put_deed.Goals as goal
