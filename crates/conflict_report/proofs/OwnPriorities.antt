@@ -1,21 +1,22 @@
 -- Each event that is pending in a run has a priority of its vertex: one with which an edge schedules it, or that of the event with
 -- which the run begins.
-use Rattle.std.proofs.Common.{◌≡◌, ℕ, zero, suc, ℤ, Bool, true, false, cond, nat_lt, List, [], ◌∷◌, Option, Some, None, Result, Ok, Err, inl, inr, refl, sym, ap, ap₂, subst, slice_index_or}
+use Rattle.std.proofs.Common.{◌≡◌, ℕ, zero, suc, ℤ, true, cond, List, [], ◌∷◌, Some, Ok, inl, inr, refl, sym, ap, ap₂, subst, slice_index_or}
 use Rattle.std.specs.List.{AllByRecursion, flat_map}
 use Rattle.model_core.specs.EventGraph.{EventGraph, EventVertex, EventEdge, EdgeKind, Schedule, Urgent, CancelNext, CancelEqual, CancelAll}
 use Rattle.model_core.specs.Run.State.{State}
 use Rattle.model_core.specs.Run.Pending.{Entry, TakenOff, next_entry}
-use Rattle.model_core.specs.Run.Step.{Configuration, Fault, no_vertex, vertex_at, step}
-use Rattle.model_core.specs.Run.Machine.{Note, Stopped, Move, Rests, Fails, Goes, Reached, reached_behind, onward}
-use Rattle.model_core.specs.Run.History.{Moment, Noting, leave, leave_for, stepped, comes, next_move, start, reached_from}
+use Rattle.model_core.specs.Run.Step.{Configuration, no_vertex, vertex_at, step}
+use Rattle.model_core.specs.Run.Machine.{Note, Goes, Reached}
+use Rattle.model_core.specs.Run.History.{Moment, next_move, start, reached_from}
 use Rattle.model_core.specs.Conflicts.Priorities.{kind_priorities, edge_priorities, vertex_priorities, begin_priorities, priorities_of}
 use Rattle.model_core.specs.Conflicts.Orders.{HasOwnPriority}
 use Rattle.model_core.proofs.Among.{Among, among-front, among-back, among-flat_map, each-among}
 use Rattle.model_core.proofs.PlacesChanged.{same_number}
-use Rattle.model_core.proofs.Results.{option_map-some}
-use Rattle.run_laws.proofs.Keeping.{Kept, faulted-ok}
+use Rattle.run_laws.proofs.GoingMoves.{move-by, reached-keeps}
+use Rattle.run_laws.proofs.Keeping.{faulted-ok}
 use Rattle.run_laws.proofs.MadeEntries.{SchedulesOnly, occur-every}
 use Rattle.run_laws.proofs.MappedPending.{next_among-every}
+use Rattle.run_laws.proofs.OnTime.{always}
 use Rattle.mark_laws.proofs.EntailedMarks.{place-among}
 
 -- what holds of each element, and of the one given for none, holds at each place
@@ -50,46 +51,19 @@ module _ (g : EventGraph) where
         at_place (λ v. AllByRecursion (λ e. SchedulesOnly (HasOwnPriority g) g seed s clk e e.kind) v.edges) g.vertices no_vertex k
         (λ v there. each-among (λ e. SchedulesOnly (HasOwnPriority g) g seed s clk e e.kind) v.edges (λ e of_v. schedules_own v there s clk e of_v e.kind refl)) tt
 
-    -- what always holds is kept
-    always : Kept g (λ s. Unit {0})
-    always = record { by_store = λ p s t q e. tt; by_change = λ seed clk c d e q done. tt }
-
     step_own : (c d : Configuration) (n : TakenOff) → next_entry c.pending ≡ Some n → HaveOwnPriorities g c.pending → step g seed c n ≡ Ok d → HaveOwnPriorities g d.pending
     step_own c d n due all done =
-        (occur-every (HasOwnPriority g) g seed (λ s. Unit {0}) always (vertex_at g n.entry.vertex) n c.state c.taken d tt (λ t q. edges_own n.entry.vertex t n.entry.time)
+        (occur-every (HasOwnPriority g) g seed (λ s. Unit {0}) (always g) (vertex_at g n.entry.vertex) n c.state c.taken d tt (λ t q. edges_own n.entry.vertex t n.entry.time)
         (next_among-every (HasOwnPriority g) (λ e. true) c.pending all n due).1 (faulted-ok n.entry.time _ d done)).1
 
     -- ---- along a run
 
-    stepped_own : (vertex : ℕ) (left : Noting) (r : Result Configuration Fault) (notes : List Note) (later : Moment) → stepped g vertex left r ≡ Goes notes later → ((d : Configuration) → r ≡ Ok d → HaveOwnPriorities g d.pending) → HaveOwnPriorities g later.now.pending
-    stepped_own vertex left (Ok d) notes later e own =
-        let same : record { now = d; noted = left.noted } ≡ later = cc in
-        subst (λ (m : Moment). HaveOwnPriorities g m.now.pending) same (own d refl)
-    stepped_own vertex left (Err f) notes later e own = cc
-
     module _ (until : ℕ) where
-      comes_own : (m later : Moment) (notes : List Note) (o : Option TakenOff) → next_entry m.now.pending ≡ o → HaveOwnPriorities g m.now.pending → comes g seed until m o ≡ Goes notes later → HaveOwnPriorities g later.now.pending
-      comes_own m later notes None due all e = cc
-      comes_own m later notes (Some n) due all e = chosen (nat_lt until n.entry.time) e where
-        chosen : (late : Bool) → cond late (Rests (leave g m).notes Stopped) (stepped g n.entry.vertex (leave_for g m n.entry.time) (step g seed m.now n)) ≡ Goes notes later → HaveOwnPriorities g later.now.pending
-        chosen true e = cc
-        chosen false e = stepped_own n.entry.vertex (leave_for g m n.entry.time) (step g seed m.now n) notes later e (λ d done. step_own m.now d n due all done)
-
       pub move_own : (m later : Moment) (notes : List Note) → HaveOwnPriorities g m.now.pending → next_move g seed until m ≡ Goes notes later → HaveOwnPriorities g later.now.pending
-      move_own m later notes all e = comes_own m later notes (next_entry m.now.pending) refl all e
+      move_own m later notes all e = let (n, by) = move-by g seed until m notes later e in step_own m.now later.now n by.due all by.steps
 
       pub reached_own : (n : ℕ) (m : Moment) (r : Reached Moment) → HaveOwnPriorities g m.now.pending → reached_from g seed until n m ≡ Some r → HaveOwnPriorities g r.moment.now.pending
-      reached_own zero m r all e =
-          let same : record { notes = []; moment = m } ≡ r = cc in
-          subst (λ (x : Reached Moment). HaveOwnPriorities g x.moment.now.pending) same all
-      reached_own (suc n) m r all e = by (next_move g seed until m) refl e (λ later q own there. reached_own n later q own there) where
-        by : (move : Move Moment) → next_move g seed until m ≡ move → onward (reached_from g seed until n) move ≡ Some r
-            → ((later : Moment) (q : Reached Moment) → HaveOwnPriorities g later.now.pending → reached_from g seed until n later ≡ Some q → HaveOwnPriorities g q.moment.now.pending) → HaveOwnPriorities g r.moment.now.pending
-        by (Rests notes end) is e others = cc
-        by (Fails notes end) is e others = cc
-        by (Goes notes later) is e others =
-            let (q, there, same) = option_map-some (reached_behind notes) (reached_from g seed until n later) r e in
-            subst (λ (x : Reached Moment). HaveOwnPriorities g x.moment.now.pending) same (others later q (move_own m later notes all is) there)
+      reached_own n m r all there = reached-keeps (next_move g seed until) (λ k m. HaveOwnPriorities g m.now.pending) (λ k m later notes own goes. move_own m later notes own goes) n 0 m r all there
 
   -- a run begins so
   pub start_own : (starts : List ℤ) → HaveOwnPriorities g (start g starts).now.pending

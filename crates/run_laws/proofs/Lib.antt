@@ -6,6 +6,7 @@ pub mod LockStep
 pub mod Keeping
 pub mod MadeEntries
 pub mod OnTime
+pub mod GoingMoves
 pub mod EdgesAlike
 pub mod InRange
 pub mod SameLaws

@@ -64,7 +64,7 @@ schedules_later g seed s clk e CancelEqual = tt
 schedules_later g seed s clk e CancelAll = tt
 
 -- what always holds is kept
-always : (g : EventGraph) → Kept g (λ s. Unit {0})
+pub always : (g : EventGraph) → Kept g (λ s. Unit {0})
 always g = record { by_store = λ p s t q e. tt; by_change = λ seed clk c d e q done. tt }
 
 -- after the next event the clock has its time, and again no event is earlier

@@ -26,7 +26,7 @@ use Rattle.model_core.specs.Saved.SavedRun.{IsWide, IsGoodEntry}
 use Rattle.model_core.proofs.NotEmpty.{has_one-length}
 use Rattle.run_snapshot.proofs.CellLists.{each_in_range, watched-in_range}
 use Rattle.run_snapshot.proofs.GoodEntries.{every-place, ranges-wide, edges-good}
-use Rattle.run_snapshot.proofs.GoingMoves.{move-by, reached-keeps}
+use Rattle.run_laws.proofs.GoingMoves.{move-by, reached-keeps}
 use Rattle.run_snapshot.proofs.WideValues.{WideRange, between-wide}
 use Rattle.run_snapshot.proofs.TakenWords.{occur-few}
 

@@ -5,7 +5,6 @@ pub mod SortedTakenOff
 pub mod InDueOrder
 pub mod AlikeSteps
 pub mod AlikeRuns
-pub mod GoingMoves
 pub mod OtherStops
 pub mod WholeRuns
 pub mod CellLists
