@@ -1,4 +1,4 @@
-# Completion of sigma for bash: its commands, and the options of a command that aren't given yet. Files come behind < and >.
+# Completion of sigma for bash: its commands, and the options of a command that aren't given yet. Files come after < and >.
 _sigma() {
     local word=${COMP_WORDS[COMP_CWORD]} before=${COMP_WORDS[COMP_CWORD - 1]} command='' given=' ' options='' each
     # share/make writes from share/commands: commands of bash
