@@ -1,4 +1,4 @@
--- A model that has a text is told by its canonical text, alone or with a certificate after it.
+-- The canonical text of a model, alone or with a certificate after it, determines the model.
 use Rattle.std.proofs.Common.{◌≡◌, ◌⊎◌, inl, inr, ℕ, ◌+◌, ◌-◌, List, [], ◌∷◌, ◌++◌, length, Result, Ok, Err, refl, sym, ap, subst, ◌∙◌, arith, length-append}
 use Rattle.std.proofs.lemmas.List.{append-nil, append_assoc}
 use Rattle.std.specs.Prelude.{codes, ◌↔◌}

@@ -22,7 +22,7 @@ module _ (facts : ModelFacts) where
     same = subst (λ (k : EventGraph). Same k kept.reduces.reduced) (facts.one_model text kept.original g kept.reads reads) kept.same;
   }
 
-  -- where both inputs tell this text, each output grew by what its call promises
+  -- where both inputs give this text, each output grew by what its call promises
   pub shown_by_calls : (left again : Option (List ℕ)) (text : List ℕ) (Prints Reduces : List ℕ → Type 0) → left ≡ Some text → again ≡ Some text
       → IfSome left (λ told. (a : List ℕ) × PrintsModel told a × Prints a) → IfSome again (λ told. (b : List ℕ) × KeepsMeaning told b × Reduces b)
       → (a b : List ℕ) × ShowTheSame a b × Prints a × Reduces b

@@ -41,8 +41,8 @@ pub fn answers_are_determined()
     strategies_are_determined();
 }
 
-/// Refused is exactly what can't be read: a text that reads as no model, and for `certify` and `resume` as no document. Within the limit
-/// there is something to complain of exactly there, and over the limit is nothing that can be read.
+/// Refused is exactly what can't be read: a text that reads as no model, and for `certify` and `resume` as no document.
+/// Within the limit such a text has a complaint, and no other has one; over the limit nothing can be read.
 pub fn unreadable_texts_are_refused()
     ensures refused { (job : Job) (text : List ℕ) (a : Answer) → Answers (reading_of job) text a → (status_of_answer a ≡ Status.Refused) ↔ IsUnreadable (reading_of job) text }
     ensures complaint { (text : List ℕ) → length text ≤ TEXT_MAX → HasComplaint text ↔ IsNoModel text }

@@ -1,5 +1,5 @@
-//! Laws of the program's answers: each text has one for each job, which texts are refused, that there are devices over
-//! which a call comes to it, and the headline over two calls. Nothing that the program runs stands on them.
+//! Laws of the program's answers: each job has one answer to each text, which texts are refused, a call over devices that
+//! never fail, and the headline over two calls. Nothing that the program runs needs them.
 #![tactic(auto)]
 
 mod answer_law;

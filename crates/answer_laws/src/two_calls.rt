@@ -17,7 +17,7 @@ use std::alloc::Global;
 use std::process::ExitCode;
 use text_laws::{texts_have_one_reading, texts_read_as_one_model};
 
-/// Prints a text, and then reduces the same text, each by a call of the program. Answers both exit statuses.
+/// Prints a text, and then reduces the same text, each by a call of the program. Returns both exit statuses.
 pub fn print_and_reduce<S: Source, K: Sink, E: Sink>(
     alloc: Global,
     print: Vec<String>,
@@ -28,7 +28,7 @@ pub fn print_and_reduce<S: Source, K: Sink, E: Sink>(
     reduced: &mut K,
     errors: &mut E,
 ) -> (ExitCode, ExitCode)
-    // Where the words are `print` and `reduce`, both inputs tell the same bytes, and both exit statuses are 0, the outputs
+    // Where the words are `print` and `reduce`, both inputs give the same bytes, and both exit statuses are 0, the outputs
     // grew by bytes that show two models, which are the same.
     ensures { map string_bytes (vec_items print) ≡ codes "print" ∷ [] → map string_bytes (vec_items reduce) ≡ codes "reduce" ∷ []
         → (text : List ℕ) → (S.seen first.old).left ≡ Some text → (S.seen second.old).left ≡ Some text

@@ -24,7 +24,7 @@ const WIDEST: &[u8] =
 const WIDEST_WRITTEN: &[u8] =
     b"model W;\nvar A2345678901234567890123456789012 : -4611686018427387904..4611686018427387904 = -4611686018427387904;\nvertex RUN {\n  set A2345678901234567890123456789012 := 9223372036854775807;\n}\nend\ncertificate\nend\n";
 
-/// Texts that read as no model, each with the line that is told.
+/// Texts that read as no model, each with its line.
 const REFUSED: [(&[u8], &[u8]); 21] = [
     // tokens, and the grammar
     (b"", b"sigma: byte 0: unexpected\n"),

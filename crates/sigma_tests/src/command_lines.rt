@@ -221,7 +221,7 @@ const OTHERS: [&[&str]; 29] = [
     &["run", "--until=1", "--seed=1"],
     &["run", "--until=1", "--events=1"],
     &["run", "--seed=1", "--events=1"],
-    // no option behind `--`
+    // no option after `--`
     &["run", "--until=1", "--seed=1", "--", "--events=1"],
     // none twice
     &["run", "--until=1", "--seed=1", "--events=1", "--until=1"],
@@ -463,7 +463,7 @@ fn other_words_are_no_job(rt: HostRuntime) -> Result<(), Fail> {
 #[test]
 fn values_are_spelled_and_within_range(rt: HostRuntime) -> Result<(), Fail> {
     for [first, second, third] in WRONG_VALUES {
-        // The event budget stands in the third word, or behind it.
+        // The event budget is in the third word, or after it.
         let rest: &[&str] = if third.starts_with("--events") {
             &["run"]
         } else {

@@ -10,7 +10,7 @@ use std::test::*;
 /// A model that uses a name which isn't declared.
 const UNKNOWN: &[u8] = b"model M; vertex A { set X := 1; } end ";
 
-/// The three parts of a document, and what is told of it: status, output and error output.
+/// The three parts of a document, and the answer to it: status, output and error output.
 type Case = (
     &'static [u8],
     &'static [u8],

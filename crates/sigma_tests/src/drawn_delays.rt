@@ -25,7 +25,7 @@ const BY_TABLE_PRINTED: &[u8] =
 const TWIST: &[u8] =
     b"version 2;\nmodel TWIST;\nvar X : 1..6 = 1;\nwatch X;\nvertex RUN {\n  urgent B;\n  schedule C after draw from 54 in 1..6;\n}\nvertex B {\n  draw X from 54 in 1..6;\n}\nvertex C {\n}\nend\n";
 
-/// The edge is B's, and comes behind its draw.
+/// The edge is B's, and follows its draw.
 const UNTWISTED: &[u8] =
     b"version 2; model TWIST; var X : 1..6 = 1; watch X; vertex RUN { urgent B; } vertex B { draw X from 54 in 1..6; schedule C after draw from 54 in 1..6; } vertex C { } end";
 
@@ -92,7 +92,7 @@ fn delays_are_drawn_where_edges_are_taken(rt: HostRuntime) -> Result<(), Fail> {
     Ok(())
 }
 
-/// Texts that are refused, each with the line that is told.
+/// Texts that are refused, each with its line.
 const REFUSED: [(&[u8], &[u8]); 8] = [
     (
         b"model DELAY;\nvar N : 0..9 clip = 0;\nwatch N;\nvertex RUN {\n  set N := N + 1;\n  schedule RUN after draw from 54 in 1..6;\n}\nend\n",

@@ -82,8 +82,8 @@ pub fn calls_never_end_so()
         → EndsSo statuses.NoMemory (codes "check" ∷ []) (input_of text 0) (input_of (drop (TEXT_MAX + 2) text) 0) o p e f → ⊥ }
 {}
 
-/// The same of the other statuses: nothing is written where a text is refused, no device fails where that isn't the status, and what is
-/// done, or written up to a fault or a budget, is finished and not told.
+/// The other statuses: nothing is written where a text is refused, no device fails where that isn't the status, and what is
+/// done, or written up to a fault or a budget, is finished and leaves the error output alone.
 pub fn no_status_ends_otherwise()
     ensures done_but_read_failed { (words : List (List ℕ)) (text rest : List ℕ) (o p e f : Outlet)
         → EndsSo statuses.Done words (input_of text 0) (input_of rest 1) o p e f → ⊥ }

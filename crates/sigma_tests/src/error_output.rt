@@ -9,7 +9,7 @@ use std::test::*;
 
 const EARLY: &[u8] = b"model EARLY; vertex RUN { schedule RUN after 0 - 1; } end";
 
-/// A document whose certificate prunes an edge that isn't there.
+/// A document whose certificate prunes an edge that the model doesn't have.
 const NO_EDGE: &[u8] =
     b"model M; vertex V { } end model M; vertex V { } end certificate prune V 1 end";
 

@@ -52,8 +52,8 @@ fn words(alloc: Global) -> Result<Vec<String>, AllocError> {
     Ok(words)
 }
 
-/// What comes of the run over an output that fails at this call, or never at the call 0: the exit status, the calls made on
-/// the output, and how many bytes it took.
+/// The run over an output that fails at this call, or never at the call 0: the exit status, the number of calls on the output,
+/// and how many bytes it took.
 fn run_over(alloc: Global, failing: u32) -> io::Result<(ExitCode, u32, usize)> {
     let device = FailsOnce {
         failing,

@@ -158,7 +158,7 @@ const HISTORIES: [(&str, &[u8], Status, &[u8]); 21] = [
     ),
 ];
 
-/// Starting values of BANK that aren't allowed, and the line that tells why.
+/// Starting values of BANK that aren't allowed, and the line that says why.
 const BAD_STARTS: [(&str, &[u8]); 4] = [
     (
         "run --seed 42 --events 1000 --until 100",

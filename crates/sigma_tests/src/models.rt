@@ -7,7 +7,7 @@ pub const ONE: &[u8] =
 pub const ONE_WRITTEN: &[u8] =
     b"model ONE;\nvar N : 0..9 = 0;\nwatch N;\nvertex RUN {\n  set N := 4;\n}\nend\ncertificate\nprune RUN 1\nend\n";
 
-/// The two behind one another.
+/// The two, one after the other.
 pub const ONE_DOCUMENT: &[u8] =
     b"model ONE;\nvar N : 0..9 = 0;\nwatch N;\nvertex RUN {\n  set N := 4;\n  schedule RUN after 5 when false;\n}\nend\nmodel ONE;\nvar N : 0..9 = 0;\nwatch N;\nvertex RUN {\n  set N := 4;\n}\nend\ncertificate\nprune RUN 1\nend\n";
 

@@ -1,4 +1,4 @@
-//! Where a text goes wrong: the byte that is told of it, and of each text that is cut off.
+//! The byte at which a text goes wrong, also where a text is cut off.
 
 use crate::calls::{SOUND, called, front, told};
 use crate::models::{BANK, CLOCK_SAVED, ONE_DOCUMENT};
@@ -7,7 +7,7 @@ use sigma_top::Status;
 use std::alloc::Global;
 use std::test::*;
 
-/// Texts that spell no model, each with the line that is told.
+/// Texts that spell no model, each with its line.
 const REFUSED: [(&[u8], &[u8]); 10] = [
     (b"model", b"sigma: byte 5: unexpected\n"),
     (b"model model;", b"sigma: byte 6: unexpected\n"),
@@ -49,7 +49,7 @@ const BAD_BYTE: &[u8] = b": bad byte\n";
 
 const UNEXPECTED: &[u8] = b": unexpected\n";
 
-/// Whether the byte stands in words and numbers.
+/// Whether the byte may be in a word or a number.
 fn is_of_word(byte: u8) -> bool {
     byte.is_ascii_alphanumeric() || byte == b'_'
 }
@@ -65,9 +65,9 @@ fn last_word(text: &[u8]) -> usize {
     from
 }
 
-/// The byte that is told of the text where it is cut off at this length, and what is told. A reserved word that is cut short is
-/// a name. In these texts, which have names in capitals, no name can stand where one does, but for `false`. One point begins
-/// no token, and a colon can't stand before an equals sign. Whatever else is left can go on, so that it goes wrong at its end.
+/// The byte and the message of the complaint where the text is cut off at this length. A reserved word that is cut short is a
+/// name. In these texts, whose names are in capitals, no name can be where a reserved word is, but for `false`. One point
+/// begins no token, and no colon may precede an equals sign. Any other front can go on, so that it goes wrong at its end.
 fn cut_off(text: &[u8], length: usize) -> (usize, &'static [u8]) {
     let left = front(text, length);
     let word = last_word(left);

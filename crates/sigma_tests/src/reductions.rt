@@ -24,7 +24,7 @@ const FAULTING_REDUCED: &[u8] =
 
 const FAULTING_CERTIFICATE: &[u8] = b"certificate\nsettle RUN 2\ndrop B\nend\n";
 
-/// The bank with its first event as one, and without the variable that is counted for nobody.
+/// The bank with its first event as one, and without the variable that is counted and never read.
 const BANK_REDUCED: &[u8] =
     b"model BANK;\nvar QUEUE : 0..1000000 = 0;\nvar IDLE : 0..2 = 0;\nvar GAP : 1..6 = 1;\nwatch QUEUE, IDLE;\nvertex RUN(IDLE) {\n  set QUEUE := QUEUE + 1;\n  draw GAP from 54 in 1..6;\n  schedule ENTER after GAP;\n  urgent START when IDLE > 0;\n}\nvertex ENTER {\n  set QUEUE := QUEUE + 1;\n  draw GAP from 54 in 1..6;\n  schedule ENTER after GAP;\n  urgent START when IDLE > 0;\n}\nvertex START {\n  set QUEUE, IDLE := QUEUE - 1, IDLE - 1;\n  schedule LEAVE after 7;\n}\nvertex LEAVE {\n  set IDLE := IDLE + 1;\n  urgent START when QUEUE > 0;\n}\nend\n";
 
@@ -116,7 +116,7 @@ fn answers(
     Ok(called(alloc, line, text, SOUND, wanted)?.is_wanted)
 }
 
-/// A text and another one behind it.
+/// A text followed by another one.
 fn joined(alloc: Global, text: &[u8], behind: &[u8]) -> Result<Vec<u8>, AllocError> {
     let mut all = Vec::from_slice(alloc, text)?;
     all.extend_from_slice(behind)?;

@@ -1,4 +1,4 @@
-//! `replicate` over memory: worked reports, starting values, and a write that fails behind the first run.
+//! `replicate` over memory: worked reports, starting values, and a write that fails after the first run.
 
 use crate::calls::{Answer, Failing, SOUND, called, done, told};
 use crate::models::{CLOCK, TIGHT};
@@ -19,7 +19,7 @@ const REPORTS: [(&str, &[u8], &[u8]); 6] = [
         CLOCK,
         b"run,seed,outcome,time,item,least,greatest,last,area,count\n1,1,stopped,12,N,1,3,3,21,\n2,2,stopped,12,N,1,3,3,21,\ntotal,,,,N,1,3,,42,\n",
     ),
-    // the seed behind the last one is the first one
+    // the seed after the last one is the first one
     (
         "--runs=2 --until 12 --seed 18446744073709551615 replicate --events 100",
         CLOCK,
@@ -31,7 +31,7 @@ const REPORTS: [(&str, &[u8], &[u8]); 6] = [
         CLOCK,
         b"run,seed,outcome,time,item,least,greatest,last,area,count\n1,1,budget,0,N,,,,0,\ntotal,,,,N,,,,0,\n",
     ),
-    // a run that faults is told, and the others go on
+    // a run that faults is reported, and the others go on
     (
         "replicate --until 20 --seed 4 --events 100 --runs 2",
         TIGHT,

@@ -50,7 +50,7 @@ const UNKNOWN_CUT_OFF: &[u8] = b"model M; vertex A { set X := 1; } end snapshot 
 const UNKNOWN_BAD: &[u8] =
     b"model M; vertex A { set X := 1; } end snapshot seed 0 4294967296 clk 0 events 0 end";
 
-/// And a byte that begins no token, behind all else.
+/// The same, with a byte at the end that begins no token.
 const UNKNOWN_BYTE: &[u8] = b"model M; vertex A { set X := 1; } end snapshot seed 0 42 end $";
 
 const CASES: [Case; 20] = [

@@ -1,4 +1,4 @@
-//! Trials: what comes of models that numbers make. Nothing is read for them.
+//! Trials: the summaries of generated models. Nothing is read for them.
 
 use crate::calls::{Failing, SOUND, called, done};
 use crate::models::BANK;
@@ -35,7 +35,7 @@ fn trials_are_summarised(rt: HostRuntime) -> Result<(), Fail> {
     Ok(())
 }
 
-/// What stands on the input is left there, and an input whose first read fails changes nothing.
+/// The input stays as it was, and an input whose first read fails changes nothing.
 #[test]
 fn nothing_is_read(rt: HostRuntime) -> Result<(), Fail> {
     let (line, summary) = TRIALS[0];

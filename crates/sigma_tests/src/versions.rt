@@ -47,7 +47,7 @@ fn texts_at_a_limit_are_accepted(rt: HostRuntime) -> Result<(), Fail> {
     Ok(())
 }
 
-/// Texts that their version refuses, each with the line that is told.
+/// Texts that their version refuses, each with its line.
 const REFUSED: [(&[u8], &[u8]); 11] = [
     (
         b"model W; var A[4097] : 0..9 = 0; vertex RUN { } end",
@@ -149,7 +149,7 @@ fn with_parameters(alloc: Global, version: &[u8], names: &[u8]) -> Result<Listin
     Ok(Listing { text, last })
 }
 
-/// A model with 256 arrays as large as may be, and behind them so many of one cell.
+/// A model with 256 arrays as large as may be, followed by so many of one cell.
 fn with_arrays(alloc: Global, more: usize) -> Result<Listing, NoMemory> {
     let mut text = Vec::from_slice(alloc, b"version 2; model W;")?;
     for array in 0..256 {
@@ -171,7 +171,7 @@ fn is_accepted(alloc: Global, listing: &Listing) -> Result<bool, NoMemory> {
     Ok(called(alloc, "check", listing.text.as_slice(), SOUND, accepted)?.is_wanted)
 }
 
-/// Whether `check` tells that the last item of the list is one too many.
+/// Whether `check` reports that the last item of the list is one too many.
 fn has_one_too_many(alloc: Global, listing: &Listing) -> Result<bool, NoMemory> {
     let mut line = Vec::from_slice(alloc, b"sigma: byte ")?;
     put_number(&mut line, listing.last as u64)?;
