@@ -11,7 +11,7 @@ use Rattle.merge_rules.specs.declared.taking_over.SecondVertex.{SecondVertex}
 use Rattle.merge_rules.specs.declared.taking_over.SecondVertex.TheVariants as seconds
 use Rattle.merge_rules.specs.Known.{TellsLength, AreBodies}
 use Rattle.merge_rules.specs.KnownLess.{bytes_left}
-use Rattle.merge_rules.proofs.PairsBetweenMerges.LedPlaces.{same-numbers}
+use Rattle.mark_laws.proofs.EntailedMarks.{same-place}
 use Rattle.merge_rules.proofs.MergedText.ValidMerged.{name_stays}
 use Rattle.merge_rules.proofs.MergedText.MergedLength.{body_elsewhere}
 
@@ -32,7 +32,7 @@ pub are-put : (g h : EventGraph) (place : ℕ) (n : Option ℕ) (bodies : List (
 are-put g h place n bodies same tells are k = by (k == place) refl where
   by : (c : Bool) → (k == place) ≡ c → TellsLength (slice_index_or (with_place (λ m. n) place bodies) k None) (body_lines h (vertex_at h k))
   by true is =
-      subst (λ j. TellsLength (slice_index_or (with_place (λ m. n) place bodies) j None) (body_lines h (vertex_at h j))) (sym (same-numbers k place is))
+      subst (λ j. TellsLength (slice_index_or (with_place (λ m. n) place bodies) j None) (body_lines h (vertex_at h j))) (sym (same-place k place is))
       (put-there n place bodies (body_lines h (vertex_at h place)) tells)
   by false apart =
       subst (λ (m : Option ℕ). TellsLength m (body_lines h (vertex_at h k))) (sym (placed-elsewhere (λ m. n) place k bodies None apart))

@@ -3,6 +3,7 @@ use Rattle.std.proofs.Common.{◌≡◌, ℕ, zero, suc, ◌+◌, ◌-◌, ◌<�
 use Rattle.std.specs.Prelude.{codes}
 use Rattle.std.specs.List.{list_all, list_any, remove}
 use Rattle.std.specs.Option.{option_map_or, option_and_then}
+use Rattle.std.proofs.lemmas.Option.{option_and_then_some}
 use Rattle.sig_base.specs.declared.limits.TheConstants.{PARAMETERS_MAX_VERSION_1}
 use Rattle.model_core.specs.EventGraph.{EventGraph, EventVertex, EventEdge, Expression, has_drawn_delay}
 use Rattle.model_core.specs.Run.Step.{vertex_at, no_vertex}
@@ -19,16 +20,12 @@ use Rattle.merge_rules.specs.Known.{TellsLines, TellsLength, TellsVersion}
 use Rattle.merge_rules.specs.Inner.LosesBytes.{LosesBytes}
 use Rattle.merge_rules.proofs.OneStepForTwo.PlacedElement.{lengths_placed}
 use Rattle.merge_rules.proofs.OneStepForTwo.MergeHolds.{read_at}
+use Rattle.merge_rules.proofs.SingleUrgentModels.PlainEdges.{is_there}
 use Rattle.merge_rules.proofs.SingleUrgentModels.SingleKept.{apart_at, apart_placed}
 use Rattle.merge_rules.proofs.MergedText.MergedLength.{total, total_more, heading, lines_length, body_length, changed_behind, body_there, body_elsewhere}
 use Rattle.merge_rules.proofs.MergedText.VersionMerged.{needed-same, needed-pruned}
 
 -- ---- one vertex changed
-
-below-some : {A : Type 0} (xs : List A) (k : ℕ) (x : A) → slice_get xs k ≡ Some x → k < length xs
-below-some [] k x there = cc
-below-some (y ∷ xs) zero x there = omega arith
-below-some (y ∷ xs) (suc k) x there = let rest = below-some xs k x there in omega (arith, rest)
 
 -- where the edges of a vertex have fewer bytes and it is the same beside them
 edges-fewer : (g : EventGraph) (f : EventVertex → EventVertex) (k gone : ℕ) (v : EventVertex) → ((x : EventVertex) → (f x).name ≡ x.name) → ((x : EventVertex) → (f x).parameters ≡ x.parameters) → ((x : EventVertex) → (f x).changes ≡ x.changes)
@@ -42,7 +39,7 @@ edges-fewer g f k gone v name parameters changes there fewer =
     let heading_same = ap₂ (λ (n : List ℕ) (ps : List ℕ). length (heading g n ps)) (name x) (parameters x) in
     let changes_same = ap (total (change_line g)) (changes x) in
     let behind = changed_behind g f name k v there in
-    let body = ap length (body_there g f name k (below-some g.vertices k v there)) in
+    let body = ap length (body_there g f name k (is_there g.vertices k v there)) in
     record {
       text = omega (arith, behind, old_lines, new_lines, heading_same, changes_same, fewer);
       body = omega (arith, body, old_body, new_body, changes_same, fewer);
@@ -58,13 +55,9 @@ total-without gives (y ∷ xs) zero x there = let more = total_more gives y xs i
 total-without gives (y ∷ xs) (suc k) x there = let rest = total-without gives xs k x there in omega (arith, rest, total_more gives y xs, total_more gives y (remove xs k))
 
 -- the vertex of an edge
-vertex-of : (o : Option EventVertex) (edge : ℕ) (e : EventEdge) → option_and_then (λ (v : EventVertex). slice_get v.edges edge) o ≡ Some e → (v : EventVertex) × (o ≡ Some v) × (slice_get v.edges edge ≡ Some e)
-vertex-of None edge e there = cc
-vertex-of (Some v) edge e there = (v, refl, there)
-
 edge-there : (g : EventGraph) (vertex edge : ℕ) (e : EventEdge) → edge_at g vertex edge ≡ Some e → (v : EventVertex) × (slice_get g.vertices vertex ≡ Some v) × (slice_get (vertex_at g vertex).edges edge ≡ Some e)
 edge-there g vertex edge e there =
-    let (v, at, among) = vertex-of (slice_get g.vertices vertex) edge e there in
+    let (v, at, among) = option_and_then_some (λ (v : EventVertex). slice_get v.edges edge) (slice_get g.vertices vertex) e there (λ v is makes. (v, is, makes)) in
     (v, at, subst (λ (x : EventVertex). slice_get x.edges edge ≡ Some e) (sym (read_at g.vertices vertex no_vertex v at)) among)
 
 pub prune-loses : (g : EventGraph) (vertex edge : ℕ) (e : EventEdge) → edge_at g vertex edge ≡ Some e → LosesBytes g (pruned g vertex edge) vertex (length (edge_line g e))

@@ -23,7 +23,8 @@ use Rattle.merge_rules.specs.declared.taking_over.SecondVertex.TheVariants as se
 use Rattle.merge_rules.proofs.OneStepForTwo.MergeHolds.{Mergeable, conditions_hold, is_below}
 use Rattle.merge_rules.proofs.SingleUrgentModels.SingleKept.{apart_placed, merged_single}
 use Rattle.merge_rules.proofs.ConditionsAsked.PairsFound.{counted_whole}
-use Rattle.merge_rules.proofs.MergedText.VersionMerged.{same_truth, gained, joined-late, at_place, needed-merged}
+use Rattle.mark_laws.proofs.MarksBelow.{same_mark}
+use Rattle.merge_rules.proofs.MergedText.VersionMerged.{gained, joined-late, at_place, needed-merged}
 use Rattle.merge_rules.proofs.MergedText.MergedLength.{lines_length, changed_length, body_elsewhere}
 use Rattle.merge_rules.proofs.MergedText.GrownTexts.{there-is}
 use Rattle.merge_rules.proofs.MergedText.LimitsTold.{with_merged}
@@ -44,7 +45,7 @@ placed-twice f h zero (suc k) (x ∷ xs) apart = refl
 placed-twice f h (suc j) zero (x ∷ xs) apart = refl
 placed-twice f h (suc j) (suc k) (x ∷ xs) apart = ap (λ ys. x ∷ ys) (placed-twice f h j k xs (suc-apart j k apart))
 
--- an element that a function makes of one is set in its place
+-- the value of a function at an element is set in its place
 pub set_is : {A : Type 0} (f : A → A) (xs : List A) (k : ℕ) (x d : A) → x ≡ f (slice_index_or xs k d) → slice_set xs k x ≡ with_place f k xs
 set_is f [] k x d is = refl
 set_is f (y ∷ xs) zero x d is = ap (λ z. z ∷ xs) is
@@ -115,7 +116,7 @@ module _ (g : EventGraph) (first second : ℕ) (none : first_failed (merge_condi
       ∙ second_true (has_later_parts (vertex_at g first)) (has_later_parts b) late)
 
   needed-stays : needs_version_two (hollowed h second) ≡ needs_version_two h
-  needed-stays = ap (λ late. list_any is_large_array g.variables || late) (same_truth (list_any has_later_parts (with_place hollow second h.vertices)) (list_any has_later_parts h.vertices)
+  needed-stays = ap (λ late. list_any is_large_array g.variables || late) (same_mark (list_any has_later_parts (with_place hollow second h.vertices)) (list_any has_later_parts h.vertices)
       (λ e. elim (gained hollow false second h.vertices (λ v there late. inl (hollow-late v late)) e) [ inl i ↦ i | inr i ↦ cc ])
       (λ e. elim (left-late hollow second h.vertices e) [ inl i ↦ first-late (sym (ap has_later_parts second_stays) ∙ i) | inr i ↦ i ]))
 

@@ -1,4 +1,4 @@
--- What is kept of each vertex, as the first of two that may be merged, and what that has to say of a graph.
+-- What is kept of each vertex, as the first of two that may be merged, and when that is right of a graph.
 use Rattle.std.specs.Prelude.{◌≡◌, ℕ, ◌+◌, ◌<◌, ◌==◌, Bool, cond, List, [], ◌∷◌, length, Option, Some, None, slice_index_or}
 use Rattle.std.specs.List.{list_any}
 use Rattle.model_core.specs.EventGraph.{EventGraph, EventVertex, EventEdge}
@@ -29,13 +29,13 @@ has_incoming g k = list_any (λ (v : EventVertex). list_any (leads_to k) v.edges
 
 -- ---- what is right of a graph
 
--- a standing that is known tells whether the two fit, and where they do by how much their merge makes the text longer
+-- a standing that is known says rightly whether the two fit, and where they do by how much their merge makes the text longer
 abbrev pub TellsFit : Standing → Option Growth → Type 0
 TellsFit standings.Unknown growth = Unit {0}
 TellsFit standings.Refused growth = growth ≡ None
 TellsFit (standings.Fits kept) growth = growth ≡ Some kept
 
--- the answer, where there is one, tells whether this vertex acts unseen
+-- the answer, where there is one, says rightly whether this vertex acts unseen
 abbrev pub TellsUnseen : Option Bool → EventGraph → EventVertex → Type 0
 TellsUnseen (Some unseen) g v = unseen ≡ acts_unseen g v
 TellsUnseen None g v = Unit {0}
@@ -47,7 +47,7 @@ pub record IsPair (g : EventGraph) (k : ℕ) (p : KeptPair) : Type 0 where
   pub unseen : TellsUnseen p.unseen g (vertex_at g k)
   pub incoming : p.incoming ≡ edges_to g.vertices k
 
--- what a place that isn't there has
+-- what a missing place has
 abbrev pub no_pair : KeptPair
 no_pair = record { target = None; standing = standings.Unknown; unseen = None; incoming = 0 }
 

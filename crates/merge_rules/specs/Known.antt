@@ -1,4 +1,4 @@
--- What may be known of a graph beside itself: how long its canonical text is behind the line of its version, and whether it
+-- What may be known of a graph beside itself: how long its canonical text is after the line of its version, and whether it
 -- has that line, whether it is single urgent, and how long the lines of what each vertex does are.
 use Rattle.std.specs.Prelude.{◌≡◌, ℕ, ◌+◌, Bool, List, Option, Some, None, length, slice_index_or}
 use Rattle.std.specs.Option.{option_map, option_and_then}
@@ -15,17 +15,17 @@ abbrev pub IsMeasured : EventGraph → Option ℕ → Type 0
 IsMeasured g (Some bytes) = bytes ≡ length (canonical g)
 IsMeasured g None = Unit {0}
 
--- the number of bytes, where there is one, is that of the text behind the line of its version
+-- the number of bytes, where there is one, is that of the text after the line of its version
 abbrev pub TellsLines : EventGraph → Option ℕ → Type 0
 TellsLines g (Some bytes) = length (version_line (needs_version_two g)) + bytes ≡ length (canonical g)
 TellsLines g None = Unit {0}
 
--- the answer, where there is one, tells whether only a text of version 2 can write the graph
+-- the answer, where there is one, says rightly whether only a text of version 2 can write the graph
 abbrev pub TellsVersion : EventGraph → Option Bool → Type 0
 TellsVersion g (Some two) = two ≡ needs_version_two g
 TellsVersion g None = Unit {0}
 
--- the answer, where there is one, tells whether the graph is single urgent
+-- the answer, where there is one, says rightly whether the graph is single urgent
 abbrev pub TellsSingle : EventGraph → Option Bool → Type 0
 TellsSingle g (Some single) = single ≡ single_urgent g
 TellsSingle g None = Unit {0}

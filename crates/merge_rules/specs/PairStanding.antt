@@ -1,5 +1,4 @@
--- A vertex and the one to which its plain urgent edge leads: whether the two can be merged, as far as they tell that
--- themselves.
+-- A vertex and the one to which its plain urgent edge leads: whether the two can be merged, as far as it depends on the two.
 use Rattle.std.specs.Prelude.{ℕ, ◌==◌, nat_lt, Bool, false, not, ◌&&◌, ◌||◌, List, [], ◌∷◌, length, Option, is_none}
 use Rattle.std.specs.List.{list_all, list_any}
 use Rattle.std.specs.Option.{option_map, option_map_or}

@@ -8,7 +8,7 @@ use std::alloc::Global;
 use std::marker::Model;
 
 /// The numbers of bytes by the places of the vertices, each 2^64 - 1 where there are more, and None where it isn't known.
-/// Contracts see the list of them; of a place behind its end nothing is known.
+/// Contracts see the list of them; of a place after its end nothing is known.
 #[derive(Drop)]
 pub struct Bodies {
     /// None where no number is to be kept.
@@ -93,7 +93,7 @@ impl Bodies {
         }
     }
 
-    /// Takes away the number of the vertex at this place, which is gone. Those behind it move up.
+    /// Takes away the number of the vertex at this place, which is gone. Those after it move up.
     pub fn take_away(&mut self, gone: usize)
         ensures { self.new ≡ remove self.old gone }
     {

@@ -1,4 +1,4 @@
-//! The conditions of merge that can be told from the two vertices.
+//! The conditions of merge that depend on the two vertices.
 
 ghost use Rattle.std.specs.Prelude.{◌≡◌, ◌<◌, ◌&&◌, ◌||◌, not, true, false, ◌∷◌, map, take, drop, length};
 ghost use lib.Pointwise.{pointwise};
@@ -131,7 +131,7 @@ fn acts_unseen(model: &Model, vertex: &Vertex) -> bool
         && quiet_edges(model, vertex.edges.as_slice())
 }
 
-/// The same of the vertex at this place.
+/// Whether the vertex at this place acts unseen.
 pub(crate) fn acts_unseen_at(model: &Model, vertex: usize) -> bool
     requires { vertex < length model.now.vertices }
     ensures { result ≡ acts_unseen (graph_of model.now) (vertex_at (graph_of model.now) vertex) }
@@ -139,7 +139,7 @@ pub(crate) fn acts_unseen_at(model: &Model, vertex: usize) -> bool
     acts_unseen(model, &model.vertices.as_slice()[vertex])
 }
 
-/// The same of the second vertex, where it may be known.
+/// Whether the second vertex acts unseen, which may be known.
 fn second_acts_unseen(model: &Model, unseen: Option<bool>, second: &Vertex) -> bool
     requires { TellsUnseen unseen (graph_of model.now) (vertex_of second.now) }
     ensures { result ≡ acts_unseen (graph_of model.now) (vertex_of second.now) }
@@ -183,7 +183,7 @@ fn others_stand_aside<R: ReadsWritten>(
     second: &Vertex,
 ) -> bool
     requires { R.ready readers.old (length model.now.vars) }
-    ensures told { result ≡ list_all (λ e. quiet_edge (graph_of model.now) e && reads_none_of (vertex_writes (vertex_of second.now)) e && not (has_drawn_delay e)) (other_edges (vertex_of first.now)) }
+    ensures is { result ≡ list_all (λ e. quiet_edge (graph_of model.now) e && reads_none_of (vertex_writes (vertex_of second.now)) e && not (has_drawn_delay e)) (other_edges (vertex_of first.now)) }
     ensures same { readers.new ≡ readers.old }
 {
     let others = other_edges(first);
@@ -238,7 +238,7 @@ fn failed_later<R: ReadsWritten>(
 }
 
 /// The first condition but that on the limits that fails, by its number from 1, in a model of which it is known whether
-/// it is single urgent. It may be told whether the second vertex acts unseen.
+/// it is single urgent. The caller may know whether the second vertex acts unseen.
 pub(crate) fn failed_before_limits<R: ReadsWritten>(
     model: &Model,
     single: bool,

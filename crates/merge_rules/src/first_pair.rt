@@ -49,7 +49,7 @@ fn merge_at<R: ReadsWritten>(
     }
 }
 
-/// The first two vertices that may be merged, where this tells what edges read.
+/// The first two vertices that may be merged, with this way to find what edges read.
 fn first_told_by<R: ReadsWritten>(
     model: &Model,
     known: &mut Known,

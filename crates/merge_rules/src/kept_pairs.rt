@@ -12,7 +12,7 @@ use model_core::{Edge, Vertex};
 use sig_base::NoMemory;
 use std::alloc::Global;
 
-/// Whether a vertex and the target of its plain urgent edge can be merged, as far as they tell that themselves.
+/// Whether a vertex and the target of its plain urgent edge can be merged, as far as it depends on the two.
 #[derive(Clone, Copy)]
 pub(crate) enum Standing {
     /// They haven't been looked at.
@@ -47,7 +47,7 @@ fn unasked(vertex: &Vertex) -> KeptPair
     }
 }
 
-/// The same for these vertices.
+/// What is known of vertices that haven't been looked at.
 pub(crate) fn all_unasked(alloc: Global, vertices: &[Vertex]) -> Result<Vec<KeptPair>, NoMemory>
     ensures { IfOk result (λ pairs. pairs.items ≡ map unasked (map vertex_of vertices.now)) }
 {

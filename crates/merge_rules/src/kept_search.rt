@@ -1,4 +1,4 @@
-//! The first two vertices that may be merged, found again and again: after a merge, or the drop behind it, only what can have
+//! The first two vertices that may be merged, found again and again: after a merge, or the drop that follows it, only what can have
 //! changed is looked at again.
 
 ghost use Rattle.std.specs.Prelude.{◌≡◌, ◌<◌, [], ◌∷◌, true, false, None, Some, map, length, slice_index_or, IfOk, OnOk};
@@ -56,8 +56,8 @@ fn edges_at(vertices: &[Vertex], place: usize) -> &[Edge]
     }
 }
 
-/// Whether the two fit: a vertex and the target of its plain urgent edge, in a single urgent model. It may be told whether the
-/// second one acts unseen.
+/// Whether the two fit: a vertex and the target of its plain urgent edge, in a single urgent model. The caller may know whether
+/// the second one acts unseen.
 fn pair_fits(
     model: &Model,
     unseen: Option<bool>,
@@ -118,7 +118,7 @@ fn short_merge(
 }
 
 impl KeptPairs {
-    /// Of a model that nobody has looked at.
+    /// Of a model that is new.
     pub fn begin(alloc: Global, model: &Model) -> Result<KeptPairs, NoMemory>
         ensures { IfOk result (λ pairs. ArePairs (graph_of model.now) pairs) }
     {
@@ -155,7 +155,7 @@ impl KeptPairs {
         unseen
     }
 
-    /// The same of the second of two, where it matters: where the first is watched.
+    /// Whether the second of two acts unseen, where it matters: where the first is watched.
     fn unseen_behind(&mut self, model: &Model, first: usize, second: usize) -> Option<bool>
         requires { ArePairs (graph_of model.now) self.old }
         ensures unseen { TellsUnseen result (graph_of model.now) (vertex_at (graph_of model.now) second) }
@@ -196,7 +196,7 @@ impl KeptPairs {
         Some(grows_by(model, first, second, body))
     }
 
-    /// The same, asked only where it isn't known.
+    /// By how much a merge of the two makes the text longer, where they fit, asked only where it isn't known.
     fn pair_growth(
         &mut self,
         model: &Model,
@@ -294,8 +294,8 @@ impl KeptPairs {
         None
     }
 
-    /// The first two vertices that may be merged. It may be told what is known of the model, and tells what is known then. The
-    /// counts, in which nothing is counted, serve to tell what edges read; they are given back as they were.
+    /// The first two vertices that may be merged. It takes what is known of the model, and gives what is known then. The counts,
+    /// in which nothing is counted, serve to find what edges read; they are given back as they were.
     pub fn first_merge(
         &mut self,
         model: &Model,
@@ -317,7 +317,7 @@ impl KeptPairs {
         }
     }
 
-    /// Tells that two vertices of the model are to be merged, so that it is known what is known behind that.
+    /// Notes that two vertices of the model are about to be merged: what is kept is then right of the result.
     pub fn tell_merge(&mut self, model: &Model, first: usize, second: usize) -> Result<(), NoMemory>
         requires kept { ArePairs (graph_of model.now) self.old }
         requires holds { first_failed (merge_conditions (graph_of model.now) first second) ≡ None }
@@ -327,7 +327,7 @@ impl KeptPairs {
         take_over_pairs(&mut self.pairs, first, second, edges)
     }
 
-    /// Tells that a vertex is dropped that has these edges, to which no edge leads and which isn't watched.
+    /// Notes the drop of a vertex that has these edges, to which no edge leads and which isn't watched.
     fn take_away(&mut self, edges: &[Edge], gone: usize)
         requires { gone < length self.old }
         ensures { (g : EventGraph) → ArePairs g self.old → IsValid g → has_incoming g gone ≡ false → is_watched_vertex g gone ≡ false
@@ -339,8 +339,8 @@ impl KeptPairs {
         move_up(&mut self.pairs, gone);
     }
 
-    /// Tells that the second of two vertices of the model is to be dropped behind their merge, which was told, where no edge
-    /// leads to it then.
+    /// Notes that the second of two vertices of the model is about to be dropped after their merge, which was noted, where no
+    /// edge leads to it then.
     pub fn tell_drop_behind(&mut self, model: &Model, first: usize, second: usize)
         requires kept { ArePairs (merged (graph_of model.now) first second) self.old }
         requires valid { IsValid (graph_of model.now) }

@@ -22,7 +22,7 @@ use model_print::printed_length;
 use range_bounds::single_urgent;
 use std::alloc::Global;
 
-/// How many bytes the line of its version has in a canonical text, which stands in one of version 2 alone.
+/// How many bytes the line of its version has in a canonical text. Only a text of version 2 has that line.
 pub(crate) fn version_length(version_two: bool) -> u64
     ensures { result ≡ length (version_line version_two) }
 {
@@ -32,7 +32,7 @@ pub(crate) fn version_length(version_two: bool) -> u64
 /// What is known of a model beside itself. Nothing is known of where there is None.
 #[derive(Drop)]
 pub struct Known {
-    /// How many bytes its canonical text has behind the line of its version.
+    /// How many bytes its canonical text has after the line of its version.
     pub lines: Option<u64>,
     /// Whether only a text of version 2 can write it, so that its canonical text has that line.
     pub version_two: Option<bool>,
@@ -80,7 +80,7 @@ impl Known {
         }
     }
 
-    /// What is known behind a drop: that the model is single urgent, where it was.
+    /// What is known after a drop: that the model is single urgent, where it was.
     pub fn behind_drop(&mut self)
         ensures { (g : EventGraph) (vertices : List ℕ) → IsKnown g self.old → IsKnown (dropped g vertices) self.new }
     {
@@ -108,7 +108,7 @@ impl Known {
     pub(crate) fn find_version(&mut self, model: &Model) -> bool
         requires { IsKnown (graph_of model.now) self.old }
         ensures is { result ≡ needs_version_two (graph_of model.now) }
-        ensures told { self.new.version_two ≡ Some result }
+        ensures kept { self.new.version_two ≡ Some result }
         ensures known { IsKnown (graph_of model.now) self.new }
     {
         if let Some(version_two) = self.version_two {
@@ -169,7 +169,8 @@ impl Known {
         bytes
     }
 
-    /// The same of the first vertex behind a merge of the two, told before it, or None where they are too many to count.
+    /// How many bytes these lines of the first vertex have after a merge of the two, found before it, or None where they are too
+    /// many to count.
     pub(crate) fn find_merged_body(
         &mut self,
         model: &Model,

@@ -1,4 +1,4 @@
-//! What is known of a model behind a prune or a settle of one of its edges.
+//! What is known of a model after a prune or a settle of one of its edges.
 
 ghost use Rattle.std.specs.Prelude.{◌≡◌, ℕ, ◌+◌, ◌-◌, ◌<◌, ◌^◌, false, cond, Some, None, length};
 ghost use Rattle.std.specs.Option.{option_map, IfSome};
@@ -61,7 +61,7 @@ fn version_without(version_two: Option<bool>, edge: &Edge) -> Option<bool>
     }
 }
 
-/// Makes what is known of a model what is known of one in which what the vertex at this place does has so many bytes less.
+/// Turns what is known of a model into what is known of one whose vertex at this place has so many bytes less in its lines.
 /// Whether that one needs version 2 of a text, and is single urgent, is known of it already, where it is.
 fn lose(known: &mut Known, vertex: usize, gone: u64)
     ensures is { known.new ≡ known_less known.old vertex gone }
@@ -74,8 +74,8 @@ fn lose(known: &mut Known, vertex: usize, gone: u64)
     known.bodies.put(vertex, body);
 }
 
-/// Makes what is known of a model what is known of it behind a prune of the edge at a place of the vertex at a place, told before
-/// it.
+/// Turns what is known of a model into what is known after a prune of the edge at a place of the vertex at a place. It is called
+/// before the prune.
 pub fn know_pruned(model: &Model, known: &mut Known, vertex: usize, edge: usize)
     requires known { IsKnown (graph_of model.now) known.old }
     ensures is { known.new ≡ known_pruned (graph_of model.now) vertex edge known.old }
@@ -89,7 +89,7 @@ pub fn know_pruned(model: &Model, known: &mut Known, vertex: usize, edge: usize)
     lose(known, vertex, edge_length(edge, model));
 }
 
-/// Whether it is known that the model is single urgent behind a settle of the edge at a place of the vertex at a place: where it
+/// Whether it is known that the model is single urgent after a settle of the edge at a place of the vertex at a place: where it
 /// was, and that edge may take any condition.
 fn single_settled(model: &Model, single: Option<bool>, vertex: usize, edge: usize) -> Option<bool>
     requires { TellsSingle (graph_of model.now) single }
@@ -104,8 +104,8 @@ fn single_settled(model: &Model, single: Option<bool>, vertex: usize, edge: usiz
     }
 }
 
-/// Makes what is known of a model what is known of it behind a settle of the edge at a place of the vertex at a place, told before
-/// it.
+/// Turns what is known of a model into what is known after a settle of the edge at a place of the vertex at a place. It is called
+/// before the settle.
 pub fn know_settled(model: &Model, known: &mut Known, vertex: usize, edge: usize)
     requires known { IsKnown (graph_of model.now) known.old }
     ensures is { known.new ≡ known_settled (graph_of model.now) vertex edge known.old }

@@ -71,7 +71,7 @@ pub fn merge_holding(
     ensures done { OnOk result (graph_of model.new ≡ merged_leaving second (graph_of model.old) vertex target) }
     ensures unchanged { OnErr result (graph_of model.new ≡ graph_of model.old) }
     ensures known { IsKnown (graph_of model.new) known.new }
-    ensures told { OnOk result ((text_length known.new ≡ Some (length (canonical (graph_of model.new)))) × (known.new.single ≡ Some true)) }
+    ensures measured { OnOk result ((text_length known.new ≡ Some (length (canonical (graph_of model.new)))) × (known.new.single ≡ Some true)) }
 {
     let body = known.find_body(model, target);
     let grows = grows_by(model, vertex, target, body);
@@ -88,9 +88,9 @@ pub fn merge_holding(
     Ok(())
 }
 
-/// Does what `merge` does, or leaves of the second vertex what is asked for. It may be told what is known of the model, and tells
-/// what is known then: of a result how many bytes its canonical text has, and that it is single urgent. The counts, in which
-/// nothing is counted, serve to tell what edges read; they are given back as they were.
+/// Does what `merge` does, or leaves of the second vertex what is asked for. It takes what is known of the model, and gives what
+/// is known then: of a result how many bytes its canonical text has, and that it is single urgent. The counts, in which nothing
+/// is counted, serve to find what edges read; they are given back as they were.
 pub fn merge_measured(
     alloc: Global,
     model: &mut Model,
@@ -107,7 +107,7 @@ pub fn merge_measured(
     ensures refused { IfErr result (λ e. TellsCondition e (first_failed (merge_conditions (graph_of model.old) vertex target))) }
     ensures unchanged { OnErr result (graph_of model.new ≡ graph_of model.old) }
     ensures known { IsKnown (graph_of model.new) known.new }
-    ensures told { OnOk result ((text_length known.new ≡ Some (length (canonical (graph_of model.new)))) × (known.new.single ≡ Some true)) }
+    ensures measured { OnOk result ((text_length known.new ≡ Some (length (canonical (graph_of model.new)))) × (known.new.single ≡ Some true)) }
     ensures counts { counts.new ≡ counts.old }
 {
     if let Some(condition) = failed_merge(model, known, counts, vertex, target) {

@@ -8,7 +8,7 @@ ghost use Rattle.model_core.specs.Code.Views.{edge_of, vertex_of};
 use model_core::{Edge, Vertex};
 use range_bounds::plain_urgent;
 
-/// The edges of a vertex but its plain urgent one: those before it, and those behind it.
+/// The edges of a vertex but its plain urgent one: those before it, and those after it.
 #[derive(Clone, Copy)]
 pub(crate) struct OtherEdges<'e> {
     pub before: &'e [Edge],

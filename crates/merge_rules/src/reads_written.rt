@@ -1,4 +1,4 @@
-//! Whether one of some edges reads what a vertex writes, told in two ways: by a walk over the edges for each variable that is
+//! Whether one of some edges reads what a vertex writes, found in two ways: by a walk over the edges for each variable that is
 //! written, which takes no memory, or by counts of uses, for which each edge is walked twice however many variables are written.
 
 ghost use Rattle.std.specs.Prelude.{◌≡◌, ◌+◌, ◌^◌, ◌<◌, ◌≤◌, ◌++◌, ℕ, map, length, slice_index, count_by};
@@ -12,14 +12,14 @@ use model_core::{Edge, Model, Vertex};
 use sig_base::EDGES_MAX;
 use use_analysis::{NumberTest, UseCounts, one_written_passes, reads_of_edge};
 
-/// What tells whether one of some edges reads what a vertex writes.
+/// A way to find whether one of some edges reads what a vertex writes.
 pub(crate) trait ReadsWritten {
     ghost use Rattle.std.specs.Prelude.{ℕ};
 
-    // It can tell that of a model with so many variables.
+    // It serves a model with so many variables.
     ghost ready: { Self → ℕ → Type 0 };
 
-    /// Whether one of these edges of the model, all before a place and all behind it, reads a variable that the vertex writes.
+    /// Whether one of these edges of the model, all before a place and all after it, reads a variable that the vertex writes.
     fn reads_written(
         &mut self,
         model: &Model,
@@ -28,11 +28,11 @@ pub(crate) trait ReadsWritten {
         vertex: &Vertex,
     ) -> bool
         requires { ready self.old (length model.now.vars) }
-        ensures told { result ≡ list_any (reads_one_of (vertex_writes (vertex_of vertex.now))) (map edge_of (before.now ++ behind.now)) }
+        ensures is { result ≡ list_any (reads_one_of (vertex_writes (vertex_of vertex.now))) (map edge_of (before.now ++ behind.now)) }
         ensures same { self.new ≡ self.old };
 }
 
-/// Tells it by walks.
+/// The way by walks.
 #[derive(Drop)]
 pub(crate) struct Walk;
 

@@ -1,4 +1,4 @@
-//! A vertex takes over what another one does: the changes and edges of the other stand in place of its plain urgent edge. The
+//! A vertex takes over what another one does: the changes and edges of the other take the place of its plain urgent edge. The
 //! other one keeps what it does, or gives it away.
 
 ghost use Rattle.std.specs.Prelude.{◌≡◌, ◌+◌, ◌++◌, ◌<◌, ◌≤◌, ◌==◌, Some, [], false, map, length, slice_get, slice_set, OnOk, OnErr, IfOk, IfErr};
@@ -42,7 +42,7 @@ fn scalar_targets(alloc: Global, vars: &[usize]) -> Result<List<Target>, NoMemor
     Ok(List::from_vec(targets))
 }
 
-/// Makes room behind changes and edges for one change and for those of a vertex.
+/// Makes room after changes and edges for one change and for those of a vertex.
 fn make_room(
     changes: &mut Vec<Change>,
     edges: &mut Vec<Edge>,
@@ -61,7 +61,7 @@ fn make_room(
     Ok(())
 }
 
-/// Puts the `set` of these variables behind changes that have room for it, or nothing where there are no variables.
+/// Puts the `set` of these variables after changes that have room for it, or nothing where there are no variables.
 fn add_set(changes: &mut Vec<Change>, vars: &[usize], targets: List<Target>, values: List<Expr>)
     requires targets { map location_of targets ≡ map scalar_location vars.now }
     requires room { vec_len changes.old < vec_capacity changes.old }
@@ -74,7 +74,7 @@ fn add_set(changes: &mut Vec<Change>, vars: &[usize], targets: List<Target>, val
     }
 }
 
-/// Puts items behind others that have room for them.
+/// Puts items after others that have room for them.
 fn add_all<T: Drop>(items: &mut Vec<T>, more: List<T>)
     requires room { vec_len items.old + length more ≤ vec_capacity items.old }
     ensures { items.new.items ≡ items.old.items ++ more }
@@ -84,7 +84,7 @@ fn add_all<T: Drop>(items: &mut Vec<T>, more: List<T>)
     let _ = appended;
 }
 
-/// Puts what a vertex does behind changes and edges that have room for it, in place of the edge that gives it its values.
+/// Puts what a vertex does after changes and edges that have room for it, in place of the edge that gives it its values.
 fn put_in_place(
     changes: &mut Vec<Change>,
     edges: &mut Vec<Edge>,
@@ -106,7 +106,7 @@ fn put_in_place(
     add_all(edges, more_edges);
 }
 
-/// Makes the vertex, whose plain urgent edge stands at this place, do what the other one does in place of that edge. All memory
+/// Makes the vertex, whose plain urgent edge is at this place, do what the other one does in place of that edge. All memory
 /// is taken before anything changes: where it is refused the other one is given back.
 fn take_over(
     vertex: &mut Vertex,
@@ -131,7 +131,7 @@ fn take_over(
     }
 }
 
-/// Makes the vertex at the first place, whose plain urgent edge stands at the second, do what the other one does, or gives that
+/// Makes the vertex at the first place, whose plain urgent edge is at the second, do what the other one does, or gives that
 /// back.
 fn take_over_at(
     model: &mut Model,
@@ -186,7 +186,7 @@ fn replace_at(model: &mut Model, place: usize, vertex: Vertex) -> Vertex
     mem::replace(&mut model.vertices.as_mut_vec()[place], vertex)
 }
 
-/// Makes the vertex at the first place, whose plain urgent edge stands at the second, do what the one at the third does. Where
+/// Makes the vertex at the first place, whose plain urgent edge is at the second, do what the one at the third does. Where
 /// memory is refused the model stays as it was.
 pub(crate) fn put_together(
     alloc: Global,

@@ -13,7 +13,7 @@ both_told a b x y is holds so = so ∙ ap (λ c. c && b) (sym holds ∙ is)
 pub first_fails : (a b x : Bool) → x ≡ a → x ≡ false → x ≡ (a && b)
 first_fails a b x is fails = fails ∙ ap (λ c. c && b) (sym fails ∙ is)
 
--- what stands before the place and what stands behind it are all but the element there
+-- the elements before the place and those after it are all but the one there
 taken_out : {A : Type 0} (xs : List A) (k : ℕ) → remove xs k ≡ take k xs ++ drop (suc k) xs
 taken_out [] zero = refl
 taken_out [] (suc k) = refl

@@ -1,4 +1,4 @@
--- Edges that are counted and then taken away leave the numbers as they were, and in between the numbers tell what edges read.
+-- Edges that are counted and then taken away leave the numbers as they were, and in between the numbers say what edges read.
 use Rattle.std.proofs.Common.{◌≡◌, ℕ, zero, suc, ◌+◌, ◌-◌, ◌<◌, ◌≤◌, nat_lt, Bool, true, false, ◌||◌, cond, List, [], ◌∷◌, ◌++◌, map, length, drop, get_or, refl, sym, ◌∙◌, ap, ap₂, add-one, arith}
 use Rattle.std.specs.Prelude.{count_by, slice_index}
 use Rattle.std.specs.List.{list_any}
@@ -106,7 +106,7 @@ uncounted_there (e ∷ es) ns v below enough =
     let later = uncounted_there es (lowered_at (edge_reads e) ns) v (omega (arith, long, below)) (omega (arith, enough, split, here)) in
     omega (arith, later, here, split)
 
--- edges before a place and behind it are counted, and then taken away in the same order
+-- edges before a place and after it are counted, and then taken away in the same order
 module _ (before behind : List EventEdge) (ns : List ℕ) where
   abbrev pub all_counted : List ℕ
   all_counted = counted behind (counted before ns)
@@ -148,7 +148,7 @@ module _ (before behind : List EventEdge) (ns : List ℕ) where
       let taken = uncounted_there behind half_counted v (omega (arith, whole, below)) (omega (arith, there)) in
       omega (arith, there, taken))
 
--- ---- what the numbers tell
+-- ---- what the numbers say
 
 some_counted : (v : ℕ) (es : List EventEdge) → nat_lt 0 (count_by (reads_it v) es) ≡ list_any (reads_it v) es
 some_counted v [] = refl

@@ -21,7 +21,7 @@ suc_or None true n = refl
 suc_or None false n = refl
 suc_or (Some m) last n = refl
 
--- what the first ones and the last tell together
+-- the first ones and the last, together
 pub with_last : (before : List Bool) (last : Bool) → option_or (first_failed before) (cond last None (Some (suc (length before)))) ≡ first_failed (before ++ last ∷ [])
 with_last [] true = refl
 with_last [] false = refl

@@ -1,4 +1,4 @@
--- The other edges stand aside where they are calm and none of them reads what is written.
+-- The other edges leave the second event alone where they are calm and none of them reads what is written.
 use Rattle.std.proofs.Common.{◌≡◌, Bool, true, false, ◌&&◌, not, ◌||◌, List, [], ◌∷◌, ◌++◌, ℕ, refl, sym, ◌∙◌, ap, ap₂}
 use Rattle.std.specs.List.{list_any, list_all}
 use Rattle.model_core.specs.EventGraph.{EventGraph, EventEdge, has_drawn_delay}
@@ -9,7 +9,7 @@ use Rattle.merge_rules.specs.Inner.ReadingEdges.{reads_one_of, is_calm}
 abbrev aside : EventGraph → List ℕ → EventEdge → Bool
 aside g writes e = quiet_edge g e && reads_none_of writes e && not (has_drawn_delay e)
 
--- all stand aside, told in two parts
+-- all do, in two parts
 pub aside_is : (g : EventGraph) (writes : List ℕ) (es : List EventEdge) → list_all (aside g writes) es ≡ (list_all (is_calm g) es && not (list_any (reads_one_of writes) es))
 aside_is g writes [] = refl
 aside_is g writes (e ∷ es) =

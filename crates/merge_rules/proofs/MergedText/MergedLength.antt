@@ -98,7 +98,7 @@ module _ (g : EventGraph) (f : EventVertex → EventVertex) (name_kept : (x : Ev
   opening_length false true = omega arith
   opening_length false false = refl
 
-  -- behind the line of the version, the text has the vertex's new lines in place of its lines
+  -- after the line of the version, the text has the vertex's new lines in place of its lines
   pub changed_behind : (v : EventVertex) → slice_get g.vertices first ≡ Some v
       → length (canonical changed) + length (version_line (needs_version_two g)) + length (vertex_lines g (vertex_at g first)) ≡ length (canonical g) + length (version_line (needs_version_two changed)) + length (vertex_lines g (f (vertex_at g first)))
   changed_behind v there =

@@ -13,13 +13,8 @@ use Rattle.model_core.specs.Rules.PlacedEdges.{with_place, with_vertex}
 use Rattle.model_core.specs.Rules.Prune.{without_edge, pruned}
 use Rattle.model_core.specs.Rules.UrgentEdges.{plain_urgent}
 use Rattle.model_core.proofs.Among.{either_true, first_true, second_true}
+use Rattle.mark_laws.proofs.MarksBelow.{same_mark}
 use Rattle.merge_rules.proofs.SingleUrgentModels.PlainEdges.{plain_undrawn}
-
-pub same_truth : (b c : Bool) → (b ≡ true → c ≡ true) → (c ≡ true → b ≡ true) → b ≡ c
-same_truth true true there back = refl
-same_truth true false there back = sym (there refl)
-same_truth false true there back = back refl
-same_truth false false there back = refl
 
 -- ---- one vertex changed
 
@@ -60,7 +55,7 @@ module _ (f : EventVertex → EventVertex) (more : Bool) where
       → needs_version_two (with_vertex f k g) ≡ needs_version_two g
   needed-same g k gains keeps had =
       ap (λ b. list_any is_large_array g.variables || b)
-      (same_truth (Some_late (with_place f k g.vertices)) (Some_late g.vertices) (λ e. elim (gained k g.vertices gains e) [ inl h ↦ h | inr h ↦ had h ]) (kept k g.vertices keeps))
+      (same_mark (Some_late (with_place f k g.vertices)) (Some_late g.vertices) (λ e. elim (gained k g.vertices gains e) [ inl h ↦ h | inr h ↦ had h ]) (kept k g.vertices keeps))
 
 -- ---- an edge that goes, whose delay isn't drawn
 

@@ -1,4 +1,4 @@
--- Edges that stand aside of an event that is due at once: they do the same with it in the list and without, and it stays due first.
+-- Edges that leave an event alone which is due at once: they do the same with it in the list and without, and it stays due first.
 use Rattle.std.proofs.Common.{◌≡◌, ℕ, ◌<◌, ℤ, Bool, true, false, cond, ◌&&◌, ◌||◌, ◌+◌, ◌==◌, nat_lt, List, [], ◌∷◌, Ok, refl, ◌∙◌, ap, subst, arith}
 use Rattle.std.proofs.lemmas.Bool.Decides.{nat_tests}
 use Rattle.std.proofs.lemmas.List.{map-id}

@@ -56,7 +56,7 @@ conditions_hold g first second none =
       within = later.1.1.1.1.1.0;
     }
 
--- ---- edges that stand aside
+-- ---- edges that leave the second event alone
 
 pub aside_of : (second target : ℕ) (kind : EdgeKind) → PriorityOk kind → is_urgent_kind kind ≡ false → (is_cancelling kind && (target == second)) ≡ false → Aside second target kind
 aside_of second target (Schedule delay priority) some calm apart = some

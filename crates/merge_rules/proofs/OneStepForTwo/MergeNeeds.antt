@@ -1,6 +1,5 @@
 -- What the two-for-one step needs follows from the conditions of a merge.
-use Rattle.std.proofs.Common.{◌≡◌, inl, inr, ℕ, ◌==◌, ◌^◌, ◌≤◌, ℤ, Bool, true, false, not, ◌&&◌, ◌||◌, IsTrue, List, [], ◌∷◌, ◌++◌, length, None, Ok, Err, refl, sym, ◌∙◌, ap, ap₂, subst, arith}
-use Rattle.std.proofs.lemmas.Bool.Decides.{nat_tests}
+use Rattle.std.proofs.Common.{◌≡◌, inl, inr, ℕ, ◌==◌, ◌^◌, ◌≤◌, ℤ, Bool, true, false, not, ◌&&◌, ◌||◌, IsTrue, List, [], ◌∷◌, ◌++◌, length, None, Ok, Err, refl, sym, ◌∙◌, ap, ap₂, subst}
 use Rattle.std.specs.Prelude.{position}
 use Rattle.std.specs.List.{AllByRecursion, list_all}
 use Rattle.std.proofs.lemmas.Iterator.Adapters.{position_from-zero}
@@ -22,6 +21,7 @@ use Rattle.model_core.specs.Rules.Merge.{cancels, is_watched_vertex, reads_none_
 use Rattle.model_core.proofs.BothTrue.{and_first, and_second}
 use Rattle.run_laws.proofs.InRange.{in_range-kept}
 use Rattle.model_core.proofs.Results.{bind_ok}
+use Rattle.model_core.proofs.PlacesChanged.{apart-turned}
 use Rattle.run_laws.proofs.Keeping.{received}
 use Rattle.bound_laws.proofs.Soundness.NumberRows.{not_true}
 use Rattle.model_core.proofs.EachOne.{every-map, every-front, every-behind, every-both, every-passes, every-fails, either_false}
@@ -35,9 +35,6 @@ use Rattle.merge_rules.proofs.SingleUrgentModels.SingleUrgent.{NeverBoth, edges_
 use Rattle.merge_rules.proofs.OneStepForTwo.MergeHolds.{Mergeable, there_is, none_found, without_one, aside_of, rest_keep, changes_keep, set_keeps_rules, values_none}
 use Rattle.merge_rules.proofs.OneStepForTwo.MergedModels.{MergeFacts, Discreet, VariableUnwritten}
 
-other_way : (v w : ℕ) → (v == w) ≡ false → (w == v) ≡ false
-other_way v w e = grind (arith, nat_tests)
-
 -- where none of these is among the others, none of the others is among these
 none_among : (reads writes : List ℕ) → AllByRecursion (λ w. is_among reads w ≡ false) writes → AllByRecursion (λ v. is_among writes v ≡ false) reads
 none_among [] writes apart = tt
@@ -47,7 +44,7 @@ none_among (v ∷ reads) writes apart = (
 ) where
   first_apart : (writes : List ℕ) → AllByRecursion (λ w. (v == w) ≡ false) writes → is_among writes v ≡ false
   first_apart [] all = refl
-  first_apart (w ∷ writes) (here, all) = ap₂ (λ a b. a || b) (other_way v w here) (first_apart writes all)
+  first_apart (w ∷ writes) (here, all) = ap₂ (λ a b. a || b) (apart-turned v w here) (first_apart writes all)
 
 -- quiet changes and edges have no fault
 pub record QuietParts (g : EventGraph) : Type 0 where

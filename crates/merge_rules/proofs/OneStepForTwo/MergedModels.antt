@@ -21,7 +21,7 @@ use Rattle.run_laws.proofs.OnTime.{NoneEarlier, starts-on_time, others_later, oc
 use Rattle.run_laws.proofs.EdgesAlike.{with_vertices}
 use Rattle.model_core.proofs.EachOne.{every-map, every-both}
 use Rattle.mark_laws.proofs.EntailedMarks.{same-place}
-use Rattle.model_core.proofs.PlacesChanged.{suc-apart}
+use Rattle.model_core.proofs.PlacesChanged.{placed-elsewhere}
 use Rattle.run_laws.proofs.Spared.HeldValues.{Holds}
 use Rattle.run_laws.proofs.Spared.HeldEdges.{treat-held}
 use Rattle.merge_rules.proofs.OneStepForTwo.UndrawnEdges.{Undrawn}
@@ -61,13 +61,6 @@ pub record MergeFacts (g : EventGraph) (Q : State → Type 0) (first second : �
   pub exclusive : (k : ℕ) (s : State) → Q s → (clk : ℕ) → clk ≤ 2 ^ 48 → Exclusive g s clk (vertex_at g k).edges
   pub unwatched : position (watches second) g.watch ≡ None
   pub discreet : Discreet g Q first second rights
-
-place-elsewhere : {A : Type 0} (f : A → A) (i k : ℕ) (xs : List A) (d : A) → (k == i) ≡ false → slice_index_or (with_place f i xs) k d ≡ slice_index_or xs k d
-place-elsewhere f i k [] d apart = refl
-place-elsewhere f zero zero (x ∷ xs) d apart = cc
-place-elsewhere f zero (suc k) (x ∷ xs) d apart = refl
-place-elsewhere f (suc i) zero (x ∷ xs) d apart = refl
-place-elsewhere f (suc i) (suc k) (x ∷ xs) d apart = place-elsewhere f i k xs d (suc-apart k i apart)
 
 pub place-here : {A : Type 0} (f : A → A) (i : ℕ) (xs : List A) (d x : A) → slice_get xs i ≡ Some x → slice_index_or (with_place f i xs) i d ≡ f (slice_index_or xs i d)
 place-here f i [] d x there = cc
@@ -156,7 +149,7 @@ module _ (g : EventGraph) (Q : State → Type 0) (first second : ℕ) (before af
   facts : (seed : ℕ) → Merging g seed first second rights vertices Inv
   facts seed = record {
     kept = keeps seed;
-    elsewhere = λ k apart. place-elsewhere (λ v. joined_vertex v (before ++ after) rights (vertex_at g second)) first k g.vertices no_vertex apart;
+    elsewhere = λ k apart. placed-elsewhere (λ v. joined_vertex v (before ++ after) rights (vertex_at g second)) first k g.vertices no_vertex apart;
     split = splits seed;
     unwatched = λ c. silent_none second c ok.unwatched;
     shown = λ vertex c n d is_first inv carried next at_clock due done. shows seed vertex c n d is_first at_clock done ok.discreet;
@@ -165,7 +158,7 @@ module _ (g : EventGraph) (Q : State → Type 0) (first second : ℕ) (before af
 
   names-same : (k : ℕ) (c : Bool) → (k == first) ≡ c → ((vertex_at g k).name ≡ (slice_index_or vertices k no_vertex).name) × ((vertex_at g k).parameters ≡ (slice_index_or vertices k no_vertex).parameters)
   names-same k false apart =
-      let e = place-elsewhere (λ v. joined_vertex v (before ++ after) rights (vertex_at g second)) first k g.vertices no_vertex apart in
+      let e = placed-elsewhere (λ v. joined_vertex v (before ++ after) rights (vertex_at g second)) first k g.vertices no_vertex apart in
       (ap (λ (v : EventVertex). v.name) (sym e), ap (λ (v : EventVertex). v.parameters) (sym e))
   names-same k true is =
       let (v, there) = ok.there in

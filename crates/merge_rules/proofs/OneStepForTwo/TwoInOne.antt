@@ -9,7 +9,7 @@ use Rattle.model_core.specs.Run.Pending.{Entry, TakenOff, next_entry}
 use Rattle.model_core.specs.Run.Edges.{Planned, scheduled, treat}
 use Rattle.model_core.specs.Run.Step.{Configuration, vertex_at, receive, occur}
 use Rattle.model_core.specs.Rules.Merge.{set_parameters}
-use Rattle.model_core.proofs.Results.{bind_same, in_turn-append}
+use Rattle.model_core.proofs.Results.{bind_unit, bind_same, in_turn-append}
 use Rattle.std.specs.List.{AllByRecursion}
 use Rattle.model_core.proofs.Alongside.{Alongside, both_go, both_fail}
 use Rattle.merge_rules.proofs.OneStepForTwo.UndrawnEdges.{Undrawn, edges-undrawn, words-kept}
@@ -73,14 +73,10 @@ places-are : (g : EventGraph) (s : State) (clk : ℕ) (vs : List ℕ) → each (
 places-are g s clk [] = refl
 places-are g s clk (v ∷ vs) = ap (λ (r : OrFault (List Place)). r >>= λ ps. Ok (scalar v ∷ ps)) (places-are g s clk vs)
 
-right-unit : {A : Type 0} (r : OrFault A) → (r >>= λ a. Ok a) ≡ r
-right-unit (Ok a) = refl
-right-unit (Err k) = refl
-
 pub set_parameters-receives : (g : EventGraph) (seed clk : ℕ) (vs : List ℕ) (rights : List Expression) → (vs ≡ [] → rights ≡ []) → (d : Changed) → in_turn (make_change g seed clk) (set_parameters vs rights) d ≡ (each (value_of g d.state clk) rights >>= λ values. receive g vs values d.state >>= λ t. Ok (record { state = t; taken = d.taken }))
 set_parameters-receives g seed clk [] rights none d = ap (λ rights. each (value_of g d.state clk) rights >>= λ values. Ok d) (sym (none refl))
 set_parameters-receives g seed clk (v ∷ vs) rights none d =
-    right-unit _ ∙ (bind-assoc (each (value_of g d.state clk) rights) (λ values. each (place_of g d.state clk) (map scalar_location (v ∷ vs)) >>= λ places. in_turn (store g) (zip places values) d.state) (λ t. Ok (record d { state = t })) ∙
+    bind_unit _ ∙ (bind-assoc (each (value_of g d.state clk) rights) (λ values. each (place_of g d.state clk) (map scalar_location (v ∷ vs)) >>= λ places. in_turn (store g) (zip places values) d.state) (λ t. Ok (record d { state = t })) ∙
     bind_same (each (value_of g d.state clk) rights) _ _ (λ values e. ap (λ (r : OrFault (List Place)). (r >>= λ places. in_turn (store g) (zip places values) d.state) >>= λ t. Ok (record d { state = t })) (places-are g d.state clk (v ∷ vs))))
 
 -- ---- the two events and the merged one
@@ -107,11 +103,11 @@ module _ (g : EventGraph) (seed second : ℕ) (v : EventVertex) (before after : 
   abbrev b : EventVertex
   b = vertex_at g second
 
-  -- the configuration behind the edges
+  -- the configuration after the edges
   abbrev at_end : State → Planned → OrFault Configuration
   at_end s q = Ok (record { clock = clk; state = s; taken = q.taken; pending = q.pending })
 
-  -- what comes behind the changes: the edges, and the configuration
+  -- what follows the changes: the edges, and the configuration
   abbrev ending : List EventEdge → List Entry → Changed → OrFault Configuration
   ending es p d = in_turn (treat g seed d.state clk) es (record { pending = p; taken = d.taken }) >>= at_end d.state
 

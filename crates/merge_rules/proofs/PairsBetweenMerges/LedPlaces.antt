@@ -1,12 +1,12 @@
 -- How many edges lead to each place, counted in a table of what is kept of the vertices.
 use Rattle.std.proofs.Common.{◌≡◌, ◌⊎◌, inl, inr, ℕ, zero, suc, ◌+◌, ◌-◌, ◌<◌, ◌==◌, Bool, true, false, ◌||◌, cond, List, [], ◌∷◌, ◌++◌, map, length, slice_get, slice_index_or, Some, refl, sym, ◌∙◌, ap, ap₂, arith}
 use Rattle.std.specs.List.{remove, list_any}
-use Rattle.std.proofs.lemmas.Bool.Decides.{nat_tests}
 use Rattle.model_core.specs.EventGraph.{EventVertex, EventEdge}
 use Rattle.model_core.specs.Run.Step.{no_vertex}
 use Rattle.model_core.specs.Rules.PlacedEdges.{with_place}
 use Rattle.model_core.specs.Rules.Merge.{leads_to}
-use Rattle.model_core.proofs.PlacesChanged.{length_placed}
+use Rattle.model_core.proofs.PlacesChanged.{length_placed, placed-there, placed-elsewhere, apart-turned}
+use Rattle.mark_laws.proofs.EntailedMarks.{same-place}
 use Rattle.merge_rules.specs.KeptPairs.{edges_leading, edges_to, no_pair}
 use Rattle.merge_rules.specs.Inner.PairMoves.{with_more, with_fewer, edges_added, all_edges_added, edges_taken}
 use Rattle.merge_rules.specs.declared.kept_pairs.KeptPair.{KeptPair}
@@ -14,18 +14,6 @@ use Rattle.merge_rules.specs.declared.kept_pairs.KeptPair.{KeptPair}
 -- ---- the element at a place
 
 module _ {A : Type 0} where
-  pub placed-elsewhere : (f : A → A) (j k : ℕ) (xs : List A) (d : A) → (k == j) ≡ false → slice_index_or (with_place f j xs) k d ≡ slice_index_or xs k d
-  placed-elsewhere f j k [] d apart = refl
-  placed-elsewhere f zero zero (x ∷ xs) d apart = cc
-  placed-elsewhere f zero (suc k) (x ∷ xs) d apart = refl
-  placed-elsewhere f (suc j) zero (x ∷ xs) d apart = refl
-  placed-elsewhere f (suc j) (suc k) (x ∷ xs) d apart = placed-elsewhere f j k xs d (let e : (k == j) ≡ false = grind (arith, nat_tests) in e)
-
-  pub placed-there : (f : A → A) (k : ℕ) (xs : List A) (d : A) → k < length xs → slice_index_or (with_place f k xs) k d ≡ f (slice_index_or xs k d)
-  placed-there f k [] d below = absurd (omega arith)
-  placed-there f zero (x ∷ xs) d below = refl
-  placed-there f (suc k) (x ∷ xs) d below = placed-there f k xs d (omega (arith, below))
-
   pub mapped-there : (f : A → A) (xs : List A) (k : ℕ) (d : A) → k < length xs → slice_index_or (map f xs) k d ≡ f (slice_index_or xs k d)
   mapped-there f [] k d below = absurd (omega arith)
   mapped-there f (x ∷ xs) zero d below = refl
@@ -45,19 +33,13 @@ fewer-twice a b p = ap (λ n. let q : KeptPair = record p { incoming = n } in q)
 fewer-none : (p : KeptPair) → with_fewer 0 p ≡ p
 fewer-none p = ap (λ n. let q : KeptPair = record p { incoming = n } in q) (let e : p.incoming - 0 ≡ p.incoming = omega arith in e)
 
-pub same-numbers : (a b : ℕ) → (a == b) ≡ true → a ≡ b
-same-numbers a b e = grind (arith, nat_tests)
-
-turned : (a b : ℕ) (t : Bool) → (a == b) ≡ t → (b == a) ≡ t
-turned a b t e = grind (arith, nat_tests)
-
 -- one more at the place, and none elsewhere
 one-counted : (f : ℕ → KeptPair → KeptPair) → ((p : KeptPair) → f 0 p ≡ p) → (t k : ℕ) (pairs : List KeptPair) → k < length pairs
     → slice_index_or (with_place (f 1) t pairs) k no_pair ≡ f (cond (t == k) 1 0) (slice_index_or pairs k no_pair)
 one-counted f none t k pairs below = by (t == k) refl where
   by : (b : Bool) → (t == k) ≡ b → slice_index_or (with_place (f 1) t pairs) k no_pair ≡ f (cond b 1 0) (slice_index_or pairs k no_pair)
-  by true same = ap (λ j. slice_index_or (with_place (f 1) j pairs) k no_pair) (same-numbers t k same) ∙ placed-there (f 1) k pairs no_pair below
-  by false apart = placed-elsewhere (f 1) t k pairs no_pair (turned t k false apart) ∙ sym (none (slice_index_or pairs k no_pair))
+  by true same = ap (λ j. slice_index_or (with_place (f 1) j pairs) k no_pair) (same-place t k same) ∙ placed-there (f 1) k pairs no_pair below
+  by false apart = placed-elsewhere (f 1) t k pairs no_pair (apart-turned t k apart) ∙ sym (none (slice_index_or pairs k no_pair))
 
 pub added-long : (es : List EventEdge) (pairs : List KeptPair) → length (edges_added es pairs) ≡ length pairs
 added-long [] pairs = refl

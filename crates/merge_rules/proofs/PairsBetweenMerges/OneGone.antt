@@ -4,6 +4,7 @@ use Rattle.std.specs.List.{remove, list_any, range_with_len}
 use Rattle.std.proofs.lemmas.Bool.Decides.{nat_tests}
 use Rattle.model_core.specs.Rules.MarkedPlaces.{rank, marked_of, place_without}
 use Rattle.model_core.specs.Rules.Drop.{staying_marks}
+use Rattle.model_core.proofs.PlacesChanged.{same_number, different, apart-turned}
 use Rattle.mark_laws.proofs.Marks.{Marked}
 
 abbrev all_true : ℕ → List Bool
@@ -18,23 +19,14 @@ all_but (suc n) (suc gone) = true ∷ all_but n gone
 
 -- ---- they are those of what stays
 
-apart-later : (t k : ℕ) → t < k → (t == k) ≡ false
-apart-later t k below = grind (arith, nat_tests)
-
-same-place : (t k : ℕ) → t ≡ k → (t == k) ≡ true
-same-place t k e = grind (arith, nat_tests)
-
-apart-before : (t k : ℕ) → k < t → (t == k) ≡ false
-apart-before t k above = grind (arith, nat_tests)
-
 all-stay : (t a n : ℕ) → t < a → map (λ k. not (list_any (λ v. v == k) (t ∷ []))) (range_with_len a n) ≡ all_true n
 all-stay t a zero below = refl
-all-stay t a (suc n) below = ap₂ (λ b bs. not (b || false) ∷ bs) (apart-later t a below) (all-stay t (a + 1) n (omega (arith, below)))
+all-stay t a (suc n) below = ap₂ (λ b bs. not (b || false) ∷ bs) (different t a below) (all-stay t (a + 1) n (omega (arith, below)))
 
 stay-from : (n gone t a : ℕ) → t ≡ a + gone → map (λ k. not (list_any (λ v. v == k) (t ∷ []))) (range_with_len a n) ≡ all_but n gone
 stay-from zero gone t a is = refl
-stay-from (suc n) zero t a is = ap₂ (λ b bs. not (b || false) ∷ bs) (same-place t a (omega (arith, is))) (all-stay t (a + 1) n (omega (arith, is)))
-stay-from (suc n) (suc gone) t a is = ap₂ (λ b bs. not (b || false) ∷ bs) (apart-before t a (omega (arith, is))) (stay-from n gone t (a + 1) (omega (arith, is)))
+stay-from (suc n) zero t a is = ap₂ (λ b bs. not (b || false) ∷ bs) (same_number t a (omega (arith, is))) (all-stay t (a + 1) n (omega (arith, is)))
+stay-from (suc n) (suc gone) t a is = ap₂ (λ b bs. not (b || false) ∷ bs) (apart-turned a t (different a t (omega (arith, is)))) (stay-from n gone t (a + 1) (omega (arith, is)))
 
 pub staying-but : (n gone : ℕ) → staying_marks (gone ∷ []) n ≡ all_but n gone
 staying-but n gone = stay-from n gone gone 0 (omega arith)
@@ -76,14 +68,6 @@ rank-but (suc n) zero zero below = without-none 0
 rank-but (suc n) zero (suc k) below = true-rank n k (omega (arith, below)) ∙ without-front k
 rank-but (suc n) (suc gone) zero below = without-none (suc gone)
 rank-but (suc n) (suc gone) (suc k) below = ap suc (rank-but n gone k (omega (arith, below))) ∙ without-behind gone k
-
--- each place of what is left is the new place of a marked one
-pub old_place : {A : Type 0} (marks : List Bool) (xs : List A) (i : ℕ) → i < length (marked_of marks xs) → (k : ℕ) × Marked marks k × (rank marks k ≡ i) × (k < length xs)
-old_place [] xs i below = absurd (omega arith)
-old_place (b ∷ bs) [] i below = absurd (omega arith)
-old_place (true ∷ bs) (x ∷ xs) zero below = (zero, refl, refl, omega arith)
-old_place (true ∷ bs) (x ∷ xs) (suc i) below = let (k, marked, e, within) = old_place bs xs i (omega arith) in (suc k, marked, ap suc e, omega arith)
-old_place (false ∷ bs) (x ∷ xs) i below = let (k, marked, e, within) = old_place bs xs i below in (suc k, marked, e, omega arith)
 
 -- ---- what is left of a list
 

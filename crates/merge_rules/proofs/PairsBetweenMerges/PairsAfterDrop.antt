@@ -1,4 +1,4 @@
--- What is kept of the vertices is right after one is dropped to which nothing leads, once it is told.
+-- What is kept of the vertices is right after one is dropped to which nothing leads, once that is noted.
 use Rattle.std.proofs.Common.{◌≡◌, ℕ, zero, suc, ◌+◌, ◌-◌, ◌<◌, ◌==◌, nat_lt, Bool, true, false, cond, List, [], ◌∷◌, map, length, slice_get, slice_index_or, Option, Some, None, refl, sym, ◌∙◌, ap, ap₂, subst, arith}
 use Rattle.std.specs.List.{AllByRecursion, remove, list_any}
 use Rattle.std.specs.Option.{option_map, option_map_or, option_and_then}
@@ -14,7 +14,7 @@ use Rattle.model_core.specs.Rules.UrgentEdges.{plain_urgent}
 use Rattle.model_core.specs.Rules.Merge.{leads_to, is_watched_vertex}
 use Rattle.model_core.proofs.EachOne.{either_false, every-map}
 use Rattle.model_core.proofs.Images.{at-map}
-use Rattle.mark_laws.proofs.Marks.{Marked, rank-apart, rank-within, marked-placed}
+use Rattle.mark_laws.proofs.Marks.{Marked, rank-apart, rank-within, marked-placed, old_place}
 use Rattle.static_laws.proofs.StaticTwins.DeclaredNames.{every_item}
 use Rattle.run_laws.proofs.MappedVertices.{WatchedTold}
 use Rattle.model_core.specs.Text.Canonical.{vertex_name}
@@ -29,7 +29,7 @@ use Rattle.merge_rules.proofs.SingleUrgentModels.PlainEdges.{is_there}
 use Rattle.merge_rules.proofs.PairsBetweenMerges.PairsMoved.{acts-alike, target-alike, fits-moved, still_told}
 use Rattle.merge_rules.proofs.PairsBetweenMerges.GrowthMoved.{growth-moved}
 use Rattle.merge_rules.proofs.PairsBetweenMerges.LedPlaces.{leads_there, mapped-there, taken-long, taken-at, to-without}
-use Rattle.merge_rules.proofs.PairsBetweenMerges.OneGone.{all_but, staying-but, marked-but, rank-but, old_place, left-but, left-long}
+use Rattle.merge_rules.proofs.PairsBetweenMerges.OneGone.{all_but, staying-but, marked-but, rank-but, left-but, left-long}
 
 -- ---- what a model that keeps its rules names is there
 

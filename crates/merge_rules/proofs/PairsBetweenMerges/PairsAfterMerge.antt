@@ -1,4 +1,4 @@
--- What is kept of the vertices is right after a merge, once it is told.
+-- What is kept of the vertices is right after a merge, once that is noted.
 use Rattle.std.proofs.Common.{◌≡◌, ℕ, ◌+◌, ◌-◌, ◌<◌, ◌==◌, nat_lt, Bool, true, false, cond, List, [], ◌∷◌, ◌++◌, map, length, slice_get, slice_index_or, Option, Some, None, is_some, is_none, refl, sym, ◌∙◌, ap, ap₂, subst, arith}
 use Rattle.std.specs.List.{AllByRecursion, remove}
 use Rattle.std.specs.Option.{option_map, option_map_or, option_and_then}
@@ -10,7 +10,8 @@ use Rattle.model_core.specs.Rules.Drop.{edge_renumbered, vertex_renumbered, watc
 use Rattle.model_core.specs.Rules.PlacedEdges.{with_place}
 use Rattle.model_core.specs.Rules.UrgentEdges.{plain_urgent}
 use Rattle.model_core.specs.Rules.Merge.{merge_conditions, merged_with, merged}
-use Rattle.model_core.proofs.PlacesChanged.{length_placed, shown_placed}
+use Rattle.model_core.proofs.PlacesChanged.{length_placed, shown_placed, placed-there, placed-elsewhere}
+use Rattle.mark_laws.proofs.EntailedMarks.{same-place}
 use Rattle.run_laws.proofs.MappedVertices.{WatchedTold}
 use Rattle.model_core.specs.Text.Canonical.{vertex_name}
 use Rattle.merge_rules.specs.PairStanding.{target_at_once, acts_unseen, pair_conditions, pair_fits}
@@ -28,7 +29,7 @@ use Rattle.merge_rules.proofs.SingleUrgentModels.OneUrgentLess.{plain_gone}
 use Rattle.merge_rules.proofs.PairsBetweenMerges.PairsMoved.{acts-alike, fits-moved, still_told}
 use Rattle.merge_rules.proofs.PairsBetweenMerges.GrowthMoved.{growth-moved}
 use Rattle.merge_rules.proofs.MergedText.ValidMerged.{name_stays}
-use Rattle.merge_rules.proofs.PairsBetweenMerges.LedPlaces.{same-numbers, placed-elsewhere, placed-there, mapped-there, added-long, added-at, one_fewer-at, leading-joined, leading-without, to-placed}
+use Rattle.merge_rules.proofs.PairsBetweenMerges.LedPlaces.{mapped-there, added-long, added-at, one_fewer-at, leading-joined, leading-without, to-placed}
 
 -- ---- names that stay
 
@@ -187,5 +188,5 @@ module _ (g : EventGraph) (first second : ℕ) (none : first_failed (merge_condi
       each : (k : ℕ) → k < length h.vertices → IsPair h k (slice_index_or after k no_pair)
       each k below = by (k == first) refl where
         by : (c : Bool) → (k == first) ≡ c → IsPair h k (slice_index_or after k no_pair)
-        by true same = subst (λ j. IsPair h j (slice_index_or after j no_pair)) (sym (same-numbers k first same)) pair-here
+        by true same = subst (λ j. IsPair h j (slice_index_or after j no_pair)) (sym (same-place k first same)) pair-here
         by false apart = pair-elsewhere k (omega (arith, below, long)) apart

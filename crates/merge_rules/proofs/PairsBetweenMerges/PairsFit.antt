@@ -12,11 +12,10 @@ use Rattle.model_core.specs.Rules.Conditions.{first_failed}
 use Rattle.model_core.specs.Rules.Uses.{vertex_writes}
 use Rattle.model_core.specs.Rules.UrgentEdges.{plain_urgent, plain_urgent_edge, single_urgent}
 use Rattle.model_core.specs.Rules.Merge.{leads_to, cancels, is_watched_vertex, reads_none_of, happens_unseen, values_at_once, other_edges, has_few_parts, merged_with, merged, merge_conditions, merge_at, first_merge}
-use Rattle.model_core.proofs.PlacesChanged.{same_number}
+use Rattle.model_core.proofs.PlacesChanged.{same_number, placed-there}
 use Rattle.merge_rules.specs.PairStanding.{target_at_once, pair_conditions, pair_fits}
 use Rattle.merge_rules.specs.Growth.{growth, pair_growth}
 use Rattle.merge_rules.specs.declared.growth.Growth.{Growth}
-use Rattle.merge_rules.proofs.PairsBetweenMerges.LedPlaces.{placed-there}
 
 -- ---- conditions that all hold
 
@@ -128,7 +127,7 @@ module _ (g : EventGraph) (first second : ℕ) (single : single_urgent g ≡ tru
   pub refused-unfit : pair_fits g first ≡ false → None ≡ merge_at g first
   refused-unfit unfit = sym (merge-is ∙ ap (λ x. cond {A = Option (ℕ × ℕ)} (x && short) (Some (first, second)) None) unfit)
 
--- ---- what is kept of the two, and what it tells
+-- ---- what is kept of the two, and what it says
 
 chosen : {X : Type 0} (b : Bool) (x y : X) → Some y ≡ cond b (Some x) None → (b ≡ true) × (y ≡ x)
 chosen true x y e = (refl, let same : y ≡ x = cc in same)

@@ -1,4 +1,4 @@
--- What is kept of the vertices is right when nobody has looked at them, and stays right where one is looked at.
+-- What is kept of new vertices is right, and stays right where one is looked at.
 use Rattle.std.proofs.Common.{◌≡◌, ◌⊎◌, inl, inr, ℕ, zero, suc, ◌<◌, ◌==◌, nat_lt, Bool, true, false, List, [], ◌∷◌, map, length, slice_index_or, slice_set, get_or, Some, refl, sym, ◌∙◌, ap, subst, arith}
 use Rattle.std.proofs.lemmas.Bool.Decides.{nat_tests}
 use Rattle.std.proofs.lemmas.List.{length-map}
@@ -8,14 +8,15 @@ use Rattle.model_core.specs.Run.Step.{no_vertex, vertex_at}
 use Rattle.model_core.specs.Code.Views.{vertex_of}
 use Rattle.model_core.specs.Rules.PlacedEdges.{with_place}
 use Rattle.model_core.proofs.Images.{at-map}
-use Rattle.model_core.proofs.PlacesChanged.{set-with_place, length_placed}
+use Rattle.model_core.proofs.PlacesChanged.{set-with_place, length_placed, placed-there, placed-elsewhere}
+use Rattle.mark_laws.proofs.EntailedMarks.{same-place}
 use Rattle.merge_rules.specs.PairStanding.{acts_unseen}
 use Rattle.merge_rules.specs.Growth.{pair_growth}
 use Rattle.merge_rules.specs.KeptPairs.{edges_to, has_incoming, TellsFit, IsPair, ArePairs, no_pair}
 use Rattle.merge_rules.specs.Inner.PairMoves.{unasked, with_more, all_edges_added}
 use Rattle.merge_rules.specs.declared.kept_pairs.KeptPair.{KeptPair}
 use Rattle.merge_rules.specs.declared.kept_pairs.Standing.{Standing}
-use Rattle.merge_rules.proofs.PairsBetweenMerges.LedPlaces.{same-numbers, placed-elsewhere, placed-there, all_added-long, all_added-at, some-lead, none-lead}
+use Rattle.merge_rules.proofs.PairsBetweenMerges.LedPlaces.{all_added-long, all_added-at, some-lead, none-lead}
 
 -- ---- at the beginning
 
@@ -48,7 +49,7 @@ module _ (g : EventGraph) (pairs : List KeptPair) (are : ArePairs g pairs) (k : 
     each j below = by (j == k) refl where
       by : (c : Bool) → (j == k) ≡ c → IsPair g j (slice_index_or (with_place (λ p. y) k pairs) j no_pair)
       by true same =
-          subst (λ j. IsPair g j (slice_index_or (with_place (λ p. y) k pairs) j no_pair)) (sym (same-numbers j k same))
+          subst (λ j. IsPair g j (slice_index_or (with_place (λ p. y) k pairs) j no_pair)) (sym (same-place j k same))
           (subst (IsPair g k) (sym (placed-there (λ p. y) k pairs no_pair within)) here)
       by false apart = subst (IsPair g j) (sym (placed-elsewhere (λ p. y) k j pairs no_pair apart)) (are.each j below)
 

@@ -1,5 +1,4 @@
--- Where two vertices and those that they name take other places, they can be merged as before, as far as they tell that
--- themselves.
+-- Where two vertices and those that they name take other places, they can be merged as before, as far as it depends on the two.
 use Rattle.std.proofs.Common.{◌≡◌, ℕ, zero, suc, ◌+◌, ◌==◌, nat_lt, nat_le, Bool, true, false, not, ◌&&◌, ◌||◌, cond, List, [], ◌∷◌, ◌++◌, map, length, slice_get, Option, Some, None, refl, sym, ◌∙◌, ap, ap₂}
 use Rattle.std.specs.Prelude.{count_by, is_none}
 use Rattle.std.specs.List.{AllByRecursion, list_all, list_any, position_from, remove}
@@ -41,7 +40,7 @@ get-map f [] k = refl
 get-map f (x ∷ xs) zero = refl
 get-map f (x ∷ xs) (suc k) = get-map f xs k
 
--- what tells of one vertex whether it acts unseen tells it of another that does as well
+-- an answer that says whether one vertex acts unseen is right of another that acts unseen where the first does
 pub still_told : (told : Option Bool) (g h : EventGraph) (v w : EventVertex) → acts_unseen h w ≡ acts_unseen g v → TellsUnseen told g v → TellsUnseen told h w
 still_told None g h v w same tells = tt
 still_told (Some unseen) g h v w same tells = tells ∙ sym same

@@ -34,7 +34,7 @@ found-anywhere n m (e ∷ es) = one (is_plain e) (found-anywhere (n + 1) (m + 1)
   one true later = refl
   one false later = later
 
--- behind edges that aren't urgent the plain urgent edge is what it is without them
+-- after edges that aren't urgent the plain urgent edge is the one that it is without them
 module _ (ys : List EventEdge) where
   count-behind : (xs : List EventEdge) → AllByRecursion (λ e. is_urgent e ≡ false) xs → count_by is_urgent (xs ++ ys) ≡ count_by is_urgent ys
   count-behind [] calm = refl

@@ -1,4 +1,4 @@
--- The plain urgent edge of a vertex stands alone among edges that aren't urgent.
+-- The plain urgent edge of a vertex is alone among edges that aren't urgent.
 use Rattle.std.proofs.Common.{◌≡◌, ℕ, zero, suc, ◌+◌, ◌≤◌, ◌<◌, ◌==◌, Bool, true, false, cond, List, [], ◌∷◌, ◌++◌, length, slice_get, Option, Some, None, refl, sym, ◌∙◌, ap, subst, arith}
 use Rattle.std.specs.Prelude.{count_by}
 use Rattle.std.proofs.lemmas.List.Sums.{sum_by-cons, sum_by-append}
@@ -34,7 +34,7 @@ found test (x ∷ xs) from place e = tested (test x) refl e (found test xs (from
       let o = r.offset_is in
       record { offset = suc r.offset; element = r.element; offset_is = omega (arith, o); there = r.there; passes = r.passes }
 
--- ---- what stands before and after an element
+-- ---- the elements before and after an element
 
 record Around {A : Type 0} (xs : List A) (place : ℕ) (x : A) : Type 0 where
   before : List A

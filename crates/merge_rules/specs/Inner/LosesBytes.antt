@@ -6,7 +6,7 @@ use Rattle.model_core.specs.Text.Canonical.{version_line, canonical}
 use Rattle.model_core.specs.Text.VersionNeeded.{needs_version_two}
 use Rattle.merge_rules.specs.Growth.{body_lines}
 
--- the canonical text behind the line of its version has so many bytes less, and so have the lines of the changes and edges of
+-- the canonical text after the line of its version has so many bytes less, and so have the lines of the changes and edges of
 -- the vertex at a place; those of the others are the same
 pub record LosesBytes (g h : EventGraph) (vertex gone : ℕ) : Type 0 where
   pub text : length (canonical h) + length (version_line (needs_version_two g)) + gone ≡ length (canonical g) + length (version_line (needs_version_two h))

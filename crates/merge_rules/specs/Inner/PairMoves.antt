@@ -1,4 +1,4 @@
--- What becomes of what is kept of the vertices, as edges come and go, when two are merged and when one is dropped.
+-- What is kept of the vertices, after edges come and go, after two are merged and after one is dropped.
 use Rattle.std.specs.Prelude.{ℕ, ◌+◌, ◌-◌, ◌==◌, Bool, false, cond, List, [], ◌∷◌, map, None}
 use Rattle.std.specs.Option.{option_map, option_map_or}
 use Rattle.model_core.specs.EventGraph.{EventVertex, EventEdge}

@@ -45,7 +45,7 @@ other_place : (i k : ℕ) → i ≢ k → not (i == k) ≡ true
 other_place i k e = grind (arith, nat_tests)
 
 module _ (m : Model) (first second : ℕ) (seen : List Vertex) (same : seen ≡ m.vertices) where
-  -- the first vertex isn't there
+  -- the first vertex is missing
   absent_first : false ≡ nat_lt first (length seen) → first_condition (graph_of m) first second ≡ false
   absent_first past = parts_told (nat_lt first (length (graph_of m).vertices)) (nat_lt second (length (graph_of m).vertices)) (not (first == second)) (leads second (vertex_at (graph_of m) first)) (counted m seen first false same past) refl refl refl
 

@@ -48,18 +48,18 @@ pub returns-then-not-others_stand_aside-clause-failed : goal.returns-then-not-ot
 returns-then-not-others_stand_aside-clause-failed t c =
     later_told (graph_of c.args.model.now) c.args.first c.args.second
     (ap not (sym c.is_watched.ensures ∙ c.if-is_watched.false)) (fifth_told c.args.second _ c.args.a.now c.as_slice.result.now c.one_cancels.result _ c.requires.first c.as_slice.ensures c.one_cancels.ensures c.if-one_cancels.false)
-    (ap₂ (sixth (graph_of c.args.model.now)) (sym c.requires.first) (sym c.requires.second) ∙ sym c.others_stand_aside.ensures.told ∙ c.if-not-others_stand_aside.true) refl
+    (ap₂ (sixth (graph_of c.args.model.now)) (sym c.requires.first) (sym c.requires.second) ∙ sym c.others_stand_aside.ensures.is ∙ c.if-not-others_stand_aside.true) refl
 
 pub returns-then-not-notes_stay-clause-failed : goal.returns-then-not-notes_stay-clause-failed
 returns-then-not-notes_stay-clause-failed t c =
     later_told (graph_of c.args.model.now) c.args.first c.args.second
     (ap not (sym c.is_watched.ensures ∙ c.if-is_watched.false)) (fifth_told c.args.second _ c.args.a.now c.as_slice.result.now c.one_cancels.result _ c.requires.first c.as_slice.ensures c.one_cancels.ensures c.if-one_cancels.false)
-    (ap₂ (sixth (graph_of c.args.model.now)) (sym c.requires.first) (sym c.requires.second) ∙ sym c.others_stand_aside.ensures.told ∙ c.if-not-others_stand_aside.false)
+    (ap₂ (sixth (graph_of c.args.model.now)) (sym c.requires.first) (sym c.requires.second) ∙ sym c.others_stand_aside.ensures.is ∙ c.if-not-others_stand_aside.false)
     (ap₂ (seventh (graph_of c.args.model.now) c.args.first) (sym c.requires.first) (sym c.requires.second) ∙ sym c.notes_stay.ensures ∙ c.if-not-notes_stay.true)
 
 pub returns-clause-failed : goal.returns-clause-failed
 returns-clause-failed t c =
     later_told (graph_of c.args.model.now) c.args.first c.args.second
     (ap not (sym c.is_watched.ensures ∙ c.if-is_watched.false)) (fifth_told c.args.second _ c.args.a.now c.as_slice.result.now c.one_cancels.result _ c.requires.first c.as_slice.ensures c.one_cancels.ensures c.if-one_cancels.false)
-    (ap₂ (sixth (graph_of c.args.model.now)) (sym c.requires.first) (sym c.requires.second) ∙ sym c.others_stand_aside.ensures.told ∙ c.if-not-others_stand_aside.false)
+    (ap₂ (sixth (graph_of c.args.model.now)) (sym c.requires.first) (sym c.requires.second) ∙ sym c.others_stand_aside.ensures.is ∙ c.if-not-others_stand_aside.false)
     (ap₂ (seventh (graph_of c.args.model.now) c.args.first) (sym c.requires.first) (sym c.requires.second) ∙ sym c.notes_stay.ensures ∙ c.if-not-notes_stay.false)

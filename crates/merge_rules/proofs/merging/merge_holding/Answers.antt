@@ -51,7 +51,7 @@ put_together-requires-clause-apart c = two_apart (graph_of c.args.model.now) c.a
 
 -- ---- what is known of the result
 
--- how many bytes the result's text has behind the line of its version, which the model's text has where the result's has it
+-- how many bytes the result's text has after the line of its version, which the model's text has where the result's has it
 rest_of : (g h : EventGraph) (whole version rest : ℕ) → whole ≡ length (canonical h) → version ≡ length (version_line (needs_version_two g)) → needs_version_two h ≡ needs_version_two g → rest ≡ whole - version
     → (version ≤ whole) × (length (version_line (needs_version_two h)) + rest ≡ length (canonical h))
 rest_of g h whole version rest is version_is same rest_is =
@@ -83,19 +83,19 @@ returns-clause-known c =
     let lines = rest_of g result _ _ _ measured.1 (c.version_length-version.ensures ∙ ap (λ b. length (version_line b)) c.find_version.ensures.is) version refl in
     record {
       lines = subst (λ (h : EventGraph). length (version_line (needs_version_two h)) + (c.merged_length-bytes.result - c.bytes_leaving-gone.result - c.version_length-version.result) ≡ length (canonical h)) (sym done) lines.1;
-      version = subst (λ (h : EventGraph). TellsVersion h c.find_version.new.self.version_two) (sym done) (subst (TellsVersion result) (sym c.find_version.ensures.told) (c.find_version.ensures.is ∙ sym version));
+      version = subst (λ (h : EventGraph). TellsVersion h c.find_version.new.self.version_two) (sym done) (subst (TellsVersion result) (sym c.find_version.ensures.kept) (c.find_version.ensures.is ∙ sym version));
       single = sym (ap single_urgent done ∙ leaving_single g c.args.vertex c.args.target holds c.args.second);
       bodies = subst (λ (h : EventGraph). AreBodies h c.put-2.new.self) (sym done) (subst (AreBodies result) (sym c.put-2.ensures) bodies);
     }
 
-pub returns-clause-told : goal.returns-clause-told
-returns-clause-told c =
+pub returns-clause-measured : goal.returns-clause-measured
+returns-clause-measured c =
     let g = graph_of c.args.model.now in
     let result = merged_leaving c.args.second g c.args.vertex c.args.target in
     let measured = leaving_measured g c.args.vertex c.args.target c.requires.holds c.args.second (2 ^ 64 - 1) c.merged_length-bytes.result c.find_body-body.result c.bytes_leaving-gone.result (omega arith) c.merged_length-bytes.ensures c.find_body-body.ensures.is c.bytes_leaving-gone.ensures in
     let version = version_left g c.args.vertex c.args.target c.requires.holds c.args.second in
     let lines = rest_of g result _ _ _ measured.1 (c.version_length-version.ensures ∙ ap (λ b. length (version_line b)) c.find_version.ensures.is) version refl in (
-      ap (option_and_then (λ (two : Bool). Some (length (version_line two) + (c.merged_length-bytes.result - c.bytes_leaving-gone.result - c.version_length-version.result)))) (c.find_version.ensures.told ∙ ap Some (c.find_version.ensures.is ∙ sym version))
+      ap (option_and_then (λ (two : Bool). Some (length (version_line two) + (c.merged_length-bytes.result - c.bytes_leaving-gone.result - c.version_length-version.result)))) (c.find_version.ensures.kept ∙ ap Some (c.find_version.ensures.is ∙ sym version))
           ∙ ap Some (lines.1 ∙ ap (λ (h : EventGraph). length (canonical h)) (sym c.in_ok-put_together.ensures.done)),
       refl,
     )

@@ -1,4 +1,4 @@
--- What stands before the place, and what stands behind it.
+-- The edges before the place, and those after it.
 use Rattle.model_core.specs.Code.Views.{edge_of}
 use Rattle.merge_rules.proofs.ConditionsAsked.AllButOne.{parts_left}
 use Rattle.merge_rules.proofs.other_edges.all_but.Goals as goal

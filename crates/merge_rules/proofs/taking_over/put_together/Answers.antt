@@ -1,4 +1,4 @@
--- What is left of the second vertex stands in its place, and then the first one changes beside it, or all is put back.
+-- What is left of the second vertex takes its place, and then the first one changes beside it, or all is put back.
 use Rattle.std.proofs.Common.{◌∙◌, ◌<◌, refl, ap, sym, map, List, length, get_or, slice_index_or, slice_set, arith}
 use Rattle.std.proofs.lemmas.List.{length-map, length-set, set-set, set-get_or}
 use Rattle.model_core.specs.declared.vertex.Vertex.{Vertex}

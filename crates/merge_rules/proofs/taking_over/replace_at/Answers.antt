@@ -1,4 +1,4 @@
--- What stood at the place is given, and all else stays.
+-- The vertex at the place is given, and all else stays.
 use Rattle.std.proofs.Common.{◌∙◌, ◌<◌, ap, sym, map, List, length, slice_index_or, slice_set, arith}
 use Rattle.std.proofs.lemmas.List.{map-set}
 use Rattle.model_core.specs.declared.vertex.Vertex.{Vertex}

@@ -36,8 +36,8 @@ take_edges-requires-2 c =
     ap readers c.take_edges.ensures ∙ ap (uncounted before) (ap readers c.add_edges-2.ensures ∙ ap (counted behind) (ap readers c.add_edges.ensures)) in
     subst (λ (ns : List ℕ). (v : ℕ) → v < length ns → count_by (reads_it v) behind ≤ slice_index ns v) (sym is) (enough_behind before behind c.args.self.now.readers)
 
-pub returns-clause-told : goal.returns-clause-told
-returns-clause-told c =
+pub returns-clause-is : goal.returns-clause-is
+returns-clause-is c =
     let before = map edge_of c.args.before.now in
     let behind = map edge_of c.args.behind.now in
     let writes = vertex_writes (vertex_of c.args.vertex.now) in
