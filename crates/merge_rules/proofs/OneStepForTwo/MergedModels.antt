@@ -27,7 +27,7 @@ use Rattle.run_laws.proofs.Spared.HeldEdges.{treat-held}
 use Rattle.merge_rules.proofs.OneStepForTwo.UndrawnEdges.{Undrawn}
 use Rattle.merge_rules.proofs.SingleUrgentModels.InsertedEntry.{DueBefore}
 use Rattle.merge_rules.proofs.OneStepForTwo.EdgesAside.{Aside, Calm, urgent_entry, urgent_edge}
-use Rattle.merge_rules.proofs.OneStepForTwo.TwoInOne.{Split, joined_vertex, merged-splits, Known}
+use Rattle.merge_rules.proofs.OneStepForTwo.TwoInOne.{Split, joined_vertex, merged-splits, CalmAfterChanges}
 use Rattle.merge_rules.proofs.OneStepForTwo.MergedRuns.{Merging, merged-looks}
 use Rattle.merge_rules.proofs.SingleUrgentModels.UrgentEvents.{NotUrgent, OneUrgent, starts-one_urgent, due-first, others-not_urgent, Exclusive, PriorityOk, occur-one_urgent}
 use Rattle.merge_rules.proofs.OneStepForTwo.Unwritten.{UnwrittenBy, unwritten-holds}
@@ -99,7 +99,7 @@ module _ (g : EventGraph) (Q : State → Type 0) (first second : ℕ) (before af
   abbrev Inv : Configuration → Type 0
   Inv c = NoneEarlier c.clock c.pending × OneUrgent c.clock c.pending × Q c.state
 
-  known : (seed : ℕ) (s : State) → Q s → (n : TakenOff) → n.entry.time ≤ 2 ^ 48 → (taken : List ℕ) → Known g seed second (vertex_at g first) before after rights n.entry.time n.entry.values s taken
+  known : (seed : ℕ) (s : State) → Q s → (n : TakenOff) → n.entry.time ≤ 2 ^ 48 → (taken : List ℕ) → CalmAfterChanges g seed second (vertex_at g first) before after rights n.entry.time n.entry.values s taken
   known seed s q n due taken t d got made =
       let qd : Q d.state = changed g Q ok.kept seed n.entry.time (vertex_at g first).changes (record { state = t; taken = taken }) d (received g Q ok.kept (vertex_at g first).parameters n.entry.values s t q got) made in
       let (calm_before, calm_after) = ok.calm seed d.state qd n.entry.time due in

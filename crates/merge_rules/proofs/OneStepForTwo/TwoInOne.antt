@@ -119,8 +119,8 @@ module _ (g : EventGraph) (seed second : ℕ) (v : EventVertex) (before after : 
   occurring v carried p s taken = receive g v.parameters carried s >>= λ t. in_turn (make_change g seed clk) v.changes (record { state = t; taken = taken }) >>= ending v.edges p
 
   -- where the other edges don't fault after the changes, and read nothing that the second event writes
-  abbrev pub Known : List ℤ → State → List ℕ → Type 0
-  Known carried s taken = (t : State) (d : Changed) → receive g v.parameters carried s ≡ Ok t → in_turn (make_change g seed clk) v.changes (record { state = t; taken = taken }) ≡ Ok d → AllByRecursion (Calm g seed d.state clk) before × AllByRecursion (Calm g seed d.state clk) after × Unread d
+  abbrev pub CalmAfterChanges : List ℤ → State → List ℕ → Type 0
+  CalmAfterChanges carried s taken = (t : State) (d : Changed) → receive g v.parameters carried s ≡ Ok t → in_turn (make_change g seed clk) v.changes (record { state = t; taken = taken }) ≡ Ok d → AllByRecursion (Calm g seed d.state clk) before × AllByRecursion (Calm g seed d.state clk) after × Unread d
 
   module _
       (aside_before : AllByRecursion (λ (e : EventEdge). Aside second e.target e.kind) before)
@@ -160,7 +160,7 @@ module _ (g : EventGraph) (seed second : ℕ) (v : EventVertex) (before after : 
         (ap (λ (r : OrFault Changed). r >>= end) (bind-assoc (each (value_of g d.state clk) rights) _ (in_turn mk b.changes) ∙ bind_same (each (value_of g d.state clk) rights) _ _ (λ values e. bind-assoc (receive g b.parameters values d.state) _ (in_turn mk b.changes))) ∙
         (bind-assoc (each (value_of g d.state clk) rights) _ end ∙ bind_same (each (value_of g d.state clk) rights) _ _ (λ values e. bind-assoc (receive g b.parameters values d.state) _ end)))
 
-    pub occurring-splits : (carried : List ℤ) (p : List Entry) (s : State) (taken : List ℕ) → AllByRecursion (DueBefore (urgent_entry clk second [])) p → Known carried s taken → Split g seed second rights clk (occurring v carried p s taken) (occurring (joined_vertex v (before ++ after) rights b) carried p s taken)
+    pub occurring-splits : (carried : List ℤ) (p : List Entry) (s : State) (taken : List ℕ) → AllByRecursion (DueBefore (urgent_entry clk second [])) p → CalmAfterChanges carried s taken → Split g seed second rights clk (occurring v carried p s taken) (occurring (joined_vertex v (before ++ after) rights b) carried p s taken)
     occurring-splits carried p s taken due known =
         bind-split g seed second rights clk (receive g v.parameters carried s) _ _ (λ t received.
         let D : Changed = record { state = t; taken = taken } in
@@ -176,6 +176,6 @@ module _ (g : EventGraph) (seed second : ℕ) (v : EventVertex) (before after : 
         (tail-split d p calm_before calm_after unread due (each (value_of g d.state clk) rights) refl)))))
 
 -- the merged event at an entry that was taken off
-pub merged-splits : (g : EventGraph) (seed second : ℕ) (v : EventVertex) (before after : List EventEdge) (rights : List Expression) (n : TakenOff) (s : State) (taken : List ℕ) → AllByRecursion (λ (e : EventEdge). Aside second e.target e.kind) before → AllByRecursion (λ (e : EventEdge). Aside second e.target e.kind) after → AllByRecursion Undrawn (before ++ after) → v.edges ≡ before ++ urgent_edge second rights ∷ after → ((vertex_at g second).parameters ≡ [] → rights ≡ []) → AllByRecursion (DueBefore (urgent_entry n.entry.time second [])) n.others → Known g seed second v before after rights n.entry.time n.entry.values s taken → Split g seed second rights n.entry.time (occur g seed v n s taken) (occur g seed (joined_vertex v (before ++ after) rights (vertex_at g second)) n s taken)
+pub merged-splits : (g : EventGraph) (seed second : ℕ) (v : EventVertex) (before after : List EventEdge) (rights : List Expression) (n : TakenOff) (s : State) (taken : List ℕ) → AllByRecursion (λ (e : EventEdge). Aside second e.target e.kind) before → AllByRecursion (λ (e : EventEdge). Aside second e.target e.kind) after → AllByRecursion Undrawn (before ++ after) → v.edges ≡ before ++ urgent_edge second rights ∷ after → ((vertex_at g second).parameters ≡ [] → rights ≡ []) → AllByRecursion (DueBefore (urgent_entry n.entry.time second [])) n.others → CalmAfterChanges g seed second v before after rights n.entry.time n.entry.values s taken → Split g seed second rights n.entry.time (occur g seed v n s taken) (occur g seed (joined_vertex v (before ++ after) rights (vertex_at g second)) n s taken)
 merged-splits g seed second v before after rights n s taken aside_before aside_after undrawn whole none due known =
     occurring-splits g seed second v before after rights n.entry.time aside_before aside_after undrawn whole none n.entry.values n.others s taken due known
