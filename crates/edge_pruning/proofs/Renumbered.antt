@@ -8,7 +8,7 @@ use Rattle.model_core.specs.Rules.Drop.{vertex_renumbered}
 use Rattle.model_core.proofs.EachOne.{every-map}
 use Rattle.run_laws.proofs.MappedVertices.{with_mapped, DoesAs, WatchedTold, MayLead, mapped-Same}
 
--- f gives live vertices different numbers, the vertices hold each live one at its new place, and live ones lead to live ones alone
+-- f gives live vertices different numbers, the vertices hold each live one at its new place, and live ones lead to such alone
 pub record Renumbering (g : EventGraph) (f : ℕ → ℕ) (vertices : List EventVertex) (Live : ℕ → Type 0) : Type 0 where
   pub apart : (a b : ℕ) → Live a → Live b → (f a == f b) ≡ (a == b)
   pub placed : (k : ℕ) → Live k → slice_index_or vertices (f k) no_vertex ≡ vertex_renumbered f (vertex_at g k)

@@ -1,5 +1,5 @@
-//! The first two vertices that may be merged, found again and again: after a merge, or the drop that follows it, only what can have
-//! changed is looked at again.
+//! The first two vertices that may be merged, found again and again: after a merge, or the drop that follows it, only what can
+//! have changed is looked at again.
 
 ghost use Rattle.std.specs.Prelude.{◌≡◌, ◌<◌, [], ◌∷◌, true, false, None, Some, map, length, slice_index_or, IfOk, OnOk};
 ghost use Rattle.model_core.specs.EventGraph.{EventGraph};
