@@ -1,5 +1,5 @@
 -- Operators with their right operands, one after another, and the levels at which they are.
-use Rattle.std.proofs.Common.{◌≡◌, ℕ, ◌≤◌, Bool, true, false, if◌then◌else◌, List, Option, Some, refl, ap, ◌∙◌}
+use Rattle.std.proofs.Common.{◌≡◌, ℕ, ◌≤◌, Bool, true, false, if◌then◌else◌, List, length, Option, Some, refl, ap, ◌∙◌, arith}
 use Rattle.std.specs.Prelude.{Result, Ok, Err, IfOk}
 use Rattle.model_core.specs.declared.model.Kind.{Kind}
 use Rattle.one_pass.specs.declared.not_read.NotRead.{NotRead}
@@ -17,7 +17,7 @@ use Rattle.text_laws.proofs.Formats.OneTokenDecides.{levels-fine}
 use Rattle.text_laws.specs.FirstTokens.{begins_as}
 use Rattle.text_laws.specs.Ladder.{operand_level, climb, infix_at, at_levels, behind}
 use Rattle.text_laws.proofs.OperandLevels.{from-not, from-unary}
-use Rattle.one_pass.specs.Inner.ReadOperands.{first_operand, IsOperand, ReadOperand, ClimbsFrom, ClimbsOn}
+use Rattle.one_pass.specs.Inner.ReadOperands.{first_operand, IsOperand, ReadOperand, OperandTaken, ClimbsFrom, ClimbsOn}
 
 -- An operator that was taken, or none, of the levels from the least one up to the one below `under`, and what is left of the tokens after it.
 pub record IsTaken (under least : ℕ) (taken : Option (ℕ × graph.Operator)) (before left : List Lexeme) : Type 0 where
@@ -41,20 +41,26 @@ first_comes under tokens false least few comes absent is = rw is (from-unary und
 
 module _ (means : List ℕ → Option Meaning) where
   -- a level reads as its format does
-  pub by_level : {A : Type 0} (l : Level) (tokens after : List Lexeme) (r : Result A NotRead) (x : graph.Expression) (kind : Option Kind) → IfOk r (λ u. ReadOperand means (language_reader (level_format l) tokens) after x kind)
-      → IfOk r (λ u. ReadOperand means (language_reader (ByRule l) tokens) after x kind)
-  by_level l tokens after (Ok u) x kind r = record { written = r.written; is_read = rule-is level_lookahead level_format levels-fine l tokens ∙ r.is_read; operand = r.operand }
-  by_level l tokens after (Err e) x kind r = tt
+  pub by_level : {A : Type 0} (l : Level) (tokens after : List Lexeme) (r : Result A NotRead) (x : graph.Expression) (kind : Option Kind) → IfOk r (λ u. OperandTaken means (language_reader (level_format l) tokens) tokens after x kind)
+      → IfOk r (λ u. OperandTaken means (language_reader (ByRule l) tokens) tokens after x kind)
+  by_level l tokens after (Ok u) x kind taken =
+      let r = taken.reads in
+      record { reads = record { written = r.written; is_read = rule-is level_lookahead level_format levels-fine l tokens ∙ r.is_read; operand = r.operand }; shorter = taken.shorter }
+  by_level l tokens after (Err e) x kind taken = tt
 
   -- the first operand, and then what comes after it
-  pub behind_first : {A : Type 0} (others : WrittenExpression → Parser WrittenExpression) (whole first : Parse WrittenExpression) (between after : List Lexeme) (r : Result A NotRead) (x : graph.Expression) (kind : Option Kind) (y : graph.Expression)
-      (kind' : Option Kind) → whole ≡ and_next others first → ReadOperand means first between x kind
-      → IfOk r (λ u. (w : WrittenExpression) → IsOperand means w x kind → ReadOperand means (others w between) after y kind')
-      → IfOk r (λ u. ReadOperand means whole after y kind')
-  behind_first others whole first between after (Ok u) x kind y kind' same read go =
+  pub behind_first : {A : Type 0} (others : WrittenExpression → Parser WrittenExpression) (whole first : Parse WrittenExpression) (before between after : List Lexeme) (r : Result A NotRead) (x : graph.Expression) (kind : Option Kind)
+      (y : graph.Expression) (kind' : Option Kind) → whole ≡ and_next others first → OperandTaken means first before between x kind
+      → IfOk r (λ u. (w : WrittenExpression) → IsOperand means w x kind → ReadOperand means (others w between) after y kind') → IfOk r (λ u. length after ≤ length between)
+      → IfOk r (λ u. OperandTaken means whole before after y kind')
+  behind_first others whole first before between after (Ok u) x kind y kind' same taken go fewer =
+      let read = taken.reads in
       let next = go read.written read.operand in
-      record { written = next.written; is_read = same ∙ ap (and_next others) read.is_read ∙ next.is_read; operand = next.operand }
-  behind_first others whole first between after (Err e) x kind y kind' same read go = tt
+      record {
+        reads = record { written = next.written; is_read = same ∙ ap (and_next others) read.is_read ∙ next.is_read; operand = next.operand };
+        shorter = let one = taken.shorter in omega (arith, one, fewer);
+      }
+  behind_first others whole first before between after (Err e) x kind y kind' same taken go fewer = tt
 
   -- an operand, and after it all that comes after the operator that was taken
   pub goes-on : {A : Type 0} (under : ℕ) (first : ℕ × graph.Operator) (left after : List Lexeme) (r : Result A NotRead) (x : graph.Expression) (kind : Option Kind) (y : graph.Expression) (kind' : Option Kind) (least : ℕ) (before : List Lexeme)

@@ -19,7 +19,7 @@ ghost use Rattle.model_read.specs.Infixes.{infix_of};
 ghost use Rattle.model_read.specs.Spelled.{spelled_name};
 ghost use Rattle.static_laws.specs.Checked.{NumberedAs};
 ghost use Rattle.static_laws.specs.Roles.{variable_role};
-ghost use Rattle.one_pass.specs.Inner.ReadOperands.{first_operand, ReadOperand, ClimbsFrom, ClimbsOn};
+ghost use Rattle.one_pass.specs.Inner.ReadOperands.{first_operand, TakesOperand, ClimbsFrom, ClimbsOn};
 
 use crate::not_read::NotRead;
 use crate::refusing::refuse_told;
@@ -113,8 +113,7 @@ pub(crate) fn expression(
     names: &Names,
     read: &mut Operand,
 ) -> Result<(), NotRead>
-    ensures reads { IfOk result (λ u. ReadOperand (meaning_of names.now) (language_reader expression_format cursor.old) cursor.new (expression_of read.new.expr) read.new.kind) }
-    ensures shorter { IfOk result (λ u. length cursor.new + 1 ≤ length cursor.old) }
+    ensures { IfOk result (λ u. TakesOperand (meaning_of names.now) (language_reader expression_format) cursor.old cursor.new read.new) }
 {
     conditional(alloc, cursor, names, read)
 }
@@ -127,8 +126,7 @@ fn conditional(
     names: &Names,
     read: &mut Operand,
 ) -> Result<(), NotRead>
-    ensures reads { IfOk result (λ u. ReadOperand (meaning_of names.now) (language_reader whole_format cursor.old) cursor.new (expression_of read.new.expr) read.new.kind) }
-    ensures shorter { IfOk result (λ u. length cursor.new + 1 ≤ length cursor.old) }
+    ensures { IfOk result (λ u. TakesOperand (meaning_of names.now) (language_reader whole_format) cursor.old cursor.new read.new) }
 {
     if cursor.begins_word(Word::If) {
         branches(alloc, cursor, names, read)
@@ -147,8 +145,7 @@ fn branches(
     names: &Names,
     read: &mut Operand,
 ) -> Result<(), NotRead>
-    ensures reads { IfOk result (λ u. ReadOperand (meaning_of names.now) (language_reader if_format cursor.old) cursor.new (expression_of read.new.expr) read.new.kind) }
-    ensures shorter { IfOk result (λ u. length cursor.new + 1 ≤ length cursor.old) }
+    ensures { IfOk result (λ u. TakesOperand (meaning_of names.now) (language_reader if_format) cursor.old cursor.new read.new) }
 {
     cursor.word(Word::If)?;
     let mut test = Operand::unread();
@@ -176,8 +173,7 @@ fn operand_under(
     read: &mut Operand,
 ) -> Result<(), NotRead>
     requires { under ≤ 5 }
-    ensures reads { IfOk result (λ u. ReadOperand (meaning_of names.now) (language_reader (ByRule (operand_level under)) cursor.old) cursor.new (expression_of read.new.expr) read.new.kind) }
-    ensures shorter { IfOk result (λ u. length cursor.new + 1 ≤ length cursor.old) }
+    ensures { IfOk result (λ u. TakesOperand (meaning_of names.now) (language_reader (ByRule (operand_level under))) cursor.old cursor.new read.new) }
 {
     let is_negated = cursor.begins_negation(under);
     first_operand(alloc, cursor, names, is_negated, read)?;
@@ -194,8 +190,7 @@ fn first_operand(
     is_negated: bool,
     read: &mut Operand,
 ) -> Result<(), NotRead>
-    ensures reads { IfOk result (λ u. ReadOperand (meaning_of names.now) (first_operand is_negated cursor.old) cursor.new (expression_of read.new.expr) read.new.kind) }
-    ensures shorter { IfOk result (λ u. length cursor.new + 1 ≤ length cursor.old) }
+    ensures { IfOk result (λ u. TakesOperand (meaning_of names.now) (first_operand is_negated) cursor.old cursor.new read.new) }
 {
     if is_negated {
         negated(alloc, cursor, names, read)
@@ -285,8 +280,7 @@ fn negated(
     names: &Names,
     read: &mut Operand,
 ) -> Result<(), NotRead>
-    ensures reads { IfOk result (λ u. ReadOperand (meaning_of names.now) (language_reader not_format cursor.old) cursor.new (expression_of read.new.expr) read.new.kind) }
-    ensures shorter { IfOk result (λ u. length cursor.new + 1 ≤ length cursor.old) }
+    ensures { IfOk result (λ u. TakesOperand (meaning_of names.now) (language_reader not_format) cursor.old cursor.new read.new) }
 {
     cursor.word(Word::Not)?;
     operand_under(alloc, cursor, names, CONJUNCTIONS, read)?;
@@ -307,8 +301,7 @@ fn unary(
     names: &Names,
     read: &mut Operand,
 ) -> Result<(), NotRead>
-    ensures reads { IfOk result (λ u. ReadOperand (meaning_of names.now) (language_reader (ByRule Unary) cursor.old) cursor.new (expression_of read.new.expr) read.new.kind) }
-    ensures shorter { IfOk result (λ u. length cursor.new + 1 ≤ length cursor.old) }
+    ensures { IfOk result (λ u. TakesOperand (meaning_of names.now) (language_reader (ByRule Unary)) cursor.old cursor.new read.new) }
 {
     signed(alloc, cursor, names, read)
 }
@@ -321,8 +314,7 @@ fn signed(
     names: &Names,
     read: &mut Operand,
 ) -> Result<(), NotRead>
-    ensures reads { IfOk result (λ u. ReadOperand (meaning_of names.now) (language_reader unary_format cursor.old) cursor.new (expression_of read.new.expr) read.new.kind) }
-    ensures shorter { IfOk result (λ u. length cursor.new + 1 ≤ length cursor.old) }
+    ensures { IfOk result (λ u. TakesOperand (meaning_of names.now) (language_reader unary_format) cursor.old cursor.new read.new) }
 {
     if cursor.begins_symbol(Symbol::Minus) {
         negative(alloc, cursor, names, read)
@@ -340,8 +332,7 @@ fn negative(
     names: &Names,
     read: &mut Operand,
 ) -> Result<(), NotRead>
-    ensures reads { IfOk result (λ u. ReadOperand (meaning_of names.now) (language_reader negative_format cursor.old) cursor.new (expression_of read.new.expr) read.new.kind) }
-    ensures shorter { IfOk result (λ u. length cursor.new + 1 ≤ length cursor.old) }
+    ensures { IfOk result (λ u. TakesOperand (meaning_of names.now) (language_reader negative_format) cursor.old cursor.new read.new) }
 {
     cursor.symbol(Symbol::Minus)?;
     unary(alloc, cursor, names, read)?;
@@ -362,9 +353,8 @@ pub(crate) fn bracketed(
     names: &Names,
     read: &mut Operand,
 ) -> Result<(), NotRead>
-    ensures reads { IfOk result (λ u. ReadOperand (meaning_of names.now) (language_reader index_format cursor.old) cursor.new (expression_of read.new.expr) read.new.kind) }
+    ensures taken { IfOk result (λ u. TakesOperand (meaning_of names.now) (language_reader index_format) cursor.old cursor.new read.new) }
     ensures ranged { IfOk result (λ u. kinds.kinds_differ (Some Range) read.new.kind ≡ false) }
-    ensures shorter { IfOk result (λ u. length cursor.new + 1 ≤ length cursor.old) }
 {
     cursor.symbol(Symbol::OpenBracket)?;
     expression(alloc, cursor, names, read)?;
@@ -384,8 +374,7 @@ fn called(
     op: Op,
     read: &mut Operand,
 ) -> Result<(), NotRead>
-    ensures reads { IfOk result (λ u. ReadOperand (meaning_of names.now) (language_reader (call_format word (operator_of op)) cursor.old) cursor.new (expression_of read.new.expr) read.new.kind) }
-    ensures shorter { IfOk result (λ u. length cursor.new + 1 ≤ length cursor.old) }
+    ensures { IfOk result (λ u. TakesOperand (meaning_of names.now) (language_reader (call_format word (operator_of op))) cursor.old cursor.new read.new) }
 {
     cursor.word(word)?;
     cursor.symbol(Symbol::OpenParenthesis)?;
@@ -409,8 +398,7 @@ fn named(
     names: &Names,
     read: &mut Operand,
 ) -> Result<(), NotRead>
-    ensures reads { IfOk result (λ u. ReadOperand (meaning_of names.now) (language_reader named_format cursor.old) cursor.new (expression_of read.new.expr) read.new.kind) }
-    ensures shorter { IfOk result (λ u. length cursor.new + 1 ≤ length cursor.old) }
+    ensures { IfOk result (λ u. TakesOperand (meaning_of names.now) (language_reader named_format) cursor.old cursor.new read.new) }
 {
     let name = cursor.spelling()?;
     if !cursor.begins_symbol(Symbol::OpenBracket) {
@@ -440,8 +428,7 @@ fn enclosed(
     names: &Names,
     read: &mut Operand,
 ) -> Result<(), NotRead>
-    ensures reads { IfOk result (λ u. ReadOperand (meaning_of names.now) (language_reader in_parentheses_format cursor.old) cursor.new (expression_of read.new.expr) read.new.kind) }
-    ensures shorter { IfOk result (λ u. length cursor.new + 1 ≤ length cursor.old) }
+    ensures { IfOk result (λ u. TakesOperand (meaning_of names.now) (language_reader in_parentheses_format) cursor.old cursor.new read.new) }
 {
     cursor.symbol(Symbol::OpenParenthesis)?;
     expression(alloc, cursor, names, read)?;
@@ -457,8 +444,7 @@ fn primary(
     names: &Names,
     read: &mut Operand,
 ) -> Result<(), NotRead>
-    ensures reads { IfOk result (λ u. ReadOperand (meaning_of names.now) (language_reader (ByRule Primary) cursor.old) cursor.new (expression_of read.new.expr) read.new.kind) }
-    ensures shorter { IfOk result (λ u. length cursor.new + 1 ≤ length cursor.old) }
+    ensures { IfOk result (λ u. TakesOperand (meaning_of names.now) (language_reader (ByRule Primary)) cursor.old cursor.new read.new) }
 {
     undivided(alloc, cursor, names, read)
 }
@@ -471,8 +457,7 @@ fn undivided(
     names: &Names,
     read: &mut Operand,
 ) -> Result<(), NotRead>
-    ensures reads { IfOk result (λ u. ReadOperand (meaning_of names.now) (language_reader primary_format cursor.old) cursor.new (expression_of read.new.expr) read.new.kind) }
-    ensures shorter { IfOk result (λ u. length cursor.new + 1 ≤ length cursor.old) }
+    ensures { IfOk result (λ u. TakesOperand (meaning_of names.now) (language_reader primary_format) cursor.old cursor.new read.new) }
 {
     if cursor.begins_name() {
         return named(alloc, cursor, names, read);

@@ -1,5 +1,5 @@
 -- An expression that was read and checked at once.
-use Rattle.std.specs.Prelude.{◌≡◌, ℕ, Bool, true, false, List, [], Option, Some}
+use Rattle.std.specs.Prelude.{◌≡◌, ◌+◌, ◌≤◌, ℕ, Bool, true, false, List, [], length, Option, Some}
 use Rattle.model_core.specs.declared.model.Kind.{Kind}
 use Rattle.model_core.specs.EventGraph as graph
 use Rattle.model_core.specs.Text.Lexing.{Lexeme}
@@ -14,6 +14,8 @@ use Rattle.text_laws.specs.FormatReader.{Parse, took}
 use Rattle.text_laws.specs.LanguageReader.{language_reader}
 use Rattle.text_laws.specs.Ladder.{climb, not_format, infix_at, at_levels, behind}
 use Rattle.static_laws.specs.Checked.{NumberedAs}
+use Rattle.model_core.specs.Code.Views.{expression_of}
+use Rattle.one_pass.specs.declared.expressions.Operand.{Operand}
 
 -- the first operand at a level, which may be a negated one
 abbrev pub first_operand : Bool → List Lexeme → Parse WrittenExpression
@@ -31,6 +33,15 @@ pub record ReadOperand (means : List ℕ → Option Meaning) (read : Parse Writt
   pub written : WrittenExpression
   pub is_read : read ≡ took written after
   pub operand : IsOperand means written x kind
+
+-- such an expression was read, of a token at least
+pub record OperandTaken (means : List ℕ → Option Meaning) (read : Parse WrittenExpression) (before after : List Lexeme) (x : graph.Expression) (kind : Option Kind) : Type 0 where
+  pub reads : ReadOperand means read after x kind
+  pub shorter : length after + 1 ≤ length before
+
+-- a reader took such an expression from these tokens, which the code has as this operand
+abbrev pub TakesOperand : (List ℕ → Option Meaning) → (List Lexeme → Parse WrittenExpression) → List Lexeme → List Lexeme → Operand → Type 0
+TakesOperand means reader before after taken = OperandTaken means (reader before) before after (expression_of taken.expr) taken.kind
 
 -- after an expression come operators and their right operands, which together are such an expression
 abbrev pub ClimbsFrom : (List ℕ → Option Meaning) → ℕ → ℕ → List Lexeme → List Lexeme → graph.Expression → Option Kind → graph.Expression → Option Kind → Type 0

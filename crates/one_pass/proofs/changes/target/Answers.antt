@@ -16,7 +16,7 @@ returns-clause-reads c =
       | then-is_array+in_ok-bracketed w ↦
           let index = w.in_ok-bracketed in
           rw (w.cursor-is, w.index-is, w.into_expr.ensures) (cell_read m n var.part var.kind w.bracketed.new.read.kind (expression_of w.bracketed.new.read.expr) c.args.cursor.now c.spelling.new.self w.bracketed.new.cursor c.in_ok-name.ensures.reads (sym w.if-is_array.ensures)
-          (rw w.if-is_array.true at c.in_ok-var.ensures.unbroken) c.in_ok-var.ensures.numbers (rw w.if-is_array.true at c.in_ok-var.ensures.kind) index.ensures.reads index.ensures.ranged)
+          (rw w.if-is_array.true at c.in_ok-var.ensures.unbroken) c.in_ok-var.ensures.numbers (rw w.if-is_array.true at c.in_ok-var.ensures.kind) index.ensures.taken.reads index.ensures.ranged)
       | else-is_array w ↦
           rw (w.cursor-is, w.index-is) (scalar_read m n var.part var.kind c.args.cursor.now c.spelling.new.self c.in_ok-name.ensures.reads (sym w.if-is_array.ensures)
           (rw w.if-is_array.false at c.in_ok-var.ensures.unbroken) c.in_ok-var.ensures.numbers (rw w.if-is_array.false at c.in_ok-var.ensures.kind))
