@@ -15,13 +15,10 @@ use crate::tally_error::TallyError;
 use crate::tally_taker::TallyTaker;
 use event_heap::HeapPending;
 use model_core::Model;
-use run_control::{Run, check_starts};
+use run_control::{ROOM, Run, check_starts};
 use sig_base::{List, NoMemory};
 use std::alloc::Global;
 use watch_trace::{Outcome, Tracer, observe};
-
-/// The pending events for which a run has room from its beginning.
-const ROOM: usize = 4_096;
 
 /// The end of a run that came to this outcome.
 fn end_reached(outcome: Outcome) -> RunEnd

@@ -11,13 +11,10 @@ use crate::note_count::NoteCount;
 use event_heap::HeapPending;
 use model_core::Model;
 use round_trip::validity_is_by_parts;
-use run_control::{BeginError, Run, kept_models_can_be_run};
+use run_control::{BeginError, ROOM, Run, kept_models_can_be_run};
 use sig_base::{List, NoMemory};
 use std::alloc::Global;
 use watch_trace::{Outcome, Tracer, observe};
-
-/// The pending events for which a run has room from its beginning.
-const ROOM: usize = 4_096;
 
 /// How a run went. Its events are the steps that it made: one that faults is among them.
 #[derive(Clone, Copy)]
