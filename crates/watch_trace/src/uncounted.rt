@@ -1,6 +1,7 @@
 //! Follows a run without counting key comparisons.
 
-ghost use Rattle.std.specs.Prelude.{◌≡◌, ◌+◌, ◌<◌, ◌≤◌, ◌^◌, None};
+ghost use Rattle.std.specs.Prelude.{◌≡◌, ◌<◌};
+ghost use Rattle.watch_trace.specs.Inner.CanFollow.{CanFollow};
 ghost use Rattle.watch_trace.specs.Inner.MadeMoves.{Came};
 
 use crate::last_notes::LastNotes;
@@ -26,10 +27,7 @@ fn come_from_blank<'m, P: Pending, K, T: NoteTaker<K>, L: Ledger>(
     requires name { blank.name ≡ L.name }
     requires parts { blank.parts ≡ L.parts }
     requires some { 0 < blank.parts }
-    requires soon { until ≤ 2 ^ 48 }
-    requires budget { run.old.turns + events ≤ 2 ^ 40 }
-    requires one_model { last_notes.old.model ≡ run.old.model }
-    requires goes_on { run.old.faulted ≡ None }
+    requires can { CanFollow until events run.old last_notes.old }
     ensures { Came T.takes (λ p. T.failed p.0) until events run.old last_notes.old result run.new last_notes.new (taker.old, onto.old) (taker.new, onto.new) }
 {
     let mut steps: Steps<L> = Steps::begin(blank);
@@ -45,10 +43,7 @@ pub fn come_uncounted<'m, P: Pending, K, T: NoteTaker<K>>(
     taker: &mut T,
     onto: &mut K,
 ) -> Outcome
-    requires soon { until ≤ 2 ^ 48 }
-    requires budget { run.old.turns + events ≤ 2 ^ 40 }
-    requires one_model { last_notes.old.model ≡ run.old.model }
-    requires goes_on { run.old.faulted ≡ None }
+    requires can { CanFollow until events run.old last_notes.old }
     ensures { Came T.takes (λ p. T.failed p.0) until events run.old last_notes.old result run.new last_notes.new (taker.old, onto.old) (taker.new, onto.new) }
 {
     let blank = Blank::new(1);
