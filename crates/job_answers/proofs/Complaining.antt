@@ -86,7 +86,7 @@ module _ (laws : TextFacts) (text : List ℕ) where
   no_complaint (complaints.Static k) i g p r =
       let same = laws.one_model text p.0 r.model p.1 r.spells in
       let told = laws.told_back r.model (record { at = i; kind = k }) (subst (λ w. IsTold w k i) same p.2) in
-      let none = laws.unaccepted r.model (g, r.accepted) in
+      let none = laws.accepted_has_no_fault r.model (g, r.accepted) in
       cc
   no_complaint complaints.BadSnapshot i g p r = absurd p
 

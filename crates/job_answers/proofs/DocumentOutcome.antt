@@ -21,7 +21,7 @@ use Rattle.job_answers.specs.Complained.{HasDocumentComplaint}
 use Rattle.job_answers.proofs.FaultLaws.{FaultLaws}
 use Rattle.job_answers.proofs.FrontOutcome.{Computed, and_then, front_outcome, front_begun, front_complained, FrontFault, FrontModel, front_or_fault, unless_fault, one_graph}
 
--- ---- what comes of the certificate
+-- ---- the outcome for the certificate
 
 -- tokens are a certificate, or stop to begin one
 abbrev CertificateDecision : List ℕ → List Lexeme → Type 0
@@ -52,7 +52,7 @@ certificate_complained text tokens complaints.BadByte at h = absurd h
 certificate_complained text tokens (complaints.Static kind) at h = absurd h
 certificate_complained text tokens complaints.BadSnapshot at h = absurd h
 
--- ---- what comes of all tokens
+-- ---- the outcome for all tokens
 
 abbrev Parts : Type 0
 Parts = WrittenModel × List RuleApplication × WrittenModel
@@ -74,7 +74,7 @@ grammar_complained text tokens what at (in_certificate first second left last b 
     ap (and_then (behind_first text)) (front_begun text tokens first left b) ∙ ap (and_then (behind_second text first)) (front_begun text left second last d)
     ∙ ap (and_then (λ applications. Ok (first, applications, second))) (certificate_complained text last what at h)
 
--- ---- what comes of the document
+-- ---- the outcome for the document
 
 abbrev static_outcome : Parts → Computed Parts
 static_outcome (first, applications, second) = unless_fault (told_fault first) (unless_fault (told_fault second) (Ok (first, applications, second)))

@@ -1,4 +1,4 @@
--- The law of static faults, in one record: one is told of each written model, or the model is accepted.
+-- The law of static faults, in one record: each written model has one first fault, or is accepted.
 use Rattle.std.specs.Prelude.{◌≡◌, ◌↔◌, Some, None}
 use Rattle.model_core.specs.EventGraph.{EventGraph}
 use Rattle.model_core.specs.Text.Written.{WrittenModel}

@@ -1,5 +1,4 @@
--- What comes of the model text at the front of a document: its model and what stands behind it, or what there is to complain
--- of.
+-- The outcome for the model text at the front of a document: its model and the tokens after it, or the complaint.
 use Rattle.std.proofs.Common.{◌≡◌, ◌⊎◌, inl, inr, ℕ, Bool, true, false, List, [], ◌∷◌, ◌++◌, refl, sym, ap, ap₂, ◌∙◌}
 use Rattle.std.specs.Prelude.{Option, Some, None, Result, Ok, Err, if◌then◌else◌}
 use Rattle.std.proofs.lemmas.List.{append_cancel_left}
@@ -29,7 +28,7 @@ abbrev pub and_then : {A B : Type 0} → (A → Computed B) → Computed A → C
 and_then next (Ok x) = next x
 and_then next (Err e) = Err e
 
--- ---- the front of some tokens, and what stands behind it
+-- ---- the front of some tokens, and the tokens after it
 
 abbrev behind_front : List Lexeme → List Lexeme
 behind_front [] = []
@@ -43,7 +42,7 @@ front_and_behind (t ∷ tokens) = by (is_end_word t.kind) refl (front_and_behind
     by true e rest = rw e refl
     by false e rest = rw e (ap (λ (l : List Lexeme). t ∷ l) rest)
 
--- ---- what comes of the front
+-- ---- the outcome for the front
 
 -- tokens are a text, or stop to begin one
 abbrev Decision : List ℕ → List Lexeme → Type 0
@@ -109,7 +108,7 @@ by_opening text tokens (Some at) e = inr (record { what = complaints.TooDeep; at
 pub front_or_fault : (text : List ℕ) (tokens : List Lexeme) → FrontModel tokens ⊎ FrontFault text tokens
 front_or_fault text tokens = by_opening text tokens (too_deep_at OPENINGS_MAX (front_to_end tokens)) refl
 
--- ---- what comes of a written model
+-- ---- the outcome for a written model
 
 abbrev pub unless_fault : {A : Type 0} → Option StaticFault → Computed A → Computed A
 unless_fault None o = o

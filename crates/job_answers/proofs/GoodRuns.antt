@@ -1,4 +1,4 @@
--- A snapshot of which no part is bad stands for a good saved run.
+-- A snapshot without a bad part means a good saved run.
 use Rattle.std.proofs.Common.{◌≡◌, ◌∙◌, ◌&&◌, ◌+◌, ◌-◌, ◌^◌, ◌<◌, ◌≤◌, ℕ, zero, suc, ℤ, pos, neg_ℤ, Bool, true, false, not, cond, nat_lt, List, [], ◌∷◌, ◌++◌, length, map, Option, Some, None, refl, ap, subst, arith}
 use Rattle.std.specs.Prelude.{IsTrue, IfSome, replicate, slice_set, unwrap_or}
 use Rattle.std.specs.List.{AllByRecursion, flat_map, list_all}

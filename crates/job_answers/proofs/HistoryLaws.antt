@@ -1,4 +1,4 @@
--- From a run that was followed to what is told of it, from wherever it stood.
+-- From a run that was followed, from any moment on, to the history that is delivered.
 use Rattle.std.proofs.Common.{◌≡◌, inl, inr, ℕ, append_assoc, ◌+◌, ◌<◌, ◌≤◌, List, ◌++◌, length, take, drop, Option, Some, None, Result, Ok, Err, refl, sym, ap, ◌∙◌, subst, arith}
 use Rattle.std.specs.List.{flat_map}
 use Rattle.std.proofs.lemmas.Bool.{cases_lt}
@@ -52,7 +52,7 @@ front_fits f notes k end =
 a_front : (o p : Outlet) (n : ℕ) (bytes : List ℕ) → GrowsBy o.written p.written (take n bytes) → GrowsByFront o p bytes
 a_front o p n bytes grows = elim (cases_lt (length bytes) n) [ inl long ↦ (length bytes, omega arith, subst (GrowsBy o.written p.written) (take_all n bytes (omega (arith, long)) ∙ sym (take-length bytes)) grows) | inr short ↦ (n, short, grows) ]
 
--- how a job ends is how its run stands
+-- how a job ends follows from the outcome of its run
 end_so : (s : Standing) → ending (outcome_of s) ≡ Ok (end_of s)
 end_so (Ended t) = refl
 end_so Stopped = refl
@@ -98,7 +98,7 @@ StreamsFrom sight g until seed events m room r o p =
     let seen = look_from g seed until events m in
     Streamed sight (end_of seen.standing) (history_text g until events seen) (ExceedsRoomFrom g until seed events m room) r o p
 
--- What following a run wrote is its history from where it stood.
+-- What following a run wrote is its history from that moment on.
 pub streamed_from : {K : Type 0} (sight : K → Outlet) (until events room : ℕ) (r later : Running) (t after : Tracing) (outcome : Outcome) (o p : K) → room ≤ r.spare + length r.now.pending
     → Writes (graph_of r.model) until events (seen_from until events r t) outcome (sight o) (sight p)
     → Stands until events r t outcome later after → (ended : Result End Failure) → ended ≡ ending outcome → StreamsFrom sight (graph_of r.model) until r.seed events (moment_of r t) room ended o p

@@ -8,19 +8,19 @@ use Rattle.command_words.specs.declared.reading.Reading.TheVariants as readings
 use Rattle.model_core.specs.Rules.Fuse.{Fused}
 use Rattle.model_core.specs.Ranges.Narrowed.{IsNarrowed}
 use Rattle.job_answers.specs.AnswerLaws.{KeepsAnswerLaws}
-use Rattle.job_answers.proofs.CheckLaws.{check_laws}
-use Rattle.job_answers.proofs.PrintLaws.{print_laws}
-use Rattle.job_answers.proofs.ReduceLaws.{OneStrategy, StrategyEnds, reduce_laws}
-use Rattle.job_answers.proofs.UsesLaws.{uses_laws}
-use Rattle.job_answers.proofs.ConflictsLaws.{conflicts_laws}
-use Rattle.job_answers.proofs.DescribeLaws.{describe_laws}
-use Rattle.job_answers.proofs.RewritingLaws.{BecomesOne, fuse_laws, narrow_laws}
-use Rattle.job_answers.proofs.RunLaws.{run_laws}
-use Rattle.job_answers.proofs.ReplicateLaws.{replicate_laws}
-use Rattle.job_answers.proofs.SaveLaws.{GoingIsLed, save_laws}
-use Rattle.job_answers.proofs.ResumeLaws.{resume_laws}
-use Rattle.job_answers.proofs.TrialLaws.{OneSummary, trial_laws}
-use Rattle.job_answers.proofs.CertifyLaws.{certify_laws}
+use Rattle.job_answers.proofs.commands.CheckLaws.{check_laws}
+use Rattle.job_answers.proofs.commands.PrintLaws.{print_laws}
+use Rattle.job_answers.proofs.commands.ReduceLaws.{OneStrategy, StrategyEnds, reduce_laws}
+use Rattle.job_answers.proofs.commands.UsesLaws.{uses_laws}
+use Rattle.job_answers.proofs.commands.ConflictsLaws.{conflicts_laws}
+use Rattle.job_answers.proofs.commands.DescribeLaws.{describe_laws}
+use Rattle.job_answers.proofs.commands.RewritingLaws.{BecomesOne, fuse_laws, narrow_laws}
+use Rattle.job_answers.proofs.commands.RunLaws.{run_laws}
+use Rattle.job_answers.proofs.commands.ReplicateLaws.{replicate_laws}
+use Rattle.job_answers.proofs.commands.SaveLaws.{GoingIsLed, save_laws}
+use Rattle.job_answers.proofs.commands.ResumeLaws.{resume_laws}
+use Rattle.job_answers.proofs.commands.TrialLaws.{OneSummary, trial_laws}
+use Rattle.job_answers.proofs.commands.CertifyLaws.{certify_laws}
 
 pub keeps_laws : OneStrategy → StrategyEnds → BecomesOne Fused → BecomesOne IsNarrowed → OneSummary → GoingIsLed → (reading : Reading) → KeepsAnswerLaws reading
 keeps_laws only ends fuses narrows trials led (readings.Model models.Check) = check_laws

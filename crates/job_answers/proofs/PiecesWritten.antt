@@ -1,7 +1,7 @@
 -- Bytes that are written piece by piece.
-use Rattle.std.proofs.Common.{◌≡◌, ℕ, ◌+◌, ◌<◌, false, List, [], ◌∷◌, ◌++◌, append_assoc, length, take, Option, Some, None, Result, Ok, Err, refl, sym, ap, ◌∙◌, subst, arith}
+use Rattle.std.proofs.Common.{◌≡◌, ℕ, ◌+◌, ◌<◌, false, List, [], ◌∷◌, ◌++◌, append_assoc, length, take, Result, Ok, Err, refl, sym, ap, ◌∙◌, subst, arith}
 use Rattle.std.specs.Result.{IsErrAnd}
-use Rattle.std.proofs.lemmas.List.{append-nil, length-append, take-append-le}
+use Rattle.std.proofs.lemmas.List.{length-append, take-append-le}
 use Rattle.std.proofs.lemmas.Result.{err_from_is_err_and}
 use Rattle.std.proofs.Math.Seq.{take-append-add}
 use Rattle.sig_base.specs.Sink.{Outlet, GrowsBy}
@@ -15,16 +15,13 @@ use Rattle.answer_delivery.specs.FrontWritten.{GrowsByFront}
 use Rattle.answer_delivery.specs.DeliverySteps.{Written}
 use Rattle.job_answers.specs.Inner.WritingSteps.{InPieces}
 use Rattle.job_answers.specs.Inner.ReportSteps.{IsWrittenUpTo}
+use Rattle.job_answers.proofs.Streaming.{grown_by_none}
 
 -- what writing bytes comes to
 abbrev Wrote : Type 0
 Wrote = Result Unit Failure
 
 -- ---- fronts
-
-grown_by_none : (old : Option (List ℕ)) → GrowsBy old old []
-grown_by_none None = tt
-grown_by_none (Some before) = ap Some (sym (append-nil before))
 
 -- a front of the first bytes is one of all of them
 front_of_first : (o p : Outlet) (first second : List ℕ) → GrowsByFront o p first → GrowsByFront o p (first ++ second)
@@ -58,8 +55,8 @@ at_once bytes (Err failures.Usage) o p h = absurd h
 at_once bytes (Err failures.ReadFault) o p h = absurd h
 
 -- one piece, and then others
-pub behind : (first second : List ℕ) (r : Wrote) (o m p : Outlet) → InPieces first (Ok tt) o m → InPieces second r m p → InPieces (first ++ second) r o p
-behind first second (Ok done) o m p h k = (
+pub pieces_append : (first second : List ℕ) (r : Wrote) (o m p : Outlet) → InPieces first (Ok tt) o m → InPieces second r m p → InPieces (first ++ second) r o p
+pieces_append first second (Ok done) o m p h k = (
   GrowsBy-append o.written m.written p.written first second h.0 k.0,
   unsettled second refl,
   k.2 ∙ h.2,
@@ -73,10 +70,10 @@ behind first second (Ok done) o m p h k = (
     none : (first second : List ℕ) → (first ≡ [] → m.settled ≡ o.settled) → (second ≡ [] → p.settled ≡ m.settled) → first ++ second ≡ [] → p.settled ≡ o.settled
     none [] second same later is = later is ∙ same refl
     none (b ∷ first) second same later is = absurd cc
-behind first second (Err failures.WriteFault) o m p h k = (front_behind o m p first second h.0 k.0, k.1, rw (sym h.2) k.2)
-behind first second (Err failures.NoMemory) o m p h k = (front_behind o m p first second h.0 k.0, k.1 ∙ h.2)
-behind first second (Err failures.Usage) o m p h k = absurd k
-behind first second (Err failures.ReadFault) o m p h k = absurd k
+pieces_append first second (Err failures.WriteFault) o m p h k = (front_behind o m p first second h.0 k.0, k.1, rw (sym h.2) k.2)
+pieces_append first second (Err failures.NoMemory) o m p h k = (front_behind o m p first second h.0 k.0, k.1 ∙ h.2)
+pieces_append first second (Err failures.Usage) o m p h k = absurd k
+pieces_append first second (Err failures.ReadFault) o m p h k = absurd k
 
 -- what breaks off in the first piece breaks off
 pub broken_off : (first second : List ℕ) (f : Failure) (o p : Outlet) → InPieces first (Err f) o p → InPieces (first ++ second) (Err f) o p
@@ -92,17 +89,17 @@ pub further : (piece left bytes : List ℕ) (o m p : Outlet) → IsWrittenUpTo (
 further piece left bytes o m p h k = record {
   front = h.front ++ piece;
   parts = append_assoc h.front piece left ∙ h.parts;
-  written = behind h.front piece (Ok tt) o m p h.written k;
+  written = pieces_append h.front piece (Ok tt) o m p h.written k;
 }
 
 -- or it breaks off
 pub broken_further : (piece left bytes : List ℕ) (f : Failure) (o m p : Outlet) → IsWrittenUpTo (piece ++ left) bytes o m → InPieces piece (Err f) m p → InPieces bytes (Err f) o p
 broken_further piece left bytes f o m p h k =
-    subst (λ (b : List ℕ). InPieces b (Err f) o p) (append_assoc h.front piece left ∙ h.parts) (broken_off (h.front ++ piece) left f o p (behind h.front piece (Err f) o m p h.written k))
+    subst (λ (b : List ℕ). InPieces b (Err f) o p) (append_assoc h.front piece left ∙ h.parts) (broken_off (h.front ++ piece) left f o p (pieces_append h.front piece (Err f) o m p h.written k))
 
 -- the last piece
 pub at_last : (piece bytes : List ℕ) (r : Wrote) (o m p : Outlet) → IsWrittenUpTo piece bytes o m → InPieces piece r m p → InPieces bytes r o p
-at_last piece bytes r o m p h k = subst (λ (b : List ℕ). InPieces b r o p) h.parts (behind h.front piece r o m p h.written k)
+at_last piece bytes r o m p h k = subst (λ (b : List ℕ). InPieces b r o p) h.parts (pieces_append h.front piece r o m p h.written k)
 
 -- all of them are left
 pub all_left : (bytes : List ℕ) (o : Outlet) → IsWrittenUpTo bytes bytes o o

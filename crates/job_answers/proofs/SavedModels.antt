@@ -1,5 +1,5 @@
--- The model that a saved document reads as is valid: it stands up to its word `end` as it would stand alone; and its vertices
--- have few parameters.
+-- The model that a saved document reads as is valid, since its text up to the word `end` is a model text of its own; and its
+-- vertices have few parameters.
 use Rattle.std.proofs.Common.{List, ℕ, ◌≤◌, [], ◌∷◌, length, subst}
 use Rattle.std.specs.List.{AllByRecursion}
 use Rattle.model_core.specs.EventGraph.{EventGraph, EventVertex, Variable}

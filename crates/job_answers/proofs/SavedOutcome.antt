@@ -31,7 +31,7 @@ pub record SnapshotLaws : Type 0 where
   pub decided : (text : List ℕ) (tokens : List Lexeme) → SnapshotDecision text tokens
   pub one_place : (text : List ℕ) (tokens : List Lexeme) (i j : ℕ) → IsNoSnapshotAt text tokens i → IsNoSnapshotAt text tokens j → i ≡ j
 
--- ---- what comes of the parts
+-- ---- the outcome for the parts
 
 abbrev Parts : Type 0
 Parts = WrittenModel × WrittenSnapshot
@@ -69,7 +69,7 @@ module _ (laws : FaultLaws) (snapshots : SnapshotLaws) (text : List ℕ) where
   snapshot_complained tokens (complaints.Static kind) at h = absurd h
   snapshot_complained tokens complaints.BadSnapshot at h = absurd h
 
-  -- ---- what comes of all tokens
+  -- ---- the outcome for all tokens
 
   abbrev behind_model : WrittenModel × List Lexeme → Computed Parts
   behind_model first = and_then (λ w. Ok (first.0, w)) (snapshot_outcome first.1)
@@ -82,7 +82,7 @@ module _ (laws : FaultLaws) (snapshots : SnapshotLaws) (text : List ℕ) where
   grammar_complained tokens what at (in_snapshot model left b h) =
       ap (and_then behind_model) (front_begun text tokens model left b) ∙ ap (and_then (λ w. Ok (model, w))) (snapshot_complained left what at h)
 
-  -- ---- what comes of the document
+  -- ---- the outcome for the document
 
   abbrev good_outcome : Parts → Computed Parts
   good_outcome (m, w) = unless_fault (told_fault m) (unless_bad (bad_for (numbered m) w) (Ok (m, w)))

@@ -13,7 +13,7 @@ use Rattle.model_core.specs.Text.Expressions.{LanguageFormat, level_format}
 use Rattle.round_trip.proofs.Telling.{reserved_kind, mark_kind}
 use Rattle.job_answers.specs.PlainKinds.{before_kinds, plain_kinds}
 
--- ---- numbers as they stand in a text
+-- ---- numbers as they are written in a text
 
 -- the value of a number token, by what its digits write
 abbrev pub literal : ℕ → Option ℤ
@@ -86,7 +86,7 @@ Showing A = List LexemeKind → A → List LexemeKind → Type 0
 pub record Shows {A : Type 0} (f : LanguageFormat A) (R : Showing A) : Type 0 where
   pub run : (tokens : List Lexeme) (v : A) (left : List Lexeme) → AreExact tokens → Spells level_format f tokens v left → R (plain_kinds tokens) v (plain_kinds left) × AreExact left
 
--- a function that makes of what Q holds of what R holds of
+-- a function from values of which Q holds to values of which R holds
 pub record Makes {A B : Type 0} (Q : Showing A) (R : Showing B) (k : List LexemeKind) (f : A → B) (i : List LexemeKind) : Type 0 where
   pub made : (x : A) (j : List LexemeKind) → Q i x j → R k (f x) j
 
@@ -133,7 +133,7 @@ shows-made g {Q = Q} R part holds = shows-then (shows-yields g (Makes Q R) (λ k
 pub shows-past : {A B : Type 0} {p : LanguageFormat A} {q : LanguageFormat B} {Q : Showing B} {R : Showing A} → Shows p (Stays Q R) → Shows q Q → Shows (p <* q) R
 shows-past {Q = Q} {R = R} first second = shows-then (shows-made (λ x y. x) (Makes Q R) first (λ k x i h. makes (λ y j q. h.kept y j q))) second
 
--- a part behind another one
+-- a part after another one
 pub record Behind {A B : Type 0} (Q : Showing A) (R : Showing B) (k : List LexemeKind) (y : B) (j : List LexemeKind) : Type 0 where
   pub value : A
   pub between : List LexemeKind

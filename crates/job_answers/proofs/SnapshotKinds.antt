@@ -1,4 +1,4 @@
--- What the tokens of a good snapshot are, by the saved run that it stands for.
+-- The kinds of the tokens of a good snapshot, by the saved run that it means.
 use Rattle.std.proofs.Common.{◌≡◌, ℕ, zero, suc, ◌+◌, ◌-◌, ◌/◌, ◌%◌, ◌^◌, ◌<◌, ◌≤◌, ℤ, pos, negsuc, neg_ℤ, Bool, true, false, not, ◌&&◌, cond, nat_lt, List, [], ◌∷◌, ◌++◌, length, map, take, drop, replicate, slice_set, Option, Some, None, unwrap_or, refl, sym, ap, ap₂, ◌∙◌, subst, arith, append_assoc, append-nil}
 use Rattle.std.specs.Prelude.{codes, slice_get}
 use Rattle.std.specs.List.{flat_map, list_all}
@@ -88,7 +88,7 @@ known-natural w m e = by w.value e
     by (Some (pos n)) h = let is : n ≡ m = cc in ap (λ k. Some (pos k)) is
     by (Some (negsuc n)) h = absurd cc
 
--- a number that a test knows stands as its token
+-- a number that a test knows is written as its token
 pub tested-number : (test : ℕ → Bool) (w : WrittenNumber) (k j : List LexemeKind) → ANumberSo k w j → option_map_or test (numbering.natural w) false ≡ true → k ≡ number (number_or_zero w) ∷ j
 tested-number test w k j so good = by (numbering.natural w) refl good
   where
@@ -146,7 +146,7 @@ shows-carried =
 
 -- ---- lists with commas
 
--- one or more, each behind a comma but the first
+-- one or more, each after a comma but the first
 pub record Listed {A : Type 0} (R : Showing A) (k : List LexemeKind) (xs : List A) (j : List LexemeKind) : Type 0 where
   pub first : A
   pub others : List A
@@ -240,7 +240,7 @@ set-there : (a : List ℕ) (n x : ℕ) (b : List ℕ) → slice_set (a ++ x ∷ 
 set-there [] n x b = refl
 set-there (y ∷ a) n x b = ap (λ l. y ∷ l) (set-there a n x b)
 
--- words taken so far, and none of the streams behind them
+-- words taken so far, and none of the streams after them
 streams-as-taken : (least : ℕ) (ws : List WrittenStream) (done : List ℕ) (more : ℕ) → length done ≡ least → least + more ≡ 64 → AllGood (stream_parts least ws)
     → streams_kinds 0 (with_taken ws (done ++ replicate more 0)) ≡ streams_kinds 0 done ++ written_streams ws
 streams-as-taken least [] done more long whole good = streams-both 0 done (replicate more 0) ∙ ap (λ l. streams_kinds 0 done ++ l) (no-words (0 + length done) more)

@@ -1,4 +1,4 @@
--- The tokens of a good snapshot are those of the text of the saved run that it stands for, but for the sign of a zero.
+-- The tokens of a good snapshot are those of the text of the saved run that it means, but for the sign of a zero.
 use Rattle.std.proofs.Common.{◌≡◌, ℕ, ◌+◌, ◌*◌, ◌/◌, ◌%◌, ◌^◌, ◌<◌, nat_lt, List, [], ◌∷◌, ◌++◌, map, replicate, None, refl, sym, ap, ap₂, ◌∙◌, arith}
 use Rattle.std.specs.Prelude.{codes, Ok}
 use Rattle.std.specs.List.{flat_map}
@@ -18,7 +18,7 @@ use Rattle.job_answers.proofs.GoodRuns.{good_parts, good_run}
 use Rattle.job_answers.proofs.Showing.{number, AreExact, tokens-exact, exact-behind, Showing, Shows, Makes, makes, Stays, stays, Maybe, Each, AWordSo, ANumberSo, shows-yields, shows-then, shows-past, shows-maybe, shows-many, shows-this_name, shows-reserved, shows-number}
 use Rattle.job_answers.proofs.SnapshotKinds.{streams_kinds, values_kinds, noted_kinds, events_kinds, run_kinds, tested-number, tested-value, AStreamSo, shows-stream, streams-shown, AValueSo, shows-value, values-shown, ANotedSo, shows-noted, noted-shown, APendingSo, shows-pending, events-shown}
 
--- each part, from the kinds before it to those behind it
+-- each part, from the kinds before it to those after it
 pub record SnapshotSo (k : List LexemeKind) (w : WrittenSnapshot) (j : List LexemeKind) : Type 0 where
   pub after_word : List LexemeKind
   pub after_seed_word : List LexemeKind

@@ -1,4 +1,4 @@
--- Which starting values are taken: a run begins with exactly those that aren't refused, and of others the line tells why.
+-- Which starting values are taken: a run begins with exactly those that aren't refused, and the line for others says why.
 use Rattle.std.proofs.Common.{◌≡◌, ◌≢◌, ◌==◌, Bool, inl, inr, ℕ, zero, suc, add-zero, ◌+◌, ◌<◌, ℤ, pos, true, false, List, [], ◌∷◌, length, get_or, Some, None, Result, Ok, Err, refl, sym, ap, ap₂, ◌∙◌, subst, arith}
 use Rattle.std.specs.Prelude.{IsTrue, cond}
 use Rattle.std.proofs.lemmas.Bool.{eq-eqb, ne_eqb}
@@ -24,7 +24,7 @@ use Rattle.job_answers.specs.RunAnswer.{refused_or}
 use Rattle.job_answers.specs.StartingValues.{count_line, outside_line, first_outside, start_refusal}
 use Rattle.job_answers.specs.Inner.StartSteps.{RefusalLine, RefusesRun}
 
--- the first value outside its range is the one that is told
+-- the line names the first value outside its range
 first_told : (place k : ℕ) (vs : List Variable) (xs : List ℤ) → length xs ≡ length vs → k < length xs
     → within (get_or vs k no_variable).lo (get_or vs k no_variable).hi (get_or xs k (pos 0)) ≡ false
     → ((j : ℕ) → j < k → fits_at vs xs j) → first_outside place vs xs ≡ Some (outside_line (place + k) (get_or xs k (pos 0)))
@@ -35,7 +35,7 @@ first_told place (suc k) (v ∷ vs) (x ∷ xs) matched below outside first =
     let inside : within v.lo v.hi x ≡ true = first 0 (omega arith) in
     rw inside (first_told (suc place) k vs xs (omega arith) (omega arith) outside (λ j less. first (suc j) (omega arith)) ∙ ap (λ p. Some (outside_line p (get_or xs k (pos 0)))) (omega arith))
 
--- of values in their ranges none is told
+-- the line names no value where all are in their ranges
 none_told : (place : ℕ) (vs : List Variable) (xs : List ℤ) → pointwise (λ v x. within v.lo v.hi x) vs xs ≡ true → (length vs ≡ length xs) × (first_outside place vs xs ≡ None)
 none_told place [] [] all = (refl, refl)
 none_told place [] (x ∷ xs) all = absurd cc
@@ -51,7 +51,7 @@ taken_start g starts all =
     let (long, none) = none_told 1 (start_parameters g) starts all in
     ap (λ b. cond b (first_outside 1 (start_parameters g) starts) (Some (count_line (length (start_parameters g)) (length starts)))) (eq-eqb _ _ long) ∙ none
 
--- of values of which none is told each lies in its range
+-- where the line names no value, each is in its range
 none_outside : (place : ℕ) (vs : List Variable) (xs : List ℤ) → length vs ≡ length xs → first_outside place vs xs ≡ None → pointwise (λ v x. within v.lo v.hi x) vs xs ≡ true
 none_outside place [] [] long none = refl
 none_outside place [] (x ∷ xs) long none = absurd (omega (arith, long))
@@ -71,7 +71,7 @@ unrefused_start g starts none = by (length (start_parameters g) == length starts
     by true same none = none_outside 1 (start_parameters g) starts (grind (arith, nat_tests, same)) none
     by false other none = absurd cc
 
--- a run that can't begin is refused with the line that is told
+-- a run that can't begin is refused with that line
 pub refused_start : (g : EventGraph) (starts : List ℤ) (error : BeginError) (line : List ℕ) → RefusesStart g starts error → RefusalLine error line → start_refusal g starts ≡ Some line
 refused_start g starts (errors.StartCount needed given) line refuses told =
     let differ : length (start_parameters g) ≢ length starts = λ same. refuses.differ (refuses.needs ∙ same ∙ sym refuses.has) in
@@ -85,7 +85,7 @@ refused_start g starts (errors.StartOutside place value) line refuses told =
     ∙ first ∙ ap₂ (λ n x. Some (outside_line n x)) one_more (sym found.is) ∙ ap (λ l. Some l) (sym told)
 refused_start g starts errors.NoMemory line refuses told = absurd told
 
--- a run that can't begin is refused, whatever would be told of it
+-- a run that can't begin is refused, whatever its history would be
 pub start_refused : {K : Type 0} (sight : K → Outlet) (g : EventGraph) (starts : List ℤ) (told : Answer) (Short : Type 0) (error : BeginError) (r : Result Said Failure) (o : K) → ((line : List ℕ) → RefusalLine error line → RefusesStart g starts error) → RefusesRun error r
     → DeliversSome sight (λ a. a ≡ refused_or (start_refusal g starts) told) Short r o o
 start_refused sight g starts told Short error (Ok (said.Refused refusals.BadStart line)) o refuses h = inl (record {

@@ -1,6 +1,6 @@
 -- From what was written, and how it was finished, to the answer that was delivered; for answers that are written as they
 -- come, and for those that are written at once.
-use Rattle.std.proofs.Common.{◌≡◌, ◌≢◌, ◌⊎◌, inl, inr, ℕ, ◌<◌, false, List, take, length, Option, Some, None, Result, Ok, Err, sym, ap, ◌∙◌, subst, arith}
+use Rattle.std.proofs.Common.{◌≡◌, ◌≢◌, ◌⊎◌, inl, inr, ℕ, ◌<◌, false, List, [], take, length, Option, Some, None, Result, Ok, Err, sym, ap, ◌∙◌, subst, arith}
 use Rattle.std.specs.Prelude.{IfOk, MatchResult}
 use Rattle.std.proofs.lemmas.List.{append-nil}
 use Rattle.std.proofs.Math.Seq.{take-length}
@@ -22,6 +22,11 @@ use Rattle.job_answers.specs.Inner.WritingSteps.{Streamed}
 
 -- ---- a piece that was written at once
 
+-- an output on which nothing was written grew by nothing
+pub grown_by_none : (old : Option (List ℕ)) → GrowsBy old old []
+grown_by_none None = tt
+grown_by_none (Some before) = ap Some (sym (append-nil before))
+
 -- a write that failed left some byte unwritten
 pub some_unwritten : (bytes : List ℕ) (n : ℕ) → n < length bytes → 0 < length bytes
 some_unwritten bytes n front = omega (arith, front)
@@ -29,7 +34,7 @@ some_unwritten bytes n front = omega (arith, front)
 pub front_of : (o p : Outlet) (bytes : List ℕ) (n : ℕ) → n < length bytes → GrowsBy o.written p.written (take n bytes) → GrowsByFront o p bytes
 front_of o p bytes n front h = (n, omega (arith, front), h)
 
--- ---- the bytes, and finishing behind them
+-- ---- the bytes, and finishing after them
 
 stays_grown : (old mid new : Option (List ℕ)) (bytes : List ℕ) → GrowsBy old mid bytes → Stays mid new → GrowsBy old new bytes
 stays_grown None mid new bytes h k = tt
@@ -74,11 +79,7 @@ module _ {K : Type 0} (seen : K → Outlet) (o p : K) (end : End) (bytes : List 
   unstreamed Short failures.NoMemory h = record { grown = front h.0; steady = h.1 }
     where
       nothing : (q : K) → q ≡ o → GrowsByFront (seen o) (seen q) bytes
-      nothing q same = subst (λ (x : K). GrowsByFront (seen o) (seen x) bytes) (sym same) (0, omega arith, none (seen o).written)
-        where
-          none : (old : Option (List ℕ)) → GrowsBy old old (take 0 bytes)
-          none None = tt
-          none (Some before) = ap Some (sym (append-nil before))
+      nothing q same = subst (λ (x : K). GrowsByFront (seen o) (seen x) bytes) (sym same) (0, omega arith, grown_by_none (seen o).written)
 
       front : (p ≡ o) ⊎ (Short × GrowsByFront (seen o) (seen p) bytes) → GrowsByFront (seen o) (seen p) bytes
       front (inl same) = nothing p same

@@ -30,12 +30,12 @@ DocumentParts = EventGraph × List RuleApplication × EventGraph
 abbrev pub SavedParts : Type 0
 SavedParts = EventGraph × SavedRun
 
--- what is asked for has an answer: where a job reads nothing, if what it asks for keeps its limits
+-- a job has an answer: of one that reads nothing, if its options keep their limits
 abbrev pub MayBeAsked : Reading → Type 0
 MayBeAsked (readings.Nothing job) = KeepsLimits (readings.Nothing job)
 MayBeAsked reading = Unit {0}
 
--- the same of what a job reads and asks
+-- the laws of the answers of a job, by what it reads
 abbrev pub KeepsAnswerLaws : Reading → Type 0
 KeepsAnswerLaws (readings.Model job) = HasOneAnswer IsValid (AnswersModel job) (HasNothingToWrite (readings.Model job))
 KeepsAnswerLaws (readings.Document job) =

@@ -69,23 +69,23 @@ AnswersDocument documents.Certify original applications reduced a = a ≡ certif
 abbrev pub AnswersSaved : SavedJob → EventGraph → SavedRun → Answer → Type 0
 AnswersSaved (saved_jobs.Resume options) g s a = a ≡ resume_answer g s options.until options.events
 
--- `trial` tells what comes of a model that a number makes
+-- `trial` summarises a generated model, its reduction, and a run of each
 abbrev pub AnswersAlone : BareJob → Answer → Type 0
 AnswersAlone (bare.Trial options) a = IsDone (Summarises options.seed options.vertices options.until options.events) a
 
--- A job on a model that writes as it goes may lack memory behind a front of its bytes: `run` where the run needs more room
--- than was asked for, `replicate` anywhere.
+-- A job on a model that writes as it goes may lack memory after a front of its bytes: `run` where the run needs more room than
+-- was asked for, `replicate` anywhere.
 abbrev pub MayFallShort : ModelJob → EventGraph → Type 0
 MayFallShort (models.Run options) g = ExceedsRoom g options.until options.seed options.events options.starts options.room
 MayFallShort (models.Replicate options) g = Unit {0}
 MayFallShort job g = ⊥
 
--- so may one on a saved document: `resume` where the run needs more room than it has
+-- a job on a saved document may too: `resume` where the run needs more room than it has
 abbrev pub SavedMayFallShort : SavedJob → EventGraph → SavedRun → Type 0
 SavedMayFallShort (saved_jobs.Resume options) g s = ResumedExceedsRoom g s options
 
--- these bytes are none, of a job that may have none: `uses` where the model has no variables, and `conflicts` where no two
--- vertices are in conflict
+-- the bytes are none, and the job may have none: `uses` where the model has no variables, and `conflicts` where no two vertices
+-- are in conflict
 abbrev pub HasNothingToWrite : Reading → List ℕ → Type 0
 HasNothingToWrite (readings.Model models.Uses) bytes = bytes ≡ []
 HasNothingToWrite (readings.Model models.Conflicts) bytes = bytes ≡ []
@@ -93,7 +93,7 @@ HasNothingToWrite reading bytes = ⊥
 
 -- ---- what is answered to a text within its limit, reading by reading
 
--- the text is refused with a line that tells what there is to complain of
+-- the text is refused with the line of its complaint
 pub record IsRefused (IsSo : Complaint → ℕ → Type 0) (a : Answer) : Type 0 where
   pub what : Complaint
   pub at : ℕ
@@ -122,7 +122,7 @@ Responds (readings.Document job) text a = IsRefused (IsDocumentComplaint text) a
 Responds (readings.Saved job) text a = IsRefused (IsSavedComplaint text) a ⊎ IsTakenUp job text a
 Responds (readings.Nothing job) text a = AnswersAlone job a
 
--- where memory may be refused behind a front of the answer's bytes
+-- where memory may be refused after a front of the answer's bytes
 abbrev pub MayStopShort : Reading → List ℕ → Type 0
 MayStopShort (readings.Model job) text = (g : EventGraph) × Reads text g × MayFallShort job g
 MayStopShort (readings.Document job) text = ⊥

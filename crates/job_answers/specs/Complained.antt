@@ -1,4 +1,4 @@
--- That there is something to complain of in a text. The answers need no such word: they tell what it is. The laws do.
+-- A text has a complaint. The answers don't need these words, since they name the complaint; the laws do.
 use Rattle.std.specs.Prelude.{ℕ, List}
 use Rattle.answer_delivery.specs.declared.complaint.Complaint.{Complaint}
 use Rattle.answer_delivery.specs.Complaints.{IsComplaint}

@@ -16,8 +16,8 @@ use Rattle.model_core.specs.Static.ModelFaults.{IsTold, Accepted}
 use Rattle.answer_delivery.specs.declared.complaint.Complaint.{Complaint}
 use Rattle.answer_delivery.specs.declared.complaint.Complaint.TheVariants as complaints
 
--- This is to be complained of where tokens don't begin with a model text, which goes up to their first word `end`: the first
--- opening too many there; or else the place at which these stop to begin one.
+-- The complaint where tokens don't begin with a model text, which goes up to their first word `end`: the first opening too
+-- many there; or else the place at which these stop to begin one.
 abbrev pub IsFrontComplaint : List ℕ → List Lexeme → Complaint → ℕ → Type 0
 IsFrontComplaint text tokens complaints.TooDeep at = too_deep_at OPENINGS_MAX (front_to_end tokens) ≡ Some at
 IsFrontComplaint text tokens complaints.Unexpected at = (too_deep_at OPENINGS_MAX (front_to_end tokens) ≡ None) × IsUnexpectedAt text (front_to_end tokens) at
@@ -28,14 +28,14 @@ abbrev pub IsCertificateComplaint : List ℕ → List Lexeme → Complaint → �
 IsCertificateComplaint text tokens complaints.Unexpected at = IsNoCertificateAt text tokens at
 IsCertificateComplaint text tokens what at = ⊥
 
--- This is to be complained of in the tokens of a document: the first of its parts that isn't spelled tells it.
+-- The complaint about the tokens of a document is that about the first of its parts that isn't spelled.
 pub data IsGrammarComplaint (text : List ℕ) (tokens : List Lexeme) (what : Complaint) (at : ℕ) : Type 0 where
   in_first : IsFrontComplaint text tokens what at → IsGrammarComplaint text tokens what at
   in_second : (first : WrittenModel) (left : List Lexeme) → BeginsWithModel tokens first left → IsFrontComplaint text left what at → IsGrammarComplaint text tokens what at
   in_certificate : (first second : WrittenModel) (left last : List Lexeme) → BeginsWithModel tokens first left → BeginsWithModel left second last → IsCertificateComplaint text last what at → IsGrammarComplaint text tokens what at
 
--- This is to be complained of at this byte of a document: its first byte that begins no token; or else what its grammar
--- tells; or else the static fault of its first model; or else that of its second.
+-- The complaint about a document, at this byte: its first byte that begins no token; or else the complaint of its grammar;
+-- or else the static fault of its first model; or else that of its second.
 pub data IsDocumentComplaint (text : List ℕ) (what : Complaint) (at : ℕ) : Type 0 where
   of_bytes : what ≡ complaints.BadByte → tokens_of text ≡ Err at → IsDocumentComplaint text what at
   of_tokens : (tokens : List Lexeme) → tokens_of text ≡ Ok tokens → IsGrammarComplaint text tokens what at → IsDocumentComplaint text what at

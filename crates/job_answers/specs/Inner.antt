@@ -1,4 +1,4 @@
--- The code of this crate, restated for its proofs. No public clause cites these, and nobody has to believe them.
+-- The code of this crate, restated for its proofs. No public clause cites these, and no reader has to believe them.
 pub mod Refusals
 pub mod RunSteps
 pub mod SaveSteps

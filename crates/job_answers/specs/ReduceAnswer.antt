@@ -1,4 +1,4 @@
--- What `reduce` writes of a model, and what that is for.
+-- What `reduce` writes for a model, and what that is for.
 use Rattle.std.specs.Prelude.{◌≡◌, ℕ, List, ◌++◌}
 use Rattle.model_core.specs.EventGraph.{EventGraph}
 use Rattle.model_core.specs.Static.Reading.{Reads}
@@ -7,7 +7,7 @@ use Rattle.model_core.specs.Rules.Reduction.{RuleApplication, Strategy}
 use Rattle.model_core.specs.Rules.Certificate.{certificate}
 use Rattle.model_core.specs.Run.Same.{Same}
 
--- the canonical text of what the strategy makes of the model, and the certificate of its applications
+-- the canonical text of the model to which the strategy leads, and the certificate of its applications
 pub record Reduces (original : EventGraph) (out : List ℕ) : Type 0 where
   pub applications : List RuleApplication
   pub reduced : EventGraph

@@ -13,11 +13,11 @@ use Rattle.answer_delivery.specs.AnswerForms.{done}
 use Rattle.job_answers.specs.RunAnswer.{refused_or}
 use Rattle.job_answers.specs.StartingValues.{start_refusal}
 
--- the seed of the run of a number, from 1: the seeds of 64 bits, one after the other, begin again behind the last one
+-- the seed of the run of a number, from 1: the seeds of 64 bits, one after the other, begin again after the last one
 abbrev pub seed_of_run : ℕ → ℕ → ℕ
 seed_of_run seed number = (seed + (number - 1)) % 2 ^ 64
 
--- what is told of the run of a number
+-- the tally of the run of a number
 abbrev pub tally_numbered : EventGraph → ReplicateOptions → ℕ → RunTally
 tally_numbered g o number = tally_of g o.until (look g (seed_of_run o.seed number) o.starts o.until o.events)
 

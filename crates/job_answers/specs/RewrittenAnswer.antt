@@ -1,11 +1,11 @@
--- The text of a model made of the one that was read, as `fuse` and `narrow` write it, and what it is for.
+-- The text of a rewritten model, as `fuse` and `narrow` write it, and what it is for.
 use Rattle.std.specs.Prelude.{◌≡◌, ℕ, List}
 use Rattle.model_core.specs.EventGraph.{EventGraph}
 use Rattle.model_core.specs.Static.Reading.{Reads}
 use Rattle.model_core.specs.Text.Canonical.{canonical}
 use Rattle.model_core.specs.Run.Same.{Same}
 
--- the canonical text of what the model becomes
+-- the canonical text of the model that this one becomes
 pub record Rewrites (Becomes : EventGraph → EventGraph → Type 0) (original : EventGraph) (out : List ℕ) : Type 0 where
   pub rewritten : EventGraph
   pub becomes : Becomes original rewritten

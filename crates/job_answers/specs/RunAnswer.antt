@@ -16,7 +16,7 @@ use Rattle.job_answers.specs.StartingValues.{start_refusal}
 
 -- ---- the answer
 
--- how a job ends whose run stands so
+-- how a job ends, by the standing of its run
 abbrev pub end_of : Standing → End
 end_of (Ended t) = ends.Done
 end_of Stopped = ends.Done

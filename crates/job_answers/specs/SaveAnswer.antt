@@ -25,7 +25,7 @@ run_finished = codes "sigma: run finished\n"
 abbrev pub snapshot_too_long : List ℕ
 snapshot_too_long = codes "sigma: snapshot too long\n"
 
--- the canonical text of the model, and behind it that of the saved run
+-- the canonical text of the model, followed by that of the saved run
 abbrev pub saved_document : EventGraph → SavedRun → List ℕ
 saved_document g s = canonical g ++ snapshot_text g s
 

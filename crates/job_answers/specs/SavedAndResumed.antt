@@ -15,15 +15,15 @@ use Rattle.job_answers.specs.RunAnswer.{told_of}
 use Rattle.job_answers.specs.SaveAnswer.{saved_document}
 use Rattle.job_answers.specs.SavedReading.{ReadsSaved}
 
--- What `resume` answers for this model and saved run, up to a stop time that isn't before the clock and for no more events than a run
--- can have, tells the history of the saved run from there on.
+-- What `resume` answers for this model and saved run, up to a stop time that isn't before the clock and for no more events
+-- than a run can have, is the history of the saved run from there on.
 abbrev pub IsResumed : EventGraph → SavedRun → Type 0
 IsResumed g s = (until more room : ℕ) → s.clock ≤ until → s.events + more ≤ EVENTS_MAX → (a : Answer)
     → AnswersSaved (Resume (record { until = until; events = more; room = room })) g s a → a ≡ told_of g until more (history_from g s until more)
 
 -- What is written for the text is the document of its model and of the moment that its run reaches after so many events. It
--- reads back as these. What the saved run shows from there on, behind the notes so far, is what the whole run shows; and it
--- is what `resume` tells of what the document reads back as.
+-- reads back as these. What the saved run shows from there on, after the notes so far, is what the whole run shows; and it is
+-- what `resume` answers for the model and the saved run as which the document reads back.
 pub record SavesTheRun (text document : List ℕ) (o : SaveOptions) : Type 0 where
   pub model : EventGraph
   pub reads : Reads text model

@@ -19,13 +19,13 @@ abbrev pub IsSnapshotComplaint : List ℕ → List Lexeme → Complaint → ℕ 
 IsSnapshotComplaint text tokens complaints.Unexpected at = IsNoSnapshotAt text tokens at
 IsSnapshotComplaint text tokens what at = ⊥
 
--- This is to be complained of in the tokens of a saved document: the first of its two parts that isn't spelled tells it.
+-- The complaint about the tokens of a saved document is that about the first of its two parts that isn't spelled.
 pub data IsSavedGrammarComplaint (text : List ℕ) (tokens : List Lexeme) (what : Complaint) (at : ℕ) : Type 0 where
   in_model : IsFrontComplaint text tokens what at → IsSavedGrammarComplaint text tokens what at
   in_snapshot : (model : WrittenModel) (left : List Lexeme) → BeginsWithModel tokens model left → IsSnapshotComplaint text left what at → IsSavedGrammarComplaint text tokens what at
 
--- This is to be complained of at this byte of a saved document: its first byte that begins no token; or else what its grammar
--- tells; or else the static fault of its model; or else the first part of its snapshot that is bad.
+-- The complaint about a saved document, at this byte: its first byte that begins no token; or else the complaint of its
+-- grammar; or else the static fault of its model; or else the first part of its snapshot that is bad.
 pub data IsSavedComplaint (text : List ℕ) (what : Complaint) (at : ℕ) : Type 0 where
   of_saved_bytes : what ≡ complaints.BadByte → tokens_of text ≡ Err at → IsSavedComplaint text what at
   of_saved_tokens : (tokens : List Lexeme) → tokens_of text ≡ Ok tokens → IsSavedGrammarComplaint text tokens what at → IsSavedComplaint text what at

@@ -9,8 +9,8 @@ use Rattle.model_core.specs.Static.ModelFaults.{Accepted}
 use Rattle.model_core.specs.Saved.SavedRun.{SavedRun}
 use Rattle.model_core.specs.Saved.GoodSnapshots.{bad_at, saved_run}
 
--- A document within its limit spells a written model that is accepted as this model, and a snapshot of which no part is bad,
--- and which stands for this saved run.
+-- A document within its limit spells a written model that is accepted as this model, and a snapshot that has no bad part and
+-- means this saved run.
 pub record ReadsSaved (text : List ℕ) (g : EventGraph) (s : SavedRun) : Type 0 where
   pub fits : length text ≤ DOCUMENT_MAX
   pub model : WrittenModel

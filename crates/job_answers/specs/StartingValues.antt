@@ -1,4 +1,4 @@
--- Which starting values a run of a model takes, and the line that tells why others are refused.
+-- Which starting values a run of a model takes, and the line that says why others are refused.
 use Rattle.std.specs.Prelude.{ℕ, suc, ◌==◌, ℤ, if◌then◌else◌, List, [], ◌∷◌, ◌++◌, codes, decimal, length, Option, Some, None}
 use Rattle.std.specs.Fmt.{signed_decimal}
 use Rattle.model_core.specs.EventGraph.{EventGraph, Variable}

@@ -15,7 +15,7 @@ use run_control::{BeginError, Run, check_starts, kept_models_can_be_run};
 use sig_base::{List, NoMemory, Text, put_bytes, put_counted, put_signed};
 use std::alloc::Global;
 
-/// The line that tells that other starting values are needed.
+/// The line for a wrong number of starting values.
 fn count_line(alloc: Global, needed: usize, given: usize) -> Result<Text, NoMemory>
     ensures { IfOk result (λ line. line ≡ count_line needed given) }
 {
@@ -26,7 +26,7 @@ fn count_line(alloc: Global, needed: usize, given: usize) -> Result<Text, NoMemo
     Ok(Text::from_vec(line))
 }
 
-/// The line that tells the first starting value outside its range. Places count from 1.
+/// The line for the first starting value outside its range. Places count from 1.
 fn outside_line(alloc: Global, place: usize, value: i64) -> Result<Text, NoMemory>
     ensures { IfOk result (λ line. line ≡ outside_line place value) }
 {
@@ -38,7 +38,7 @@ fn outside_line(alloc: Global, place: usize, value: i64) -> Result<Text, NoMemor
     Ok(Text::from_vec(line))
 }
 
-/// The line that tells why a run can't begin.
+/// The line that says why a run can't begin.
 fn refusal_line(alloc: Global, error: BeginError) -> Result<Text, NoMemory>
     ensures { IfOk result (λ line. RefusalLine error line) }
 {

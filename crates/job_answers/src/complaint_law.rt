@@ -1,4 +1,4 @@
-//! Laws of what there is to complain of in texts. The functions do nothing: what they ensure holds of all texts.
+//! Laws of the complaints about texts. The functions do nothing: what they ensure holds of all texts.
 
 ghost use Rattle.std.specs.Prelude.{◌≡◌, ◌≤◌, ◌⊎◌, ℕ, List, length};
 ghost use Rattle.sig_base.specs.declared.limits.TheConstants.{TEXT_MAX};
@@ -18,7 +18,7 @@ ghost use Rattle.job_answers.specs.Inner.TextFacts.{TextFacts};
 use static_laws::one_fault_is_told;
 use text_laws::{openings_have_a_limit, texts_have_one_reading};
 
-/// What the layers below say of texts.
+/// The facts about texts that the layers below give.
 fn texts_keep_their_laws()
     ensures { TextFacts }
 {
@@ -27,7 +27,7 @@ fn texts_keep_their_laws()
     one_fault_is_told();
 }
 
-/// Of each text within its limit there is one thing to complain of, or it reads as a model, and never both.
+/// A text within its limit has one complaint or reads as a model, and never both.
 pub fn texts_have_one_complaint()
     ensures one { (text : List ℕ) (c d : Complaint) (i j : ℕ) → IsComplaint text c i → IsComplaint text d j → (c ≡ d) × (i ≡ j) }
     ensures none { (text : List ℕ) (c : Complaint) (i : ℕ) (g : EventGraph) → IsComplaint text c i → Reads text g → ⊥ }
@@ -36,7 +36,7 @@ pub fn texts_have_one_complaint()
     texts_keep_their_laws();
 }
 
-/// `reduce` is done with every text that reads as a model.
+/// `reduce` ends as done for every text that reads as a model.
 pub fn readable_models_are_reduced()
     ensures { (text : List ℕ) (g : EventGraph) (a : Answer) → Reads text g → Answers (OfModel Reduce) text a → status_of_answer a ≡ Status.Done }
 {

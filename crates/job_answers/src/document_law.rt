@@ -1,4 +1,4 @@
-//! Laws of what there is to complain of in documents. The functions do nothing: what they ensure holds of all documents.
+//! Laws of the complaints about documents. The functions do nothing: what they ensure holds of all documents.
 
 ghost use Rattle.std.specs.Prelude.{◌≡◌, ◌≤◌, ◌⊎◌, ℕ, List, length};
 ghost use Rattle.sig_base.specs.declared.limits.TheConstants.{DOCUMENT_MAX};
@@ -19,8 +19,7 @@ ghost use Rattle.job_answers.specs.SavedReading.{ReadsSaved};
 use snapshot_text::snapshots_have_one_reading;
 use static_laws::one_fault_is_told;
 
-/// Of each document within its limit there is one thing to complain of, or it reads as two models and a certificate, and
-/// never both.
+/// A document within its limit has one complaint or reads as two models and a certificate, and never both.
 pub fn documents_have_one_complaint()
     ensures one { (text : List ℕ) (c d : Complaint) (i j : ℕ) → IsDocumentComplaint text c i → IsDocumentComplaint text d j → (c ≡ d) × (i ≡ j) }
     ensures none { (text : List ℕ) (c : Complaint) (i : ℕ) (g : EventGraph) (applications : List RuleApplication) (h : EventGraph)
@@ -33,8 +32,7 @@ pub fn documents_have_one_complaint()
     one_fault_is_told();
 }
 
-/// Of each saved document within its limit there is one thing to complain of, or it reads as a model and a saved run, and
-/// never both.
+/// A saved document within its limit has one complaint or reads as a model and a saved run, and never both.
 pub fn saved_documents_have_one_complaint()
     ensures one { (text : List ℕ) (c d : Complaint) (i j : ℕ) → IsSavedComplaint text c i → IsSavedComplaint text d j → (c ≡ d) × (i ≡ j) }
     ensures none { (text : List ℕ) (c : Complaint) (i : ℕ) (g : EventGraph) (s : SavedRun) → IsSavedComplaint text c i → ReadsSaved text g s → ⊥ }

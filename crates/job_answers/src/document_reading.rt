@@ -26,7 +26,7 @@ pub struct Document {
     pub reduced: Model,
 }
 
-/// The same, with its models as they are written.
+/// A document with its models as they are written.
 #[derive(Drop)]
 struct RawDocument {
     first: RawModel,
@@ -34,8 +34,8 @@ struct RawDocument {
     second: RawModel,
 }
 
-/// The parts that the tokens spell, one behind the other. The program ends behind parts that aren't all spelled, so those
-/// that are read then aren't taken apart.
+/// The parts that the tokens spell, one after the other. The program ends where a part isn't spelled, so the parts that are
+/// read by then aren't taken apart.
 fn parts(alloc: Global, pieces: &Pieces<'_>) -> Result<RawDocument, ReadingError>
     ensures ok { IfOk result (λ d. SpellsDocument pieces.now.text.now (written_model d.first) (map application_of d.applications) (written_model d.second)) }
     ensures complaint { (what : Complained) (at : ℕ) → result ≡ Err (ReadingError.At what at) → IsDocumentComplaint pieces.now.text.now what at }
@@ -72,8 +72,8 @@ fn written_parts(alloc: Global, text: &[u8]) -> Result<RawDocument, ReadingError
     parts(alloc, &pieces)
 }
 
-/// The two models that the document reads as, and the applications of its certificate. The program ends behind a model
-/// that isn't accepted, so what is left then isn't taken apart.
+/// The two models that the document reads as, and the applications of its certificate. The program ends after a model that
+/// isn't accepted, so the other parts aren't taken apart then.
 pub fn document_of(alloc: Global, text: &[u8]) -> Result<Document, ReadingError>
     requires { length text.now ≤ DOCUMENT_MAX }
     ensures ok { IfOk result (λ d. ReadsDocument text.now (graph_of d.original) (map application_of d.applications) (graph_of d.reduced)) }

@@ -1,4 +1,4 @@
-//! The history of a run from where it stands, written as it happens.
+//! The history of a run from any moment on, written as it happens: for `run` and `resume`.
 
 ghost use Rattle.std.specs.Prelude.{◌≡◌, ◌+◌, ◌≤◌, ◌^◌, ℕ, length, None};
 ghost use Rattle.model_core.specs.Code.Views.{graph_of};
@@ -25,8 +25,8 @@ fn ending(outcome: Outcome) -> Result<End, Failure>
     }
 }
 
-/// Writes the history of a run from where it and its tracer stand, and finishes the output. The program ends behind it, so
-/// the run isn't taken apart.
+/// Writes the history of a run from its present moment on, and finishes the output. The program ends after it, so the run
+/// isn't taken apart.
 pub(crate) fn tell_from<'m, P: Pending + Drop, K: Sink>(
     run: Run<'m, P>,
     tracer: Tracer<'m>,

@@ -9,8 +9,8 @@ use run_laws::runs_go_on;
 use trial_report::trials_are_determined;
 use twin_rules::fusing_ends;
 
-/// Of whatever a job reads there is one answer. What is given has bytes, unless it may have none, and it is no refusal of a
-/// text.
+/// A job has one answer to whatever it reads. What is given has bytes, unless the job may have none, and no answer to what was
+/// read refuses the text.
 pub fn answers_keep_their_laws()
     ensures { (reading : Reading) → KeepsAnswerLaws reading }
 {

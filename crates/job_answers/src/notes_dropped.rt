@@ -1,4 +1,4 @@
-//! Notes of a run that nobody wants.
+//! A taker of notes that drops them: `save` needs none.
 
 use model_core::Model;
 use sig_expr::State;

@@ -22,16 +22,15 @@ use sig_types::check;
 use std::alloc::Global;
 use std::mem::forget;
 
-/// A model, and what was kept of a run of it.
+/// A model, and a saved run of it.
 #[derive(Drop)]
 pub struct SavedDocument {
     pub model: Model,
     pub snapshot: Snapshot,
 }
 
-/// The model that the tokens begin with, as it is written, and the place behind it, from which on they are a snapshot. A
-/// place is here the number of tokens before it. The program ends behind tokens that aren't spelled so, so the model isn't
-/// taken apart then.
+/// The model that the tokens begin with, as it is written, and the place after it, where the snapshot begins. A place is the
+/// number of tokens before it. The program ends after tokens that aren't spelled so, so the model isn't taken apart then.
 fn parts(alloc: Global, pieces: &Pieces<'_>) -> Result<(RawModel, usize), ReadingError>
     ensures begins { IfOk result (λ r. BeginsWithModel (pieces_lexemes pieces.now) (written_model r.0) (drop r.1 (pieces_lexemes pieces.now))) }
     ensures ends { IfOk result (λ r. (w : WrittenSnapshot) × IsSnapshot (drop r.1 (pieces_lexemes pieces.now)) w) }
@@ -50,7 +49,7 @@ fn parts(alloc: Global, pieces: &Pieces<'_>) -> Result<(RawModel, usize), Readin
     }
 }
 
-/// The model and the snapshot that the tokens read as. The program ends behind a snapshot that isn't good, so the model isn't
+/// The model and the snapshot that the tokens read as. The program ends after a snapshot that isn't good, so the model isn't
 /// taken apart then.
 fn saved_in(alloc: Global, pieces: &Pieces<'_>) -> Result<SavedDocument, ReadingError>
     requires { length pieces.now.text.now ≤ DOCUMENT_MAX }

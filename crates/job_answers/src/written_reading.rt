@@ -1,4 +1,4 @@
-//! From the tokens of a text to the model that it reads as, by way of the model as it is written: of this each fault is told.
+//! From the tokens of a text to the model that it reads as, by way of the model as it is written. This way names the fault.
 
 ghost use Rattle.std.specs.Prelude.{◌≡◌, ◌≤◌, ℕ, length, IfOk};
 ghost use Rattle.model_core.specs.Static.Reading.{Reads};

@@ -22,7 +22,7 @@ use Rattle.answer_delivery.specs.Delivery.{Delivers, DeliversSome}
 use Rattle.sigma_top.specs.declared.text_taking.Taken.{Taken}
 use Rattle.sigma_top.specs.declared.text_taking.Taken.TheVariants as taken
 use Rattle.sigma_top.specs.StatusTable.{text_of, IsReadThrough, RepliesToInput, HasBegun}
-use Rattle.sigma_top.specs.Inner.Frame.{TakesText, Performs}
+use Rattle.sigma_top.specs.Inner.CallSteps.{TakesText, Performs}
 use Rattle.sigma_top.proofs.InputRead.{read_through, read_in_part}
 
 -- ---- an answer that is given has bytes, unless its job may have none
@@ -47,7 +47,7 @@ unfolding zeros
 zeros-length zero = refl
 zeros-length (suc n) = let more = zeros-length n in omega (arith, more)
 
--- an input that is over the limit has a text that is, the one it tells or any
+-- an input that is over the limit has such a text: the one that it gives, or any
 long_text : (limit : Option ℕ) (left : Option (List ℕ)) → IfSome (text_of limit left) (IsOver limit) → (text : List ℕ) × IfSome (text_of limit left) (λ bytes. text ≡ bytes) × IsOver limit text
 long_text None left over = absurd over
 long_text (Some limit) None over = (zeros (limit + 1), tt, omega (arith, zeros-length (limit + 1)))

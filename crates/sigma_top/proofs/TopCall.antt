@@ -2,7 +2,6 @@
 use Rattle.std.proofs.Common.{◌≡◌, ◌⊎◌, inl, inr, ℕ, ℤ, List, [], Option, Some, None, Result, Ok, Err, refl, ap, sym, subst, ◌∙◌, arith}
 use Rattle.std.proofs.lemmas.Option.{same_Some}
 use Rattle.std.specs.Prelude.{max, length, IfSome}
-use Rattle.std.proofs.lemmas.List.{append-nil}
 use Rattle.sig_base.specs.Faults.{HasRisen}
 use Rattle.sig_base.specs.Sink.{Outlet, GrowsBy}
 use Rattle.model_core.specs.EventGraph.{EventGraph}
@@ -46,11 +45,12 @@ use Rattle.job_answers.specs.RunAnswer.{ExceedsRoomFrom, FitsRoomFrom, RunFitsRo
 use Rattle.job_answers.specs.ResumeAnswer.{ResumedFitsRoom}
 use Rattle.job_answers.specs.SavedAndResumed.{SavesTheRun, WritesTheRest}
 use Rattle.job_answers.specs.SavedReading.{ReadsSaved}
+use Rattle.job_answers.proofs.Streaming.{grown_by_none}
 use Rattle.answer_delivery.specs.Statuses.{status_of_answer, bytes_of_answer, status_of_end, status_of_refusal, failure_line}
 use Rattle.answer_delivery.specs.FailureStatus.{status_of_failure}
 use Rattle.sigma_top.specs.Promises.{PrintsModel, KeepsPromises}
 use Rattle.sigma_top.specs.StatusTable.{text_of, Told, WritesAnswer, Refuses, RepliesToInput, HasBegun, LacksMemory, ForJob, Ends}
-use Rattle.sigma_top.specs.Inner.Frame.{Performs, PerformsJobOf}
+use Rattle.sigma_top.specs.Inner.CallSteps.{Performs, PerformsJobOf}
 
 -- ---- what `print`, `reduce`, `fuse` and `narrow` give, and what `certify` finds sound
 
@@ -134,12 +134,8 @@ if_answers job (Some bytes) P Q text a same answers x y = (a, subst (λ (t : Lis
 some_is_not_none : {A : Type 0} {o : Option A} {x : A} → o ≡ Some x → o ≡ None → ⊥
 some_is_not_none e f = cc
 
-grows_by_nothing : (old : Option (List ℕ)) → GrowsBy old old []
-grows_by_nothing None = tt
-grows_by_nothing (Some bytes) = ap (λ b. Some b) (sym (append-nil bytes))
-
 unwritten : {K : Type 0} (sink : K → Outlet) {o p : K} → p ≡ o → GrowsBy (sink o).written (sink p).written []
-unwritten {K} sink {o} {p} same = subst (λ (q : K). GrowsBy (sink o).written (sink q).written []) (sym same) (grows_by_nothing (sink o).written)
+unwritten {K} sink {o} {p} same = subst (λ (q : K). GrowsBy (sink o).written (sink q).written []) (sym same) (grown_by_none (sink o).written)
 
 -- what reads as a model is reduced, or memory is short
 abbrev pub ReducesWhatReads : Type 0
@@ -166,7 +162,7 @@ module _ {S K : Type 0} (source : S → Inlet) (sink : K → Outlet) (words : Li
       by (Err failures.NoMemory) h = inr (job, asked, h)
 
 module _ {S K E : Type 0} (source : S → Inlet) (sink : K → Outlet) (errors : E → Outlet) (words : List (List ℕ)) (i j : S) (o p : K) (e : E) where
-  -- a job that wrote is told by its status alone
+  -- a job that wrote is reported by its status alone
   gave : (end : End) → PerformsJobOf source sink words (Ok (said.Gave end)) i j o p → Ends source sink errors words i j o p e e (status_of_end end)
   gave ends.Done h = (h, refl)
   gave ends.ModelFault h = (h, refl)
@@ -178,7 +174,7 @@ module _ {S K E : Type 0} (source : S → Inlet) (sink : K → Outlet) (errors :
       subst (λ (s : Status). Ends source sink errors words i j o p e e s) (sym known) (gave end (subst (λ (x : Result Said Failure). PerformsJobOf source sink words x i j o p) is h))
 
   module _ (f : E) where
-    -- a refusal is told by its line
+    -- a refusal is reported by its line
     refused : (why : Refusal) (line : List ℕ) → PerformsJobOf source sink words (Ok (said.Refused why line)) i j o p → Told (errors e) (errors f) line → Ends source sink errors words i j o p e f (status_of_refusal why)
     refused refusals.Refused line h told = (line, h, told)
     refused refusals.BadStart line h told = (line, h, told)
@@ -191,7 +187,7 @@ module _ {S K E : Type 0} (source : S → Inlet) (sink : K → Outlet) (errors :
         subst (λ (s : Status). Ends source sink errors words i j o p e f s) (sym known)
         (refused why line (subst (λ (x : Result Said Failure). PerformsJobOf source sink words x i j o p) is h) (subst (λ (l : List ℕ). Told (errors e) (errors f) l) same told))
 
-    -- and so is a failure
+    -- a failure is reported by its line
     failed : (failure : Failure) → PerformsJobOf source sink words (Err failure) i j o p → Told (errors e) (errors f) (failure_line failure) → Ends source sink errors words i j o p e f (status_of_failure failure)
     failed failures.Usage h told = (h.0, h.1, h.2, told)
     failed failures.ReadFault h told = (h, told)

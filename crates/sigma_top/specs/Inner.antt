@@ -1,2 +1,2 @@
--- The code of this crate, restated for its proofs. No public clause cites these, and nobody has to believe them.
-pub mod Frame
+-- The code of this crate, restated for its proofs. No public clause cites these, and no reader has to believe them.
+pub mod CallSteps

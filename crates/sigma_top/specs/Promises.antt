@@ -1,4 +1,4 @@
--- What each job is for, as a promise of the call. Which answers are written, the table of statuses says.
+-- What each job is for, as a promise of the call. The table of statuses says which answers are written.
 use Rattle.std.specs.Prelude.{◌≡◌, ℕ, List, Some, IfSome}
 use Rattle.sig_base.specs.Sink.{Outlet, GrowsBy}
 use Rattle.sig_base.specs.Source.{Inlet}
@@ -25,7 +25,7 @@ use Rattle.job_answers.specs.SavedAndResumed.{SavesTheRun, WritesTheRest}
 use Rattle.answer_delivery.specs.Statuses.{status_of_answer, bytes_of_answer}
 use Rattle.sigma_top.specs.StatusTable.{text_of}
 
--- the status is that of an answer to the text, where the input tells one, and the output grew by the answer's bytes
+-- the status is that of an answer to the text, where the input gives one, and the output grew by the answer's bytes
 abbrev pub IsOfAnswer : Reading → Inlet → Status → Outlet → Outlet → Type 0
 IsOfAnswer reading input status before after =
     IfSome (text_of (limit_of reading) input.left) (λ text. (a : Answer) × Answers reading text a
@@ -35,9 +35,9 @@ IsOfAnswer reading input status before after =
 abbrev pub PrintsModel : List ℕ → List ℕ → Type 0
 PrintsModel text out = (g : EventGraph) × Reads text g × (out ≡ canonical g)
 
--- Of a call with these words this is seen: with which status it ended, the input before it, and the output before and after.
+-- What is seen of a call with these words: the status with which it ended, the input before it, and the output before and after.
 module _ (EndsWith : Status → Type 0) (words : List (List ℕ)) (input : Inlet) (before after : Outlet) where
-  -- where the words ask for this job and it is done, the output grew by bytes that are such for the text of the input
+  -- where the words ask for this job and it is done, the output grew by bytes for which `IsSuch` holds with the input's text
   abbrev pub WritesSuch : Job → (List ℕ → List ℕ → Type 0) → Type 0
   WritesSuch job IsSuch =
       job_of words ≡ Some job → EndsWith statuses.Done
@@ -48,7 +48,7 @@ module _ (EndsWith : Status → Type 0) (words : List (List ℕ)) (input : Inlet
     pub printed : WritesSuch jobs.Print PrintsModel
     -- What `reduce` writes means the same as what it read.
     pub reduced : WritesSuch jobs.Reduce KeepsMeaning
-    -- What `fuse` writes is what fusing makes of the model that was read, and means the same.
+    -- What `fuse` writes is the model that was read with its duplicated vertices merged, and means the same.
     pub fused : WritesSuch jobs.Fuse (RewritesTheSame Fused)
     -- What `narrow` writes is the model that was read with the ranges that it needs, and means the same.
     pub narrowed : WritesSuch jobs.Narrow (RewritesTheSame IsNarrowed)

@@ -1,5 +1,5 @@
--- How the answer to the input gets to the output, and what is left where it doesn't: the table of statuses. Nothing is
--- said here of what the jobs answer.
+-- The table of statuses: how the answer to the input gets to the output, and what is left where it doesn't. It says nothing
+-- about what the jobs answer.
 use Rattle.std.specs.Prelude.{◌≡◌, ◌≤◌, ◌⊎◌, ℕ, ◌+◌, true, false, List, drop, [], Option, Some, None, IfSome}
 use Rattle.sig_base.specs.Faults.{HasRisen}
 use Rattle.sig_base.specs.Sink.{Outlet, GrowsBy}
@@ -51,7 +51,7 @@ IsReadInPart seen (Some limit) old new = IfSome (seen old).left (λ bytes. (n : 
 
 -- ---- the ways to end: with the input from i to j and the output from o to p, of which this is seen
 
--- this is the answer to the input's text, or to some text where the input tells none
+-- this is the answer to the input's text, or to some text where the input gives none
 pub record RepliesToInput (reading : Reading) (i : Inlet) (a : Answer) : Type 0 where
   pub text : List ℕ
   pub told : IfSome (text_of (limit_of reading) i.left) (λ bytes. text ≡ bytes)
@@ -123,17 +123,17 @@ Told old new line = HasRisen old.faults new.faults ⊎ GrowsBy old.written new.w
 -- to f, of which this is seen.
 module _ {S K E : Type 0} (source : S → Inlet) (sink : K → Outlet) (errors : E → Outlet) where
   module _ (words : List (List ℕ)) (i j : S) (o p : K) (e f : E) where
-    -- the answer was written, and nothing is told
+    -- the answer was written, and no line
     abbrev pub IsGiven : End → Type 0
     IsGiven end = ForJob words (λ reading. WritesAnswer source sink reading end i j o p) × (f ≡ e)
 
-    -- the text was refused, with a line that is told
+    -- the text was refused, and the line that says why was written
     abbrev pub IsTurnedDown : Refusal → Type 0
     IsTurnedDown why =
         (line : List ℕ) × ForJob words (λ reading. Refuses source sink reading why line i j o p)
         × Told (errors e) (errors f) line
 
-    -- the line of a failure is told
+    -- the line of the failure was written
     abbrev pub TellsFailure : Failure → Type 0
     TellsFailure failure = Told (errors e) (errors f) (failure_line failure)
 

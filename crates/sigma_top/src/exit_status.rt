@@ -1,5 +1,4 @@
-//! The program over any input and outputs: from the words, or the error for which they can't be had, to the
-//! exit status.
+//! The program over any input and outputs: from the words, or the error in place of words, to the exit status.
 
 ghost use Rattle.std.specs.Prelude.{◌≡◌, ◌≢◌, map, vec_items, IfOk, IfErr, OnErr};
 ghost use Rattle.std.specs.IoError.{error_kind};
@@ -10,7 +9,7 @@ ghost use Rattle.answer_delivery.specs.Statuses.{exit_status_of, failure_line};
 ghost use Rattle.sigma_top.specs.Promises.{KeepsPromises};
 ghost use Rattle.sigma_top.specs.StatusTable.{Told, Ends};
 
-use crate::frame::sigma;
+use crate::top_call::sigma;
 use answer_delivery::Status;
 use sig_base::{Sink, Source, put};
 use std::alloc::Global;
@@ -18,8 +17,7 @@ use std::io;
 use std::io::ErrorKind;
 use std::process::ExitCode;
 
-/// The status where the words can't be had, and the line that tells it: memory was refused, or a word
-/// isn't UTF-8.
+/// The status and the line of an error in place of words: memory was refused, or a word isn't UTF-8.
 fn without_words(kind: ErrorKind) -> (Status, &'static [u8])
     ensures no_memory { kind ≡ ErrorKind.OutOfMemory → (result.0 ≡ Status.NoMemory)
         × (result.1.now ≡ failure_line failures.NoMemory) }
@@ -33,8 +31,8 @@ fn without_words(kind: ErrorKind) -> (Status, &'static [u8])
     }
 }
 
-/// Does the job that the words ask for, as `sigma` does, and answers how it ended. Where the words can't
-/// be had, it tells so on the error output.
+/// Does the job that the words ask for, as `sigma` does, and returns the status. Of an error in place of words, it writes the
+/// line.
 fn work<S: Source, K: Sink, E: Sink>(
     alloc: Global,
     words: io::Result<Vec<String>>,

@@ -1,6 +1,6 @@
 //! The text of a job, from the input.
 
-ghost use Rattle.sigma_top.specs.Inner.Frame.{TakesText};
+ghost use Rattle.sigma_top.specs.Inner.CallSteps.{TakesText};
 
 use answer_delivery::Failure;
 use sig_base::{Source, TakeError, Text, take_all};

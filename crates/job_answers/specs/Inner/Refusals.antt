@@ -1,9 +1,17 @@
--- What becomes of the error at which a step of reading ends: a complaint of the same byte, or want of memory.
+-- The complaint for the error at which a step of reading ends, at the same byte, or want of memory; and what complaining did.
+use Rattle.std.specs.Prelude.{◌≡◌, Result, Err}
+use Rattle.sig_base.specs.Sink.{Outlet}
 use Rattle.model_lex.specs.declared.lex_error.LexError.{LexError}
 use Rattle.model_lex.specs.declared.parse_error.ParseError.{ParseError}
 use Rattle.sig_types.specs.declared.error.StaticError.{StaticError}
 use Rattle.sig_types.specs.declared.error.StaticError.TheVariants as static
 use Rattle.answer_delivery.specs.declared.complaint.Complaint.TheVariants as complaints
+use Rattle.answer_delivery.specs.declared.delivering.Said.{Said}
+use Rattle.answer_delivery.specs.declared.status.Failure.{Failure}
+use Rattle.answer_delivery.specs.declared.status.Failure.TheVariants as failures
+use Rattle.answer_delivery.specs.AnswerForms.{refused}
+use Rattle.answer_delivery.specs.Complaints.{message_of, byte_line}
+use Rattle.answer_delivery.specs.Delivery.{DeliversSome}
 use Rattle.job_answers.specs.declared.reading_error.ReadingError.{ReadingError}
 use Rattle.job_answers.specs.declared.reading_error.ReadingError.TheVariants as readings
 
@@ -22,3 +30,8 @@ unread ParseError.NoMemory = readings.NoMemory
 abbrev pub unaccepted : StaticError → ReadingError
 unaccepted (static.Fault kind at) = readings.At (complaints.Static kind) at
 unaccepted static.NoMemory = readings.NoMemory
+
+-- what complaining did: the text is refused with the line of the complaint, or memory lacks
+abbrev pub Complains : {K : Type 0} → (K → Outlet) → ReadingError → Result Said Failure → K → K → Type 0
+Complains seen (readings.At what at) r o p = DeliversSome seen (λ a. a ≡ refused (byte_line at (message_of what))) ⊥ r o p
+Complains seen readings.NoMemory r o p = (r ≡ Err failures.NoMemory) × (p ≡ o)

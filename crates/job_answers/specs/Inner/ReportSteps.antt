@@ -1,4 +1,4 @@
--- What the steps of the job `replicate` say to one another: what is left of a report, and how far it was written.
+-- The clauses between the steps of `replicate`: the rest of a report, and how far it was written.
 use Rattle.std.specs.Prelude.{◌≡◌, ℕ, zero, suc, ◌+◌, List, ◌++◌, Ok}
 use Rattle.sig_base.specs.Sink.{Outlet}
 use Rattle.command_words.specs.declared.replicate_options.ReplicateOptions.{ReplicateOptions}
@@ -8,7 +8,7 @@ use Rattle.tally_report.specs.Totalling.{RunTotals, with_run}
 use Rattle.job_answers.specs.ReplicateAnswer.{tally_numbered, rows_numbered}
 use Rattle.job_answers.specs.Inner.WritingSteps.{InPieces}
 
--- what is left of a report behind the runs of these totals: so many runs from this number on, and the totals
+-- the rest of a report after the runs of these totals: so many runs from this number on, and the totals
 abbrev pub left_from : EventGraph → ReplicateOptions → RunTotals → ℕ → ℕ → List ℕ
 left_from g o totals number zero = total_rows g totals
 left_from g o totals number (suc n) = rows_numbered g o number ++ left_from g o (with_run totals (tally_numbered g o number)) (number + 1) n

@@ -1,4 +1,4 @@
--- What the steps of writing a history say to one another: how the job ends, and how the history is delivered.
+-- The clauses between the steps of writing a history: how the job ends, and how the history is delivered.
 use Rattle.std.specs.Prelude.{◌≡◌, ℕ, Result, Ok, Err}
 use Rattle.sig_base.specs.Sink.{Outlet}
 use Rattle.model_core.specs.EventGraph.{EventGraph}
@@ -13,7 +13,7 @@ use Rattle.answer_delivery.specs.declared.status.Failure.TheVariants as failures
 use Rattle.answer_delivery.specs.Delivery.{DeliversSome}
 use Rattle.job_answers.specs.RunAnswer.{told_of, ExceedsRoomFrom}
 
--- how a job ends whose run came to this
+-- how a job ends, by the outcome of its run
 abbrev pub ending : Outcome → Result End Failure
 ending (outcomes.Ended time) = Ok ends.Done
 ending outcomes.Stopped = Ok ends.Done
@@ -22,7 +22,7 @@ ending outcomes.Budget = Ok ends.Budget
 ending outcomes.WriteFault = Err failures.WriteFault
 ending outcomes.NoMemory = Err failures.NoMemory
 
--- The history from this moment on is delivered. Memory may be refused behind a front of it where this room is exceeded.
+-- The history from this moment on is delivered. Memory may be refused after a front of it where this room is exceeded.
 abbrev pub DeliversHistory : {K : Type 0} → (K → Outlet) → EventGraph → ℕ → ℕ → ℕ → Moment → ℕ → Result Said Failure → K → K → Type 0
 DeliversHistory seen g until seed events m room r o p =
     DeliversSome seen (λ a. a ≡ told_of g until events (look_from g seed until events m)) (ExceedsRoomFrom g until seed events m room) r o p

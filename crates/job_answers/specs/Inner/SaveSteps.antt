@@ -1,4 +1,4 @@
--- What the steps of the job `save` say to one another: what is saved of a run, if it goes on.
+-- The clauses between the steps of `save`: what is saved of a run, if it goes on.
 use Rattle.std.specs.Prelude.{◌≡◌, ℕ, ℤ, List, Option, Some, None}
 use Rattle.model_core.specs.EventGraph.{EventGraph}
 use Rattle.model_core.specs.Run.Machine.{Going, Reached}

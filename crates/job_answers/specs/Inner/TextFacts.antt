@@ -11,7 +11,7 @@ use Rattle.model_core.specs.Text.ModelText.{SpellsText}
 use Rattle.model_core.specs.Static.FaultOrder.{StaticFault}
 use Rattle.model_core.specs.Static.ModelFaults.{IsTold, told_fault, Accepted}
 
--- what the layers below say of texts
+-- the facts that the layers below give
 pub record TextFacts : Type 0 where
   pub one_model : (text : List ℕ) (m n : WrittenModel) → SpellsText text m → SpellsText text n → m ≡ n
   pub spelled_or_not : (text : List ℕ) (tokens : List Lexeme) → ((m : WrittenModel) × IsText tokens m) ⊎ ((at : ℕ) × IsUnexpectedAt text tokens at)
@@ -21,4 +21,4 @@ pub record TextFacts : Type 0 where
   pub told : (m : WrittenModel) (f : StaticFault) → told_fault m ≡ Some f → IsTold m f.kind f.at
   pub told_back : (m : WrittenModel) (f : StaticFault) → IsTold m f.kind f.at → told_fault m ≡ Some f
   pub accepted : (m : WrittenModel) → told_fault m ≡ None → (g : EventGraph) × Accepted m g
-  pub unaccepted : (m : WrittenModel) → ((g : EventGraph) × Accepted m g) → told_fault m ≡ None
+  pub accepted_has_no_fault : (m : WrittenModel) → ((g : EventGraph) × Accepted m g) → told_fault m ≡ None

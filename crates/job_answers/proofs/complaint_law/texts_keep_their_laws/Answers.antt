@@ -14,5 +14,5 @@ returns c =
       told = λ m f. (faults.told m f).0;
       told_back = λ m f. (faults.told m f).1;
       accepted = λ m. (faults.accepted m).0;
-      unaccepted = λ m. (faults.accepted m).1;
+      accepted_has_no_fault = λ m. (faults.accepted m).1;
     }

@@ -1,4 +1,4 @@
--- What is spelled wrong is told first, then what is wrong with the first model, and then what is wrong with the second.
+-- The complaint: first about the spelling, then about the first model, and then about the second.
 use Rattle.std.proofs.Common.{Err, refl, sym, ◌∙◌, ap}
 use Rattle.std.proofs.lemmas.Result.{err_from_is_err_and}
 use Rattle.model_core.specs.Code.Views.{graph_of}

@@ -1,4 +1,4 @@
--- The first part that isn't spelled tells what there is to complain of.
+-- The complaint is about the first part that isn't spelled.
 use Rattle.std.proofs.Common.{Err, sym, ◌∙◌, ap, drop}
 use Rattle.std.proofs.lemmas.Result.{err_from_is_err_and}
 use Rattle.model_lex.specs.PiecesOfText.{pieces_lexemes}

@@ -1,10 +1,10 @@
 use Rattle.model_core.specs.Rules.Fuse.{Fused}
 use Rattle.model_core.specs.Ranges.Narrowed.{IsNarrowed}
 use Rattle.job_answers.proofs.JobLaws.{keeps_laws}
-use Rattle.job_answers.proofs.ReduceLaws.{OneStrategy}
-use Rattle.job_answers.proofs.RewritingLaws.{BecomesOne}
-use Rattle.job_answers.proofs.SaveLaws.{GoingIsLed}
-use Rattle.job_answers.proofs.TrialLaws.{OneSummary}
+use Rattle.job_answers.proofs.commands.ReduceLaws.{OneStrategy}
+use Rattle.job_answers.proofs.commands.RewritingLaws.{BecomesOne}
+use Rattle.job_answers.proofs.commands.SaveLaws.{GoingIsLed}
+use Rattle.job_answers.proofs.commands.TrialLaws.{OneSummary}
 use Rattle.job_answers.proofs.job_laws.answers_keep_their_laws.Goals as goal
 
 pub returns : goal.returns

@@ -1,4 +1,4 @@
--- What isn't spelled is told first, then what is wrong with the model, and then the first part of the snapshot that isn't good.
+-- The complaint: first about the spelling, then about the model, and then about the first part of the snapshot that isn't good.
 use Rattle.std.proofs.Common.{Err, refl, sym, ◌∙◌, ap, drop}
 use Rattle.std.proofs.lemmas.Result.{err_from_is_err_and}
 use Rattle.model_core.specs.Code.Views.{graph_of}

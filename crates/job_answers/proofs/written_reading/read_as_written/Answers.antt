@@ -1,4 +1,4 @@
--- What isn't parsed or isn't accepted is told as it was.
+-- The complaint is the one of parsing or of the static check.
 use Rattle.std.proofs.Common.{Err, ap}
 use Rattle.std.proofs.lemmas.Result.{err_from_is_err_and}
 use Rattle.model_lex.specs.PiecesOfText.{pieces_lexemes}

@@ -3,7 +3,7 @@ use Rattle.std.proofs.Common.{◌≡◌, ◌∙◌, Option, ℕ, Ok, Err, ap, sy
 use Rattle.sig_base.specs.declared.take_error.TakeError.TheVariants as errors
 use Rattle.sigma_top.specs.declared.text_taking.Taken.TheVariants as taken
 use Rattle.answer_delivery.specs.declared.status.Failure.TheVariants as failures
-use Rattle.sigma_top.specs.Inner.Frame.{TakesText}
+use Rattle.sigma_top.specs.Inner.CallSteps.{TakesText}
 use Rattle.sigma_top.proofs.InputRead.{no_error, other_error, all_taken, taken_to_end, long_taken, taken_past, taken_in_part}
 use Rattle.sigma_top.proofs.text_taking.take_text.Goals as goal
 

@@ -1,0 +1,15 @@
+pub mod CertifyLaws
+pub mod CheckLaws
+pub mod ConflictsLaws
+pub mod DescribeLaws
+pub mod PrintLaws
+pub mod ReduceLaws
+pub mod ReplicateLaws
+pub mod ResumeLaws
+pub mod RewritingLaws
+pub mod RewrittenMeans
+pub mod RunLaws
+pub mod SaveLaws
+pub mod SavedGoOn
+pub mod TrialLaws
+pub mod UsesLaws

@@ -1,5 +1,0 @@
-use Rattle.job_answers.proofs.SnapshotShown.{printed-again}
-use Rattle.job_answers.proofs.saved_law.good_snapshots_are_printed_again.Goals as goal
-
-pub returns : goal.returns
-returns c = printed-again c.saved_runs_read_back.ensures

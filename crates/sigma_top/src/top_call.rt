@@ -1,0 +1,156 @@
+//! The top call, `sigma`: from the words, the input and the outputs to a status. `answer_call` > `answer_words` >
+//! `answer_input` > `answer_text` (in `job_answers`) is its way inwards. It knows a job by what that reads, and everything else
+//! is proved once for all jobs.
+
+ghost use Rattle.std.specs.Prelude.{◌≡◌, ◌⊎◌, ℕ, ℤ, List, Some, map, IfSome};
+ghost use Rattle.std.specs.String.{string_bytes};
+ghost use Rattle.sig_base.specs.Faults.{HasRisen};
+ghost use Rattle.command_words.specs.declared.job.Job.{Job};
+ghost use Rattle.command_words.specs.Jobs.{job_of};
+ghost use Rattle.command_words.specs.KeptLimits.{KeepsLimits};
+ghost use Rattle.command_words.specs.Readings.{reading_of};
+ghost use Rattle.model_core.specs.EventGraph.{EventGraph};
+ghost use Rattle.model_core.specs.Saved.SavedRun.{SavedRun};
+ghost use Rattle.model_core.specs.Static.Reading.{Reads};
+ghost use Rattle.job_answers.specs.ResumeAnswer.{ResumedFitsRoom};
+ghost use Rattle.job_answers.specs.RunAnswer.{RunFitsRoom};
+ghost use Rattle.job_answers.specs.SavedReading.{ReadsSaved};
+ghost use Rattle.sigma_top.specs.Promises.{IsOfAnswer, KeepsPromises};
+ghost use Rattle.sigma_top.specs.StatusTable.{Told, Ends};
+ghost use Rattle.sigma_top.specs.Inner.CallSteps.{Performs, PerformsJobOf};
+
+use crate::text_taking::{Taken, take_text};
+use answer_delivery::{Failure, Said, Status, deliver, too_long_answer};
+use command_words::{Reading, WordsError, jobs_keep_their_limits};
+use job_answers::{
+    answer_text, answers_keep_their_laws, fused_models_mean_the_same,
+    narrower_models_mean_the_same, read_runs_are_answered, readable_models_are_reduced,
+    saved_runs_are_resumed, sound_documents_mean_the_same, written_models_mean_the_same,
+};
+use sig_base::{Sink, Source, put};
+use std::alloc::Global;
+
+/// Takes the text from the input, and writes the answer to it.
+fn answer_input<S: Source, K: Sink>(
+    alloc: Global,
+    reading: &Reading,
+    input: &mut S,
+    output: &mut K,
+) -> Result<Said, Failure>
+    requires { KeepsLimits reading.now }
+    ensures { Performs S.seen K.seen reading.now result input.old input.new output.old output.new }
+{
+    answers_keep_their_laws();
+    match take_text(alloc, reading.limit(), input) {
+        Ok(Taken::Whole(text)) => answer_text(alloc, reading, text.as_slice(), output),
+        Ok(Taken::TooLong) => deliver(output, too_long_answer(alloc)),
+        Err(failure) => Err(failure),
+    }
+}
+
+/// Does the job that the words ask for.
+fn answer_words<S: Source, K: Sink>(
+    alloc: Global,
+    words: &[String],
+    input: &mut S,
+    output: &mut K,
+) -> Result<Said, Failure>
+    ensures { PerformsJobOf S.seen K.seen (map string_bytes words.now) result
+        input.old input.new output.old output.new }
+{
+    match command_words::words(alloc, words) {
+        Ok(job) => answer_input(alloc, &job.reading(), input, output),
+        Err(WordsError::BadWords) => Err(Failure::Usage),
+        Err(WordsError::NoMemory) => Err(Failure::NoMemory),
+    }
+}
+
+/// Writes a line on the error output.
+fn write_line<E: Sink>(errors: &mut E, line: &[u8])
+    ensures { Told (E.seen errors.old) (E.seen errors.new) line.now }
+{
+    let _ = put(errors, line);
+}
+
+/// Does the job that the words ask for. Where it isn't done, the line that says why goes to the error output.
+fn answer_call<S: Source, K: Sink, E: Sink>(
+    alloc: Global,
+    words: &[String],
+    input: &mut S,
+    output: &mut K,
+    errors: &mut E,
+) -> Status
+    ensures { Ends S.seen K.seen E.seen (map string_bytes words.now)
+        input.old input.new output.old output.new errors.old errors.new result }
+{
+    match answer_words(alloc, words, input, output) {
+        Ok(Said::Gave(end)) => end.status(),
+        Ok(Said::Refused(why, line)) => {
+            write_line(errors, line.as_slice());
+            why.status()
+        }
+        Err(failure) => {
+            write_line(errors, failure.line());
+            failure.status()
+        }
+    }
+}
+
+/// Does the job that the words ask for, from the text on `input` to the bytes on `output`. Where it isn't done, one line on
+/// `errors` says why.
+///
+/// A failing error output changes no status. After a failed read nothing more is read, and after a
+/// failed write nothing more is written.
+pub fn sigma<S: Source, K: Sink, E: Sink>(
+    alloc: Global,
+    words: &[String],
+    input: &mut S,
+    output: &mut K,
+    errors: &mut E,
+) -> Status
+    // What each status means, for the input, the output and the error output.
+    ensures ends { Ends S.seen K.seen E.seen (map string_bytes words.now)
+        input.old input.new output.old output.new errors.old errors.new result }
+
+    // Words that are a job leave no status but that of the job's answer, unless memory, the input or the output fails.
+    ensures complete { (job : Job) → job_of (map string_bytes words.now) ≡ Some job
+        → (HasRisen (S.seen input.old).faults (S.seen input.new).faults → ⊥)
+        → (HasRisen (K.seen output.old).faults (K.seen output.new).faults → ⊥)
+        → (result ≡ Status.NoMemory)
+        ⊎ IsOfAnswer (reading_of job) (S.seen input.old) result (K.seen output.old) (K.seen output.new) }
+
+    // A text that reads as a model is reduced, unless memory, the input or the output fails.
+    ensures always_reduced { job_of (map string_bytes words.now) ≡ Some Job.Reduce
+        → (HasRisen (S.seen input.old).faults (S.seen input.new).faults → ⊥)
+        → (HasRisen (K.seen output.old).faults (K.seen output.new).faults → ⊥)
+        → IfSome (S.seen input.old).left (λ text.
+        (g : EventGraph) → Reads text g → (result ≡ Status.Done) ⊎ (result ≡ Status.NoMemory)) }
+
+    // Where `run` lacks memory nothing is written, if the run fits the room that it was given.
+    ensures within_room { (until seed events : ℕ) (starts : List ℤ) (room : ℕ)
+        → job_of (map string_bytes words.now) ≡ Some (Job.Run until seed events starts room) → result ≡ Status.NoMemory
+        → IfSome (S.seen input.old).left (λ text.
+        ((g : EventGraph) → Reads text g → RunFitsRoom g until seed events starts room) → output.new ≡ output.old) }
+
+    // Where `resume` lacks memory nothing is written, if the saved run fits the room that it has.
+    ensures resumed_within_room { (until events room : ℕ)
+        → job_of (map string_bytes words.now) ≡ Some (Job.Resume until events room) → result ≡ Status.NoMemory
+        → IfSome (S.seen input.old).left (λ text.
+        ((g : EventGraph) (s : SavedRun) → ReadsSaved text g s → ResumedFitsRoom g s until events room)
+        → output.new ≡ output.old) }
+
+    // What each job is for: the promises `printed`, `reduced`, `fused`, `narrowed`, `saved`, `resumed` and `certified`, one
+    // field each.
+    ensures promises { KeepsPromises (λ status. result ≡ status) (map string_bytes words.now)
+        (S.seen input.old) (K.seen output.old) (K.seen output.new) }
+{
+    written_models_mean_the_same();
+    fused_models_mean_the_same();
+    narrower_models_mean_the_same();
+    sound_documents_mean_the_same();
+    readable_models_are_reduced();
+    saved_runs_are_resumed();
+    read_runs_are_answered();
+    jobs_keep_their_limits();
+    answer_call(alloc, words, input, output, errors)
+}
