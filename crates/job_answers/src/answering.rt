@@ -14,7 +14,7 @@ ghost use Rattle.answer_delivery.specs.Delivery.{DeliversSome};
 use crate::commands::certify::certify;
 use crate::commands::check::check;
 use crate::commands::conflicts::conflicts;
-use crate::commands::describe::describe;
+use crate::commands::describe_model::describe;
 use crate::commands::fuse::fuse;
 use crate::commands::narrow::narrow;
 use crate::commands::print::print;

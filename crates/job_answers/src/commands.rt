@@ -1,10 +1,10 @@
-//! The commands, a file each, named by its word. Each file has the function that answers, and the laws of what the answer is
-//! for.
+//! The commands, a file each, named by its word (`describe_model`, since a crate is called `describe`). Each file has the
+//! function that answers, and the laws of what the answer is for.
 
 pub(crate) mod certify;
 pub(crate) mod check;
 pub(crate) mod conflicts;
-pub(crate) mod describe;
+pub(crate) mod describe_model;
 pub(crate) mod fuse;
 pub(crate) mod narrow;
 pub(crate) mod print;

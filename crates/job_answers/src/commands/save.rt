@@ -27,15 +27,12 @@ use event_list::Pending;
 use model_core::Model;
 use model_print::print;
 use round_trip::validity_is_by_parts;
-use run_control::Run;
+use run_control::{ROOM, Run};
 use run_snapshot::{Snapshot, print_snapshot, saved_runs_resume};
 use sig_base::{DOCUMENT_MAX, NoMemory, Sink, Text, put_bytes};
 use snapshot_text::saved_documents_read_back;
 use std::alloc::Global;
 use watch_trace::{Outcome, Tracer, observe};
-
-/// The number of pending events for which a run has room from its beginning.
-const ROOM: usize = 4_096;
 
 /// The snapshot of a run that has begun, after so many events: `None` where it doesn't go on then. Its notes are dropped.
 fn saved_part<'m, P: Pending + Drop>(
