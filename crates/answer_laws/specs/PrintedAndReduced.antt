@@ -1,5 +1,5 @@
--- What the bytes that `print` and `reduce` wrote of one text show. Neither the grammar of texts nor a rule of reduction is named
--- here: which model was read, its canonical text shows.
+-- What the bytes that `print` and `reduce` wrote of one text show. No grammar of texts is named here,
+-- and of the rules only the names. That the first model is the one that was read isn't said here: it is the promise `printed`.
 use Rattle.std.specs.Prelude.{◌≡◌, ℕ, List, ◌++◌}
 use Rattle.model_core.specs.EventGraph.{EventGraph}
 use Rattle.model_core.specs.Run.Same.{Same}
@@ -14,8 +14,8 @@ pub record HasText (g : EventGraph) : Type 0 where
   pub keeps : KeepsStaticRules g
   pub spellable : IsSpellable g
 
--- What was printed is the canonical text of a model. What was written of the reduction is the canonical text of a second model,
--- and a certificate after it. The two models are the same.
+-- `print` wrote the canonical text of a model, and `reduce` that of a second model and then a certificate. The two models are
+-- the same. Nothing here says that the second one is smaller.
 pub record ShowTheSame (printed reduced : List ℕ) : Type 0 where
   pub original : EventGraph
   pub smaller : EventGraph
