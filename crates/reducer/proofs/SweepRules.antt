@@ -19,7 +19,8 @@ use Rattle.model_core.proofs.NoEdgePasses.{NoneOf, NoneIn, first_edge-none}
 use Rattle.edge_pruning.specs.declared.finding.EdgeRule.{EdgeRule}
 use Rattle.edge_pruning.specs.declared.finding.EdgeRule.TheVariants as rules
 use Rattle.edge_pruning.specs.EdgeRules.{test_of}
-use Rattle.reducer.specs.Inner.Sweep.{application_by, instead, width, left_by_sweep, swept_vertex, applied_or_not, applied_behind, applied_to_all}
+use Rattle.reduction_cert.specs.EdgeApplications.{application_by}
+use Rattle.reducer.specs.Inner.Sweep.{instead, width, left_by_sweep, swept_vertex, applied_or_not, applied_behind, applied_to_all}
 use Rattle.reducer.proofs.PlacesByName.{same_bytes-refl}
 use Rattle.reducer.proofs.FirstEdge.{first_edge-behind}
 use Rattle.reducer.proofs.FirstRules.{AreFirst, are_first-append}

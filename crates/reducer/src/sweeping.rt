@@ -7,7 +7,8 @@ ghost use Rattle.model_core.specs.declared.vertex.Edge.{Edge};
 ghost use Rattle.model_core.specs.Rules.Settle.{unconditional};
 ghost use Rattle.model_core.specs.Code.Views.{graph_of, vertex_of, edge_of, application_of};
 ghost use Rattle.edge_pruning.specs.declared.finding.EdgeRule.TheVariants as rules;
-ghost use Rattle.reducer.specs.Inner.Sweep.{application_by, left_by_sweep, swept_vertex, applied_behind, applied_to, applied_to_all, settled_if_proved, application_here};
+ghost use Rattle.reduction_cert.specs.EdgeApplications.{application_by};
+ghost use Rattle.reducer.specs.Inner.Sweep.{left_by_sweep, swept_vertex, applied_behind, applied_to, applied_to_all, settled_if_proved, application_here};
 
 use edge_pruning::{EdgeRule, can_apply};
 use model_core::{Application, Edge, Expr, Model, Vertex, copy_name};

@@ -12,7 +12,10 @@ use Rattle.model_core.specs.Rules.Merge.{merge_conditions, merged}
 use Rattle.model_core.specs.Rules.Reduction.{Prune, Settle, Drop, Merge, edge_named, vertices_named, two_vertices_named, unless_failed, applied}
 use Rattle.model_core.specs.Rules.Prune.{prune_conditions, pruned}
 use Rattle.model_core.specs.Rules.Settle.{settle_conditions, settled}
+use Rattle.edge_pruning.specs.declared.finding.EdgeRule.{EdgeRule}
+use Rattle.edge_pruning.specs.declared.finding.EdgeRule.TheVariants as rules
 use Rattle.merge_rules.specs.Known.{IsKnown}
+use Rattle.reduction_cert.specs.EdgeApplications.{application_by}
 use Rattle.merge_rules.specs.declared.known.Known.{Known}
 
 module _ (result h : EventGraph) (failed : Option ℕ) (given : Result (Unit {0}) RuleError) (done : OnOk given ((failed ≡ None) × (h ≡ result))) (tells : IfErr given (λ e. TellsCondition e failed)) where
@@ -63,6 +66,11 @@ prune_named g name number vertex edge is = ap (λ o. unless_failed (option_map_o
 
 pub settle_named : (g : EventGraph) (name : List ℕ) (number vertex edge : ℕ) → edge_named g name number ≡ Some (vertex, edge) → applied g (Settle name number) ≡ unless_failed (first_failed (settle_conditions g vertex edge)) (settled g vertex edge)
 settle_named g name number vertex edge is = ap (λ o. unless_failed (option_map_or (λ (v, e). first_failed (settle_conditions g v e)) o (Some 1)) (option_map_or (λ (v, e). settled g v e) o g)) is
+
+-- where they name no edge, it gives nothing
+pub none_named : (g : EventGraph) (rule : EdgeRule) (name : List ℕ) (number : ℕ) → edge_named g name number ≡ None → applied g (application_by rule name number) ≡ None
+none_named g rules.Prune name number is = ap (λ o. unless_failed (option_map_or (λ (v, e). first_failed (prune_conditions g v e)) o (Some 1)) (option_map_or (λ (v, e). pruned g v e) o g)) is
+none_named g rules.Settle name number is = ap (λ o. unless_failed (option_map_or (λ (v, e). first_failed (settle_conditions g v e)) o (Some 1)) (option_map_or (λ (v, e). settled g v e) o g)) is
 
 pub merge_named : (g : EventGraph) (name target : List ℕ) (first second : ℕ) → two_vertices_named g name target ≡ Some (first, second) → applied g (Merge name target) ≡ unless_failed (first_failed (merge_conditions g first second)) (merged g first second)
 merge_named g name target first second is = ap (λ o. unless_failed (option_map_or (λ (a, b). first_failed (merge_conditions g a b)) o (Some 1)) (option_map_or (λ (a, b). merged g a b) o g)) is

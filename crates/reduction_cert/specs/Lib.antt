@@ -1,3 +1,4 @@
 pub mod VerdictView
 pub mod Inner
 pub mod KnownWithout
+pub mod EdgeApplications

@@ -3,10 +3,11 @@
 ghost use Rattle.std.specs.Prelude.{◌≡◌, true, false, map, drop, length, cond, Ok, Some, None, OnOk, IfOk};
 ghost use Rattle.model_core.specs.EventGraph.{EventGraph};
 ghost use Rattle.model_core.specs.Code.Views.{graph_of, application_of};
-ghost use Rattle.model_core.specs.Rules.Reduction.{Prune, Settle, Drop, Slice, applied, first_bad};
+ghost use Rattle.model_core.specs.Rules.Reduction.{Drop, Slice, applied, first_bad};
 ghost use Rattle.model_core.specs.Rules.Verdict.{graph_reached, verdict};
 ghost use Rattle.merge_rules.specs.Known.{IsKnown};
 ghost use Rattle.merge_rules.specs.NothingCounted.{NothingCounted};
+ghost use Rattle.reduction_cert.specs.EdgeApplications.{application_by};
 ghost use Rattle.reduction_cert.specs.VerdictView.{verdict_of};
 ghost use Rattle.model_read.specs.NamesPlaced.{HasPlaces, names_of_vertices};
 ghost use Rattle.reduction_cert.specs.Inner.DroppingOnes.{is_drop};
@@ -16,7 +17,7 @@ use crate::by_name::{all_named, edge_named, two_vertices_named};
 use crate::chain_law::applications_add_no_variables;
 use crate::looking_ahead::drops_alone;
 use crate::without_vertices::know_without;
-use edge_pruning::{drop_vertices, dropping_takes_no_notice_of_the_vertex, prune, settle};
+use edge_pruning::{EdgeRule, drop_vertices, dropping_takes_no_notice_of_the_vertex, prune, settle};
 use merge_rules::{Known, SecondVertex, know_pruned, know_settled, merge_measured};
 use model_core::{Application, Model, copy_model, same_model, was_made};
 use model_read::Places;
@@ -186,10 +187,10 @@ fn apply(
 {
     match application {
         Application::Prune { vertex, edge } => {
-            Ok(apply_prune(model, known, vertices, vertex, *edge))
+            Ok(apply_to_edge(model, known, vertices, EdgeRule::Prune, vertex, *edge))
         }
         Application::Settle { vertex, edge } => {
-            Ok(apply_settle(model, known, vertices, vertex, *edge))
+            Ok(apply_to_edge(model, known, vertices, EdgeRule::Settle, vertex, *edge))
         }
         Application::Drop { vertices: names } => {
             apply_drop(alloc, model, known, vertices, names.as_slice())
@@ -219,46 +220,35 @@ fn keep_where_made(known: &mut Known, made: bool) -> bool
     made
 }
 
-/// Prunes an edge, and says whether it could be.
-fn apply_prune(
+/// Applies a rule of edges to an edge, and says whether it could be.
+fn apply_to_edge(
     model: &mut Model,
     known: &mut Known,
     vertices: &Places,
+    rule: EdgeRule,
     vertex: &Name,
     edge: u64,
 ) -> bool
     requires listed { HasPlaces (names_of_vertices (graph_of model.old).vertices) vertices.now }
     requires known { IsKnown (graph_of model.old) known.old }
-    ensures made { applied (graph_of model.old) (Prune vertex.now edge) ≡ cond result (Some (graph_of model.new)) None }
+    ensures made { applied (graph_of model.old) (application_by rule vertex.now edge) ≡ cond result (Some (graph_of model.new)) None }
     ensures known { IsKnown (graph_of model.new) known.new }
 {
     let Some((vertex, edge)) = edge_named(vertices, vertex, edge) else {
         return false;
     };
-    know_pruned(model, known, vertex, edge);
-    let pruned = prune(model, vertex, edge);
-    keep_where_made(known, pruned.is_ok())
-}
-
-/// Settles an edge, and says whether it could be.
-fn apply_settle(
-    model: &mut Model,
-    known: &mut Known,
-    vertices: &Places,
-    vertex: &Name,
-    edge: u64,
-) -> bool
-    requires listed { HasPlaces (names_of_vertices (graph_of model.old).vertices) vertices.now }
-    requires known { IsKnown (graph_of model.old) known.old }
-    ensures made { applied (graph_of model.old) (Settle vertex.now edge) ≡ cond result (Some (graph_of model.new)) None }
-    ensures known { IsKnown (graph_of model.new) known.new }
-{
-    let Some((vertex, edge)) = edge_named(vertices, vertex, edge) else {
-        return false;
-    };
-    know_settled(model, known, vertex, edge);
-    let settled = settle(model, vertex, edge);
-    keep_where_made(known, settled.is_ok())
+    match rule {
+        EdgeRule::Prune => {
+            know_pruned(model, known, vertex, edge);
+            let pruned = prune(model, vertex, edge);
+            keep_where_made(known, pruned.is_ok())
+        }
+        EdgeRule::Settle => {
+            know_settled(model, known, vertex, edge);
+            let settled = settle(model, vertex, edge);
+            keep_where_made(known, settled.is_ok())
+        }
+    }
 }
 
 /// Drops vertices, and says whether they could be.

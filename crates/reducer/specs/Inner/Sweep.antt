@@ -3,16 +3,13 @@ use Rattle.std.specs.Prelude.{ℕ, ◌+◌, Bool, true, false, cond, List, [], �
 use Rattle.std.specs.List.{flat_map}
 use Rattle.model_core.specs.EventGraph.{EventEdge, EventVertex, EventGraph}
 use Rattle.model_core.specs.Rules.Settle.{unconditional}
-use Rattle.model_core.specs.Rules.Reduction.{RuleApplication, Prune, Settle}
+use Rattle.model_core.specs.Rules.Reduction.{RuleApplication}
 use Rattle.edge_pruning.specs.declared.finding.EdgeRule.{EdgeRule}
 use Rattle.edge_pruning.specs.declared.finding.EdgeRule.TheVariants as rules
 use Rattle.edge_pruning.specs.EdgeRules.{test_of}
+use Rattle.reduction_cert.specs.EdgeApplications.{application_by}
 
 -- ---- one rule of edges
-
-abbrev pub application_by : EdgeRule → List ℕ → ℕ → RuleApplication
-application_by rules.Prune name edge = Prune name edge
-application_by rules.Settle name edge = Settle name edge
 
 -- the edges in place of an edge to which the rule was applied
 abbrev pub instead : EdgeRule → EventEdge → List EventEdge
