@@ -1,5 +1,6 @@
 -- From the job to the call, and from its table of statuses to its other clauses.
 use Rattle.std.proofs.Common.{◌≡◌, ◌⊎◌, inl, inr, ℕ, ℤ, List, [], Option, Some, None, Result, Ok, Err, refl, ap, sym, subst, ◌∙◌, arith}
+use Rattle.std.proofs.lemmas.List.{append-nil}
 use Rattle.std.proofs.lemmas.Option.{same_Some}
 use Rattle.std.specs.Prelude.{max, length, IfSome}
 use Rattle.sig_base.specs.Faults.{HasRisen}
@@ -45,7 +46,6 @@ use Rattle.job_answers.specs.RunAnswer.{ExceedsRoomFrom, FitsRoomFrom, RunFitsRo
 use Rattle.job_answers.specs.ResumeAnswer.{ResumedFitsRoom}
 use Rattle.job_answers.specs.SavedAndResumed.{SavesTheRun, WritesTheRest}
 use Rattle.job_answers.specs.SavedReading.{ReadsSaved}
-use Rattle.job_answers.proofs.Streaming.{grown_by_none}
 use Rattle.answer_delivery.specs.Statuses.{status_of_answer, bytes_of_answer, status_of_end, status_of_refusal, failure_line}
 use Rattle.answer_delivery.specs.FailureStatus.{status_of_failure}
 use Rattle.sigma_top.specs.Promises.{PrintsModel, KeepsPromises}
@@ -134,8 +134,12 @@ if_answers job (Some bytes) P Q text a same answers x y = (a, subst (λ (t : Lis
 some_is_not_none : {A : Type 0} {o : Option A} {x : A} → o ≡ Some x → o ≡ None → ⊥
 some_is_not_none e f = cc
 
+grows_by_nothing : (old : Option (List ℕ)) → GrowsBy old old []
+grows_by_nothing None = tt
+grows_by_nothing (Some bytes) = ap (λ b. Some b) (sym (append-nil bytes))
+
 unwritten : {K : Type 0} (sink : K → Outlet) {o p : K} → p ≡ o → GrowsBy (sink o).written (sink p).written []
-unwritten {K} sink {o} {p} same = subst (λ (q : K). GrowsBy (sink o).written (sink q).written []) (sym same) (grown_by_none (sink o).written)
+unwritten {K} sink {o} {p} same = subst (λ (q : K). GrowsBy (sink o).written (sink q).written []) (sym same) (grows_by_nothing (sink o).written)
 
 -- what reads as a model is reduced, or memory is short
 abbrev pub ReducesWhatReads : Type 0
