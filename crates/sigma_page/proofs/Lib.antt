@@ -1,0 +1,3 @@
+pub mod WordsCut
+pub mod SeenEnds
+pub mod CallLaws

@@ -1,0 +1,2 @@
+pub mod PageWords
+pub mod PageCall

@@ -1,0 +1,11 @@
+//! The program over bytes in memory, as a call that other languages make: words and input in, output, error output and
+//! status out.
+#![tactic(auto)]
+
+mod memory_call;
+mod page_call;
+mod rooms;
+mod word_list;
+
+pub use page_call::sigma_page;
+pub use rooms::Lengths;
