@@ -1,5 +1,5 @@
-# What `tables --fill` makes of a line `# values NAME FILE COLUMN;` in a vertex: the `set` lines that give an array the values of a
-# column of a file.
+# The `set` lines that `tables --fill` writes below a line `# values NAME FILE COLUMN;` of a vertex. They give an array the values
+# of a column of a file.
 
 # A line of the file in parts, by the first of `;`, tab and comma that it has. Parts in quotes lose them.
 function split_line(line, parts,   sign, count, i) {
@@ -69,7 +69,7 @@ function set_lines(line, name, file, column,   size, count, most_targets, i, k, 
         }
         answer = answer (i > 1 ? "\n" : "") "  set " targets " := " values ";"
     }
-    told = told sprintf("%s: %d values from %.0f to %.0f, of column %s of %s\n", name, count, low, high, column, file)
+    made_lines = made_lines sprintf("%s: %d values from %.0f to %.0f, of column %s of %s\n", name, count, low, high, column, file)
     return answer
 }
 

@@ -1,7 +1,7 @@
 # The pairs of vertices that conflict through what an event brings about at once, from what `print`, `uses` and `conflicts` write of a
 # model. Its status is 3 where the program lists other conflicts than are found here.
 
-# What stands between two words of a line, which is a list of names.
+# The text between two words of a line, which is a list of names.
 function between(first, second,   text) {
     text = $0
     sub(".* " first " ", "", text)
@@ -103,15 +103,15 @@ END {
     }
     count = split("variables streams cancels", reasons, " ")
     for (v = 1; v <= vertices; v++) for (w = v; w <= vertices; w++) {
-        told = through = ""
+        unlisted = through = ""
         split("", shown)
         for (r = 1; r <= count; r++) {
             pair = order[v] SUBSEP order[w] SUBSEP reasons[r]
             if (!(pair in reached) || pair in marked) continue
-            told = told (told == "" ? "" : ",") reasons[r]
+            unlisted = unlisted (unlisted == "" ? "" : ",") reasons[r]
             for (u = 1; u <= vertices; u++) if ((pair, order[u]) in by) shown[u]
         }
         for (u = 1; u <= vertices; u++) if (u in shown) through = through (through == "" ? "" : ",") order[u]
-        if (told != "") print order[v], order[w], told, "through", through
+        if (unlisted != "") print order[v], order[w], unlisted, "through", through
     }
 }

@@ -1,6 +1,6 @@
 # The distributions that `tables` knows. Each hands itself to `cell` in narrow pieces, from the least time to the greatest.
 
-# What is said behind each one's name.
+# The words that follow each one's name.
 BEGIN {
     words["exponential"] = "MEAN"
     words["normal"] = "MEAN DEVIATION"
@@ -16,7 +16,7 @@ BEGIN {
     steps = 100000
 }
 
-# Why the numbers behind a distribution's name are none of its own, or nothing. `data` may have a number behind its file.
+# Why the numbers after a distribution's name are none of its own, or nothing. `data` may have a number after its file.
 function wrong_numbers(kind, count, a, b, c,   i) {
     if (count != split(words[kind], i, " ") && !(kind == "data" && count == 2)) return "wants " words[kind]
     if (kind == "data") return count == 1 || b ~ number && b > 0 ? "" : "wants FILE and how many ticks its unit has"

@@ -24,7 +24,7 @@ function folded(text, end,   count, words, i, width, answer) {
     return answer end
 }
 
-# Takes a list apart at the commas that stand outside of brackets, and answers how many parts it has.
+# Takes a list apart at the commas outside of brackets, and answers how many parts it has.
 function items(text, parts,   count, depth, from, i, at) {
     from = 1
     for (i = 1; i <= length(text); i++) {
@@ -61,7 +61,7 @@ function table(border, rows) {
     return sprintf("<table border=\"0\" cellborder=\"%d\" cellspacing=\"0\" cellpadding=\"1\">%s</table>", border, rows)
 }
 
-# What stands behind the last " WORD " of what is left of an edge, which then ends before it.
+# The text after " WORD " in the rest of an edge, which then ends before it.
 function taken(word,   place) {
     place = index(left, " " word " ")
     if (!place) return ""

@@ -3,14 +3,14 @@
 #
 # - A note `at` or `on` has the same values as each other one: their names, their order, how many they are, and of which kind.
 # - Time doesn't fall, and rises from one `at` to the next one.
-# - The last line tells how the run stands, and behind it is nothing but a line end. Where `open` is set these may be missing, and a
-#   last line without its end counts for nothing.
+# - The last line has the outcome, and nothing but a line end follows it. Where `open` is set these may be missing, and a last line
+#   without its end counts for nothing.
 #
 # Takes a line. Afterwards `note` and `time` are its first two words, and shown(ITEM) is the last value of an item, in which a `+`
-# stands between the parts of a sum. Truth values are 1 and 0. `note` is begin and end at the marks, of several histories of each.
+# is between the parts of a sum. Truth values are 1 and 0. `note` is begin and end at the marks, of several histories of each.
 function read_note(   i, from) {
     if (/^(at (0|[1-9][0-9]*)|on (0|[1-9][0-9]*) [A-Za-z][A-Za-z0-9_]*)( [A-Za-z][A-Za-z0-9_]*=(0|-?[1-9][0-9]*|true|false)(,(0|-?[1-9][0-9]*|true|false))*)*$/) {
-        if (last_note != "") refuse_line("a line behind the last one, which is " last_note)
+        if (last_note != "") refuse_line("a line after the last one, which is " last_note)
         note = $1
         go_on_to($2)
         from = note == "at" ? 3 : 4
@@ -33,7 +33,7 @@ function read_note(   i, from) {
 function read_history_mark(   i) {
     if ($1 == "\001failed") { refused = $2; exit refused }
     if ($1 == "\001end") {
-        if (last_note == "" && !open) refuse_line("the history has no end: its last line doesn't tell how the run stands")
+        if (last_note == "" && !open) refuse_line("the history has no end: its last line has no outcome")
         return
     }
     if (sub(/^.history /, "")) { file = $0; seed_now = ""; }
@@ -50,9 +50,9 @@ function read_last_note() {
     if (/\001end$/ && open) return
     if (/\001end$/) refuse_line("the last line has no line end, so the history is cut off")
     if (/\r$/) refuse_line("the line ends in CR LF, not in a line feed alone (tr -d '\\r' takes the CR away)")
-    if (NR == begun + 1 && /^(\357\273\277|\376\377|\377\376)/) refuse_line("a byte order mark stands before the history")
+    if (NR == begun + 1 && /^(\357\273\277|\376\377|\377\376)/) refuse_line("the history begins with a byte order mark")
     if (!/^((ended|stopped) (0|[1-9][0-9]*)|fault (0|[1-9][0-9]*) [a-z]+|budget [1-9][0-9]*)$/) refuse_line("this is no line of a history: " $0)
-    if (last_note != "") refuse_line("a line behind the last one, which is " last_note)
+    if (last_note != "") refuse_line("a line after the last one, which is " last_note)
     note = $1
     last_note = $0
     if (note != "budget") go_on_to($2)

@@ -1,5 +1,5 @@
 # What the tools share in awk: lines on the error output. reports.awk, histories.awk, means.awk and numbers.awk have the rest. A tool
-# puts its own program behind these texts, which `library` of library.sh writes, and sets `tool` to its name.
+# puts its own program after these texts, which `library` of library.sh writes, and sets `tool` to its name.
 
 function say(text) { print tool ": " text | "cat >&2"; close("cat >&2") }
 

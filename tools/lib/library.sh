@@ -34,14 +34,14 @@ find_program() {
     [ -x "$program" ] || no_answer "not built: ./sigma builds it (half an hour), ./first-look answers in three minutes"
 }
 
-# library: the text of the tools' awk functions, behind which a tool puts its own: awk "$(library)"'..'.
+# library: the text of the tools' awk functions, after which a tool puts its own: awk "$(library)"'..'.
 library() {
     cat "$lib/library.awk" "$lib/numbers.awk" "$lib/means.awk" "$lib/reports.awk" "$lib/histories.awk" "$lib/values.awk"
 }
 
-# needs COMMAND: ends where a command isn't there.
+# needs COMMAND: ends where a command is missing.
 needs() {
-    command -v "$1" >/dev/null || no_answer "it needs $1, which isn't there"
+    command -v "$1" >/dev/null || no_answer "it needs $1, which is missing"
 }
 
 # needs_mathematics: ends where awk has no roots, powers and logarithms, before anything is read.
@@ -54,7 +54,7 @@ filled() {
     if grep -q -e '^# table ' -e '^ *# values ' "$1"; then "$tools/tables" --fill "$1" 2>/dev/null; else cat "$1"; fi
 }
 
-# gathered [NAME=]FILE..: what read_report of reports.awk reads: files one behind the other, each with its name. `-` is the standard
+# gathered [NAME=]FILE..: what read_report of reports.awk reads: files one after the other, each with its name. `-` is the standard
 # input. What has no name is called as the file, without folder and `.csv`.
 gathered() {
     for each in "$@"; do
@@ -90,7 +90,7 @@ need_size() {
     awk -v x="$2" 'BEGIN { exit !(x ~ /^[0-9]*\.?[0-9]+$/ && x + 0 > 0) }' || wrong_words "$1 is no number above 0: $2"
 }
 
-# take_unit N[=WORD]: sets `unit` to how many ticks a unit of time has, and `in_units` to how that is told. With % it is 0.01.
+# take_unit N[=WORD]: sets `unit` to how many ticks a unit of time has, and `in_units` to its words. With % it is 0.01.
 # shellcheck disable=SC2034 # the tools use in_units
 take_unit() {
     [ "$1" != % ] || set -- "0.01=per cent"
@@ -101,13 +101,13 @@ take_unit() {
     [ "$1" = "$unit" ] || in_units=" in ${1#*=}"
 }
 
-# quoted TEXT: as it stands between single quotes in a text of gnuplot.
+# quoted TEXT: as it is written between single quotes in a text of gnuplot.
 quoted() { printf '%s\n' "$1" | sed "s/'/''/g"; }
 
-# seeds FIRST COUNT: that many seeds, one behind the other.
+# seeds FIRST COUNT: that many seeds, one after the other.
 seeds() {
     awk -v first="$1" -v count="$2" "$(library)"'
-        BEGIN { for (k = 0; k < count; k++) print (k ? seed_behind(first, k) : first) }
+        BEGIN { for (k = 0; k < count; k++) print (k ? seed_after(first, k) : first) }
     '
 }
 
@@ -120,7 +120,7 @@ parts_of() {
             if (parts < 1) parts = 1
             for (part = 0; part < parts; part++) {
                 size = int(wanted / parts) + (part < wanted % parts)
-                print (part ? seed_behind(first, before) : first), size
+                print (part ? seed_after(first, before) : first), size
                 before += size
             }
         }
@@ -150,7 +150,7 @@ histories() {
 
 histories_begun() { echo "$(($(wc -l <"$room/begun"))) of $runs runs are begun"; }
 
-# joined_reports FILE..: makes one report of several. The first header stands for all, the rows of a report count on from the runs
+# joined_reports FILE..: makes one report of several. It has the first header alone, the rows of a report count on from the runs
 # before it, and the totals are joined item by item. An empty field joined with another one is that other one.
 joined_reports() {
     printf '\001design %s\n' "$1" >"$room/parts_of_one"

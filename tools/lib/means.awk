@@ -24,9 +24,7 @@ function student(degrees,   table, z) {
 
 # A mean with its error and interval in words, with three decimals, or as many as the error needs. Where the tool has a `unit`, it is
 # in units of so many, and `in_units` names them.
-function told(middle, off, half) { return told_between("mean", middle, off, middle - half, middle + half) }
-
-function told_between(what, middle, off, low, high,   digits, form, by) {
+function estimate_text(what, middle, off, low, high,   digits, form, by) {
     by = unit ? unit : 1
     for (digits = 3; off > 0 && off / by < 10 ^ -digits && digits < 9; digits++);
     form = "%." digits "f"

@@ -6,7 +6,7 @@ function row(name, key, what, middle,   half) {
     else {
         half = error(key) * quantile(taken[key] - 1)
         printf "%-" wide "s %s, %s\n", name, plural(taken[key], "run"), \
-            told_between(what, middle, error(key), mean[key] - half, mean[key] + half)
+            estimate_text(what, middle, error(key), mean[key] - half, mean[key] + half)
     }
 }
 
@@ -25,13 +25,13 @@ function row_apart(name, key, other, what, middle,   a, b, both, half) {
     both = sqrt(a + b)
     half = a + b > 0 ? both * quantile((a + b) ^ 2 / (a ^ 2 / (taken[key] - 1) + b ^ 2 / (taken[other] - 1))) : 0
     printf "%-" wide "s %d and %d runs, %s\n", name, taken[key], taken[other], \
-        told_between(what, middle, both, mean[key] - mean[other] - half, mean[key] - mean[other] + half)
+        estimate_text(what, middle, both, mean[key] - mean[other] - half, mean[key] - mean[other] + half)
 }
 
 # Two designs pair where they have the same seeds, and are apart where they have none in common.
 function check_seeds(d, e,   k, common) {
     for (k = 1; k <= runs[d]; k++) common += (e, seed[d, k]) in run_of
-    if (apart && common) refuse(plural(common, "seed") " of " label[d] " stand in " label[e] " too, so they are not apart")
+    if (apart && common) refuse(label[d] " and " label[e] " share " plural(common, "seed") ", so they are not apart")
     if (apart || common == runs[d] && common == runs[e]) return
     refuse(label[d] " and " label[e] " do not pair: they have " plural(runs[d], "run") " and " plural(runs[e], "run") \
         ", and " common + 0 " seeds in common (--apart takes seeds of their own)")

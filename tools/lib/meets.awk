@@ -1,4 +1,4 @@
-# Of pairs of vertices, and of runs as they were saved, each behind a line `look SEED TICK`: for each pair in how many runs, and in how
+# Of pairs of vertices, and of runs as they were saved, each after a line `look SEED TICK`: for each pair in how many runs, and in how
 # many ticks, two events of it were due at that tick with one priority, and the priority, 0 where they were urgent.
 function finish(   i, k, p) {
     for (i = 1; i < due; i++) for (k = i + 1; k <= due; k++) {

@@ -30,8 +30,8 @@ function sum(a, b) {
     return in_pieces(a, b, 1)
 }
 
-# The seed that comes so many behind another one; 0 comes behind 2^64 - 1.
-function seed_behind(seed, count,   answer) {
+# The seed that comes so many after another one; 0 comes after 2^64 - 1.
+function seed_after(seed, count,   answer) {
     answer = sum(seed, count)
     return is_less(answer, "18446744073709551616") ? answer : difference(answer, "18446744073709551616")
 }

@@ -19,7 +19,7 @@ function put_mean(   half, key, words) {
     half = reach(sum_of_values)
     key = tally_name
     if (half < 0) words = sprintf("mean %.3f, and no interval, which takes two runs with values", sum_of_values / count / unit)
-    else words = told_between("mean", sum_of_values / count, error(key), mean[key] - half, mean[key] + half)
+    else words = estimate_text("mean", sum_of_values / count, error(key), mean[key] - half, mean[key] + half)
     printf "%s of %s, %s\n", plural(count, "value"), plural(run_count, "run"), words
 }
 

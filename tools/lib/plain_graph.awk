@@ -1,4 +1,4 @@
-# A plain picture of a model in its canonical text, for where dot isn't there: the events on a circle. Urgent edges are thick, and
+# A plain picture of a model in its canonical text, for a machine without dot: the events on a circle. Urgent edges are thick, and
 # cancelling ones dashed.
 /^vertex / { name = $2; sub(/\(.*/, "", name); vertex[++count] = name; place[name] = count }
 /^  (schedule|urgent|cancel) / {

@@ -1,14 +1,15 @@
-# Reports of `replicate`, which `gathered` of library.sh writes one behind the other. read_report checks each line of them, and ends
+# Reports of `replicate`, which `gathered` of library.sh writes one after the other. read_report checks each line of them, and ends
 # the tool by the file and the line of the first one that is wrong, so that whatever is counted is of whole reports. What has to hold:
 #
 # - Each field has the form of its column, and runs count from 1 on.
-# - The rows of a run stand together. They have one seed, outcome and time, and the same items in the same order as each other run.
+# - The rows of a run are next to each other. They have one seed, outcome and time, and the same items in the same order as each
+#   other run.
 # - The last value lies between the least and the greatest one, and the area between these times the time.
-# - The totals stand at the end, behind them a line end, and what the rows say adds up to them.
+# - The totals are at the end, a line end follows them, and the rows add up to them.
 #
 # Other programs' reports may leave fields of least and greatest empty, and then have decimal fractions in time, last and area.
 #
-# A design may have several reports, one behind the other, with the same items and other seeds. FS is a comma.
+# A design may have several reports, one after the other, with the same items and other seeds. FS is a comma.
 
 BEGIN {
     standard_header = "run,seed,outcome,time,item,least,greatest,last,area,count"
@@ -64,7 +65,7 @@ function read_report(   columns) {
     if (/^\001/) { read_mark(); return "mark" }
     if (/\001/) refuse_line("the last line has no line end, so the report is cut off")
     if (/\r$/) refuse_line("the line ends in CR LF, not in a line feed alone (tr -d '\\r' takes the CR away)")
-    if (NR == begun + 1 && /^(\357\273\277|\376\377|\377\376)/) refuse_line("a byte order mark stands before the report")
+    if (NR == begun + 1 && /^(\357\273\277|\376\377|\377\376)/) refuse_line("the report begins with a byte order mark")
     if (!place["run"] || $1 == "run" || field("run") == "run") { read_header(); return "header" }
     if (NF != fields) refuse_line("these are " plural(NF, "field") ", and its header has " fields)
     if (field("run") == "total") { take_total(); return "total" }
@@ -173,7 +174,7 @@ function take_row(columns,   name) {
     if (times[position]) take_worth(name)
 }
 
-# The least and the greatest value of an item stand as a text, and as a number that may be a little off.
+# The least and the greatest value of an item, each as a text, and as a number that may be a little off.
 function take_least(x) {
     if (run_now > 1 && x == lowest[position] && !is_below(x, least_yet[position])) return
     least_yet[position] = x ""
@@ -199,7 +200,7 @@ function check_run() {
 }
 
 function begin_run(   k) {
-    if (totals) refuse_line("a row behind the totals")
+    if (totals) refuse_line("a row after the totals")
     end_run()
     if ($run_at != run_now + 1) refuse_line("run " $run_at " where run " run_now + 1 " has to be: rows are missing or in another order")
     run_now = $run_at + 0
@@ -224,7 +225,7 @@ function end_run() {
     position = 0
 }
 
-# The first run of a design tells the items that each further run has, and which columns they have.
+# The first run of a design lists the items that each further run has, and which columns they have.
 function take_item(name, columns) {
     if (is_listing) {
         if ((designs, name) in has_item) refuse_line("run 1 has " name " twice")
@@ -288,8 +289,8 @@ function told_of(name, column) {
     return field(column)
 }
 
-# Ends where what was read has no answer: an item that isn't there, runs that were cut off where `all` isn't set (status 3), and
-# values that aren't there.
+# Ends where what was read has no answer: an unknown item, runs that were cut off where `all` isn't set (status 3), and missing
+# values.
 function close_reports(   d, name) {
     if (refused) exit refused
     for (d = 1; d <= designs; d++) for (name in times_wanted)

@@ -13,7 +13,7 @@ END {
         is_met = sign[w] * (end - target[w]) >= 0
         if (!is_met) missed++
         printf "%-" wide "s %s, %s: its %s end %s %s %s\n", wanted_item[w], plural(runs[1], "run"), \
-            told_between(is_ratio[w] ? "ratio of the totals" : "mean", point[w, 1], error(w), mean[w] - half, mean[w] + half), \
+            estimate_text(is_ratio[w] ? "ratio of the totals" : "mean", point[w, 1], error(w), mean[w] - half, mean[w] + half), \
             (sign[w] == 1 ? "lower" : "upper"), (is_met ? "meets" : "misses"), (sign[w] == 1 ? ">=" : "<="), target[w]
     }
     exit missed ? 4 : 0

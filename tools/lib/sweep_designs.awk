@@ -11,7 +11,7 @@ function read_values(i, text,   ends, x) {
     if (ways > 1000) refuse("these are more than 1000 designs", 2)
 }
 
-# What stands behind the colon, with the values of its names; each of them has to have one.
+# The text after the colon, with the values of its names; each of them has to have one.
 function filled(line,   text, held, held_count, i, word) {
     held_count = split(substr(line, RSTART + 8, RLENGTH - 10), held, /, */)
     line = substr(line, RSTART + RLENGTH)
@@ -67,7 +67,7 @@ END {
         print choose(d - 1) >(room "/designs")
         start = is_started ? " --start=" : ""
         for (i = 1; i <= places && is_started; i++) start = start (i > 1 ? "," : "") worth_of[starting[i]]
-        first_seed = apart && d > 1 ? seed_behind(first, (d - 1) * wanted) : first
+        first_seed = apart && d > 1 ? seed_after(first, (d - 1) * wanted) : first
         print "--seed " first_seed " --runs " wanted words start >(room "/" d ".words")
         for (i = 1; i <= lines; i++) print (is_swept(text[i]) ? filled(text[i]) : text[i]) >(room "/" d ".model")
         close(room "/" d ".words")

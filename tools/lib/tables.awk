@@ -105,7 +105,7 @@ function made(line, name, count, a, b, c,   wrong, weights) {
     moments_of_rows()
     wrong = flaw()
     if (wrong != "") refuse(line, name ": " wrong)
-    told = told sprintf("%s: %d rows from %.0f to %.0f, mean %.3f for %.3f, deviation %.3f for %.3f, %s cut off\n", \
+    made_lines = made_lines sprintf("%s: %d rows from %.0f to %.0f, mean %.3f for %.3f, deviation %.3f for %.3f, %s cut off\n", \
         name, rows, value[1], value[rows], got_mean, asked_mean, got_deviation, asked_deviation, \
         cut ? sprintf("%.2g per cent", 100 * cut / (cut + whole)) : "nothing")
     return table_text(name)
@@ -163,6 +163,6 @@ END {
         print values_text[from]
         while (i < NR && text[i + 1] ~ ("^[ \t]*set[ \t]+" values_of[from] "[ \t]*\\[")) i++
     }
-    printf "%s", told | "cat >&2"
+    printf "%s", made_lines | "cat >&2"
     close("cat >&2")
 }

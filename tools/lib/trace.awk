@@ -1,11 +1,11 @@
 # What `trace` writes, of a model in its canonical text, of the run as it was saved before the first event, if it was, and of the
-# history behind that, in which each variable and event is watched.
+# history after it, in which each variable and event is watched.
 
-# Keeps the values of a variable, and writes what of them has changed since, where `told` says so.
-function take(name, text, told,   count, part, i) {
+# Keeps the values of a variable. With `shows` it writes which of them have changed.
+function take(name, text, shows,   count, part, i) {
     count = split(text, part, ",")
     for (i = 1; i <= count; i++) {
-        if (told && now[name, i] != part[i]) print "    " name (cells[name] > 1 ? "[" i - 1 "]" : "") " " now[name, i] " -> " part[i]
+        if (shows && now[name, i] != part[i]) print "    " name (cells[name] > 1 ? "[" i - 1 "]" : "") " " now[name, i] " -> " part[i]
         now[name, i] = part[i]
     }
 }

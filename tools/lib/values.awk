@@ -1,5 +1,5 @@
-# Files with a number on each line, which `gathered` of library.sh writes one behind the other. Takes a line, and answers whether it is
-# one of the numbers. A wrong one ends the tool by its file and line; behind the last number there has to be a line end.
+# Files with a number on each line, which `gathered` of library.sh writes one after the other. Takes a line, and answers whether it is
+# one of the numbers. A wrong one ends the tool by its file and line; a line end has to follow the last number.
 function read_value() {
     if (sub(/^\001design /, "")) label[++designs] = $0
     else if (sub(/^\001file /, "")) { file = $0; begun = NR }

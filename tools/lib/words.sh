@@ -6,12 +6,12 @@
 #     take_options "first=50 keep= at-most= all .." "$@"
 #     shift "$taken"
 #
-# - A name with `=` is an option with a value: `--first 9` or `--first=9` sets `first` to 9. Behind the `=` is the default.
+# - A name with `=` is an option with a value: `--first 9` or `--first=9` sets `first` to 9. The default follows the `=`.
 # - A name without `=` is a flag: `--all` sets `all` to `yes`. Where it isn't given, `all` is empty.
 # - A hyphen in a name is an underscore in its variable: `--at-most 3` sets `at_most`.
 # - `..` at the end of the names means that words of the program may follow: `--until`, `--seed` and so on end the options. Take
 #   those with take_words.
-# - `--` ends the options, and so does the first word that doesn't begin with two hyphens.
+# - `--`, or the first word that doesn't begin with two hyphens, ends the options.
 #
 # An unknown option, an option that is given twice, a missing or empty value, and a flag with a value end the tool with status 2.
 take_options() {
