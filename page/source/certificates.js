@@ -75,7 +75,7 @@ function ranges_read(model, condition) {
   return `, by the declared ranges (${names.map(name => `${name} : ${model.variable.get(name).kind}`).join(", ")})`;
 }
 
-// Of a fused model: which vertices went, and which stands for each. `fuse` only renames what edges lead to, so the
+// Of a fused model: which vertices went, and which replaces each. `fuse` only renames what edges lead to, so the
 // edges of a vertex that stayed are the same in number and order.
 function follow_fusing(before, after) {
   const stands_for = new Map(), left = new Set(after.vertices.map(vertex => vertex.name));
@@ -91,8 +91,8 @@ function follow_fusing(before, after) {
     for (const edge of vertex.edges) gone.edges.set(edge.id, line);
     lines.push(line);
     sentences.push(stands_for.has(vertex.name)
-      ? `${vertex.name} does the same as ${stands_for.get(vertex.name)}. So ${stands_for.get(vertex.name)} stands ` +
-        `for both.`
+      ? `${vertex.name} does the same as ${stands_for.get(vertex.name)}. So ${stands_for.get(vertex.name)} replaces ` +
+        `${vertex.name}.`
       : `${vertex.name} does the same as an earlier event, and no edge leads to it.`);
   }
   return { gone, lines, sentences };

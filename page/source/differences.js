@@ -33,7 +33,7 @@ function middle_difference(a, b) {
   return lines;
 }
 
-// The lines that differ, each with some lines around it; `null` stands for lines that are left out.
+// The lines that differ, each with some lines around it; `null` marks lines that are left out.
 function difference_with_context(lines, around = 3) {
   const shown = [];
   let last = -1;

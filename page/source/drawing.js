@@ -52,7 +52,7 @@ const drawing = {
     inspector.show();
   },
 
-  // What the gestures want. Each selects what it made, and tells a refusal beside the graph.
+  // The actions of the gestures. Each selects what it made, and shows a refusal beside the graph.
   async add_event() {
     const name = is_blank(app.editor.text()) ? "START" : free_name(app.editor.text(), "EVENT1");
     const answer = await drawing.write(text => add_event(text, name));

@@ -3,7 +3,7 @@
 // { from, to, text, field }: these characters become that text; `field` names the form's field that it came from. Plain
 // functions.
 
-// The text after the edits, and of each edit where its text then stands.
+// The text after the edits, and of each edit where its text then is.
 function apply_edits(text, edits) {
   const sorted = edits.map((edit, number) => ({ ...edit, number })).sort((a, b) => a.from - b.from || a.to - b.to
     || a.number - b.number);
@@ -21,15 +21,14 @@ function apply_edits(text, edits) {
 function is_blank(text) { return !tokens_of(text).length; }
 function line_end_of(text) { return text.includes("\r\n") ? "\r\n" : "\n"; }
 
-// The blanks before the place, where nothing else stands before it on its line; else null.
+// The blanks before the place, where nothing else is before it on its line; else null.
 function indent_before(text, place) {
   const start = text.lastIndexOf("\n", place - 1) + 1, before = text.slice(start, place);
   return /^\s*$/.test(before) ? before : null;
 }
 
-// Puts an item on a line of its own next to the place, behind a comment that stands there. Where the line goes on, the
-// item goes
-// between what is there.
+// Puts an item on a line of its own next to the place, after a comment that is there. Where the line goes on, the item
+// goes between what is there.
 function insert_after(text, place, item, indent, field) {
   const rest = /^[^\n]*/.exec(text.slice(place))[0];
   if (indent === null || !/^\s*(#.*)?$/.test(rest)) return { from: place, to: place, text: " " + item, field };
@@ -79,7 +78,7 @@ function add_event(text, name) {
   return [insert_after(text, last.to, `vertex ${name} {${end}}`, indent_before(text, last.from))];
 }
 
-// Puts a change or an edge behind the last part before it, within its vertex.
+// Puts a change or an edge after the last part before it, within its vertex.
 function add_to_vertex(text, vertex, previous, item, field) {
   if (previous) return insert_after(text, previous.to, item, indent_before(text, previous.from), field);
   const own_line = text.slice(vertex.open, vertex.close).includes("\n");

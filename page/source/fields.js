@@ -1,6 +1,5 @@
-// Fields of the forms. A field is written when it is left or Enter is pressed; where the program refuses what it holds,
-// the words of the
-// refusal stand below it, and nothing is written.
+// Fields of the forms. A field is written when it is left or Enter is pressed. If the program refuses its text, the
+// words of the refusal are below it, and nothing is written.
 
 // What a field may not hold, since it would be more than the field: "" where it is fine. A plain function.
 function field_fault(kind, value) {

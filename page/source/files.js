@@ -16,7 +16,7 @@ const files = {
     files.saved_text = null;
   },
 
-  // The text is kept in the browser half a second after the last key. One that is too long for it is told.
+  // The text is kept in the browser half a second after the last key. The page says if it is too long for that.
   keep_soon() {
     clearTimeout(files.waiting);
     files.waiting = setTimeout(files.keep, 500);

@@ -8,7 +8,7 @@ function needs_version_2(text, parts) {
   return words_in(text, parts.version.value) === "2" ? [] : [replace_part(parts.version.value, "2")];
 }
 
-// One clause of an edge: replaced, added behind the place, or taken away.
+// One clause of an edge: replaced, added at the place, or taken away.
 function set_clause(text, clause, word, value, place, field) {
   if (!clause) return value ? [{ from: place, to: place, text: ` ${word} ${value}`, field }] : [];
   return value ? [replace_part(clause.value, value, field)] : [{ ...remove_clause(text, clause), field }];

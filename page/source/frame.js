@@ -103,7 +103,7 @@ function legend_rows() {
       [arrow("urgent"), "brings an event about at once"],
     [arrow("cancels"), "cancels the next one; 'all' cancels all"],
       [arrow("schedules", "~ N > 0"), "only if the condition holds"],
-    [values, "values carried to the event's parameters, which stand behind its name"],
+    [values, "values carried to the event's parameters, which follow its name"],
   ];
 }
 const legend = {

@@ -8,8 +8,8 @@ function read_conflicts(text) {
   });
 }
 
-// `NAME readers A,B writers C watched yes`, a line for each variable. Where nobody reads or writes the program says
-// so by `-`.
+// `NAME readers A,B writers C watched yes`, a line for each variable. The program writes `-` where no
+// vertex reads or writes it.
 function read_uses(text) {
   return text.split("\n").filter(Boolean).map(line => {
     const words = line.split(" "), list = word => (word === "-" || word === "none" ? [] : word.split(","));

@@ -120,7 +120,7 @@ class Picture {
     if (!a || !b) return;
     this.node(first).classList.add("conflict");
     this.node(second).classList.add("conflict");
-    // The line goes around what stands between the two.
+    // The line goes around what is between the two.
     const low = Math.min(a.y, b.y), high = Math.max(a.y, b.y),
       between = [...this.at.values()].filter(each => each.y >= low && each.y <= high);
     const edge = Math.min(...between.map(each => each.x - each.rx)), middle = (a.y + b.y) / 2;

@@ -1,7 +1,6 @@
 // The parts of a picture as SVG: an ellipse is an event with its changes, a thin arrow schedules, a thick one is
-// urgent, a dashed one
-// cancels; at an arrow stand the delay, the priority, behind a tilde the condition, and in a box the values that are
-// carried.
+// urgent, a dashed one cancels. An arrow has the delay, the priority, the condition after a tilde, and the values that
+// it carries in a box.
 
 const SVG = "http://www.w3.org/2000/svg";
 
@@ -18,7 +17,7 @@ function width_of(text, font) {
   return ruler.measureText(text).width;
 }
 
-// The style of a picture: in the page with its colours, in a file of its own with those behind the commas.
+// The style of a picture: in the page with its colours, in a file of its own with those after the commas.
 const STYLE = `
 .node ellipse{fill:var(--paper,#fff);stroke:var(--ink,#222);stroke-width:1.2}
 .node text,.edge text{fill:var(--ink,#222);font:12px Helvetica,Arial,sans-serif;white-space:pre}

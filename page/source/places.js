@@ -1,5 +1,5 @@
-// Where the parts of a model stand in a text that the program accepted. Nothing here decides whether a text is right.
-// A part has `from` and `to`, the places of its first character and behind its last. Plain functions.
+// The places of a model's parts in a text that the program accepted. Nothing here decides whether a text is right.
+// A part has `from` and `to`, the places of its first character and after its last. Plain functions.
 
 const TOKEN = /#[^\n]*|[A-Za-z]\w*|\d+|:=|\.\.|<>|<=|>=|[^\s]/g;
 
@@ -49,7 +49,7 @@ class TokenWalk {
   is(word) { return this.peek().word === word; }
   take() { return this.tokens[this.next++] || this.behind; }
   last() { return this.tokens[this.next - 1] || this.behind; }
-  // All up to the first of these words that stands outside of brackets, which isn't taken.
+  // All up to the first of these words outside of brackets, which isn't taken.
   until(...words) {
     const from = this.peek().from;
     let depth = 0, to = from;

@@ -25,8 +25,8 @@ function tick_text(value) {
 
 const PLOT_MARGIN = { left: 46, right: 12, top: 8, bottom: 20 };
 
-// An empty plot with its axes: `x(value)` and `y(value)` are places in it, and `value_of_x(place)` is what a place
-// stands for.
+// An empty plot with its axes: `x(value)` and `y(value)` are places in it, and `value_of_x(place)` is the value at a
+// place.
 function plot_frame(width, height, x_range, y_range, label, least_step = 1) {
   const { left, right, top, bottom } = PLOT_MARGIN, wide = width - left - right, high = height - top - bottom;
   const x_size = x_range[1] - x_range[0] || 1, y_size = y_range[1] - y_range[0] || 1;

@@ -18,7 +18,7 @@ const RESERVED = (
   "model var bool clip table watch vertex set draw from in by schedule urgent cancel all after priority when " +
   "end not and or if then else true false clk min max version certificate prune settle drop merge slice").split(" ");
 
-// The words that stand before the place, without comments, so that a hint can say what was begun.
+// The words before the place, without comments, so that a hint can say what was begun.
 function before_place(text, index) {
   const part = text.slice(Math.max(0, index - 2000), index).replace(/#[^\n]*/g, "");
   return part.slice(Math.max(part.lastIndexOf(";"), part.lastIndexOf("{"), part.lastIndexOf("}")) + 1).trimStart();

@@ -1,5 +1,5 @@
-// What stands in an ellipse and at an arrow, and how large that is. `width_of(text, font)` measures a text, so that
-// these are plain functions.
+// The text in an ellipse and at an arrow, and its size. `width_of(text, font)` measures a text, so that these are plain
+// functions.
 
 const MOST_LINES = 12, MOST_LETTERS = 34, LINE = 15, LABEL_LINE = 13;
 const FONTS = {

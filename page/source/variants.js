@@ -84,7 +84,7 @@ function with_first_parts(model, name, count) {
   return lines.join("\n");
 }
 
-// The changes and edges of a vertex, as they stand in the text.
+// The changes and edges of a vertex, as they are in the text.
 function parts_of_vertex(vertex) {
   return [...vertex.changes, ...vertex.edges.map(edge => edge.line.trim().replace(/;$/, ""))];
 }

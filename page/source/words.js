@@ -56,7 +56,7 @@ const run_words = {
     return list;
   },
 
-  // Takes words as they stand in a shell, as `run --until 480 --seed 7 --events 100000 --start 2`.
+  // Takes words as a shell has them, as `run --until 480 --seed 7 --events 100000 --start 2`.
   take(line) {
     const words = typed_words(line.replace(/=/g, " "));
     for (const [name, id] of [["--until", "until"], ["--seed", "seed"], ["--events", "events"]])
