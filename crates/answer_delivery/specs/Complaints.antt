@@ -8,7 +8,7 @@ use Rattle.model_core.specs.Text.Written.{WrittenModel}
 use Rattle.model_core.specs.Text.FirstWrong.{IsUnexpectedAt}
 use Rattle.model_core.specs.Text.Openings.{too_deep_at}
 use Rattle.model_core.specs.Text.ModelText.{SpellsText}
-use Rattle.model_core.specs.Static.ModelFaults.{IsTold}
+use Rattle.model_core.specs.Static.ModelFaults.{IsFirstFault}
 use Rattle.answer_delivery.specs.declared.complaint.Complaint.{Complaint}
 use Rattle.answer_delivery.specs.declared.complaint.Complaint.TheVariants as complaints
 
@@ -51,5 +51,5 @@ abbrev pub IsComplaint : List ℕ → Complaint → ℕ → Type 0
 IsComplaint text complaints.BadByte at = tokens_of text ≡ Err at
 IsComplaint text complaints.TooDeep at = (tokens : List Lexeme) × (tokens_of text ≡ Ok tokens) × (too_deep_at OPENINGS_MAX tokens ≡ Some at)
 IsComplaint text complaints.Unexpected at = (tokens : List Lexeme) × (tokens_of text ≡ Ok tokens) × (too_deep_at OPENINGS_MAX tokens ≡ None) × IsUnexpectedAt text tokens at
-IsComplaint text (complaints.Static kind) at = (m : WrittenModel) × SpellsText text m × IsTold m kind at
+IsComplaint text (complaints.Static kind) at = (m : WrittenModel) × SpellsText text m × IsFirstFault m kind at
 IsComplaint text complaints.BadSnapshot at = ⊥

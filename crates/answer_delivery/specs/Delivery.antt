@@ -4,8 +4,8 @@ use Rattle.sig_base.specs.Faults.{HasRisen}
 use Rattle.sig_base.specs.Sink.{Outlet, GrowsBy}
 use Rattle.answer_delivery.specs.declared.answer.Answer.{Answer}
 use Rattle.answer_delivery.specs.declared.answer.Answer.TheVariants.{Given, Refused}
-use Rattle.answer_delivery.specs.declared.delivering.Said.{Said}
-use Rattle.answer_delivery.specs.declared.delivering.Said.TheVariants as said
+use Rattle.answer_delivery.specs.declared.delivering.DeliveryOutcome.{DeliveryOutcome}
+use Rattle.answer_delivery.specs.declared.delivering.DeliveryOutcome.TheVariants as said
 use Rattle.answer_delivery.specs.declared.status.Failure.{Failure}
 use Rattle.answer_delivery.specs.declared.status.Failure.TheVariants as failures
 use Rattle.answer_delivery.specs.FrontWritten.{GrowsByFront}
@@ -29,7 +29,7 @@ pub record StopsShort (bytes : List ℕ) (old new : Outlet) : Type 0 where
 
 -- What delivering an answer, as it came or at once, did to the output: its bytes were written, or the first of them; of a
 -- refusal nothing is written.
-abbrev pub Delivers : {K : Type 0} → (K → Outlet) → Answer → Result Said Failure → K → K → Type 0
+abbrev pub Delivers : {K : Type 0} → (K → Outlet) → Answer → Result DeliveryOutcome Failure → K → K → Type 0
 Delivers seen (Given end bytes) (Ok (said.Gave other)) o p = (other ≡ end) × Finishes bytes (seen o) (seen p)
 Delivers seen (Given end bytes) (Err failures.WriteFault) o p = BreaksOff bytes (seen o) (seen p)
 Delivers seen (Given end bytes) (Err failures.NoMemory) o p = StopsShort bytes (seen o) (seen p)
@@ -37,12 +37,12 @@ Delivers seen (Refused why line) (Ok (said.Refused other told)) o p = (other ≡
 Delivers seen answer result o p = ⊥
 
 -- An answer of which P holds is delivered. Memory may be refused after a front of it where the last fact holds.
-pub record DeliversOne {K : Type 0} (seen : K → Outlet) (P : Answer → Type 0) (Short : Type 0) (result : Result Said Failure) (o p : K) : Type 0 where
+pub record DeliversOne {K : Type 0} (seen : K → Outlet) (P : Answer → Type 0) (Short : Type 0) (result : Result DeliveryOutcome Failure) (o p : K) : Type 0 where
   pub answer : Answer
   pub holds : P answer
   pub delivers : Delivers seen answer result o p
   pub short : result ≡ Err failures.NoMemory → (p ≡ o) ⊎ Short
 
 -- the same, or memory is refused before there is an answer, and the output is as it was
-abbrev pub DeliversSome : {K : Type 0} → (K → Outlet) → (Answer → Type 0) → Type 0 → Result Said Failure → K → K → Type 0
+abbrev pub DeliversSome : {K : Type 0} → (K → Outlet) → (Answer → Type 0) → Type 0 → Result DeliveryOutcome Failure → K → K → Type 0
 DeliversSome seen P Short result o p = DeliversOne seen P Short result o p ⊎ ((result ≡ Err failures.NoMemory) × (p ≡ o))

@@ -3,8 +3,8 @@ use Rattle.std.specs.Prelude.{◌≡◌, ◌<◌, ℕ, true, false, List, [], le
 use Rattle.sig_base.specs.Faults.{HasRisen}
 use Rattle.sig_base.specs.Sink.{Outlet, GrowsBy}
 use Rattle.sig_base.specs.Source.{Stays}
-use Rattle.answer_delivery.specs.declared.delivering.Said.{Said}
-use Rattle.answer_delivery.specs.declared.delivering.Said.TheVariants as said
+use Rattle.answer_delivery.specs.declared.delivering.DeliveryOutcome.{DeliveryOutcome}
+use Rattle.answer_delivery.specs.declared.delivering.DeliveryOutcome.TheVariants as said
 use Rattle.answer_delivery.specs.declared.status.End.{End}
 use Rattle.answer_delivery.specs.declared.status.Failure.{Failure}
 use Rattle.answer_delivery.specs.declared.status.Failure.TheVariants as failures
@@ -17,7 +17,7 @@ Written bytes (Err failures.WriteFault) o p = GrowsByFront o p bytes × (p.settl
 Written bytes (Err e) o p = ⊥
 
 -- what finishing the output did, after all of the bytes
-abbrev pub Closed : End → Result Said Failure → Outlet → Outlet → Type 0
+abbrev pub Closed : End → Result DeliveryOutcome Failure → Outlet → Outlet → Type 0
 Closed end (Ok (said.Gave e)) o p = (e ≡ end) × Stays o.written p.written × (p.settled ≡ true) × (p.faults ≡ o.faults)
 Closed end (Err failures.WriteFault) o p = Stays o.written p.written × (p.settled ≡ o.settled) × HasRisen o.faults p.faults
 Closed end r o p = ⊥

@@ -10,7 +10,7 @@ use sig_base::{NoMemory, Sink, Text, put};
 
 /// What there is to report of an answer, once its bytes are on the output.
 #[derive(Drop)]
-pub enum Said {
+pub enum DeliveryOutcome {
     /// How the job ended.
     Gave(End),
     /// Why nothing was written, and the line for the error output.
@@ -28,17 +28,17 @@ pub fn write_all<K: Sink>(output: &mut K, bytes: &[u8]) -> Result<(), Failure>
 }
 
 /// Finishes the output after the bytes of an answer.
-pub fn close<K: Sink>(output: &mut K, end: End) -> Result<Said, Failure>
+pub fn close<K: Sink>(output: &mut K, end: End) -> Result<DeliveryOutcome, Failure>
     ensures { Closed end result (K.seen output.old) (K.seen output.new) }
 {
     match output.finish() {
-        Ok(()) => Ok(Said::Gave(end)),
+        Ok(()) => Ok(DeliveryOutcome::Gave(end)),
         Err(_) => Err(Failure::WriteFault),
     }
 }
 
 /// Writes the answer's bytes, and finishes the output; of a refusal nothing is written.
-fn send<K: Sink>(output: &mut K, answer: Answer) -> Result<Said, Failure>
+fn send<K: Sink>(output: &mut K, answer: Answer) -> Result<DeliveryOutcome, Failure>
     ensures delivers { Delivers K.seen answer result output.old output.new }
     ensures has_memory { result ≢ Err Failure.NoMemory }
 {
@@ -47,13 +47,16 @@ fn send<K: Sink>(output: &mut K, answer: Answer) -> Result<Said, Failure>
             write_all(output, bytes.as_slice())?;
             close(output, end)
         }
-        Answer::Refused(why, line) => Ok(Said::Refused(why, line)),
+        Answer::Refused(why, line) => Ok(DeliveryOutcome::Refused(why, line)),
     }
 }
 
 /// Writes an answer that is whole, and finishes the output. Where memory was refused before there was an answer, nothing is
 /// written.
-pub fn deliver<K: Sink>(output: &mut K, answer: Result<Answer, NoMemory>) -> Result<Said, Failure>
+pub fn deliver<K: Sink>(
+    output: &mut K,
+    answer: Result<Answer, NoMemory>,
+) -> Result<DeliveryOutcome, Failure>
     ensures { MatchResult answer
         (λ a. Delivers K.seen a result output.old output.new × (result ≢ Err Failure.NoMemory))
         (λ e. (result ≡ Err Failure.NoMemory) × (output.new ≡ output.old)) }

@@ -9,5 +9,5 @@ mod status;
 
 pub use answer::{Answer, complaint_answer, too_long_answer};
 pub use complaint::Complaint;
-pub use delivering::{Said, close, deliver, write_all};
+pub use delivering::{DeliveryOutcome, close, deliver, write_all};
 pub use status::{End, Failure, Refusal, Status};

@@ -34,11 +34,11 @@ pub record FrontFacts : Type 0 where
 abbrev EndsWithFeed : List ℕ → Type 0
 EndsWithFeed text = (y : List ℕ) × (text ≡ y ++ 10 ∷ [])
 
-feed_behind : (x text : List ℕ) → EndsWithFeed text → EndsWithFeed (x ++ text)
-feed_behind x text (y, is) = (x ++ y, ap (λ t. x ++ t) is ∙ sym (append_assoc x y (10 ∷ [])))
+feed_after : (x text : List ℕ) → EndsWithFeed text → EndsWithFeed (x ++ text)
+feed_after x text (y, is) = (x ++ y, ap (λ t. x ++ t) is ∙ sym (append_assoc x y (10 ∷ [])))
 
 canonical_feeds : (g : EventGraph) → EndsWithFeed (canonical g)
-canonical_feeds g = feed_behind _ (codes "end\n") (codes "end", refl)
+canonical_feeds g = feed_after _ (codes "end\n") (codes "end", refl)
 
 -- ---- what may come after it
 

@@ -45,7 +45,7 @@ pub fn print_and_reduce<S: Source, K: Sink, E: Sink>(
 
 /// No two models that have a text have one canonical text, nor one with a certificate after it. The function does nothing: what it
 /// ensures holds of all models.
-pub fn canonical_texts_tell_models()
+pub fn canonical_texts_determine_models()
     ensures alone { (g h : EventGraph) → HasText g → HasText h → canonical g ≡ canonical h → g ≡ h }
     ensures certified { (g h : EventGraph) (a b : List RuleApplication) → HasText g → HasText h
         → canonical g ++ certificate a ≡ canonical h ++ certificate b → g ≡ h }

@@ -14,7 +14,7 @@ use Rattle.command_words.specs.declared.run_options.TheConstants.{ROOM_MAX, ROOM
 use Rattle.command_words.specs.declared.trial_options.TheConstants.{VERTICES_MADE_MAX}
 use Rattle.command_words.specs.Arguments.{CommandWord, Setting, arguments_of, command_words, has_only_options, values_of}
 use Rattle.command_words.specs.ArgumentValues.{besides, needed, starting_values}
-use Rattle.command_words.specs.Jobs.{OptionsFor, Values, simply, function_value, ◌⊛◌, commands, job_asked, job_of, number_option, only_word, options_of, usual_option}
+use Rattle.command_words.specs.Jobs.{OptionsFor, Values, no_options, function_value, ◌⊛◌, commands, job_asked, job_of, number_option, only_word, options_of, usual_option}
 use Rattle.command_words.specs.KeptLimits.{KeepsLimits}
 use Rattle.command_words.specs.Readings.{reading_of}
 use Rattle.command_words.specs.Inner.ClapCommand.{option_names}
@@ -109,7 +109,7 @@ lawful_usual option usual read IsSuch there such = (
 -- no option at all
 lawful_without : {A : Type 0} (IsSuch : A → Type 0) (a : A) → IsSuch a → LawfulOptions A IsSuch
 lawful_without IsSuch a such = (
-  simply a,
+  no_options a,
   record {
     are_known = λ name here. absurd (cc here);
     once = λ values b e name here. absurd (cc here);
@@ -188,7 +188,7 @@ start = lawful_usual (codes "start") [] starting_values _ refl (λ values. anyth
 abbrev pub Keeps : Job → Type 0
 Keeps job = KeepsLimits (reading_of job)
 
-bare : (job : Job) → Keeps job → IsLawful (simply job) Keeps
+bare : (job : Job) → Keeps job → IsLawful (no_options job) Keeps
 unfolding lawful_without
 bare job keeps = (lawful_without Keeps job keeps).1
 

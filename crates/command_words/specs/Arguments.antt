@@ -22,13 +22,13 @@ cut_at text (Some i) = NameWithValue (take i text) (drop (i + 1) text)
 cut_at text None = NameAlone text
 
 -- the form of a word with two dashes before this text
-abbrev pub form_behind_dashes : List ℕ → WordForm
-form_behind_dashes [] = TwoDashes
-form_behind_dashes (c ∷ text) = cut_at (c ∷ text) (position (λ b. b == 61) (c ∷ text))
+abbrev pub form_after_dashes : List ℕ → WordForm
+form_after_dashes [] = TwoDashes
+form_after_dashes (c ∷ text) = cut_at (c ∷ text) (position (λ b. b == 61) (c ∷ text))
 
 -- the form of a word
 abbrev pub form_of : List ℕ → WordForm
-form_of word = if starts_with nat_eq word (codes "--") then form_behind_dashes (drop 2 word) else OtherForm
+form_of word = if starts_with nat_eq word (codes "--") then form_after_dashes (drop 2 word) else OtherForm
 
 -- the word may be the value of the option before it
 abbrev pub is_value : List ℕ → Bool

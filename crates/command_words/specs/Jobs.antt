@@ -21,8 +21,8 @@ pub record OptionsFor (A : Type 0) : Type 0 where
   pub gives : Values → Option A
 
 -- what is given without any option
-abbrev pub simply : {A : Type 0} → A → OptionsFor A
-simply a = record { names = []; gives = λ values. Some a }
+abbrev pub no_options : {A : Type 0} → A → OptionsFor A
+no_options a = record { names = []; gives = λ values. Some a }
 
 -- the value of a function, where both are there
 abbrev pub function_value : {A B : Type 0} → Option (A → B) → Option A → Option B
@@ -78,20 +78,20 @@ room_option = usual_option (codes "room") ROOM_USUAL (number_within 0 ROOM_MAX)
 -- each command: its word, and its options, which give its job
 abbrev pub commands : List (List ℕ × OptionsFor Job)
 commands =
-    (codes "check", simply jobs.Check)
-    ∷ (codes "print", simply jobs.Print)
-    ∷ (codes "reduce", simply jobs.Reduce)
-    ∷ (codes "certify", simply jobs.Certify)
-    ∷ (codes "uses", simply jobs.Uses)
-    ∷ (codes "conflicts", simply jobs.Conflicts)
-    ∷ (codes "fuse", simply jobs.Fuse)
-    ∷ (codes "narrow", simply jobs.Narrow)
-    ∷ (codes "describe", simply jobs.Describe)
-    ∷ (codes "run", simply jobs.Run ⊛ until_option ⊛ seed_option ⊛ events_option ⊛ start_option ⊛ room_option)
-    ∷ (codes "replicate", simply jobs.Replicate ⊛ until_option ⊛ seed_option ⊛ events_option ⊛ runs_option ⊛ start_option)
-    ∷ (codes "save", simply jobs.Save ⊛ until_option ⊛ seed_option ⊛ events_option ⊛ start_option)
-    ∷ (codes "resume", simply jobs.Resume ⊛ until_option ⊛ events_option ⊛ room_option)
-    ∷ (codes "trial", simply jobs.Trial ⊛ seed_option ⊛ vertices_option ⊛ until_option ⊛ events_option)
+    (codes "check", no_options jobs.Check)
+    ∷ (codes "print", no_options jobs.Print)
+    ∷ (codes "reduce", no_options jobs.Reduce)
+    ∷ (codes "certify", no_options jobs.Certify)
+    ∷ (codes "uses", no_options jobs.Uses)
+    ∷ (codes "conflicts", no_options jobs.Conflicts)
+    ∷ (codes "fuse", no_options jobs.Fuse)
+    ∷ (codes "narrow", no_options jobs.Narrow)
+    ∷ (codes "describe", no_options jobs.Describe)
+    ∷ (codes "run", no_options jobs.Run ⊛ until_option ⊛ seed_option ⊛ events_option ⊛ start_option ⊛ room_option)
+    ∷ (codes "replicate", no_options jobs.Replicate ⊛ until_option ⊛ seed_option ⊛ events_option ⊛ runs_option ⊛ start_option)
+    ∷ (codes "save", no_options jobs.Save ⊛ until_option ⊛ seed_option ⊛ events_option ⊛ start_option)
+    ∷ (codes "resume", no_options jobs.Resume ⊛ until_option ⊛ events_option ⊛ room_option)
+    ∷ (codes "trial", no_options jobs.Trial ⊛ seed_option ⊛ vertices_option ⊛ until_option ⊛ events_option)
     ∷ []
 
 -- the options of the command that a word names

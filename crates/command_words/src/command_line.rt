@@ -11,7 +11,7 @@ ghost use Rattle.command_words.specs.Inner.ClapCommand.{has_one_dash, rows_in};
 ghost use Rattle.command_words.specs.Inner.MatchedJobs.{asked_by, has_only, may_be_given, matched_job, matched_values};
 ghost use Rattle.command_words.specs.Readings.{reading_of};
 ghost use Rattle.command_words.specs.KeptLimits.{KeepsLimits};
-ghost use Rattle.command_words.specs.Jobs.{simply, options_of, job_of, until_option, seed_option, events_option, start_option, room_option};
+ghost use Rattle.command_words.specs.Jobs.{no_options, options_of, job_of, until_option, seed_option, events_option, start_option, room_option};
 
 use crate::argument_values::{number_within, starting_values};
 use crate::clap_matches::{matched, option_names, text_of, with_program};
@@ -134,7 +134,7 @@ fn starts_of(alloc: Global, matches: &ArgMatches<'_>) -> Result<List<i64>, Words
 
 /// A job that takes no option.
 fn alone(matches: &ArgMatches<'_>, job: Job) -> Result<Job, WordsError>
-    ensures { Asked (asked_by (Some (simply job)) (rows_in matches.now)) result }
+    ensures { Asked (asked_by (Some (no_options job)) (rows_in matches.now)) result }
 {
     if !has_only(&[], matches) {
         return Err(WordsError::BadWords);

@@ -1,4 +1,4 @@
-pub mod Deeds
+pub mod ListEdits
 pub mod SparedEdges
 pub mod WrittenEdges
 pub mod Events

@@ -10,13 +10,13 @@ use Rattle.model_core.specs.Rules.Uses.{vertex_reads, vertex_writes, vertex_stre
 use Rattle.model_core.specs.Conflicts.Priorities.{priorities_of}
 use Rattle.model_core.specs.Conflicts.Orders.{HasOwnPriority}
 use Rattle.model_core.specs.Conflicts.Conflict.{in_common, over_variables, over_streams, over_events, in_conflict, named_vertices, edge_cancelled, cancelled_vertices}
-use Rattle.model_core.specs.Run.Changes.{Changed}
+use Rattle.model_core.specs.Run.Changes.{ChangeState}
 use Rattle.model_core.proofs.EachOne.{either_false, every-fails, every-map}
 use Rattle.model_core.proofs.Among.{Among, of-among, each-among}
 use Rattle.model_core.proofs.PlacesChanged.{apart-turned}
 use Rattle.mark_laws.proofs.EntailedMarks.{among-place}
 use Rattle.run_laws.proofs.Spared.SetPlaces.{Spares, ChangedWithin}
-use Rattle.conflict_report.proofs.Deeds.{Deed, AddsEvent, CutsNext, CutsEqual, CutsAll, deed_vertex, CutsOthers, Outcome}
+use Rattle.conflict_report.proofs.ListEdits.{ListEdit, AddsEvent, CutsNext, CutsEqual, CutsAll, deed_vertex, CutsOthers, Outcome}
 use Rattle.conflict_report.proofs.WrittenEdges.{DeedOn}
 use Rattle.conflict_report.proofs.Events.{VertexSpared, EventWritten}
 use Rattle.conflict_report.proofs.EventsOfVertex.{Elsewhere}
@@ -68,7 +68,7 @@ no-conflict-turned g a b n =
 
 module _ (g : EventGraph) (a b : ℕ) (n : NoConflict g a b) where
   -- what an event of the first sets, the second doesn't use
-  pub spared-by : (d : Changed) (o : Outcome) → (w : EventWritten (vertex_at g a) d o) → VertexSpared w.variables.pairs w.streams.pairs (vertex_at g b)
+  pub spared-by : (d : ChangeState) (o : Outcome) → (w : EventWritten (vertex_at g a) d o) → VertexSpared w.variables.pairs w.streams.pairs (vertex_at g b)
   spared-by d o w =
       let v = vertex_at g a in
       let u = vertex_at g b in
@@ -85,13 +85,13 @@ module _ (g : EventGraph) (a b : ℕ) (n : NoConflict g a b) where
   cut-elsewhere k there y named_there = apart-turned y k (none-shared (cancelled_vertices (vertex_at g a)) (b ∷ named_vertices (vertex_at g b)) cancels-none k y there named_there)
 
   -- the deeds of the first cancel no event of the second
-  cuts-others : (x : Deed) → DeedOn (named_vertices (vertex_at g a)) (cancelled_vertices (vertex_at g a)) x → CutsOthers b x
+  cuts-others : (x : ListEdit) → DeedOn (named_vertices (vertex_at g a)) (cancelled_vertices (vertex_at g a)) x → CutsOthers b x
   cuts-others (AddsEvent e) on = tt
   cuts-others (CutsNext v) on = cut-elsewhere v on b (inl refl)
   cuts-others (CutsEqual v values) on = cut-elsewhere v on b (inl refl)
   cuts-others (CutsAll v) on = cut-elsewhere v on b (inl refl)
 
-  pub deeds-cut-others : (deeds : List Deed) → AllByRecursion (DeedOn (named_vertices (vertex_at g a)) (cancelled_vertices (vertex_at g a))) deeds → AllByRecursion (CutsOthers b) deeds
+  pub deeds-cut-others : (deeds : List ListEdit) → AllByRecursion (DeedOn (named_vertices (vertex_at g a)) (cancelled_vertices (vertex_at g a))) deeds → AllByRecursion (CutsOthers b) deeds
   deeds-cut-others deeds on = every-map (DeedOn (named_vertices (vertex_at g a)) (cancelled_vertices (vertex_at g a))) (CutsOthers b) cuts-others deeds on
 
 -- a vertex whose events are cancelled is named
@@ -104,33 +104,33 @@ cancelled-named (e ∷ es) k h = by (is_cancelling e.kind) (λ later. cancelled-
   by false rest later = inr (rest later)
 
 -- a deed is on events of a named vertex
-deed-named : (v : EventVertex) (x : Deed) → DeedOn (named_vertices v) (cancelled_vertices v) x → Among (deed_vertex x) (named_vertices v)
+deed-named : (v : EventVertex) (x : ListEdit) → DeedOn (named_vertices v) (cancelled_vertices v) x → Among (deed_vertex x) (named_vertices v)
 deed-named v (AddsEvent e) on = on
 deed-named v (CutsNext w) on = cancelled-named v.edges w on
 deed-named v (CutsEqual w values) on = cancelled-named v.edges w on
 deed-named v (CutsAll w) on = cancelled-named v.edges w on
 
 -- a deed cancels no events of a vertex of which none are cancelled
-cuts-no-others : (v : EventVertex) (k : ℕ) → is_among (cancelled_vertices v) k ≡ false → (x : Deed) → DeedOn (named_vertices v) (cancelled_vertices v) x → CutsOthers k x
+cuts-no-others : (v : EventVertex) (k : ℕ) → is_among (cancelled_vertices v) k ≡ false → (x : ListEdit) → DeedOn (named_vertices v) (cancelled_vertices v) x → CutsOthers k x
 cuts-no-others v k none (AddsEvent e) on = tt
 cuts-no-others v k none (CutsNext w) on = of-among (λ (j : ℕ). (j == k) ≡ false) (cancelled_vertices v) w (every-fails (λ j. j == k) (cancelled_vertices v) none) on
 cuts-no-others v k none (CutsEqual w values) on = of-among (λ (j : ℕ). (j == k) ≡ false) (cancelled_vertices v) w (every-fails (λ j. j == k) (cancelled_vertices v) none) on
 cuts-no-others v k none (CutsAll w) on = of-among (λ (j : ℕ). (j == k) ≡ false) (cancelled_vertices v) w (every-fails (λ j. j == k) (cancelled_vertices v) none) on
 
 module _ (g : EventGraph) where
-  abbrev pub DeedsBy : ℕ → List Deed → Type 0
+  abbrev pub DeedsBy : ℕ → List ListEdit → Type 0
   DeedsBy vertex deeds = AllByRecursion (DeedOn (named_vertices (vertex_at g vertex)) (cancelled_vertices (vertex_at g vertex))) deeds
 
   -- where the first cancels events of a vertex, the second has no deeds on them
-  elsewhere : (a b : ℕ) → NoConflict g a b → (k : ℕ) → is_among (cancelled_vertices (vertex_at g a)) k ≡ true → (deeds : List Deed) → DeedsBy b deeds → AllByRecursion (Elsewhere k) deeds
+  elsewhere : (a b : ℕ) → NoConflict g a b → (k : ℕ) → is_among (cancelled_vertices (vertex_at g a)) k ≡ true → (deeds : List ListEdit) → DeedsBy b deeds → AllByRecursion (Elsewhere k) deeds
   elsewhere a b n k found deeds on =
       every-map (DeedOn (named_vertices (vertex_at g b)) (cancelled_vertices (vertex_at g b))) (Elsewhere k) (λ x on. apart-turned k (deed_vertex x) (cut-elsewhere g a b n k (among-place (cancelled_vertices (vertex_at g a)) k found) (deed_vertex x) (inr (deed-named (vertex_at g b) x on)))) deeds on
 
-  no_cuts-on : (vertex k : ℕ) → is_among (cancelled_vertices (vertex_at g vertex)) k ≡ false → (deeds : List Deed) → DeedsBy vertex deeds → AllByRecursion (CutsOthers k) deeds
+  no_cuts-on : (vertex k : ℕ) → is_among (cancelled_vertices (vertex_at g vertex)) k ≡ false → (deeds : List ListEdit) → DeedsBy vertex deeds → AllByRecursion (CutsOthers k) deeds
   no_cuts-on vertex k none deeds on = every-map (DeedOn (named_vertices (vertex_at g vertex)) (cancelled_vertices (vertex_at g vertex))) (CutsOthers k) (cuts-no-others (vertex_at g vertex) k none) deeds on
 
   -- the deeds of both are aside of each other, for each entry
-  pub deeds-aside : (a b : ℕ) → NoConflict g a b → (ds es : List Deed) → DeedsBy a ds → DeedsBy b es → (x : Entry) → DeedsAside x ds es
+  pub deeds-aside : (a b : ℕ) → NoConflict g a b → (ds es : List ListEdit) → DeedsBy a ds → DeedsBy b es → (x : Entry) → DeedsAside x ds es
   deeds-aside a b n ds es on_a on_b x = by (is_among (cancelled_vertices (vertex_at g a)) x.vertex) refl (is_among (cancelled_vertices (vertex_at g b)) x.vertex) refl where
     by : (c : Bool) → is_among (cancelled_vertices (vertex_at g a)) x.vertex ≡ c → (d : Bool) → is_among (cancelled_vertices (vertex_at g b)) x.vertex ≡ d → DeedsAside x ds es
     by true is d other = second_elsewhere (elsewhere a b n x.vertex is es on_b)

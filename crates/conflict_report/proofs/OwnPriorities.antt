@@ -4,7 +4,7 @@ use Rattle.std.proofs.Common.{◌≡◌, ℕ, zero, suc, ℤ, true, cond, List, 
 use Rattle.std.specs.List.{AllByRecursion, flat_map}
 use Rattle.model_core.specs.EventGraph.{EventGraph, EventVertex, EventEdge, EdgeKind, Schedule, Urgent, CancelNext, CancelEqual, CancelAll}
 use Rattle.model_core.specs.Run.State.{State}
-use Rattle.model_core.specs.Run.Pending.{Entry, TakenOff, next_entry}
+use Rattle.model_core.specs.Run.Pending.{Entry, EntryAndRest, next_entry}
 use Rattle.model_core.specs.Run.Step.{Configuration, no_vertex, vertex_at, step}
 use Rattle.model_core.specs.Run.Machine.{Note, Goes, Reached}
 use Rattle.model_core.specs.Run.History.{Moment, next_move, start, reached_from}
@@ -51,7 +51,7 @@ module _ (g : EventGraph) where
         at_place (λ v. AllByRecursion (λ e. SchedulesOnly (HasOwnPriority g) g seed s clk e e.kind) v.edges) g.vertices no_vertex k
         (λ v there. each-among (λ e. SchedulesOnly (HasOwnPriority g) g seed s clk e e.kind) v.edges (λ e of_v. schedules_own v there s clk e of_v e.kind refl)) tt
 
-    step_own : (c d : Configuration) (n : TakenOff) → next_entry c.pending ≡ Some n → HaveOwnPriorities g c.pending → step g seed c n ≡ Ok d → HaveOwnPriorities g d.pending
+    step_own : (c d : Configuration) (n : EntryAndRest) → next_entry c.pending ≡ Some n → HaveOwnPriorities g c.pending → step g seed c n ≡ Ok d → HaveOwnPriorities g d.pending
     step_own c d n due all done =
         (occur-every (HasOwnPriority g) g seed (λ s. Unit {0}) (always g) (vertex_at g n.entry.vertex) n c.state c.taken d tt (λ t q. edges_own n.entry.vertex t n.entry.time)
         (next_among-every (HasOwnPriority g) (λ e. true) c.pending all n due).1 (faulted-ok n.entry.time _ d done)).1

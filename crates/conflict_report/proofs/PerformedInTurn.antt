@@ -5,16 +5,16 @@ use Rattle.std.specs.Option.{option_and_then}
 use Rattle.sig_base.specs.declared.fault.FaultKind.{FaultKind}
 use Rattle.model_core.specs.EventGraph.{EventGraph}
 use Rattle.model_core.specs.Run.Value.{OrFault}
-use Rattle.model_core.specs.Run.Changes.{Changed}
+use Rattle.model_core.specs.Run.Changes.{ChangeState}
 use Rattle.model_core.specs.Run.Pending.{Entry}
 use Rattle.model_core.specs.Run.Step.{Configuration, Fault, vertex_at, faulted_at, step}
 use Rattle.model_core.specs.Rules.MarkedPlaces.{place_without}
-use Rattle.model_core.specs.Conflicts.Perform.{perform, place_then, performed_then, performed_both}
+use Rattle.model_core.specs.Conflicts.Perform.{perform, place_after_first, after_second_event, after_both_events}
 use Rattle.model_core.specs.Conflicts.Orders.{StaysPending}
 use Rattle.model_core.proofs.PlacesChanged.{same_number, apart-turned}
 use Rattle.run_laws.proofs.Spared.InTurn.{result_by}
 use Rattle.model_core.proofs.PlacesTakenOff.{get-without, remove-turned}
-use Rattle.conflict_report.proofs.Deeds.{Deed, deeds_done, Outcome, stands_after, occur-event}
+use Rattle.conflict_report.proofs.ListEdits.{ListEdit, after_edits, Outcome, stands_after, occur-event}
 use Rattle.conflict_report.proofs.Events.{event-written}
 use Rattle.conflict_report.proofs.PutIn.{PendingAt, pending-again}
 use Rattle.conflict_report.proofs.NoConflict.{NoConflict, deeds-cut-others, DeedsBy}
@@ -38,7 +38,7 @@ two-turned t c i j a b p = record {
 }
 
 -- state and words of a configuration
-abbrev pub drawn_in : Configuration → Changed
+abbrev pub drawn_in : Configuration → ChangeState
 drawn_in c = record { state = c.state; taken = c.taken }
 
 -- a pending list without the entries at two places
@@ -57,40 +57,40 @@ module _ (g : EventGraph) (seed t : ℕ) where
       ap (λ (u : ℕ). Some (faulted_at u (result_by (stands_after u (remove c.pending place)) (event_of g seed u e (drawn_in c))))) due)
 
   module _ (c : Configuration) (i j : ℕ) (a b : Entry) (two : TwoPending t c i j a b) where
-    both-is : performed_both g seed c i j ≡ performed_then g seed c.pending i j b (step_result (remove c.pending i) (event_of g seed t a (drawn_in c)))
+    both-is : after_both_events g seed c i j ≡ after_second_event g seed c.pending i j b (step_result (remove c.pending i) (event_of g seed t a (drawn_in c)))
     both-is =
-        ap (option_and_then (λ e. option_and_then (performed_then g seed c.pending i j e) (perform g seed c i))) two.second_there ∙
-        ap (option_and_then (performed_then g seed c.pending i j b)) (performed-is c i a two.first_there two.first_due)
+        ap (option_and_then (λ e. option_and_then (after_second_event g seed c.pending i j e) (perform g seed c i))) two.second_there ∙
+        ap (option_and_then (after_second_event g seed c.pending i j b)) (performed-is c i a two.first_there two.first_due)
 
     -- the first one faults
-    pub first-faults : (k : FaultKind) → event_of g seed t a (drawn_in c) ≡ Err k → performed_both g seed c i j ≡ Some (Err (record { time = t; kind = k }))
-    first-faults k fails = both-is ∙ ap (λ (r : OrFault Outcome). performed_then g seed c.pending i j b (step_result (remove c.pending i) r)) fails
+    pub first-faults : (k : FaultKind) → event_of g seed t a (drawn_in c) ≡ Err k → after_both_events g seed c i j ≡ Some (Err (record { time = t; kind = k }))
+    first-faults k fails = both-is ∙ ap (λ (r : OrFault Outcome). after_second_event g seed c.pending i j b (step_result (remove c.pending i) r)) fails
 
     module _ (n : NoConflict g a.vertex b.vertex) where
       -- the second event is still pending once the first one has occurred
-      still-pending : (deeds : List Deed) → DeedsBy g a.vertex deeds → PendingAt b b.vertex (deeds_done deeds (without_both c.pending i j)) (deeds_done deeds (remove c.pending i)) (place_then c.pending i j b.vertex (deeds_done deeds (remove c.pending i)))
+      still-pending : (deeds : List ListEdit) → DeedsBy g a.vertex deeds → PendingAt b b.vertex (after_edits deeds (without_both c.pending i j)) (after_edits deeds (remove c.pending i)) (place_after_first c.pending i j b.vertex (after_edits deeds (remove c.pending i)))
       still-pending deeds on = pending-again b b.vertex (same_number b.vertex b.vertex refl) deeds (deeds-cut-others g a.vertex b.vertex n deeds on) (remove c.pending i) (place_without i j) (get-without c.pending i j two.apart ∙ two.second_there)
 
       -- the first one goes on to the second
-      first-goes : (o : Outcome) → event_of g seed t a (drawn_in c) ≡ Ok o → performed_both g seed c i j ≡ Some (step_result (deeds_done o.deeds (without_both c.pending i j)) (event_of g seed t b o.drawn))
+      first-goes : (o : Outcome) → event_of g seed t a (drawn_in c) ≡ Ok o → after_both_events g seed c i j ≡ Some (step_result (after_edits o.deeds (without_both c.pending i j)) (event_of g seed t b o.drawn))
       first-goes o goes =
           let found = still-pending o.deeds (event-written g seed t (vertex_at g a.vertex) a.values (drawn_in c) o goes).deeds in
           let d = stands_after t (remove c.pending i) o in
           both-is ∙
-          (ap (λ (r : OrFault Outcome). performed_then g seed c.pending i j b (step_result (remove c.pending i) r)) goes ∙
-          (performed-is d (place_then c.pending i j b.vertex d.pending) b found.there two.second_due ∙
+          (ap (λ (r : OrFault Outcome). after_second_event g seed c.pending i j b (step_result (remove c.pending i) r)) goes ∙
+          (performed-is d (place_after_first c.pending i j b.vertex d.pending) b found.there two.second_due ∙
           ap (λ (es : List Entry). Some (step_result es (event_of g seed t b o.drawn))) found.others))
 
       -- the second one faults by itself and after the first
-      pub second-faults : (k : FaultKind) → event_of g seed t b (drawn_in c) ≡ Err k → ((o : Outcome) → event_of g seed t a (drawn_in c) ≡ Ok o → event_of g seed t b o.drawn ≡ Err k) → (f : Fault) × (performed_both g seed c i j ≡ Some (Err f))
+      pub second-faults : (k : FaultKind) → event_of g seed t b (drawn_in c) ≡ Err k → ((o : Outcome) → event_of g seed t a (drawn_in c) ≡ Ok o → event_of g seed t b o.drawn ≡ Err k) → (f : Fault) × (after_both_events g seed c i j ≡ Some (Err f))
       second-faults k fails later = by (event_of g seed t a (drawn_in c)) refl where
-        by : (r : OrFault Outcome) → event_of g seed t a (drawn_in c) ≡ r → (f : Fault) × (performed_both g seed c i j ≡ Some (Err f))
+        by : (r : OrFault Outcome) → event_of g seed t a (drawn_in c) ≡ r → (f : Fault) × (after_both_events g seed c i j ≡ Some (Err f))
         by (Err l) is = (record { time = t; kind = l }, first-faults l is)
-        by (Ok o) is = (record { time = t; kind = k }, first-goes o is ∙ ap (λ (r : OrFault Outcome). Some (step_result (deeds_done o.deeds (without_both c.pending i j)) r)) (later o is))
+        by (Ok o) is = (record { time = t; kind = k }, first-goes o is ∙ ap (λ (r : OrFault Outcome). Some (step_result (after_edits o.deeds (without_both c.pending i j)) r)) (later o is))
 
       -- both go on
-      pub both-give : (o later : Outcome) → event_of g seed t a (drawn_in c) ≡ Ok o → event_of g seed t b o.drawn ≡ Ok later → performed_both g seed c i j ≡ Some (Ok (stands_after t (deeds_done o.deeds (without_both c.pending i j)) later))
-      both-give o later goes goes_then = first-goes o goes ∙ ap (λ (r : OrFault Outcome). Some (step_result (deeds_done o.deeds (without_both c.pending i j)) r)) goes_then
+      pub both-give : (o later : Outcome) → event_of g seed t a (drawn_in c) ≡ Ok o → event_of g seed t b o.drawn ≡ Ok later → after_both_events g seed c i j ≡ Some (Ok (stands_after t (after_edits o.deeds (without_both c.pending i j)) later))
+      both-give o later goes goes_then = first-goes o goes ∙ ap (λ (r : OrFault Outcome). Some (step_result (after_edits o.deeds (without_both c.pending i j)) r)) goes_then
 
       -- where it goes on to d, the second event is still pending, and doesn't matter to it
       pub stays-pending : (d : Configuration) → perform g seed c i ≡ Some (Ok d) → StaysPending g seed c i j b d
@@ -106,7 +106,7 @@ module _ (g : EventGraph) (seed t : ℕ) where
               there = found.there;
               unseen = performed-is alone (place_without j i) a (get-without c.pending j i (apart-turned i j two.apart) ∙ two.first_there) two.first_due ∙
                   (ap (λ (r : OrFault Outcome). Some (step_result (without_both c.pending j i) r)) is ∙
-                  ap (λ (es : List Entry). let r : Option (Result Configuration Fault) = Some (Ok (record { clock = t; state = o.drawn.state; taken = o.drawn.taken; pending = es })) in r) (ap (deeds_done o.deeds) (sym (remove-turned c.pending i j two.apart)) ∙ sym found.others));
+                  ap (λ (es : List Entry). let r : Option (Result Configuration Fault) = Some (Ok (record { clock = t; state = o.drawn.state; taken = o.drawn.taken; pending = es })) in r) (ap (after_edits o.deeds) (sym (remove-turned c.pending i j two.apart)) ∙ sym found.others));
             }
 
         by : (r : OrFault Outcome) → event_of g seed t a (drawn_in c) ≡ r → StaysPending g seed c i j b d

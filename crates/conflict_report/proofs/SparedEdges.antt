@@ -7,13 +7,13 @@ use Rattle.model_core.specs.Run.State.{State}
 use Rattle.model_core.specs.Run.Value.{OrFault, ◌>>=◌, in_turn, value_of, is_one}
 use Rattle.model_core.specs.Run.Edges.{Waiting, delay_of, carried_values}
 use Rattle.model_core.specs.Rules.Uses.{variables_in, delay_reads, edge_reads, delay_streams, edge_streams}
-use Rattle.model_core.proofs.EachOne.{every-map, every-front, every-behind, every-flat_map}
+use Rattle.model_core.proofs.EachOne.{every-map, every-front, every-after, every-flat_map}
 use Rattle.run_laws.proofs.Spared.SetPlaces.{sets, Spares, sets-spared, sets-set}
 use Rattle.run_laws.proofs.Spared.HeldEdges.{delay-held}
 use Rattle.run_laws.proofs.Spared.WordsApart.{WordsApart, wait_changed, delay-apart}
 use Rattle.run_laws.proofs.Spared.InTurn.{result_by, bind-after, bind-within}
 use Rattle.run_laws.proofs.Spared.SparedValues.{held, value-spared, values-spared}
-use Rattle.conflict_report.proofs.Deeds.{AddsEvent, CutsEqual, Plan, and_deed, plan_act, plan}
+use Rattle.conflict_report.proofs.ListEdits.{AddsEvent, CutsEqual, Plan, and_deed, plan_act, plan}
 
 -- streams, set in what a plan leaves of them
 abbrev pub plan_beside : List (ℕ × ℕ) → Plan → Plan
@@ -53,8 +53,8 @@ module _ (g : EventGraph) (us : List (ℕ × List ℤ)) (ws : List (ℕ × ℕ))
   plan-spared : (e : EventEdge) → EdgeSpared us ws e → (p : Plan) → plan g seed (sets us s) clk e (plan_beside ws p) ≡ result_by (plan_beside ws) (plan g seed s clk e p)
   plan-spared e spared p =
       let front = every-front (Spares us) (variables_in e.condition ++ option_map_or delay_reads (delay_given e.kind) []) (flat_map variables_in e.values) spared.reads in
-      let values = every-flat_map (Spares us) variables_in e.values (every-behind (Spares us) (variables_in e.condition ++ option_map_or delay_reads (delay_given e.kind) []) (flat_map variables_in e.values) spared.reads) in
-      let delay = every-behind (Spares us) (variables_in e.condition) (option_map_or delay_reads (delay_given e.kind) []) front in
+      let values = every-flat_map (Spares us) variables_in e.values (every-after (Spares us) (variables_in e.condition ++ option_map_or delay_reads (delay_given e.kind) []) (flat_map variables_in e.values) spared.reads) in
+      let delay = every-after (Spares us) (variables_in e.condition) (option_map_or delay_reads (delay_given e.kind) []) front in
       ap (λ (r : OrFault ℤ). r >>= λ c. cond (is_one c) (plan_act g seed (sets us s) clk e e.kind (plan_beside ws p)) (Ok (plan_beside ws p))) (value-spared g clk us s e.condition (every-front (Spares us) (variables_in e.condition) (option_map_or delay_reads (delay_given e.kind) []) front)) ∙
       bind-within (plan_beside ws) (value_of g s clk e.condition) _ _ (λ c is. tested (is_one c) (act-spared e e.kind delay values spared.streams p)) where
         tested : (b : Bool) → plan_act g seed (sets us s) clk e e.kind (plan_beside ws p) ≡ result_by (plan_beside ws) (plan_act g seed s clk e e.kind p) → cond b (plan_act g seed (sets us s) clk e e.kind (plan_beside ws p)) (Ok (plan_beside ws p)) ≡ result_by (plan_beside ws) (cond b (plan_act g seed s clk e e.kind p) (Ok p))

@@ -6,7 +6,7 @@ use Rattle.sig_base.specs.Stream.{word}
 use Rattle.model_core.specs.EventGraph.{EventGraph, EventEdge, Delay, Fixed, Drawn, EdgeKind, Schedule, Urgent, CancelNext, CancelEqual, CancelAll, delay_given}
 use Rattle.model_core.specs.Run.State.{State}
 use Rattle.model_core.specs.Run.Value.{value_of, is_one}
-use Rattle.model_core.specs.Run.Changes.{taken_from, one_more, picked}
+use Rattle.model_core.specs.Run.Changes.{taken_from, one_more, drawn_value}
 use Rattle.model_core.specs.Run.Edges.{Waiting, delay_ticks, delay_of, carried_values}
 use Rattle.model_core.specs.Rules.Merge.{is_cancelling}
 use Rattle.model_core.specs.Rules.Uses.{delay_streams, edge_streams}
@@ -15,10 +15,10 @@ use Rattle.model_core.proofs.Results.{bind_ok}
 use Rattle.model_core.proofs.EachOne.{every-append}
 use Rattle.model_core.proofs.Among.{Among}
 use Rattle.run_laws.proofs.Spared.SetPlaces.{ChangedWithin, written-none}
-use Rattle.conflict_report.proofs.Deeds.{Deed, AddsEvent, CutsNext, CutsEqual, CutsAll, Plan, and_deed, plan_act, plan}
+use Rattle.conflict_report.proofs.ListEdits.{ListEdit, AddsEvent, CutsNext, CutsEqual, CutsAll, Plan, and_deed, plan_act, plan}
 
 -- a deed adds an event of one of the named vertices, or cancels events of one of the cancelled ones
-abbrev pub DeedOn : List ℕ → List ℕ → Deed → Type 0
+abbrev pub DeedOn : List ℕ → List ℕ → ListEdit → Type 0
 DeedOn names cuts (AddsEvent e) = Among e.vertex names
 DeedOn names cuts (CutsNext vertex) = Among vertex cuts
 DeedOn names cuts (CutsEqual vertex values) = Among vertex cuts
@@ -37,12 +37,12 @@ module _ (g : EventGraph) (seed : ℕ) (s : State) (clk : ℕ) where
       let same : record { ticks = n; taken = taken } ≡ w = cc in
       written-none (delay_streams (Fixed e)) taken w.taken (ap (λ (w : Waiting). w.taken) same)
   delay-written (Drawn stream choice) taken w done =
-      let (n, is, end) = bind_ok (delay_ticks (picked g choice (word seed stream (taken_from taken stream)))) (λ n. Ok (record { ticks = n; taken = one_more taken stream })) w done in
+      let (n, is, end) = bind_ok (delay_ticks (drawn_value g choice (word seed stream (taken_from taken stream)))) (λ n. Ok (record { ticks = n; taken = one_more taken stream })) w done in
       let same : record { ticks = n; taken = one_more taken stream } ≡ w = cc in
       record { pairs = (stream, taken_from taken stream + 1) ∷ []; among = (inl refl, tt); result = ap (λ (w : Waiting). w.taken) same }
 
   module _ (names cuts : List ℕ) (e : EventEdge) (on_named : Among e.target names) (p : Plan) where
-    with_one : (streams : List ℕ) (x : Deed) (taken : List ℕ) → DeedOn names cuts x → ChangedWithin streams p.taken taken → EdgeWritten streams names cuts p (and_deed p.deeds x taken)
+    with_one : (streams : List ℕ) (x : ListEdit) (taken : List ℕ) → DeedOn names cuts x → ChangedWithin streams p.taken taken → EdgeWritten streams names cuts p (and_deed p.deeds x taken)
     with_one streams x taken on drawn = record {
       streams_drawn = drawn;
       deeds = λ all. every-append (DeedOn names cuts) p.deeds x all on;

@@ -10,7 +10,7 @@ ghost use Rattle.conflict_report.specs.Inner.ReasonsFound.{NotedAt, NotedBefore,
 
 use crate::holders::Holders;
 use crate::priorities::holders_of_priorities;
-use crate::touched::Touched;
+use crate::touched::TouchedNumbers;
 use crate::vertex_set::VertexSet;
 use model_core::{Model, Reasons};
 use sig_base::NoMemory;
@@ -67,7 +67,12 @@ fn common_either_way(
 
 impl ConflictTables {
     /// Notes what the vertex at this place touches.
-    fn note(&mut self, alloc: Global, touched: &Touched, place: usize) -> Result<(), NoMemory>
+    fn note(
+        &mut self,
+        alloc: Global,
+        touched: &TouchedNumbers,
+        place: usize,
+    ) -> Result<(), NoMemory>
         ensures { OnOk result (NotedAt place touched.now self.old self.new) }
     {
         self.by_written
@@ -89,7 +94,7 @@ impl ConflictTables {
         requires exists { place < length (graph_of model.now).vertices }
         ensures { OnOk result (NotedAt place (after_vertex place (vertex_at (graph_of model.now) place) nothing_touched) self.old self.new) }
     {
-        let mut touched = Touched::new(alloc);
+        let mut touched = TouchedNumbers::new(alloc);
         touched.add_vertex(place, &model.vertices.as_slice()[place])?;
         self.note(alloc, &touched, place)
     }

@@ -9,7 +9,7 @@ ghost use Rattle.model_core.specs.Run.Step.{Configuration};
 ghost use Rattle.model_core.specs.Run.Machine.{Note, Goes, Reached};
 ghost use Rattle.model_core.specs.Run.History.{Moment, next_move, start, reached_from};
 ghost use Rattle.model_core.specs.Conflicts.Conflict.{in_conflict};
-ghost use Rattle.model_core.specs.Conflicts.Perform.{perform, performed_both};
+ghost use Rattle.model_core.specs.Conflicts.Perform.{perform, after_both_events};
 ghost use Rattle.model_core.specs.Conflicts.Orders.{HasOwnPriority, Simultaneous, StaysPending, Commute};
 
 /// Two simultaneous events of vertices that aren't in conflict may occur in either order: both orders fault, or both give
@@ -17,7 +17,7 @@ ghost use Rattle.model_core.specs.Conflicts.Orders.{HasOwnPriority, Simultaneous
 pub fn events_without_conflict_commute()
     ensures commute { (g : EventGraph) (seed : ℕ) (c : Configuration) (first second : ℕ) (a b : Entry)
         → Simultaneous g c.pending first second a b → in_conflict g a.vertex b.vertex ≡ false
-        → Commute (performed_both g seed c first second) (performed_both g seed c second first) }
+        → Commute (after_both_events g seed c first second) (after_both_events g seed c second first) }
     ensures stays { (g : EventGraph) (seed : ℕ) (c d : Configuration) (first second : ℕ) (a b : Entry)
         → Simultaneous g c.pending first second a b → in_conflict g a.vertex b.vertex ≡ false
         → perform g seed c first ≡ Some (Ok d) → StaysPending g seed c first second b d }

@@ -14,7 +14,7 @@ use use_analysis::{add_vertex_reads, add_vertex_writes};
 
 /// Lists of what a vertex touches, in the vertex's own order. Contracts see the lists.
 #[derive(Drop)]
-pub(crate) struct Touched {
+pub(crate) struct TouchedNumbers {
     pub(crate) reads: Vec<usize>,
     pub(crate) writes: Vec<usize>,
     pub(crate) streams: Vec<usize>,
@@ -22,7 +22,7 @@ pub(crate) struct Touched {
     pub(crate) cancels: Vec<usize>,
 }
 
-impl Model for Touched {
+impl Model for TouchedNumbers {
     ghost use Rattle.conflict_report.specs.Inner.TouchedLists.{TouchedLists};
 
     ghost Value = { TouchedLists };
@@ -40,12 +40,12 @@ fn add_delay_stream(streams: &mut Vec<usize>, delay: &Delay) -> Result<(), NoMem
     }
 }
 
-impl Touched {
+impl TouchedNumbers {
     /// Nothing is touched. It takes no memory.
-    pub(crate) fn new(alloc: Global) -> Touched
+    pub(crate) fn new(alloc: Global) -> TouchedNumbers
         ensures { result ≡ nothing_touched }
     {
-        Touched {
+        TouchedNumbers {
             reads: Vec::new(alloc),
             writes: Vec::new(alloc),
             streams: Vec::new(alloc),

@@ -8,5 +8,5 @@ pub all_added : {T E : Type 0} (r : Result T E) (after left whole : List ℕ) �
 all_added r after left whole last all = on_ok_weaker {P = after ≡ left} {Q = after ≡ whole} r (λ e. e ∙ all) last
 
 -- six texts after another one
-pub six_behind : (s a b c d e f : List ℕ) → s ++ a ++ b ++ c ++ d ++ e ++ f ≡ s ++ (a ++ b ++ c ++ d ++ e ++ f)
-six_behind s a b c d e f = simp append_assoc
+pub six_texts_after : (s a b c d e f : List ℕ) → s ++ a ++ b ++ c ++ d ++ e ++ f ≡ s ++ (a ++ b ++ c ++ d ++ e ++ f)
+six_texts_after s a b c d e f = simp append_assoc

@@ -12,7 +12,7 @@ use Rattle.model_core.proofs.Among.{Among, each-among, of-among}
 use Rattle.mark_laws.proofs.Ranks.{rank-none}
 use Rattle.edge_pruning.proofs.ReachedMarks.{first-begins, watched-begins, HoldReached, reached_marks-hold}
 use Rattle.model_core.proofs.Images.{at-map}
-use Rattle.run_laws.proofs.MappedVertices.{WatchedTold}
+use Rattle.run_laws.proofs.MappedVertices.{WatchedAreApart}
 use Rattle.edge_pruning.proofs.Renumbered.{renumbered-Same}
 
 -- there is a first vertex, and edges and the watch list name vertices
@@ -21,9 +21,9 @@ pub record NamesVertices (g : EventGraph) : Type 0 where
   pub edges : (k : ℕ) → AllByRecursion (λ (e : EventEdge). e.target < length g.vertices) (vertex_at g k).edges
   pub watch : (k : ℕ) → Among (WatchedVertex k) g.watch → k < length g.vertices
 
-watched-live : (g : EventGraph) (marks : List Bool) → ((k : ℕ) → Among (WatchedVertex k) g.watch → Marked marks k) → AllByRecursion (WatchedTold (Marked marks)) g.watch
-watched-live g marks live = each-among (WatchedTold (Marked marks)) g.watch one where
-  one : (w : Watched) → Among w g.watch → WatchedTold (Marked marks) w
+watched-live : (g : EventGraph) (marks : List Bool) → ((k : ℕ) → Among (WatchedVertex k) g.watch → Marked marks k) → AllByRecursion (WatchedAreApart (Marked marks)) g.watch
+watched-live g marks live = each-among (WatchedAreApart (Marked marks)) g.watch one where
+  one : (w : Watched) → Among w g.watch → WatchedAreApart (Marked marks) w
   one (WatchedVariable v) h = tt
   one (WatchedVertex v) h = live v h
 

@@ -12,11 +12,11 @@ use Rattle.model_core.specs.Rules.Conditions.{first_failed}
 use Rattle.model_core.specs.Rules.BoundsOf.{bounds_of, refuted, proved}
 use Rattle.model_core.specs.Rules.PlacedEdges.{edge_at, with_place}
 use Rattle.model_core.specs.Rules.Prune.{has_refuted_condition, prune_conditions}
-use Rattle.model_core.specs.Rules.Settle.{is_conditional, has_proved_condition, settle_conditions, unconditional}
+use Rattle.model_core.specs.Rules.Settle.{is_conditional, has_proved_condition, settle_conditions, with_true_condition}
 use Rattle.static_laws.proofs.StaticTwins.DeclaredNames.{every_item}
 use Rattle.model_core.proofs.PlacesChanged.{length_placed}
 use Rattle.edge_pruning.proofs.ListsChanged.{all_remove, any_remove, length-remove-le, all_with_place}
-use Rattle.model_core.proofs.NoLongerTexts.{NoLonger, no_longer-behind, no_longer-before, no_longer-nothing, no_longer-same}
+use Rattle.model_core.proofs.NoLongerTexts.{NoLonger, no_longer-after, no_longer-before, no_longer-nothing, no_longer-same}
 use Rattle.edge_pruning.proofs.Shorter.{lines_remove, lines_with_place}
 use Rattle.edge_pruning.proofs.OneVertexChanged.{Lessens}
 use Rattle.round_trip.proofs.VersionsKept.{any-replaced}
@@ -34,13 +34,13 @@ remove_lessens edge = record {
 
 -- ---- the condition `true`
 
-keeps_unconditional : (variables : List Variable) (tables : ℕ) (takes : List (List ℕ)) (e : EventEdge) → KeepsEdge variables tables takes e → KeepsEdge variables tables takes (unconditional e)
+keeps_unconditional : (variables : List Variable) (tables : ℕ) (takes : List (List ℕ)) (e : EventEdge) → KeepsEdge variables tables takes e → KeepsEdge variables tables takes (with_true_condition e)
 keeps_unconditional variables tables takes e k = record { parameters = k.parameters; target = k.target; carries = k.carries; timing = k.timing; condition = refl }
 
 fewer_openings : (a b c limit : ℕ) → a + (b + c) ≤ limit → a + (b + 0) ≤ limit
 fewer_openings a b c limit h = omega arith
 
-spellable_unconditional : (x : Extent) (e : EventEdge) → SpellableEdge x e → SpellableEdge x (unconditional e)
+spellable_unconditional : (x : Extent) (e : EventEdge) → SpellableEdge x e → SpellableEdge x (with_true_condition e)
 spellable_unconditional x e s = record {
   target = s.target;
   values = s.values;
@@ -50,20 +50,20 @@ spellable_unconditional x e s = record {
   few_openings = fewer_openings (values_openings e.values) (kind_openings e.kind) (expression_openings e.condition) _ s.few_openings;
 }
 
-unconditional_shorter : (g : EventGraph) (e : EventEdge) → NoLonger (edge_line g (unconditional e)) (edge_line g e)
+unconditional_shorter : (g : EventGraph) (e : EventEdge) → NoLonger (edge_line g (with_true_condition e)) (edge_line g e)
 unconditional_shorter g e =
-    no_longer-before (codes ";\n") (no_longer-behind (edge_word e.kind ++ vertex_name g e.target ++ in_parentheses (expression_texts g e.values) ++ timing_text g e.kind) (no_longer-nothing (condition_text g e.condition)))
+    no_longer-before (codes ";\n") (no_longer-after (edge_word e.kind ++ vertex_name g e.target ++ in_parentheses (expression_texts g e.values) ++ timing_text g e.kind) (no_longer-nothing (condition_text g e.condition)))
 
 same_at_least : (k n : ℕ) → k ≡ n → k ≤ n
 same_at_least k n e = omega (arith, e)
 
-pub settle_lessens : (edge : ℕ) → Lessens (with_place unconditional edge)
+pub settle_lessens : (edge : ℕ) → Lessens (with_place with_true_condition edge)
 settle_lessens edge = record {
-  no_more_edges = λ es. same_at_least _ _ (length_placed unconditional edge es);
-  keeps_rules = λ variables tables takes es keep. all_with_place (KeepsEdge variables tables takes) unconditional (keeps_unconditional variables tables takes) edge es keep;
-  spellable = λ x es s. all_with_place (SpellableEdge x) unconditional (spellable_unconditional x) edge es s;
-  drawn = any-replaced has_drawn_delay unconditional (λ e h. h) edge;
-  lines = λ g es. lines_with_place (edge_line g) (edge_line g) unconditional (unconditional_shorter g) (λ e. no_longer-same _ _ refl) edge es;
+  no_more_edges = λ es. same_at_least _ _ (length_placed with_true_condition edge es);
+  keeps_rules = λ variables tables takes es keep. all_with_place (KeepsEdge variables tables takes) with_true_condition (keeps_unconditional variables tables takes) edge es keep;
+  spellable = λ x es s. all_with_place (SpellableEdge x) with_true_condition (spellable_unconditional x) edge es s;
+  drawn = any-replaced has_drawn_delay with_true_condition (λ e h. h) edge;
+  lines = λ g es. lines_with_place (edge_line g) (edge_line g) with_true_condition (unconditional_shorter g) (λ e. no_longer-same _ _ refl) edge es;
 }
 
 -- ---- where no condition of a rule fails

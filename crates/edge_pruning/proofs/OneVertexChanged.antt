@@ -13,7 +13,7 @@ use Rattle.model_core.specs.Rules.PlacedEdges.{with_vertex}
 use Rattle.model_core.proofs.SameNames.{SameNames, map_alike, watched_alike, vertex_alike}
 use Rattle.model_core.proofs.PlacesChanged.{shown_placed, map_placed, length_placed, has_one_placed}
 use Rattle.edge_pruning.proofs.ListsChanged.{all_with_place}
-use Rattle.model_core.proofs.NoLongerTexts.{NoLonger, no_longer-behind, no_longer-before, no_longer-same, no_longer-both}
+use Rattle.model_core.proofs.NoLongerTexts.{NoLonger, no_longer-after, no_longer-before, no_longer-same, no_longer-both}
 use Rattle.round_trip.proofs.VersionsKept.{needed-placed, declared-shorter}
 use Rattle.edge_pruning.proofs.Shorter.{lines_with_place}
 
@@ -63,7 +63,7 @@ module _ (g : EventGraph) (vertex : ℕ) (change : List EventEdge → List Event
   -- ---- its text is no longer
 
   lines_changed : (v : EventVertex) → NoLonger (vertex_lines g (f v)) (vertex_lines g v)
-  lines_changed v = no_longer-before (codes "}\n") (no_longer-behind (codes "vertex " ++ v.name ++ in_parentheses (map (variable_name g) v.parameters) ++ codes " {\n" ++ flat_map (change_line g) v.changes) (ok.lines g v.edges))
+  lines_changed v = no_longer-before (codes "}\n") (no_longer-after (codes "vertex " ++ v.name ++ in_parentheses (map (variable_name g) v.parameters) ++ codes " {\n" ++ flat_map (change_line g) v.changes) (ok.lines g v.edges))
 
   canonical_shorter : NoLonger (canonical h) (canonical g)
   canonical_shorter =

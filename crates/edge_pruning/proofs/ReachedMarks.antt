@@ -16,7 +16,7 @@ use Rattle.mark_laws.proofs.EntailedMarks.{same-place, among-place, entailed-by,
 use Rattle.model_core.proofs.Among.{Among, among-contained, contained-among, among-map, among-of_map, second_true, any-among, among-any}
 use Rattle.mark_laws.proofs.MarksBelow.{among-marked, marked-among, same_mark}
 use Rattle.mark_laws.proofs.PairsBehind.{behind-pairs, pairs-behind}
-use Rattle.edge_pruning.specs.Inner.Walk.{targets_of, targets_behind, watched_vertices}
+use Rattle.edge_pruning.specs.Inner.Walk.{targets_of, targets_by_vertex, watched_vertices}
 
 -- ---- where one begins
 
@@ -47,41 +47,41 @@ has_edges [] k e h = absurd h
 has_edges (v ∷ vs) zero e h = omega arith
 has_edges (v ∷ vs) (suc k) e h = omega (arith, has_edges vs k e h)
 
-pub behind-targets : (vs : List EventVertex) (k : ℕ) → places_behind (targets_behind vs) k ≡ targets_of (slice_index_or vs k no_vertex).edges
+pub behind-targets : (vs : List EventVertex) (k : ℕ) → places_behind (targets_by_vertex vs) k ≡ targets_of (slice_index_or vs k no_vertex).edges
 behind-targets [] k = refl
 behind-targets (v ∷ vs) zero = refl
 behind-targets (v ∷ vs) (suc k) = behind-targets vs k
 
-edge-pair : (vs : List EventVertex) (k : ℕ) (e : EventEdge) → Among e (slice_index_or vs k no_vertex).edges → Among (k, e.target) (pairs_from 0 (targets_behind vs))
+edge-pair : (vs : List EventVertex) (k : ℕ) (e : EventEdge) → Among e (slice_index_or vs k no_vertex).edges → Among (k, e.target) (pairs_from 0 (targets_by_vertex vs))
 edge-pair vs k e among =
-    behind-pairs (targets_behind vs) 0 k k e.target (omega arith)
+    behind-pairs (targets_by_vertex vs) 0 k k e.target (omega arith)
     (subst (λ (ks : List ℕ). Among e.target ks) (sym (behind-targets vs k)) (among-map (λ (e : EventEdge). e.target) (slice_index_or vs k no_vertex).edges e among))
 
-pair-edge : (vs : List EventVertex) (k j : ℕ) → Among (k, j) (pairs_from 0 (targets_behind vs)) → (e : EventEdge) × Among e (slice_index_or vs k no_vertex).edges × (e.target ≡ j)
+pair-edge : (vs : List EventVertex) (k j : ℕ) → Among (k, j) (pairs_from 0 (targets_by_vertex vs)) → (e : EventEdge) × Among e (slice_index_or vs k no_vertex).edges × (e.target ≡ j)
 pair-edge vs k j among =
-    let (i, is, there) = pairs-behind (targets_behind vs) 0 k j among in
+    let (i, is, there) = pairs-behind (targets_by_vertex vs) 0 k j among in
     let same : i ≡ k = omega (arith, is) in
-    among-of_map (λ (e : EventEdge). e.target) (slice_index_or vs k no_vertex).edges j (subst (λ (ks : List ℕ). Among j ks) (behind-targets vs k) (subst (λ (i : ℕ). Among j (places_behind (targets_behind vs) i)) same there))
+    among-of_map (λ (e : EventEdge). e.target) (slice_index_or vs k no_vertex).edges j (subst (λ (ks : List ℕ). Among j ks) (behind-targets vs k) (subst (λ (i : ℕ). Among j (places_behind (targets_by_vertex vs) i)) same there))
 
-led-by : (vs : List EventVertex) (marks : List Bool) (k : ℕ) → is_led_to marks vs k ≡ true → is_entailed_by marks (pairs_from 0 (targets_behind vs)) k ≡ true
+led-by : (vs : List EventVertex) (marks : List Bool) (k : ℕ) → is_led_to marks vs k ≡ true → is_entailed_by marks (pairs_from 0 (targets_by_vertex vs)) k ≡ true
 led-by vs marks k led =
     let (v, among, some) = any-among (λ (v : EventVertex). list_any (λ (e : EventEdge). e.target == k) v.edges) (marked_of marks vs) led in
     let (e, among_edges, is) = any-among (λ (e : EventEdge). e.target == k) v.edges some in
     let (vertex, marked, same) = marked-among marks vs v no_vertex among in
-    let there : Among (vertex, e.target) (pairs_from 0 (targets_behind vs)) = edge-pair vs vertex e (subst (λ (v : EventVertex). Among e v.edges) (sym same) among_edges) in
-    by-entailed marks (pairs_from 0 (targets_behind vs)) vertex k marked (subst (λ (j : ℕ). Among (vertex, j) (pairs_from 0 (targets_behind vs))) (same-place e.target k is) there)
+    let there : Among (vertex, e.target) (pairs_from 0 (targets_by_vertex vs)) = edge-pair vs vertex e (subst (λ (v : EventVertex). Among e v.edges) (sym same) among_edges) in
+    by-entailed marks (pairs_from 0 (targets_by_vertex vs)) vertex k marked (subst (λ (j : ℕ). Among (vertex, j) (pairs_from 0 (targets_by_vertex vs))) (same-place e.target k is) there)
 
-leads-to : (vs : List EventVertex) (marks : List Bool) (k : ℕ) → is_entailed_by marks (pairs_from 0 (targets_behind vs)) k ≡ true → is_led_to marks vs k ≡ true
+leads-to : (vs : List EventVertex) (marks : List Bool) (k : ℕ) → is_entailed_by marks (pairs_from 0 (targets_by_vertex vs)) k ≡ true → is_led_to marks vs k ≡ true
 leads-to vs marks k entails =
-    let (vertex, marked, pair) = entailed-by marks (pairs_from 0 (targets_behind vs)) k entails in
+    let (vertex, marked, pair) = entailed-by marks (pairs_from 0 (targets_by_vertex vs)) k entails in
     let (e, among, is) = pair-edge vs vertex k pair in
     among-any (λ (v : EventVertex). list_any (λ (f : EventEdge). f.target == k) v.edges) (marked_of marks vs) (slice_index_or vs vertex no_vertex)
     (among-marked marks vs vertex no_vertex marked (has_edges vs vertex e among))
     (among-any (λ (f : EventEdge). f.target == k) (slice_index_or vs vertex no_vertex).edges e among (same_number e.target k is))
 
-further-alike : (vs : List EventVertex) (marks : List Bool) → one_edge_further vs marks ≡ one_pair_further (pairs_from 0 (targets_behind vs)) marks
+further-alike : (vs : List EventVertex) (marks : List Bool) → one_edge_further vs marks ≡ one_pair_further (pairs_from 0 (targets_by_vertex vs)) marks
 further-alike vs marks =
-    same_on_range (λ k. is_marked marks k || is_led_to marks vs k) (λ k. is_marked marks k || is_entailed_by marks (pairs_from 0 (targets_behind vs)) k) 0 (length marks)
+    same_on_range (λ k. is_marked marks k || is_led_to marks vs k) (λ k. is_marked marks k || is_entailed_by marks (pairs_from 0 (targets_by_vertex vs)) k) 0 (length marks)
     (λ k from. ap (λ b. is_marked marks k || b) (same_mark _ _ (led-by vs marks k) (leads-to vs marks k)))
 
 -- ---- what can be reached is what is entailed
@@ -91,7 +91,7 @@ module _ (g : EventGraph) where
   first = 0 ∷ watched_vertices g.watch
 
   abbrev pairs : List (ℕ × ℕ)
-  pairs = pairs_from 0 (targets_behind g.vertices)
+  pairs = pairs_from 0 (targets_by_vertex g.vertices)
 
   abbrev count : ℕ
   count = length g.vertices

@@ -6,7 +6,7 @@ use Rattle.model_core.specs.Run.Step.{no_vertex, vertex_at}
 use Rattle.model_core.specs.Run.Same.{Same}
 use Rattle.model_core.specs.Rules.Drop.{vertex_renumbered}
 use Rattle.model_core.proofs.EachOne.{every-map}
-use Rattle.run_laws.proofs.MappedVertices.{with_mapped, DoesAs, WatchedTold, MayLead, mapped-Same}
+use Rattle.run_laws.proofs.MappedVertices.{with_mapped, BehavesAs, WatchedAreApart, LeadsToMapped, mapped-Same}
 
 -- f gives live vertices different numbers, the vertices hold each live one at its new place, and live ones lead to such alone
 pub record Renumbering (g : EventGraph) (f : ℕ → ℕ) (vertices : List EventVertex) (Live : ℕ → Type 0) : Type 0 where
@@ -15,16 +15,16 @@ pub record Renumbering (g : EventGraph) (f : ℕ → ℕ) (vertices : List Event
   pub closed : (k : ℕ) → Live k → AllByRecursion (λ (e : EventEdge). Live e.target) (vertex_at g k).edges
   pub first : f 0 ≡ 0
   pub first_live : Live 0
-  pub watched : AllByRecursion (WatchedTold Live) g.watch
+  pub watched : AllByRecursion (WatchedAreApart Live) g.watch
 
-leads_live : (Live : ℕ → Type 0) (kind : EdgeKind) (t : ℕ) → Live t → MayLead Live Live kind t
+leads_live : (Live : ℕ → Type 0) (kind : EdgeKind) (t : ℕ) → Live t → LeadsToMapped Live Live kind t
 leads_live Live (Schedule delay priority) t live = live
 leads_live Live Urgent t live = live
 leads_live Live CancelNext t live = live
 leads_live Live CancelEqual t live = live
 leads_live Live CancelAll t live = live
 
-placed_does : (f : ℕ → ℕ) (v w : EventVertex) → w ≡ vertex_renumbered f v → DoesAs f v w
+placed_does : (f : ℕ → ℕ) (v w : EventVertex) → w ≡ vertex_renumbered f v → BehavesAs f v w
 placed_does f v w is = record {
   parameters = sym (ap (λ (v : EventVertex). v.parameters) is);
   changes = sym (ap (λ (v : EventVertex). v.changes) is);
@@ -36,7 +36,7 @@ renumbered-Same g f vertices Live ok = mapped-Same g f vertices Live Live (recor
   apart = λ t told k live. ok.apart k t live told;
   does = λ k live. placed_does f (vertex_at g k) (slice_index_or vertices (f k) no_vertex) (ok.placed k live);
   names = λ k live. sym (ap (λ (v : EventVertex). v.name) (ok.placed k live));
-  closed = λ k live. every-map (λ (e : EventEdge). Live e.target) (λ (e : EventEdge). MayLead Live Live e.kind e.target) (λ e there. leads_live Live e.kind e.target there) (vertex_at g k).edges (ok.closed k live);
+  closed = λ k live. every-map (λ (e : EventEdge). Live e.target) (λ (e : EventEdge). LeadsToMapped Live Live e.kind e.target) (λ e there. leads_live Live e.kind e.target there) (vertex_at g k).edges (ok.closed k live);
   first = ok.first;
   first_live = ok.first_live;
   watched = ok.watched;

@@ -4,7 +4,7 @@ use Rattle.model_core.specs.EventGraph.{EventEdge, EventVertex, EventGraph}
 use Rattle.model_core.specs.Rules.PlacedEdges.{with_place, first_edge}
 use Rattle.model_core.specs.Rules.MarkedPlaces.{rank, marked_of}
 use Rattle.model_core.specs.Rules.Prune.{has_refuted_condition, without_edge, pruned, first_prune}
-use Rattle.model_core.specs.Rules.Settle.{unconditional, with_settled, settled, can_be_settled, first_settle}
+use Rattle.model_core.specs.Rules.Settle.{with_true_condition, with_settled, settled, can_be_settled, first_settle}
 use Rattle.model_core.specs.Rules.Drop.{staying_marks, edge_renumbered, vertex_renumbered, dropped}
 use Rattle.model_core.proofs.NoEdgePasses.{NoneOf, NoneIn, first_edge-none, none-first_edge, none-removed, none-placed}
 
@@ -22,14 +22,14 @@ pruned-settle g vertex edge none = none-without (can_be_settled g) g.vertices ve
 
 -- ---- a condition becomes the literal `true`
 
-none-unconditional : (test : EventEdge → Bool) → ((e : EventEdge) → test (unconditional e) ≡ false) → (es : List EventEdge) (k : ℕ) → NoneOf test es → NoneOf test (with_place unconditional k es)
-none-unconditional test never [] k none = tt
-none-unconditional test never (e ∷ es) zero none = (never e, none.1)
-none-unconditional test never (e ∷ es) (suc k) none = (none.0, none-unconditional test never es k none.1)
+none-with_true_condition : (test : EventEdge → Bool) → ((e : EventEdge) → test (with_true_condition e) ≡ false) → (es : List EventEdge) (k : ℕ) → NoneOf test es → NoneOf test (with_place with_true_condition k es)
+none-with_true_condition test never [] k none = tt
+none-with_true_condition test never (e ∷ es) zero none = (never e, none.1)
+none-with_true_condition test never (e ∷ es) (suc k) none = (none.0, none-with_true_condition test never es k none.1)
 
-none-settled : (test : EventEdge → Bool) → ((e : EventEdge) → test (unconditional e) ≡ false) → (vs : List EventVertex) (vertex edge : ℕ) → first_edge test 0 vs ≡ None → first_edge test 0 (with_place (with_settled edge) vertex vs) ≡ None
+none-settled : (test : EventEdge → Bool) → ((e : EventEdge) → test (with_true_condition e) ≡ false) → (vs : List EventVertex) (vertex edge : ℕ) → first_edge test 0 vs ≡ None → first_edge test 0 (with_place (with_settled edge) vertex vs) ≡ None
 none-settled test never vs vertex edge none =
-    first_edge-none test 0 _ (none-placed test (with_settled edge) (λ v clear. none-unconditional test never v.edges edge clear) vs vertex (none-first_edge test 0 vs none))
+    first_edge-none test 0 _ (none-placed test (with_settled edge) (λ v clear. none-with_true_condition test never v.edges edge clear) vs vertex (none-first_edge test 0 vs none))
 
 pub settled-prune : (g : EventGraph) (vertex edge : ℕ) → first_prune g ≡ None → first_prune (settled g vertex edge) ≡ None
 settled-prune g vertex edge none = none-settled (has_refuted_condition g) (λ e. refl) g.vertices vertex edge none

@@ -4,12 +4,12 @@ use Rattle.std.specs.Option.{option_and_then}
 use Rattle.model_core.specs.EventGraph.{EventGraph, EventVertex, EventEdge, EdgeKind, Schedule, Urgent, CancelNext, CancelEqual, CancelAll}
 use Rattle.model_core.specs.Run.State.{State, in_range, initial_state}
 use Rattle.model_core.specs.Run.Value.{OrFault, ◌>>=◌, value_of, is_one}
-use Rattle.model_core.specs.Run.Edges.{Planned, act, treat}
+use Rattle.model_core.specs.Run.Edges.{EdgeState, act, treat_edge}
 use Rattle.model_core.specs.Run.Step.{no_vertex}
 use Rattle.model_core.specs.Run.Same.{Same}
 use Rattle.model_core.specs.Rules.PlacedEdges.{edge_at, with_place, with_vertex}
 use Rattle.model_core.specs.Rules.Prune.{without_edge, pruned}
-use Rattle.model_core.specs.Rules.Settle.{unconditional, with_settled, settled}
+use Rattle.model_core.specs.Rules.Settle.{with_true_condition, with_settled, settled}
 use Rattle.model_core.proofs.Results.{in_turn-remove}
 use Rattle.run_laws.proofs.EdgesAlike.{Alike, itself-alike, alike-Same}
 use Rattle.run_laws.proofs.InRange.{in_range-kept}
@@ -25,20 +25,20 @@ InRange g s = IsTrue (in_range g s)
 -- ---- one edge
 
 -- an edge whose condition is 0 does nothing
-treat-idle : (g : EventGraph) (seed : ℕ) (s : State) (clk : ℕ) (e : EventEdge) (p : Planned) → value_of g s clk e.condition ≡ Ok (pos 0) → treat g seed s clk e p ≡ Ok p
-treat-idle g seed s clk e p zero_there = ap (λ (r : OrFault ℤ). r >>= λ c. cond (is_one c) (act g seed s clk e e.kind p) (Ok p)) zero_there
+treat_edge-idle : (g : EventGraph) (seed : ℕ) (s : State) (clk : ℕ) (e : EventEdge) (p : EdgeState) → value_of g s clk e.condition ≡ Ok (pos 0) → treat_edge g seed s clk e p ≡ Ok p
+treat_edge-idle g seed s clk e p zero_there = ap (λ (r : OrFault ℤ). r >>= λ c. cond (is_one c) (act g seed s clk e e.kind p) (Ok p)) zero_there
 
-act-unconditional : (g : EventGraph) (seed : ℕ) (s : State) (clk : ℕ) (e : EventEdge) (kind : EdgeKind) (p : Planned) → act g seed s clk e kind p ≡ act g seed s clk (unconditional e) kind p
-act-unconditional g seed s clk e (Schedule delay priority) p = refl
-act-unconditional g seed s clk e Urgent p = refl
-act-unconditional g seed s clk e CancelNext p = refl
-act-unconditional g seed s clk e CancelEqual p = refl
-act-unconditional g seed s clk e CancelAll p = refl
+act-with_true_condition : (g : EventGraph) (seed : ℕ) (s : State) (clk : ℕ) (e : EventEdge) (kind : EdgeKind) (p : EdgeState) → act g seed s clk e kind p ≡ act g seed s clk (with_true_condition e) kind p
+act-with_true_condition g seed s clk e (Schedule delay priority) p = refl
+act-with_true_condition g seed s clk e Urgent p = refl
+act-with_true_condition g seed s clk e CancelNext p = refl
+act-with_true_condition g seed s clk e CancelEqual p = refl
+act-with_true_condition g seed s clk e CancelAll p = refl
 
 -- an edge whose condition is 1 does what it does under `true`
-treat-settled : (g : EventGraph) (seed : ℕ) (s : State) (clk : ℕ) (e : EventEdge) (p : Planned) → value_of g s clk e.condition ≡ Ok (pos 1) → treat g seed s clk e p ≡ treat g seed s clk (unconditional e) p
-treat-settled g seed s clk e p one_there =
-    ap (λ (r : OrFault ℤ). r >>= λ c. cond (is_one c) (act g seed s clk e e.kind p) (Ok p)) one_there ∙ act-unconditional g seed s clk e e.kind p
+treat_edge-settled : (g : EventGraph) (seed : ℕ) (s : State) (clk : ℕ) (e : EventEdge) (p : EdgeState) → value_of g s clk e.condition ≡ Ok (pos 1) → treat_edge g seed s clk e p ≡ treat_edge g seed s clk (with_true_condition e) p
+treat_edge-settled g seed s clk e p one_there =
+    ap (λ (r : OrFault ℤ). r >>= λ c. cond (is_one c) (act g seed s clk e e.kind p) (Ok p)) one_there ∙ act-with_true_condition g seed s clk e e.kind p
 
 -- ---- one vertex
 
@@ -47,7 +47,7 @@ without_edge-alike g v edge idle = record {
   name = refl;
   parameters = refl;
   changes = refl;
-  edges = λ s q seed clk early p. in_turn-remove (treat g seed s clk) v.edges edge p (λ e there p. treat-idle g seed s clk e p (idle e there s q clk early));
+  edges = λ s q seed clk early p. in_turn-remove (treat_edge g seed s clk) v.edges edge p (λ e there p. treat_edge-idle g seed s clk e p (idle e there s q clk early));
 }
 
 with_settled-alike : (g : EventGraph) (v : EventVertex) (edge : ℕ) → ((e : EventEdge) → slice_get v.edges edge ≡ Some e → HasValue g (pos 1) e) → Alike g (InRange g) v (with_settled edge v)
@@ -55,7 +55,7 @@ with_settled-alike g v edge always = record {
   name = refl;
   parameters = refl;
   changes = refl;
-  edges = λ s q seed clk early p. in_turn-with_place (treat g seed s clk) unconditional v.edges edge p (λ e there p. treat-settled g seed s clk e p (always e there s q clk early));
+  edges = λ s q seed clk early p. in_turn-with_place (treat_edge g seed s clk) with_true_condition v.edges edge p (λ e there p. treat_edge-settled g seed s clk e p (always e there s q clk early));
 }
 
 -- ---- the model

@@ -6,6 +6,6 @@ use Rattle.model_core.specs.Rules.Settle.{can_be_settled}
 use Rattle.edge_pruning.specs.declared.finding.EdgeRule.{EdgeRule}
 use Rattle.edge_pruning.specs.declared.finding.EdgeRule.TheVariants as rules
 
-abbrev pub test_of : EdgeRule → EventGraph → EventEdge → Bool
-test_of rules.Prune g e = has_refuted_condition g e
-test_of rules.Settle g e = can_be_settled g e
+abbrev pub edge_test : EdgeRule → EventGraph → EventEdge → Bool
+edge_test rules.Prune g e = has_refuted_condition g e
+edge_test rules.Settle g e = can_be_settled g e

@@ -2,7 +2,7 @@
 
 ghost use Rattle.std.specs.Prelude.{◌≡◌, ◌<◌, true, false, None, OnOk, OnErr, IfOk, IfErr};
 ghost use Rattle.model_core.specs.Rules.Conditions.{first_failed};
-ghost use Rattle.model_core.specs.Rules.ConditionTold.{TellsCondition};
+ghost use Rattle.model_core.specs.Rules.ConditionTold.{NamesCondition};
 ghost use Rattle.model_core.specs.Rules.Reached.{unreached};
 ghost use Rattle.model_core.specs.Rules.PlacedEdges.{with_place};
 ghost use Rattle.model_core.specs.Rules.Drop.{drop_conditions, staying_marks, only_marked, dropped};
@@ -32,7 +32,7 @@ pub fn drop_vertices(
 ) -> Result<(), RuleError>
     ensures done { OnOk result ((first_failed (drop_conditions (graph_of model.old) vertices.now) ≡ None)
         × (graph_of model.new ≡ dropped (graph_of model.old) vertices.now)) }
-    ensures refused { IfErr result (λ e. TellsCondition e (first_failed (drop_conditions (graph_of model.old) vertices.now))) }
+    ensures refused { IfErr result (λ e. NamesCondition e (first_failed (drop_conditions (graph_of model.old) vertices.now))) }
     ensures unchanged { OnErr result (graph_of model.new ≡ graph_of model.old) }
 {
     if vertices.len() == 0 {
@@ -43,7 +43,7 @@ pub fn drop_vertices(
     if vertices.as_slice() != others.as_slice() {
         return Err(RuleError::Refused { condition: 2 });
     }
-    leave_marked(alloc, model, marks)?;
+    keep_marked_vertices(alloc, model, marks)?;
     Ok(())
 }
 
@@ -78,21 +78,21 @@ pub fn drop_unreached(
     ensures unchanged { OnErr result (graph_of model.new ≡ graph_of model.old) }
 {
     let marks = marks_without(alloc, model.vertices.len(), vertices.as_slice())?;
-    leave_marked(alloc, model, marks)
+    keep_marked_vertices(alloc, model, marks)
 }
 
 /// Leaves the marked vertices alone, each at its new place.
-fn leave_marked(alloc: Global, model: &mut Model, marks: Vec<bool>) -> Result<(), NoMemory>
+fn keep_marked_vertices(alloc: Global, model: &mut Model, marks: Vec<bool>) -> Result<(), NoMemory>
     ensures done { OnOk result (graph_of model.new ≡ only_marked (graph_of model.old) marks.items) }
     ensures unchanged { OnErr result (graph_of model.new ≡ graph_of model.old) }
 {
     let staying = Staying::of(alloc, marks)?;
-    leave_staying(model, &staying);
+    keep_staying_vertices(model, &staying);
     Ok(())
 }
 
 /// Leaves the vertices that stay alone, each at its new place.
-fn leave_staying(model: &mut Model, staying: &Staying)
+fn keep_staying_vertices(model: &mut Model, staying: &Staying)
     ensures { graph_of model.new ≡ only_marked (graph_of model.old) staying.now }
 {
     renumber_watch(staying, model.watch.as_mut_vec());

@@ -6,7 +6,7 @@ ghost use Rattle.model_core.specs.Rules.Settle.{is_literal_true, first_settle};
 ghost use Rattle.model_core.specs.Rules.Prune.{first_prune};
 ghost use Rattle.model_core.specs.Rules.PlacedEdges.{first_edge};
 ghost use Rattle.model_core.specs.Code.Views.{graph_of, vertex_of, edge_of, expression_of};
-ghost use Rattle.edge_pruning.specs.EdgeRules.{test_of};
+ghost use Rattle.edge_pruning.specs.EdgeRules.{edge_test};
 
 use model_core::{Edge, Expr, Model, Vertex};
 use range_bounds::{proved, refuted};
@@ -29,7 +29,7 @@ pub(crate) fn is_literal_true(condition: &Expr) -> bool
 
 /// Whether the rule applies to an edge of the model.
 pub fn can_apply(model: &Model, rule: EdgeRule, edge: &Edge) -> bool
-    ensures { result ≡ test_of rule (graph_of model.now) (edge_of edge.now) }
+    ensures { result ≡ edge_test rule (graph_of model.now) (edge_of edge.now) }
 {
     match rule {
         EdgeRule::Prune => refuted(model, &edge.condition),
@@ -39,7 +39,7 @@ pub fn can_apply(model: &Model, rule: EdgeRule, edge: &Edge) -> bool
 
 /// The place of the vertex's first edge to which the rule applies.
 fn first_of_vertex(model: &Model, rule: EdgeRule, vertex: &Vertex) -> Option<usize>
-    ensures { result ≡ position_from (test_of rule (graph_of model.now)) 0 (vertex_of vertex.now).edges }
+    ensures { result ≡ position_from (edge_test rule (graph_of model.now)) 0 (vertex_of vertex.now).edges }
 {
     for (place, edge) in vertex.edges.as_slice().iter().enumerate() {
         if can_apply(model, rule, edge) {
@@ -51,7 +51,7 @@ fn first_of_vertex(model: &Model, rule: EdgeRule, vertex: &Vertex) -> Option<usi
 
 /// The places of the vertex and of its edge, of the first edge to which the rule applies.
 fn first_of_model(model: &Model, rule: EdgeRule) -> Option<(usize, usize)>
-    ensures { result ≡ first_edge (test_of rule (graph_of model.now)) 0 (map vertex_of model.now.vertices) }
+    ensures { result ≡ first_edge (edge_test rule (graph_of model.now)) 0 (map vertex_of model.now.vertices) }
 {
     for (place, vertex) in model.vertices.as_slice().iter().enumerate() {
         if let Some(edge) = first_of_vertex(model, rule, vertex) {

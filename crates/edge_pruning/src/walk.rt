@@ -6,7 +6,7 @@ ghost use Rattle.model_core.specs.Run.Step.{no_vertex};
 ghost use Rattle.model_core.specs.Rules.Reached.{reached_marks};
 ghost use Rattle.edge_pruning.specs.Inner.Walk.{targets_of, watched_vertices};
 
-use marked_walks::{PlacesBehind, entailed};
+use marked_walks::{PlaceSuccessors, entailed};
 use model_core::{Edge, Model, Vertex, Watch};
 use sig_base::NoMemory;
 use std::alloc::Global;
@@ -37,22 +37,22 @@ struct Targets<'a> {
     vertices: &'a [Vertex],
 }
 
-impl<'a> PlacesBehind for Targets<'a> {
+impl<'a> PlaceSuccessors for Targets<'a> {
     ghost use Rattle.std.specs.Prelude.{map};
     ghost use Rattle.model_core.specs.Code.Views.{vertex_of};
-    ghost use Rattle.edge_pruning.specs.Inner.Walk.{targets_behind};
+    ghost use Rattle.edge_pruning.specs.Inner.Walk.{targets_by_vertex};
 
-    ghost lists = { λ t. targets_behind (map vertex_of t.vertices.now) };
+    ghost lists = { λ t. targets_by_vertex (map vertex_of t.vertices.now) };
 
     fn place_count(&self) -> usize {
         self.vertices.len()
     }
 
-    fn count_behind(&self, place: usize) -> usize {
+    fn successor_count(&self, place: usize) -> usize {
         edges_at(self.vertices, place).len()
     }
 
-    fn nth_behind(&self, place: usize, nth: usize) -> Option<usize> {
+    fn nth_successor(&self, place: usize, nth: usize) -> Option<usize> {
         target_at(edges_at(self.vertices, place), nth)
     }
 }

@@ -6,7 +6,7 @@ use Rattle.std.proofs.lemmas.List.{map-set, length-set, length-map, get_or_appen
 use Rattle.event_heap.specs.declared.node.Item.{Item}
 use Rattle.event_heap.specs.declared.node.Node.{Node}
 use Rattle.event_heap.specs.Inner.Tree.{Tree, Leaf, Fork, leftist_rank, times_in, merged_heap}
-use Rattle.event_heap.specs.Inner.Stands.{no_node, node_at, item_at, items_of, StandApart, IsRebuilt}
+use Rattle.event_heap.specs.Inner.Stands.{no_node, node_at, item_at, items_of, TreesApart, IsRebuilt}
 use Rattle.event_heap.specs.Inner.Listed.{placed, in_order}
 use Rattle.event_heap.specs.Inner.Forest.{occurs, FreeChain, root_at, IsHeapOf, Forest}
 use Rattle.event_heap.specs.Inner.Claimed.{lone_node, IsClaimed}
@@ -97,7 +97,7 @@ module _ (old mid : List Node) (roots : List (Option ℕ)) (free later : Option 
     by (inr z) = omega arith
 
   -- the heap of the vertex and the new node have no node in common
-  pub apart-added : leftist_rank (trees v) + 1 < 2 ^ 32 → StandApart mid (trees v) (Fork i x Leaf Leaf) (root_at roots v) (Some i)
+  pub apart-added : leftist_rank (trees v) + 1 < 2 ^ 32 → TreesApart mid (trees v) (Fork i x Leaf Leaf) (root_at roots v) (Some i)
   apart-added ranks = record {
     one = stands-along old mid (trees v) (root_at roots v) k.longer (λ q m. k.others q (λ s. absurd (omega (arith, subst (λ q. 0 < times_in q (trees v)) s m, not_held v)))) (f.heaps v).stands;
     other = (refl, record { within = k.there; item = ap (λ n. n.item) k.node; rank_is = ap (λ n. n.rank) k.node; left_rank_is = ap (λ n. n.left_rank) k.node }, rw k.node tt, rw k.node tt);

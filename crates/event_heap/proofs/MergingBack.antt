@@ -6,7 +6,7 @@ use Rattle.std.proofs.lemmas.List.{length-set}
 use Rattle.event_heap.specs.declared.node.Item.{Item}
 use Rattle.event_heap.specs.declared.node.Node.{Node}
 use Rattle.event_heap.specs.Inner.Tree.{Tree, Leaf, Fork, times_in, merged_heap}
-use Rattle.event_heap.specs.Inner.Stands.{no_node, node_at, item_at, StandApart, IsRebuilt}
+use Rattle.event_heap.specs.Inner.Stands.{no_node, node_at, item_at, TreesApart, IsRebuilt}
 use Rattle.event_heap.specs.Inner.Forest.{occurs}
 use Rattle.event_heap.specs.Inner.Aside.{Linked, IsSplit}
 use Rattle.event_heap.proofs.TreeLaws.{times_in-merged, heap-merged}
@@ -36,7 +36,7 @@ module _ (start now : List Node) (whole : ℕ → ℕ) (s : Tree) (p : ℕ) (ps 
   same_length : length alone ≡ length now
   same_length = rw e (length-set now p (lone (node_at now p)))
 
-  pub back-apart : StandApart alone s (Fork p x Leaf Leaf) root (Some p)
+  pub back-apart : TreesApart alone s (Fork p x Leaf Leaf) root (Some p)
   back-apart =
       let bound = leftist_rank-small now s root q.stands q.heap_is (λ i. let a = q.parts i in let o = once i in omega arith) small in
       record {

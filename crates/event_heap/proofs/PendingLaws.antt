@@ -4,7 +4,7 @@ use Rattle.std.proofs.lemmas.List.{map_push, length-map}
 use Rattle.std.proofs.Math.Nat.{pow-suc}
 use Rattle.std.specs.List.{AllByRecursion}
 use Rattle.event_list.specs.KeyOrder.{KeyParts, comes_before}
-use Rattle.model_core.specs.Run.Pending.{Entry, TakenOff, is_of, or_behind, next_among, next_entry, without_next}
+use Rattle.model_core.specs.Run.Pending.{Entry, EntryAndRest, is_of, next_or_first, next_among, next_entry, without_next}
 use Rattle.model_core.proofs.EachOne.{every-map}
 use Rattle.event_list.specs.Told.{first_of}
 use Rattle.event_heap.specs.declared.node.Item.{Item}
@@ -22,15 +22,15 @@ use Rattle.event_heap.proofs.Arriving.{each-of_placed}
 
 -- ---- the next event is the next entry
 
-pub next-is : (test : Entry → Bool) (events rest : List Item) (o : Option Item) → IsWithoutNext test events rest o → option_map (λ (n : TakenOff). n.entry) (next_among test (entries_of events)) ≡ option_map (λ (x : Item). x.entry) o
-next-is test events rest None h = ap (option_map (λ (n : TakenOff). n.entry)) (none-passes test events h.1)
+pub next-is : (test : Entry → Bool) (events rest : List Item) (o : Option Item) → IsWithoutNext test events rest o → option_map (λ (n : EntryAndRest). n.entry) (next_among test (entries_of events)) ≡ option_map (λ (x : Item). x.entry) o
+next-is test events rest None h = ap (option_map (λ (n : EntryAndRest). n.entry)) (none-passes test events h.1)
 next-is test events rest (Some x) h =
-    ap (λ xs. option_map (λ (n : TakenOff). n.entry) (next_among test (entries_of xs))) h.is ∙ ap (option_map (λ (n : TakenOff). n.entry)) (next-placed test x rest h.passes h.rising h.first)
+    ap (λ xs. option_map (λ (n : EntryAndRest). n.entry) (next_among test (entries_of xs))) h.is ∙ ap (option_map (λ (n : EntryAndRest). n.entry)) (next-placed test x rest h.passes h.rising h.first)
 
 pub rest-is : (test : Entry → Bool) (events rest : List Item) (o : Option Item) → IsWithoutNext test events rest o → entries_of rest ≡ without_next test (entries_of events)
 rest-is test events rest None h = rw (none-passes test events h.1) (ap entries_of h.0)
 rest-is test events rest (Some x) h =
-    sym (ap (λ xs. without_next test (entries_of xs)) h.is ∙ ap (λ o. unwrap_or (option_map (λ (n : TakenOff). n.others) o) (entries_of (placed x rest))) (next-placed test x rest h.passes h.rising h.first))
+    sym (ap (λ xs. without_next test (entries_of xs)) h.is ∙ ap (λ o. unwrap_or (option_map (λ (n : EntryAndRest). n.others) o) (entries_of (placed x rest))) (next-placed test x rest h.passes h.rising h.first))
 
 -- ---- without events no vertex has a key
 
@@ -117,17 +117,17 @@ taken-next heaps v rest (Some y) (x, e, next) at h =
     let is : x ≡ y = cc in
     subst (λ y. IsNextOf (λ e. true) heaps.events y rest) is (next rest (subst (λ y. IsNextOf (is_of v) heaps.events y rest) (sym is) h))
 
-pub seen-next : (heaps : Held) (v : ℕ) (y : Item) → IsNextVertex heaps (Some v) → Some y ≡ top_of heaps v → IsNext (is_of v) heaps.events (top_of heaps v) → option_map (λ (n : TakenOff). n.entry) (next_entry (entries_of heaps.events)) ≡ Some y.entry
+pub seen-next : (heaps : Held) (v : ℕ) (y : Item) → IsNextVertex heaps (Some v) → Some y ≡ top_of heaps v → IsNext (is_of v) heaps.events (top_of heaps v) → option_map (λ (n : EntryAndRest). n.entry) (next_entry (entries_of heaps.events)) ≡ Some y.entry
 seen-next heaps v y h at first =
     let (rest, n) = subst (IsNext (is_of v) heaps.events) (sym at) first in
     next-is (λ e. true) heaps.events rest (Some y) (taken-next heaps v rest (Some y) h at n)
 
-pub told-entry : (o : Option TakenOff) (e : Entry) → option_map (λ (n : TakenOff). n.entry) o ≡ Some e → Some (first_of e) ≡ option_map (λ (n : TakenOff). first_of n.entry) o
-told-entry None e h = cc
-told-entry (Some n) e h = let is : n.entry ≡ e = cc in ap (λ e. Some (first_of e)) (sym is)
+pub first_shown-entry : (o : Option EntryAndRest) (e : Entry) → option_map (λ (n : EntryAndRest). n.entry) o ≡ Some e → Some (first_of e) ≡ option_map (λ (n : EntryAndRest). first_of n.entry) o
+first_shown-entry None e h = cc
+first_shown-entry (Some n) e h = let is : n.entry ≡ e = cc in ap (λ e. Some (first_of e)) (sym is)
 
 -- where an entry is pending there is a next one
-next-behind : (e : Entry) (es : List Entry) (o : Option TakenOff) → IsSome (or_behind e es o)
+next-behind : (e : Entry) (es : List Entry) (o : Option EntryAndRest) → IsSome (next_or_first e es o)
 next-behind e es None = refl
 next-behind e es (Some n) = refl
 

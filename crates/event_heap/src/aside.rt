@@ -43,7 +43,7 @@ fn set_aside(nodes: &mut [Node], place: usize, kept: Option<usize>)
 }
 
 /// Makes a node a heap of its own.
-fn stand_alone(nodes: &mut [Node], place: usize)
+fn make_lone(nodes: &mut [Node], place: usize)
     requires { place < length nodes.old }
     ensures { nodes.new ≡ slice_set nodes.old place (record (node_at nodes.old place) { left = None; right = None; rank = 1; left_rank = 0 }) }
 {
@@ -104,7 +104,7 @@ pub fn merge_back<L: Ledger>(
     let mut next = kept;
     while let Some(place) = next {
         next = left_of(nodes, place);
-        stand_alone(nodes, place);
+        make_lone(nodes, place);
         root = merge(nodes, root, Some(place), steps);
     }
     root

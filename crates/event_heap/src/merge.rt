@@ -2,7 +2,7 @@
 
 ghost use Rattle.std.specs.Prelude.{◌≡◌, ◌+◌, ◌<◌, ◌≤◌, ◌^◌, length, slice_set, Some};
 ghost use Rattle.event_heap.specs.Inner.Tree.{Tree, leftist_rank, heap_over, merged_heap};
-ghost use Rattle.event_heap.specs.Inner.Stands.{node_at, StandApart, IsRebuilt};
+ghost use Rattle.event_heap.specs.Inner.Stands.{node_at, TreesApart, IsRebuilt};
 ghost use Rattle.event_heap.specs.Inner.Seated.{hung, seated};
 
 use crate::node::{Node, comes_first};
@@ -57,11 +57,11 @@ pub fn right_of(nodes: &[Node], node: usize) -> Option<usize>
 /// Merges a heap into the one on the right of a root that comes before its own root, and answers the rank that the root above
 /// has then. It goes down the nodes on the right of each other, and sets the ranks on its way back.
 fn merge_below<L: Ledger>(nodes: &mut [Node], top: usize, other: usize, steps: &mut Steps<L>) -> u32
-    requires { (s t : Tree) × StandApart nodes.old s t (Some top) (Some other) }
-    ensures merged { (s t : Tree) → StandApart nodes.old s t (Some top) (Some other)
+    requires { (s t : Tree) × TreesApart nodes.old s t (Some top) (Some other) }
+    ensures merged { (s t : Tree) → TreesApart nodes.old s t (Some top) (Some other)
         → IsRebuilt nodes.old nodes.new (heap_over s t) (Some top) }
     ensures rank { result ≡ (node_at nodes.new top).rank }
-    ensures ticks { (s t : Tree) → StandApart nodes.old s t (Some top) (Some other)
+    ensures ticks { (s t : Tree) → TreesApart nodes.old s t (Some top) (Some other)
         → steps.new + 1 ≤ steps.old + (leftist_rank s + leftist_rank t) }
 {
     let Some(right) = right_of(nodes, top) else {
@@ -83,10 +83,10 @@ fn merge_below<L: Ledger>(nodes: &mut [Node], top: usize, other: usize, steps: &
 /// nothing has no part in it.
 #[inline(never)]
 fn merge_roots<L: Ledger>(nodes: &mut [Node], i: usize, j: usize, steps: &mut Steps<L>) -> usize
-    requires { (s t : Tree) × StandApart nodes.old s t (Some i) (Some j) }
-    ensures merged { (s t : Tree) → StandApart nodes.old s t (Some i) (Some j)
+    requires { (s t : Tree) × TreesApart nodes.old s t (Some i) (Some j) }
+    ensures merged { (s t : Tree) → TreesApart nodes.old s t (Some i) (Some j)
         → IsRebuilt nodes.old nodes.new (merged_heap s t) (Some result) }
-    ensures ticks { (s t : Tree) → StandApart nodes.old s t (Some i) (Some j)
+    ensures ticks { (s t : Tree) → TreesApart nodes.old s t (Some i) (Some j)
         → steps.new ≤ steps.old + (leftist_rank s + leftist_rank t) }
 {
     if comes_first(nodes, j, i, steps) {
@@ -105,10 +105,10 @@ pub fn merge<L: Ledger>(
     b: Option<usize>,
     steps: &mut Steps<L>,
 ) -> Option<usize>
-    requires { (s t : Tree) × StandApart nodes.old s t a b }
-    ensures merged { (s t : Tree) → StandApart nodes.old s t a b
+    requires { (s t : Tree) × TreesApart nodes.old s t a b }
+    ensures merged { (s t : Tree) → TreesApart nodes.old s t a b
         → IsRebuilt nodes.old nodes.new (merged_heap s t) result }
-    ensures ticks { (s t : Tree) → StandApart nodes.old s t a b
+    ensures ticks { (s t : Tree) → TreesApart nodes.old s t a b
         → steps.new ≤ steps.old + (leftist_rank s + leftist_rank t) }
 {
     let Some(i) = a else {

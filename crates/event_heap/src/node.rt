@@ -32,7 +32,7 @@ pub struct Node {
 
 impl Item {
     /// The time, priority and vertex of the event.
-    pub fn told(&self) -> First
+    pub fn first_shown(&self) -> First
         ensures { result ≡ first_of self.now.entry }
     {
         First {

@@ -153,7 +153,7 @@ fn next_vertex(heaps: &Heaps, tournament: &Tournament) -> Option<usize>
     requires { (u : ℕ) → slice_index_or tournament.now u None ≡ option_map key_of (top_of heaps.now u) }
     ensures { IsNextVertex heaps.now result }
 {
-    heaps.tell();
+    heaps.show_firsts();
     tournament.top()
 }
 
@@ -216,7 +216,7 @@ impl Pending for HeapPending {
         ensures vertices { self.new.vertices ≡ self.old.vertices }
         ensures ticks { steps.new ≤ steps.old + (3 * (digits (length self.old.entries) + 1) + digits self.old.vertices) }
     {
-        self.heaps.tell();
+        self.heaps.show_firsts();
         let is_first = self.heaps.count() == 0;
         let number = self.numbered;
         let leads = self.heaps.add(number, entry, steps);
@@ -237,7 +237,7 @@ impl Pending for HeapPending {
             return None;
         };
         match self.heaps.first(vertex) {
-            Some(item) => Some(item.told()),
+            Some(item) => Some(item.first_shown()),
             None => unreachable!(),
         }
     }
@@ -279,7 +279,7 @@ impl Pending for HeapPending {
         if self.heaps.take(vertex, steps) == 0 {
             unreachable!()
         }
-        self.heaps.tell();
+        self.heaps.show_firsts();
         let was_last = self.heaps.count() == 0;
         replay_known(&self.heaps, &mut self.tournament, vertex, was_last, steps);
     }

@@ -10,7 +10,7 @@ use Rattle.model_core.specs.Text.Written.{WrittenModel}
 use Rattle.model_core.specs.Text.CertificateText.{certificate_format, IsCertificate, IsNoCertificateAt}
 use Rattle.model_core.specs.Text.DocumentText.{SpellsDocument}
 use Rattle.model_core.specs.Static.FaultOrder.{StaticFault}
-use Rattle.model_core.specs.Static.ModelFaults.{told_fault, Accepted}
+use Rattle.model_core.specs.Static.ModelFaults.{first_fault, Accepted}
 use Rattle.model_core.specs.Static.Reading.{ReadsDocument}
 use Rattle.text_laws.proofs.Formats.OneTokenDecides.{certificate-fine}
 use Rattle.text_laws.proofs.Formats.TextLaws.{one_value, spelled_or_wrong, one_wrong_place}
@@ -77,7 +77,7 @@ grammar_complained text tokens what at (in_certificate first second left last b 
 -- ---- the outcome for the document
 
 abbrev static_outcome : Parts → Computed Parts
-static_outcome (first, applications, second) = unless_fault (told_fault first) (unless_fault (told_fault second) (Ok (first, applications, second)))
+static_outcome (first, applications, second) = unless_fault (first_fault first) (unless_fault (first_fault second) (Ok (first, applications, second)))
 
 abbrev cut_outcome : List ℕ → Result (List Lexeme) ℕ → Computed Parts
 cut_outcome text (Ok tokens) = and_then static_outcome (grammar_outcome text tokens)
@@ -97,14 +97,14 @@ module _ (laws : FaultLaws) (text : List ℕ) where
   complaint_outcome what at (of_bytes is cut) = ap (cut_outcome text) cut ∙ ap (λ w. Err (w, at)) (sym is)
   complaint_outcome what at (of_tokens tokens cut h) = ap (cut_outcome text) cut ∙ ap (and_then static_outcome) (grammar_complained text tokens what at h)
   complaint_outcome what at (of_first first second applications s kind is told) =
-      spelled_outcome text first second applications s ∙ ap (λ o. unless_fault o (unless_fault (told_fault second) (Ok (first, applications, second)))) ((laws.told first (record { at = at; kind = kind })).1 told) ∙ ap (λ w. Err (w, at)) (sym is)
+      spelled_outcome text first second applications s ∙ ap (λ o. unless_fault o (unless_fault (first_fault second) (Ok (first, applications, second)))) ((laws.told first (record { at = at; kind = kind })).1 told) ∙ ap (λ w. Err (w, at)) (sym is)
   complaint_outcome what at (of_second first second applications s g accepted kind is told) =
-      spelled_outcome text first second applications s ∙ ap (λ o. unless_fault o (unless_fault (told_fault second) (Ok (first, applications, second)))) ((laws.accepted first).1 (g, accepted))
+      spelled_outcome text first second applications s ∙ ap (λ o. unless_fault o (unless_fault (first_fault second) (Ok (first, applications, second)))) ((laws.accepted first).1 (g, accepted))
       ∙ ap (λ o. unless_fault o (Ok (first, applications, second))) ((laws.told second (record { at = at; kind = kind })).1 told) ∙ ap (λ w. Err (w, at)) (sym is)
 
   reads_outcome : (g : EventGraph) (applications : List RuleApplication) (h : EventGraph) → (r : ReadsDocument text g applications h) → document_outcome text ≡ Ok (r.first, applications, r.second)
   reads_outcome g applications h r =
-      spelled_outcome text r.first r.second applications r.spells ∙ ap (λ o. unless_fault o (unless_fault (told_fault r.second) (Ok (r.first, applications, r.second)))) ((laws.accepted r.first).1 (g, r.first_accepted))
+      spelled_outcome text r.first r.second applications r.spells ∙ ap (λ o. unless_fault o (unless_fault (first_fault r.second) (Ok (r.first, applications, r.second)))) ((laws.accepted r.first).1 (g, r.first_accepted))
       ∙ ap (λ o. unless_fault o (Ok (r.first, applications, r.second))) ((laws.accepted r.second).1 (h, r.second_accepted))
 
   -- ---- there is one
@@ -135,19 +135,19 @@ module _ (laws : FaultLaws) (text : List ℕ) where
   DocumentOrComplaint = HasDocumentComplaint text ⊎ ((g : EventGraph) × (applications : List RuleApplication) × (h : EventGraph) × ReadsDocument text g applications h)
 
   module _ (within : length text ≤ DOCUMENT_MAX) where
-    by_second : (first second : WrittenModel) (applications : List RuleApplication) → SpellsDocument text first applications second → (g : EventGraph) → Accepted first g → (o : Option StaticFault) → told_fault second ≡ o → DocumentOrComplaint
+    by_second : (first second : WrittenModel) (applications : List RuleApplication) → SpellsDocument text first applications second → (g : EventGraph) → Accepted first g → (o : Option StaticFault) → first_fault second ≡ o → DocumentOrComplaint
     by_second first second applications s g accepted None e =
         let (h, is) = (laws.accepted second).0 e in
         inr (g, applications, h, record { fits = within; first = first; second = second; spells = s; first_accepted = accepted; second_accepted = is })
     by_second first second applications s g accepted (Some f) e = inl (complaints.Static f.kind, f.at, of_second first second applications s g accepted f.kind refl ((laws.told second f).0 e))
 
-    by_first : (first second : WrittenModel) (applications : List RuleApplication) → SpellsDocument text first applications second → (o : Option StaticFault) → told_fault first ≡ o → DocumentOrComplaint
-    by_first first second applications s None e = let (g, is) = (laws.accepted first).0 e in by_second first second applications s g is (told_fault second) refl
+    by_first : (first second : WrittenModel) (applications : List RuleApplication) → SpellsDocument text first applications second → (o : Option StaticFault) → first_fault first ≡ o → DocumentOrComplaint
+    by_first first second applications s None e = let (g, is) = (laws.accepted first).0 e in by_second first second applications s g is (first_fault second) refl
     by_first first second applications s (Some f) e = inl (complaints.Static f.kind, f.at, of_first first second applications s f.kind refl ((laws.told first f).0 e))
 
     by_certificate : (tokens : List Lexeme) → tokens_of text ≡ Ok tokens → (a : FrontModel tokens) (b : FrontModel a.left) → CertificateDecision text b.left → DocumentOrComplaint
     by_certificate tokens cut a b (inl spelled) =
-        by_first a.model b.model spelled.0 (record { tokens = tokens; cut = cut; behind_first = a.left; begins = a.begins; behind_second = b.left; goes_on = b.begins; ends = spelled.1 }) (told_fault a.model) refl
+        by_first a.model b.model spelled.0 (record { tokens = tokens; cut = cut; behind_first = a.left; begins = a.begins; behind_second = b.left; goes_on = b.begins; ends = spelled.1 }) (first_fault a.model) refl
     by_certificate tokens cut a b (inr wrong) = inl (complaints.Unexpected, wrong.0, of_tokens tokens cut (in_certificate a.model b.model a.left b.left a.begins b.begins wrong.1))
 
     by_second_front : (tokens : List Lexeme) → tokens_of text ≡ Ok tokens → (a : FrontModel tokens) → FrontModel a.left ⊎ FrontFault text a.left → DocumentOrComplaint

@@ -8,29 +8,29 @@ use Rattle.std.proofs.Math.Seq.{take-append_seam, take-length}
 use Rattle.sig_base.specs.Sink.{Outlet, GrowsBy}
 use Rattle.model_core.specs.EventGraph.{EventGraph}
 use Rattle.model_core.specs.Code.Views.{graph_of}
-use Rattle.model_core.specs.Run.Machine.{Note, Look, Standing, Ended, Stopped, Faulted, Going}
+use Rattle.model_core.specs.Run.Machine.{Note, Look, RunStatus, Ended, Stopped, Faulted, Going}
 use Rattle.model_core.specs.Run.History.{Moment, look_from}
 use Rattle.model_core.specs.Text.HistoryText.{note_line, end_line, history_text}
 use Rattle.run_control.specs.Running.{Running}
 use Rattle.watch_trace.specs.declared.outcome.Outcome.{Outcome}
 use Rattle.watch_trace.specs.declared.outcome.Outcome.TheVariants as outcomes
 use Rattle.watch_trace.specs.Tracing.{Tracing, moment_of}
-use Rattle.watch_trace.specs.Following.{outcome_of, seen_from, Writes, WritesAll, Stands}
+use Rattle.watch_trace.specs.Following.{outcome_of, run_look, Writes, WritesAll, StepsLead}
 use Rattle.run_laws.proofs.HistoryBytes.{history_has_bytes}
 use Rattle.answer_delivery.specs.declared.answer.Answer.TheVariants.{Given}
-use Rattle.answer_delivery.specs.declared.delivering.Said.{Said}
+use Rattle.answer_delivery.specs.declared.delivering.DeliveryOutcome.{DeliveryOutcome}
 use Rattle.answer_delivery.specs.declared.status.End.{End}
 use Rattle.answer_delivery.specs.declared.status.Failure.{Failure}
 use Rattle.answer_delivery.specs.declared.status.Failure.TheVariants as failures
 use Rattle.answer_delivery.specs.declared.status.Status.TheVariants as statuses
 use Rattle.answer_delivery.specs.FrontWritten.{GrowsByFront}
-use Rattle.job_answers.specs.RunAnswer.{end_of, told_of, refused_or, ExceedsRoomFrom}
+use Rattle.job_answers.specs.RunAnswer.{end_of, answer_of_look, refused_or, ExceedsRoomFrom}
 use Rattle.answer_delivery.specs.Statuses.{status_of_answer}
 use Rattle.answer_delivery.specs.DeliverySteps.{Closed}
-use Rattle.job_answers.specs.Inner.WritingSteps.{Streamed}
+use Rattle.job_answers.specs.Inner.WritingSteps.{StreamsBytes}
 use Rattle.job_answers.specs.Inner.RunSteps.{ending, DeliversHistory}
 use Rattle.job_answers.proofs.GivenAnswers.{given_is_no_refusal, some_bytes, end_unrefused}
-use Rattle.job_answers.proofs.Streaming.{closed, closed_in_memory, unstreamed, stopped_short}
+use Rattle.job_answers.proofs.Streaming.{closed, closed_in_memory, stream_fails, stopped_short}
 
 -- ---- what is written
 
@@ -53,7 +53,7 @@ a_front : (o p : Outlet) (n : ℕ) (bytes : List ℕ) → GrowsBy o.written p.wr
 a_front o p n bytes grows = elim (cases_lt (length bytes) n) [ inl long ↦ (length bytes, omega arith, subst (GrowsBy o.written p.written) (take_all n bytes (omega (arith, long)) ∙ sym (take-length bytes)) grows) | inr short ↦ (n, short, grows) ]
 
 -- how a job ends follows from the outcome of its run
-end_so : (s : Standing) → ending (outcome_of s) ≡ Ok (end_of s)
+end_so : (s : RunStatus) → ending (outcome_of s) ≡ Ok (end_of s)
 end_so (Ended t) = refl
 end_so Stopped = refl
 end_so (Faulted t kind) = refl
@@ -61,12 +61,12 @@ end_so Going = refl
 
 module _ {K : Type 0} (sight : K → Outlet) (g : EventGraph) (until events : ℕ) (seen : Look) (o p : K) (Short : Type 0) where
   all_streamed : (outcome : Outcome) → WritesAll g until events seen outcome (sight o) (sight p)
-      → Streamed sight (end_of seen.standing) (history_text g until events seen) Short (ending outcome) o p
+      → StreamsBytes sight (end_of seen.standing) (history_text g until events seen) Short (ending outcome) o p
   all_streamed outcome h =
-      subst (λ (r : Result End Failure). Streamed sight (end_of seen.standing) (history_text g until events seen) Short r o p) (sym (ap ending h.stands ∙ end_so seen.standing)) (refl, h.grows, h.unsettled, h.steady)
+      subst (λ (r : Result End Failure). StreamsBytes sight (end_of seen.standing) (history_text g until events seen) Short r o p) (sym (ap ending h.stands ∙ end_so seen.standing)) (refl, h.grows, h.unsettled, h.steady)
 
   history_streamed : (outcome : Outcome) → Writes g until events seen outcome (sight o) (sight p)
-      → (outcome ≡ outcomes.NoMemory → Short) → Streamed sight (end_of seen.standing) (history_text g until events seen) Short (ending outcome) o p
+      → (outcome ≡ outcomes.NoMemory → Short) → StreamsBytes sight (end_of seen.standing) (history_text g until events seen) Short (ending outcome) o p
   history_streamed (outcomes.Ended t) h short = all_streamed (outcomes.Ended t) h
   history_streamed outcomes.Stopped h short = all_streamed outcomes.Stopped h
   history_streamed (outcomes.Faulted t kind) h short = all_streamed (outcomes.Faulted t kind) h
@@ -80,7 +80,7 @@ module _ {K : Type 0} (sight : K → Outlet) (g : EventGraph) (until events : �
 -- ---- the run
 
 -- a run that lacked memory as it was followed exceeds the room that it had
-exceeds : (until events room : ℕ) (r later : Running) (t after : Tracing) → room ≤ r.spare + length r.now.pending → Stands until events r t outcomes.NoMemory later after → ExceedsRoomFrom (graph_of r.model) until r.seed events (moment_of r t) room
+exceeds : (until events room : ℕ) (r later : Running) (t after : Tracing) → room ≤ r.spare + length r.now.pending → StepsLead until events r t outcomes.NoMemory later after → ExceedsRoomFrom (graph_of r.model) until r.seed events (moment_of r t) room
 exceeds until events room r later t after roomy h = record {
   steps = h.steps;
   within = h.stands.1;
@@ -96,20 +96,20 @@ exceeds until events room r later t after roomy h = record {
 abbrev pub StreamsFrom : {K : Type 0} → (K → Outlet) → EventGraph → ℕ → ℕ → ℕ → Moment → ℕ → Result End Failure → K → K → Type 0
 StreamsFrom sight g until seed events m room r o p =
     let seen = look_from g seed until events m in
-    Streamed sight (end_of seen.standing) (history_text g until events seen) (ExceedsRoomFrom g until seed events m room) r o p
+    StreamsBytes sight (end_of seen.standing) (history_text g until events seen) (ExceedsRoomFrom g until seed events m room) r o p
 
 -- What following a run wrote is its history from that moment on.
 pub streamed_from : {K : Type 0} (sight : K → Outlet) (until events room : ℕ) (r later : Running) (t after : Tracing) (outcome : Outcome) (o p : K) → room ≤ r.spare + length r.now.pending
-    → Writes (graph_of r.model) until events (seen_from until events r t) outcome (sight o) (sight p)
-    → Stands until events r t outcome later after → (ended : Result End Failure) → ended ≡ ending outcome → StreamsFrom sight (graph_of r.model) until r.seed events (moment_of r t) room ended o p
+    → Writes (graph_of r.model) until events (run_look until events r t) outcome (sight o) (sight p)
+    → StepsLead until events r t outcome later after → (ended : Result End Failure) → ended ≡ ending outcome → StreamsFrom sight (graph_of r.model) until r.seed events (moment_of r t) room ended o p
 streamed_from sight until events room r later t after outcome o p roomy writes stands ended is =
     let Short : Type 0 = ExceedsRoomFrom (graph_of r.model) until r.seed events (moment_of r t) room in
-    let short : outcome ≡ outcomes.NoMemory → Short = λ is. exceeds until events room r later t after roomy (subst (λ (x : Outcome). Stands until events r t x later after) is stands) in
-    subst (λ (e : Result End Failure). StreamsFrom sight (graph_of r.model) until r.seed events (moment_of r t) room e o p) (sym is) (history_streamed sight (graph_of r.model) until events (seen_from until events r t) o p Short outcome writes short)
+    let short : outcome ≡ outcomes.NoMemory → Short = λ is. exceeds until events room r later t after roomy (subst (λ (x : Outcome). StepsLead until events r t x later after) is stands) in
+    subst (λ (e : Result End Failure). StreamsFrom sight (graph_of r.model) until r.seed events (moment_of r t) room e o p) (sym is) (history_streamed sight (graph_of r.model) until events (run_look until events r t) o p Short outcome writes short)
 
 -- ---- the answer
 
-same_failure : (f g : Failure) → ◌≡◌ {A = Result Said Failure} (Err f) (Err g) → f ≡ g
+same_failure : (f g : Failure) → ◌≡◌ {A = Result DeliveryOutcome Failure} (Err f) (Err g) → f ≡ g
 same_failure f g e = cc
 
 module _ {K : Type 0} (sight : K → Outlet) (g : EventGraph) (until seed events : ℕ) (m : Moment) (room : ℕ) where
@@ -122,16 +122,16 @@ module _ {K : Type 0} (sight : K → Outlet) (g : EventGraph) (until seed events
   -- the history could not be written
   pub history_failed : (f : Failure) (o p : K) → StreamsFrom sight g until seed events m room (Err f) o p → DeliversHistory sight g until seed events m room (Err f) o p
   history_failed f o p h = inl (record {
-    answer = told_of g until events Seen;
+    answer = answer_of_look g until events Seen;
     holds = refl;
-    delivers = unstreamed sight o p (end_of Seen.standing) (history_text g until events Seen) Short f h;
+    delivers = stream_fails sight o p (end_of Seen.standing) (history_text g until events Seen) Short f h;
     short = λ e. stopped_short sight o p (end_of Seen.standing) (history_text g until events Seen) Short (Err f) h (ap (λ (x : Failure). Err x) (same_failure f failures.NoMemory e));
   })
 
   -- it is written, and the output is closed
-  pub history_told : (end : End) (r : Result Said Failure) (o n p : K) → StreamsFrom sight g until seed events m room (Ok end) o n → Closed end r (sight n) (sight p) → DeliversHistory sight g until seed events m room r o p
+  pub history_told : (end : End) (r : Result DeliveryOutcome Failure) (o n p : K) → StreamsFrom sight g until seed events m room (Ok end) o n → Closed end r (sight n) (sight p) → DeliversHistory sight g until seed events m room r o p
   history_told end r o n p h k = inl (record {
-    answer = told_of g until events Seen;
+    answer = answer_of_look g until events Seen;
     holds = refl;
     delivers = closed sight o n p (end_of Seen.standing) (history_text g until events Seen) h.1 (λ some. h.2) h.3 r (subst (λ (e : End). Closed e r (sight n) (sight p)) h.0 k);
     short = λ e. absurd (closed_in_memory end (sight n) (sight p) r k e);
@@ -140,10 +140,10 @@ module _ {K : Type 0} (sight : K → Outlet) (g : EventGraph) (until seed events
 -- ---- its laws
 
 -- a history has bytes, and what isn't refused is no refusal
-pub told_has_bytes : (g : EventGraph) (until events : ℕ) (refusal : Option (List ℕ)) (seen : Look) (end : End) (bytes : List ℕ) → Given end bytes ≡ refused_or refusal (told_of g until events seen) → 0 < length bytes
+pub told_has_bytes : (g : EventGraph) (until events : ℕ) (refusal : Option (List ℕ)) (seen : Look) (end : End) (bytes : List ℕ) → Given end bytes ≡ refused_or refusal (answer_of_look g until events seen) → 0 < length bytes
 told_has_bytes g until events (Some line) seen end bytes h = absurd (given_is_no_refusal h)
 told_has_bytes g until events None seen end bytes h = some_bytes (history_has_bytes g until events seen) h
 
-pub told_unrefused : (g : EventGraph) (until events : ℕ) (refusal : Option (List ℕ)) (seen : Look) → status_of_answer (refused_or refusal (told_of g until events seen)) ≡ statuses.Refused → ⊥
+pub told_unrefused : (g : EventGraph) (until events : ℕ) (refusal : Option (List ℕ)) (seen : Look) → status_of_answer (refused_or refusal (answer_of_look g until events seen)) ≡ statuses.Refused → ⊥
 told_unrefused g until events None seen e = end_unrefused (end_of seen.standing) e
 told_unrefused g until events (Some line) seen e = cc

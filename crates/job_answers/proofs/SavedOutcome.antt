@@ -10,7 +10,7 @@ use Rattle.model_core.specs.Text.Numbering.{numbered}
 use Rattle.model_core.specs.Text.SnapshotGrammar.{WrittenSnapshot, IsSnapshot, IsNoSnapshotAt}
 use Rattle.model_core.specs.Text.SavedDocument.{SpellsSaved}
 use Rattle.model_core.specs.Static.FaultOrder.{StaticFault}
-use Rattle.model_core.specs.Static.ModelFaults.{told_fault, Accepted}
+use Rattle.model_core.specs.Static.ModelFaults.{first_fault, Accepted}
 use Rattle.model_core.specs.Saved.SavedRun.{SavedRun}
 use Rattle.model_core.specs.Saved.GoodSnapshots.{bad_at, saved_run}
 use Rattle.answer_delivery.specs.declared.complaint.Complaint.{Complaint}
@@ -85,7 +85,7 @@ module _ (laws : FaultLaws) (snapshots : SnapshotLaws) (text : List ℕ) where
   -- ---- the outcome for the document
 
   abbrev good_outcome : Parts → Computed Parts
-  good_outcome (m, w) = unless_fault (told_fault m) (unless_bad (bad_for (numbered m) w) (Ok (m, w)))
+  good_outcome (m, w) = unless_fault (first_fault m) (unless_bad (bad_for (numbered m) w) (Ok (m, w)))
 
   abbrev cut_outcome : Result (List Lexeme) ℕ → Computed Parts
   cut_outcome (Ok tokens) = and_then good_outcome (grammar_outcome tokens)
@@ -149,12 +149,12 @@ module _ (laws : FaultLaws) (snapshots : SnapshotLaws) (text : List ℕ) where
     by_goodness m w s g accepted None good = inr (g, saved_run g w, record { fits = within; model = m; snapshot = w; spells = s; accepted = accepted; good = good; stands = refl })
     by_goodness m w s g accepted (Some at) bad = inl (complaints.BadSnapshot, at, of_snapshot m w s g accepted refl bad)
 
-    by_model : (m : WrittenModel) (w : WrittenSnapshot) → SpellsSaved text m w → (o : Option StaticFault) → told_fault m ≡ o → SavedOrComplaint
+    by_model : (m : WrittenModel) (w : WrittenSnapshot) → SpellsSaved text m w → (o : Option StaticFault) → first_fault m ≡ o → SavedOrComplaint
     by_model m w s None e = let (g, is) = (laws.accepted m).0 e in by_goodness m w s g is (bad_at g w) refl
     by_model m w s (Some f) e = inl (complaints.Static f.kind, f.at, of_model m w s f.kind refl ((laws.told m f).0 e))
 
     by_snapshot : (tokens : List Lexeme) → tokens_of text ≡ Ok tokens → (a : FrontModel tokens) → SnapshotDecision text a.left → SavedOrComplaint
-    by_snapshot tokens cut a (inl spelled) = by_model a.model spelled.0 (record { tokens = tokens; cut = cut; behind = a.left; begins = a.begins; ends = spelled.1 }) (told_fault a.model) refl
+    by_snapshot tokens cut a (inl spelled) = by_model a.model spelled.0 (record { tokens = tokens; cut = cut; behind = a.left; begins = a.begins; ends = spelled.1 }) (first_fault a.model) refl
     by_snapshot tokens cut a (inr wrong) = inl (complaints.Unexpected, wrong.0, of_saved_tokens tokens cut (in_snapshot a.model a.left a.begins wrong.1))
 
     by_front : (tokens : List Lexeme) → tokens_of text ≡ Ok tokens → FrontModel tokens ⊎ FrontFault text tokens → SavedOrComplaint

@@ -14,15 +14,15 @@ use Rattle.run_control.specs.declared.begin_error.BeginError.TheVariants as erro
 use Rattle.run_control.specs.Beginning.{fits_at, RefusesStart}
 use Rattle.answer_delivery.specs.declared.answer.Answer.{Answer}
 use Rattle.answer_delivery.specs.declared.answer.Answer.TheVariants.{Refused}
-use Rattle.answer_delivery.specs.declared.delivering.Said.{Said}
-use Rattle.answer_delivery.specs.declared.delivering.Said.TheVariants as said
+use Rattle.answer_delivery.specs.declared.delivering.DeliveryOutcome.{DeliveryOutcome}
+use Rattle.answer_delivery.specs.declared.delivering.DeliveryOutcome.TheVariants as said
 use Rattle.answer_delivery.specs.declared.status.Failure.{Failure}
 use Rattle.answer_delivery.specs.declared.status.Failure.TheVariants as failures
 use Rattle.answer_delivery.specs.declared.status.Refusal.TheVariants as refusals
 use Rattle.answer_delivery.specs.Delivery.{DeliversSome}
 use Rattle.job_answers.specs.RunAnswer.{refused_or}
 use Rattle.job_answers.specs.StartingValues.{count_line, outside_line, first_outside, start_refusal}
-use Rattle.job_answers.specs.Inner.StartSteps.{RefusalLine, RefusesRun}
+use Rattle.job_answers.specs.Inner.StartSteps.{IsRefusalLine, RefusesToBegin}
 
 -- the line names the first value outside its range
 first_told : (place k : ℕ) (vs : List Variable) (xs : List ℤ) → length xs ≡ length vs → k < length xs
@@ -72,7 +72,7 @@ unrefused_start g starts none = by (length (start_parameters g) == length starts
     by false other none = absurd cc
 
 -- a run that can't begin is refused with that line
-pub refused_start : (g : EventGraph) (starts : List ℤ) (error : BeginError) (line : List ℕ) → RefusesStart g starts error → RefusalLine error line → start_refusal g starts ≡ Some line
+pub refused_start : (g : EventGraph) (starts : List ℤ) (error : BeginError) (line : List ℕ) → RefusesStart g starts error → IsRefusalLine error line → start_refusal g starts ≡ Some line
 refused_start g starts (errors.StartCount needed given) line refuses told =
     let differ : length (start_parameters g) ≢ length starts = λ same. refuses.differ (refuses.needs ∙ same ∙ sym refuses.has) in
     ap (λ b. cond b (first_outside 1 (start_parameters g) starts) (Some (count_line (length (start_parameters g)) (length starts)))) (ne_eqb _ _ differ)
@@ -86,7 +86,7 @@ refused_start g starts (errors.StartOutside place value) line refuses told =
 refused_start g starts errors.NoMemory line refuses told = absurd told
 
 -- a run that can't begin is refused, whatever its history would be
-pub start_refused : {K : Type 0} (sight : K → Outlet) (g : EventGraph) (starts : List ℤ) (told : Answer) (Short : Type 0) (error : BeginError) (r : Result Said Failure) (o : K) → ((line : List ℕ) → RefusalLine error line → RefusesStart g starts error) → RefusesRun error r
+pub start_refused : {K : Type 0} (sight : K → Outlet) (g : EventGraph) (starts : List ℤ) (told : Answer) (Short : Type 0) (error : BeginError) (r : Result DeliveryOutcome Failure) (o : K) → ((line : List ℕ) → IsRefusalLine error line → RefusesStart g starts error) → RefusesToBegin error r
     → DeliversSome sight (λ a. a ≡ refused_or (start_refusal g starts) told) Short r o o
 start_refused sight g starts told Short error (Ok (said.Refused refusals.BadStart line)) o refuses h = inl (record {
   answer = Refused refusals.BadStart line;

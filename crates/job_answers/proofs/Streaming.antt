@@ -10,15 +10,15 @@ use Rattle.sig_base.specs.Sink.{Outlet, GrowsBy}
 use Rattle.sig_base.specs.Source.{Stays}
 use Rattle.answer_delivery.specs.declared.answer.Answer.{Answer}
 use Rattle.answer_delivery.specs.declared.answer.Answer.TheVariants.{Given}
-use Rattle.answer_delivery.specs.declared.delivering.Said.{Said}
-use Rattle.answer_delivery.specs.declared.delivering.Said.TheVariants as said
+use Rattle.answer_delivery.specs.declared.delivering.DeliveryOutcome.{DeliveryOutcome}
+use Rattle.answer_delivery.specs.declared.delivering.DeliveryOutcome.TheVariants as said
 use Rattle.answer_delivery.specs.declared.status.End.{End}
 use Rattle.answer_delivery.specs.declared.status.Failure.{Failure}
 use Rattle.answer_delivery.specs.declared.status.Failure.TheVariants as failures
 use Rattle.answer_delivery.specs.Delivery.{Delivers, DeliversSome}
 use Rattle.answer_delivery.specs.FrontWritten.{GrowsByFront}
 use Rattle.answer_delivery.specs.DeliverySteps.{Written, Closed}
-use Rattle.job_answers.specs.Inner.WritingSteps.{Streamed}
+use Rattle.job_answers.specs.Inner.WritingSteps.{StreamsBytes}
 
 -- ---- a piece that was written at once
 
@@ -45,7 +45,7 @@ all_in_front o p bytes h = (length bytes, omega arith, subst (λ (b : List ℕ).
 
 -- All bytes of an answer are written from o to m, and the output is finished to p.
 pub closed : {K : Type 0} (seen : K → Outlet) (o m p : K) (end : End) (bytes : List ℕ) → GrowsBy (seen o).written (seen m).written bytes → (0 < length bytes → (seen m).settled ≡ false) → (seen m).faults ≡ (seen o).faults
-    → (r : Result Said Failure) → Closed end r (seen m) (seen p) → Delivers seen (Given end bytes) r o p
+    → (r : Result DeliveryOutcome Failure) → Closed end r (seen m) (seen p) → Delivers seen (Given end bytes) r o p
 closed seen o m p end bytes grows unsettled steady (Ok (said.Gave e)) h =
     (h.0, record { grown = stays_grown (seen o).written (seen m).written (seen p).written bytes grows h.1; settled = h.2; steady = h.3 ∙ steady })
 closed seen o m p end bytes grows unsettled steady (Ok (said.Refused why line)) h = absurd h
@@ -59,8 +59,8 @@ closed seen o m p end bytes grows unsettled steady (Err failures.Usage) h = absu
 closed seen o m p end bytes grows unsettled steady (Err failures.ReadFault) h = absurd h
 
 -- finishing lacks no memory
-pub closed_in_memory : (end : End) (m p : Outlet) (r : Result Said Failure) → Closed end r m p → r ≢ Err failures.NoMemory
-closed_in_memory end m p r h = λ short. subst (λ (x : Result Said Failure). Closed end x m p) short h
+pub closed_in_memory : (end : End) (m p : Outlet) (r : Result DeliveryOutcome Failure) → Closed end r m p → r ≢ Err failures.NoMemory
+closed_in_memory end m p r h = λ short. subst (λ (x : Result DeliveryOutcome Failure). Closed end x m p) short h
 
 module _ {K : Type 0} (seen : K → Outlet) (o p : K) (end : End) (bytes : List ℕ) where
   -- the bytes could not be written at once
@@ -74,9 +74,9 @@ module _ {K : Type 0} (seen : K → Outlet) (o p : K) (end : End) (bytes : List 
       broken failures.ReadFault h = absurd h
 
   -- nor as they came
-  pub unstreamed : (Short : Type 0) (f : Failure) → Streamed seen end bytes Short (Err f) o p → Delivers seen (Given end bytes) (Err f) o p
-  unstreamed Short failures.WriteFault h = record { grown = h.0; unsettled = λ some. h.1; failed = h.2 }
-  unstreamed Short failures.NoMemory h = record { grown = front h.0; steady = h.1 }
+  pub stream_fails : (Short : Type 0) (f : Failure) → StreamsBytes seen end bytes Short (Err f) o p → Delivers seen (Given end bytes) (Err f) o p
+  stream_fails Short failures.WriteFault h = record { grown = h.0; unsettled = λ some. h.1; failed = h.2 }
+  stream_fails Short failures.NoMemory h = record { grown = front h.0; steady = h.1 }
     where
       nothing : (q : K) → q ≡ o → GrowsByFront (seen o) (seen q) bytes
       nothing q same = subst (λ (x : K). GrowsByFront (seen o) (seen x) bytes) (sym same) (0, omega arith, grown_by_none (seen o).written)
@@ -84,16 +84,16 @@ module _ {K : Type 0} (seen : K → Outlet) (o p : K) (end : End) (bytes : List 
       front : (p ≡ o) ⊎ (Short × GrowsByFront (seen o) (seen p) bytes) → GrowsByFront (seen o) (seen p) bytes
       front (inl same) = nothing p same
       front (inr h) = h.1
-  unstreamed Short failures.Usage h = absurd h
-  unstreamed Short failures.ReadFault h = absurd h
+  stream_fails Short failures.Usage h = absurd h
+  stream_fails Short failures.ReadFault h = absurd h
 
   -- where memory was refused the output is as it was, or it is allowed
-  pub stopped_short : (Short : Type 0) (r : Result End Failure) → Streamed seen end bytes Short r o p → r ≡ Err failures.NoMemory → (p ≡ o) ⊎ Short
-  stopped_short Short r h short = elim (subst (λ (x : Result End Failure). Streamed seen end bytes Short x o p) short h).0 [ inl same ↦ inl same | inr more ↦ inr more.0 ]
+  pub stopped_short : (Short : Type 0) (r : Result End Failure) → StreamsBytes seen end bytes Short r o p → r ≡ Err failures.NoMemory → (p ≡ o) ⊎ Short
+  stopped_short Short r h short = elim (subst (λ (x : Result End Failure). StreamsBytes seen end bytes Short x o p) short h).0 [ inl same ↦ inl same | inr more ↦ inr more.0 ]
 
 -- ---- an answer that is made whole
 
-pub delivered : {K : Type 0} (seen : K → Outlet) (P : Answer → Type 0) (Short : Type 0) (o p : K) (made : Result Answer NoMemory) (r : Result Said Failure) → IfOk made P
+pub delivered : {K : Type 0} (seen : K → Outlet) (P : Answer → Type 0) (Short : Type 0) (o p : K) (made : Result Answer NoMemory) (r : Result DeliveryOutcome Failure) → IfOk made P
     → MatchResult made (λ a. Delivers seen a r o p × (r ≢ Err failures.NoMemory)) (λ e. (r ≡ Err failures.NoMemory) × (p ≡ o)) → DeliversSome seen P Short r o p
 delivered seen P Short o p (Ok a) r holds h = inl (record { answer = a; holds = holds; delivers = h.0; short = λ e. absurd (h.1 e) })
 delivered seen P Short o p (Err e) r holds h = inr h

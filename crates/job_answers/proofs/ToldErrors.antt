@@ -8,7 +8,7 @@ use Rattle.sig_types.specs.declared.error.StaticError.TheVariants as static
 use Rattle.answer_delivery.specs.declared.complaint.Complaint.{Complaint}
 use Rattle.answer_delivery.specs.declared.complaint.Complaint.TheVariants as complaints
 use Rattle.job_answers.specs.declared.reading_error.ReadingError.TheVariants.{At}
-use Rattle.job_answers.specs.Inner.Refusals.{uncut, unread, unaccepted}
+use Rattle.job_answers.specs.Inner.Refusals.{lexing_complaint, parsing_complaint, static_complaint}
 
 module _ (IsSo : Complaint → ℕ → Type 0) where
   pub same_complaint : (c d : Complaint) (i j : ℕ) → At c i ≡ At d j → IsSo c i → IsSo d j
@@ -18,18 +18,18 @@ module _ (IsSo : Complaint → ℕ → Type 0) where
       subst (λ x. IsSo x j) what (subst (IsSo c) at h)
 
   pub of_uncut : (error : LexError) → ((i : ℕ) → error ≡ LexError.BadByte i → IsSo complaints.BadByte i)
-      → (what : Complaint) (at : ℕ) → uncut error ≡ At what at → IsSo what at
+      → (what : Complaint) (at : ℕ) → lexing_complaint error ≡ At what at → IsSo what at
   of_uncut (LexError.BadByte i) told what at e = same_complaint complaints.BadByte what i at e (told i refl)
   of_uncut LexError.NoMemory told what at e = absurd cc
 
-  pub of_unread : (error : ParseError) → ((i : ℕ) → error ≡ ParseError.Unexpected i → IsSo complaints.Unexpected i)
+  pub parsing_complaint_is : (error : ParseError) → ((i : ℕ) → error ≡ ParseError.Unexpected i → IsSo complaints.Unexpected i)
       → ((i : ℕ) → error ≡ ParseError.TooDeep i → IsSo complaints.TooDeep i)
-      → (what : Complaint) (at : ℕ) → unread error ≡ At what at → IsSo what at
-  of_unread (ParseError.Unexpected i) unexpected deep what at e = same_complaint complaints.Unexpected what i at e (unexpected i refl)
-  of_unread (ParseError.TooDeep i) unexpected deep what at e = same_complaint complaints.TooDeep what i at e (deep i refl)
-  of_unread ParseError.NoMemory unexpected deep what at e = absurd cc
+      → (what : Complaint) (at : ℕ) → parsing_complaint error ≡ At what at → IsSo what at
+  parsing_complaint_is (ParseError.Unexpected i) unexpected deep what at e = same_complaint complaints.Unexpected what i at e (unexpected i refl)
+  parsing_complaint_is (ParseError.TooDeep i) unexpected deep what at e = same_complaint complaints.TooDeep what i at e (deep i refl)
+  parsing_complaint_is ParseError.NoMemory unexpected deep what at e = absurd cc
 
-  pub of_unaccepted : (error : StaticError) → ((kind : StaticKind) (i : ℕ) → error ≡ static.Fault kind i → IsSo (complaints.Static kind) i)
-      → (what : Complaint) (at : ℕ) → unaccepted error ≡ At what at → IsSo what at
-  of_unaccepted (static.Fault kind i) told what at e = same_complaint (complaints.Static kind) what i at e (told kind i refl)
-  of_unaccepted static.NoMemory told what at e = absurd cc
+  pub static_complaint_is : (error : StaticError) → ((kind : StaticKind) (i : ℕ) → error ≡ static.Fault kind i → IsSo (complaints.Static kind) i)
+      → (what : Complaint) (at : ℕ) → static_complaint error ≡ At what at → IsSo what at
+  static_complaint_is (static.Fault kind i) told what at e = same_complaint (complaints.Static kind) what i at e (told kind i refl)
+  static_complaint_is static.NoMemory told what at e = absurd cc

@@ -75,14 +75,14 @@ AnswersAlone (bare.Trial options) a = IsDone (Summarises options.seed options.ve
 
 -- A job on a model that writes as it goes may lack memory after a front of its bytes: `run` where the run needs more room than
 -- was asked for, `replicate` anywhere.
-abbrev pub MayFallShort : ModelJob → EventGraph → Type 0
-MayFallShort (models.Run options) g = ExceedsRoom g options.until options.seed options.events options.starts options.room
-MayFallShort (models.Replicate options) g = Unit {0}
-MayFallShort job g = ⊥
+abbrev pub MayLackMemory : ModelJob → EventGraph → Type 0
+MayLackMemory (models.Run options) g = ExceedsRoom g options.until options.seed options.events options.starts options.room
+MayLackMemory (models.Replicate options) g = Unit {0}
+MayLackMemory job g = ⊥
 
 -- a job on a saved document may too: `resume` where the run needs more room than it has
-abbrev pub SavedMayFallShort : SavedJob → EventGraph → SavedRun → Type 0
-SavedMayFallShort (saved_jobs.Resume options) g s = ResumedExceedsRoom g s options
+abbrev pub SavedMayLackMemory : SavedJob → EventGraph → SavedRun → Type 0
+SavedMayLackMemory (saved_jobs.Resume options) g s = ResumedExceedsRoom g s options
 
 -- the bytes are none, and the job may have none: `uses` where the model has no variables, and `conflicts` where no two vertices
 -- are in conflict
@@ -101,7 +101,7 @@ pub record IsRefused (IsSo : Complaint → ℕ → Type 0) (a : Answer) : Type 0
   pub told : a ≡ refused (byte_line at (message_of what))
 
 -- the text reads as a document that has this answer
-pub record IsJudged (job : DocumentJob) (text : List ℕ) (a : Answer) : Type 0 where
+pub record AnswersDocumentText (job : DocumentJob) (text : List ℕ) (a : Answer) : Type 0 where
   pub original : EventGraph
   pub applications : List RuleApplication
   pub reduced : EventGraph
@@ -109,7 +109,7 @@ pub record IsJudged (job : DocumentJob) (text : List ℕ) (a : Answer) : Type 0 
   pub told : AnswersDocument job original applications reduced a
 
 -- the text reads as a saved run that has this answer
-pub record IsTakenUp (job : SavedJob) (text : List ℕ) (a : Answer) : Type 0 where
+pub record AnswersSavedText (job : SavedJob) (text : List ℕ) (a : Answer) : Type 0 where
   pub model : EventGraph
   pub run : SavedRun
   pub reads : ReadsSaved text model run
@@ -118,15 +118,15 @@ pub record IsTakenUp (job : SavedJob) (text : List ℕ) (a : Answer) : Type 0 wh
 -- the text is refused, or it reads as something that has this answer; of a job that reads nothing there is an answer alone
 abbrev pub Responds : Reading → List ℕ → Answer → Type 0
 Responds (readings.Model job) text a = IsRefused (IsComplaint text) a ⊎ ((g : EventGraph) × Reads text g × AnswersModel job g a)
-Responds (readings.Document job) text a = IsRefused (IsDocumentComplaint text) a ⊎ IsJudged job text a
-Responds (readings.Saved job) text a = IsRefused (IsSavedComplaint text) a ⊎ IsTakenUp job text a
+Responds (readings.Document job) text a = IsRefused (IsDocumentComplaint text) a ⊎ AnswersDocumentText job text a
+Responds (readings.Saved job) text a = IsRefused (IsSavedComplaint text) a ⊎ AnswersSavedText job text a
 Responds (readings.Nothing job) text a = AnswersAlone job a
 
 -- where memory may be refused after a front of the answer's bytes
 abbrev pub MayStopShort : Reading → List ℕ → Type 0
-MayStopShort (readings.Model job) text = (g : EventGraph) × Reads text g × MayFallShort job g
+MayStopShort (readings.Model job) text = (g : EventGraph) × Reads text g × MayLackMemory job g
 MayStopShort (readings.Document job) text = ⊥
-MayStopShort (readings.Saved job) text = (g : EventGraph) × (s : SavedRun) × ReadsSaved text g s × SavedMayFallShort job g s
+MayStopShort (readings.Saved job) text = (g : EventGraph) × (s : SavedRun) × ReadsSaved text g s × SavedMayLackMemory job g s
 MayStopShort (readings.Nothing job) text = ⊥
 
 -- ---- what is answered to any text

@@ -12,7 +12,7 @@ use Rattle.model_core.specs.Text.FirstWrong.{IsUnexpectedAt}
 use Rattle.model_core.specs.Text.Openings.{front_to_end, too_deep_at}
 use Rattle.model_core.specs.Text.CertificateText.{IsNoCertificateAt}
 use Rattle.model_core.specs.Text.DocumentText.{BeginsWithModel, SpellsDocument}
-use Rattle.model_core.specs.Static.ModelFaults.{IsTold, Accepted}
+use Rattle.model_core.specs.Static.ModelFaults.{IsFirstFault, Accepted}
 use Rattle.answer_delivery.specs.declared.complaint.Complaint.{Complaint}
 use Rattle.answer_delivery.specs.declared.complaint.Complaint.TheVariants as complaints
 
@@ -39,5 +39,5 @@ pub data IsGrammarComplaint (text : List ℕ) (tokens : List Lexeme) (what : Com
 pub data IsDocumentComplaint (text : List ℕ) (what : Complaint) (at : ℕ) : Type 0 where
   of_bytes : what ≡ complaints.BadByte → tokens_of text ≡ Err at → IsDocumentComplaint text what at
   of_tokens : (tokens : List Lexeme) → tokens_of text ≡ Ok tokens → IsGrammarComplaint text tokens what at → IsDocumentComplaint text what at
-  of_first : (first second : WrittenModel) (applications : List RuleApplication) → SpellsDocument text first applications second → (kind : StaticKind) → what ≡ complaints.Static kind → IsTold first kind at → IsDocumentComplaint text what at
-  of_second : (first second : WrittenModel) (applications : List RuleApplication) → SpellsDocument text first applications second → (g : EventGraph) → Accepted first g → (kind : StaticKind) → what ≡ complaints.Static kind → IsTold second kind at → IsDocumentComplaint text what at
+  of_first : (first second : WrittenModel) (applications : List RuleApplication) → SpellsDocument text first applications second → (kind : StaticKind) → what ≡ complaints.Static kind → IsFirstFault first kind at → IsDocumentComplaint text what at
+  of_second : (first second : WrittenModel) (applications : List RuleApplication) → SpellsDocument text first applications second → (g : EventGraph) → Accepted first g → (kind : StaticKind) → what ≡ complaints.Static kind → IsFirstFault second kind at → IsDocumentComplaint text what at

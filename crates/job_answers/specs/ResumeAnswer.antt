@@ -5,7 +5,7 @@ use Rattle.command_words.specs.declared.resume_options.ResumeOptions.{ResumeOpti
 use Rattle.model_core.specs.EventGraph.{EventGraph}
 use Rattle.model_core.specs.Saved.SavedRun.{SavedRun, saved_moment, history_from}
 use Rattle.answer_delivery.specs.declared.answer.Answer.{Answer}
-use Rattle.job_answers.specs.RunAnswer.{told_of, refused_or, ExceedsRoomFrom, FitsRoomFrom}
+use Rattle.job_answers.specs.RunAnswer.{answer_of_look, refused_or, ExceedsRoomFrom, FitsRoomFrom}
 
 -- ---- the answer
 
@@ -25,7 +25,7 @@ resume_refusal s until events =
 
 -- what `resume` answers for a model and a saved run of it
 abbrev pub resume_answer : EventGraph → SavedRun → ℕ → ℕ → Answer
-resume_answer g s until events = refused_or (resume_refusal s until events) (told_of g until events (history_from g s until events))
+resume_answer g s until events = refused_or (resume_refusal s until events) (answer_of_look g until events (history_from g s until events))
 
 -- ---- the room, which is that for all pending events at least
 

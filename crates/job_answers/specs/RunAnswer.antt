@@ -1,9 +1,9 @@
 -- What `run` answers for a model: the history of its run, or why the starting values aren't taken.
 use Rattle.std.specs.Prelude.{◌≡◌, ℕ, ◌+◌, ◌<◌, ◌≤◌, ℤ, List, length, Option, Some, None}
 use Rattle.model_core.specs.EventGraph.{EventGraph}
-use Rattle.model_core.specs.Run.Pending.{TakenOff, next_entry}
+use Rattle.model_core.specs.Run.Pending.{EntryAndRest, next_entry}
 use Rattle.model_core.specs.Run.Step.{vertex_at}
-use Rattle.model_core.specs.Run.Machine.{Standing, Ended, Stopped, Faulted, Going, Look, Reached}
+use Rattle.model_core.specs.Run.Machine.{RunStatus, Ended, Stopped, Faulted, Going, Look, Reached}
 use Rattle.model_core.specs.Run.History.{Moment, start, look, reached_from}
 use Rattle.model_core.specs.Text.HistoryText.{history_text}
 use Rattle.run_control.specs.Room.{scheduled_by}
@@ -17,15 +17,15 @@ use Rattle.job_answers.specs.StartingValues.{start_refusal}
 -- ---- the answer
 
 -- how a job ends, by the standing of its run
-abbrev pub end_of : Standing → End
+abbrev pub end_of : RunStatus → End
 end_of (Ended t) = ends.Done
 end_of Stopped = ends.Done
 end_of (Faulted t kind) = ends.ModelFault
 end_of Going = ends.Budget
 
 -- the text of what is seen of the run
-abbrev pub told_of : EventGraph → ℕ → ℕ → Look → Answer
-told_of g until events seen = Given (end_of seen.standing) (history_text g until events seen)
+abbrev pub answer_of_look : EventGraph → ℕ → ℕ → Look → Answer
+answer_of_look g until events seen = Given (end_of seen.standing) (history_text g until events seen)
 
 -- the run is refused with this line, if there is one
 abbrev pub refused_or : Option (List ℕ) → Answer → Answer
@@ -34,7 +34,7 @@ refused_or None answer = answer
 
 -- what `run` answers for a model
 abbrev pub run_answer : EventGraph → ℕ → ℕ → ℕ → List ℤ → Answer
-run_answer g until seed events starts = refused_or (start_refusal g starts) (told_of g until events (look g seed starts until events))
+run_answer g until seed events starts = refused_or (start_refusal g starts) (answer_of_look g until events (look g seed starts until events))
 
 -- ---- the room
 
@@ -45,7 +45,7 @@ pub record ExceedsRoomFrom (g : EventGraph) (until seed events : ℕ) (m : Momen
   pub within : steps < events
   pub here : Reached Moment
   pub lead : reached_from g seed until steps m ≡ Some here
-  pub next : TakenOff
+  pub next : EntryAndRest
   pub comes : next_entry here.moment.now.pending ≡ Some next
   pub due : next.entry.time ≤ until
   pub exceeds : room < scheduled_by (vertex_at g next.entry.vertex).edges + length here.moment.now.pending
@@ -53,7 +53,7 @@ pub record ExceedsRoomFrom (g : EventGraph) (until seed events : ℕ) (m : Momen
 -- at each step from this moment within the budget what is pending and what the vertex of the event that is due schedules
 -- have room together
 abbrev pub FitsRoomFrom : EventGraph → ℕ → ℕ → ℕ → Moment → ℕ → Type 0
-FitsRoomFrom g until seed events m room = (n : ℕ) (here : Reached Moment) (next : TakenOff) → n < events → reached_from g seed until n m ≡ Some here
+FitsRoomFrom g until seed events m room = (n : ℕ) (here : Reached Moment) (next : EntryAndRest) → n < events → reached_from g seed until n m ≡ Some here
     → next_entry here.moment.now.pending ≡ Some next → next.entry.time ≤ until → scheduled_by (vertex_at g next.entry.vertex).edges + length here.moment.now.pending ≤ room
 
 -- a run from its beginning exceeds its room, or fits it

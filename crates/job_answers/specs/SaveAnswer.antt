@@ -5,7 +5,7 @@ use Rattle.std.specs.Option.{option_map_or}
 use Rattle.sig_base.specs.declared.limits.TheConstants.{DOCUMENT_MAX}
 use Rattle.command_words.specs.declared.save_options.SaveOptions.{SaveOptions}
 use Rattle.model_core.specs.EventGraph.{EventGraph}
-use Rattle.model_core.specs.Run.Machine.{Standing, Going, Reached}
+use Rattle.model_core.specs.Run.Machine.{RunStatus, Going, Reached}
 use Rattle.model_core.specs.Run.History.{Moment, start, look, reached_from}
 use Rattle.model_core.specs.Text.Canonical.{canonical}
 use Rattle.model_core.specs.Text.SnapshotText.{snapshot_text}
@@ -38,7 +38,7 @@ abbrev pub unless_too_long : List ℕ → Answer
 unless_too_long document = if nat_le (length document) DOCUMENT_MAX then done document else Refused refusals.TooLarge snapshot_too_long
 
 -- the answer, where the run goes on
-abbrev pub unless_finished : Standing → Answer → Answer
+abbrev pub unless_finished : RunStatus → Answer → Answer
 unless_finished Going answer = answer
 unless_finished other answer = Refused refusals.Finished run_finished
 

@@ -11,7 +11,7 @@ use Rattle.model_core.specs.Saved.SavedRun.{SavedRun, saved, history_from}
 use Rattle.model_core.specs.Saved.Resuming.{Resumes}
 use Rattle.answer_delivery.specs.declared.answer.Answer.{Answer}
 use Rattle.job_answers.specs.Answers.{AnswersSaved}
-use Rattle.job_answers.specs.RunAnswer.{told_of}
+use Rattle.job_answers.specs.RunAnswer.{answer_of_look}
 use Rattle.job_answers.specs.SaveAnswer.{saved_document}
 use Rattle.job_answers.specs.SavedReading.{ReadsSaved}
 
@@ -19,7 +19,7 @@ use Rattle.job_answers.specs.SavedReading.{ReadsSaved}
 -- than a run can have, is the history of the saved run from there on.
 abbrev pub IsResumed : EventGraph → SavedRun → Type 0
 IsResumed g s = (until more room : ℕ) → s.clock ≤ until → s.events + more ≤ EVENTS_MAX → (a : Answer)
-    → AnswersSaved (Resume (record { until = until; events = more; room = room })) g s a → a ≡ told_of g until more (history_from g s until more)
+    → AnswersSaved (Resume (record { until = until; events = more; room = room })) g s a → a ≡ answer_of_look g until more (history_from g s until more)
 
 -- What is written for the text is the document of its model and of the moment that its run reaches after so many events. It
 -- reads back as these. What the saved run shows from there on, after the notes so far, is what the whole run shows; and it is

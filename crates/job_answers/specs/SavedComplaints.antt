@@ -8,7 +8,7 @@ use Rattle.model_core.specs.Text.Written.{WrittenModel}
 use Rattle.model_core.specs.Text.DocumentText.{BeginsWithModel}
 use Rattle.model_core.specs.Text.SnapshotGrammar.{WrittenSnapshot, IsNoSnapshotAt}
 use Rattle.model_core.specs.Text.SavedDocument.{SpellsSaved}
-use Rattle.model_core.specs.Static.ModelFaults.{IsTold, Accepted}
+use Rattle.model_core.specs.Static.ModelFaults.{IsFirstFault, Accepted}
 use Rattle.model_core.specs.Saved.GoodSnapshots.{bad_at}
 use Rattle.answer_delivery.specs.declared.complaint.Complaint.{Complaint}
 use Rattle.answer_delivery.specs.declared.complaint.Complaint.TheVariants as complaints
@@ -29,5 +29,5 @@ pub data IsSavedGrammarComplaint (text : List ℕ) (tokens : List Lexeme) (what 
 pub data IsSavedComplaint (text : List ℕ) (what : Complaint) (at : ℕ) : Type 0 where
   of_saved_bytes : what ≡ complaints.BadByte → tokens_of text ≡ Err at → IsSavedComplaint text what at
   of_saved_tokens : (tokens : List Lexeme) → tokens_of text ≡ Ok tokens → IsSavedGrammarComplaint text tokens what at → IsSavedComplaint text what at
-  of_model : (model : WrittenModel) (snapshot : WrittenSnapshot) → SpellsSaved text model snapshot → (kind : StaticKind) → what ≡ complaints.Static kind → IsTold model kind at → IsSavedComplaint text what at
+  of_model : (model : WrittenModel) (snapshot : WrittenSnapshot) → SpellsSaved text model snapshot → (kind : StaticKind) → what ≡ complaints.Static kind → IsFirstFault model kind at → IsSavedComplaint text what at
   of_snapshot : (model : WrittenModel) (snapshot : WrittenSnapshot) → SpellsSaved text model snapshot → (g : EventGraph) → Accepted model g → what ≡ complaints.BadSnapshot → bad_at g snapshot ≡ Some at → IsSavedComplaint text what at

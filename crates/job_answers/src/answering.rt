@@ -7,7 +7,7 @@ ghost use Rattle.command_words.specs.Readings.{limit_of};
 ghost use Rattle.model_core.specs.Saved.SavedRun.{IsGood};
 ghost use Rattle.model_core.specs.Static.Reading.{IsValid};
 ghost use Rattle.model_core.specs.Code.Views.{graph_of, application_of};
-ghost use Rattle.job_answers.specs.Answers.{AnswersModel, AnswersDocument, AnswersAlone, AnswersSaved, MayFallShort, SavedMayFallShort, IsWithin, Responds, MayStopShort};
+ghost use Rattle.job_answers.specs.Answers.{AnswersModel, AnswersDocument, AnswersAlone, AnswersSaved, MayLackMemory, SavedMayLackMemory, IsWithin, Responds, MayStopShort};
 ghost use Rattle.job_answers.specs.Inner.Refusals.{Complains};
 ghost use Rattle.answer_delivery.specs.Delivery.{DeliversSome};
 
@@ -29,7 +29,7 @@ use crate::document_reading::{Document, document_of};
 use crate::model_reading::model_of;
 use crate::reading_error::ReadingError;
 use crate::saved_reading::{SavedDocument, saved_document_of};
-use answer_delivery::{Failure, Said, complaint_answer, deliver};
+use answer_delivery::{DeliveryOutcome, Failure, complaint_answer, deliver};
 use command_words::{BareJob, DocumentJob, ModelJob, Reading, SavedJob};
 use model_core::Model;
 use sig_base::Sink;
@@ -42,10 +42,10 @@ fn answer_model<K: Sink>(
     job: &ModelJob,
     model: Model,
     output: &mut K,
-) -> Result<Said, Failure>
+) -> Result<DeliveryOutcome, Failure>
     requires valid { IsValid (graph_of model) }
     requires limits { KeepsLimits (OfModel job.now) }
-    ensures { DeliversSome K.seen (AnswersModel job.now (graph_of model)) (MayFallShort job.now (graph_of model)) result output.old output.new }
+    ensures { DeliversSome K.seen (AnswersModel job.now (graph_of model)) (MayLackMemory job.now (graph_of model)) result output.old output.new }
 {
     let said = match job {
         ModelJob::Reduce => return deliver(output, reduce(alloc, model)),
@@ -70,7 +70,7 @@ fn answer_document<K: Sink>(
     job: &DocumentJob,
     document: &Document,
     output: &mut K,
-) -> Result<Said, Failure>
+) -> Result<DeliveryOutcome, Failure>
     ensures { DeliversSome K.seen (AnswersDocument job.now (graph_of document.now.original) (map application_of document.now.applications) (graph_of document.now.reduced))
         ⊥ result output.old output.new }
 {
@@ -85,12 +85,12 @@ fn answer_saved<K: Sink>(
     job: &SavedJob,
     saved: &SavedDocument,
     output: &mut K,
-) -> Result<Said, Failure>
+) -> Result<DeliveryOutcome, Failure>
     requires valid { IsValid (graph_of saved.now.model) }
     requires good { IsGood (graph_of saved.now.model) saved.now.snapshot }
     requires limits { KeepsLimits (OfSaved job.now) }
     ensures { DeliversSome K.seen (AnswersSaved job.now (graph_of saved.now.model) saved.now.snapshot)
-        (SavedMayFallShort job.now (graph_of saved.now.model) saved.now.snapshot) result output.old output.new }
+        (SavedMayLackMemory job.now (graph_of saved.now.model) saved.now.snapshot) result output.old output.new }
 {
     match job {
         SavedJob::Resume(options) => resume(alloc, &saved.model, &saved.snapshot, options, output),
@@ -98,7 +98,11 @@ fn answer_saved<K: Sink>(
 }
 
 /// Writes the answer of a command that reads nothing.
-fn answer_alone<K: Sink>(alloc: Global, job: &BareJob, output: &mut K) -> Result<Said, Failure>
+fn answer_alone<K: Sink>(
+    alloc: Global,
+    job: &BareJob,
+    output: &mut K,
+) -> Result<DeliveryOutcome, Failure>
     requires { KeepsLimits (OfNothing job.now) }
     ensures { DeliversSome K.seen (AnswersAlone job.now) ⊥ result output.old output.new }
 {
@@ -108,7 +112,11 @@ fn answer_alone<K: Sink>(alloc: Global, job: &BareJob, output: &mut K) -> Result
 }
 
 /// Refuses a text that can't be read, with the line of its complaint.
-fn complain<K: Sink>(alloc: Global, error: ReadingError, output: &mut K) -> Result<Said, Failure>
+fn complain<K: Sink>(
+    alloc: Global,
+    error: ReadingError,
+    output: &mut K,
+) -> Result<DeliveryOutcome, Failure>
     ensures { Complains K.seen error result output.old output.new }
 {
     match error {
@@ -124,7 +132,7 @@ pub fn answer_text<K: Sink>(
     reading: &Reading,
     text: &[u8],
     output: &mut K,
-) -> Result<Said, Failure>
+) -> Result<DeliveryOutcome, Failure>
     requires within { IsWithin (limit_of reading.now) text.now }
     requires limits { KeepsLimits reading.now }
     ensures { DeliversSome K.seen (Responds reading.now text.now) (MayStopShort reading.now text.now)

@@ -5,9 +5,9 @@ ghost use Rattle.model_core.specs.Static.Reading.{IsValid};
 ghost use Rattle.model_core.specs.Code.Views.{graph_of};
 ghost use Rattle.run_control.specs.Beginning.{BegunRun, RefusesStart};
 ghost use Rattle.job_answers.specs.StartingValues.{count_line, outside_line};
-ghost use Rattle.job_answers.specs.Inner.StartSteps.{RefusalLine, RefusesRun};
+ghost use Rattle.job_answers.specs.Inner.StartSteps.{IsRefusalLine, RefusesToBegin};
 
-use answer_delivery::{Failure, Refusal, Said};
+use answer_delivery::{DeliveryOutcome, Failure, Refusal};
 use event_heap::HeapPending;
 use model_core::Model;
 use round_trip::validity_is_by_parts;
@@ -40,7 +40,7 @@ fn outside_line(alloc: Global, place: usize, value: i64) -> Result<Text, NoMemor
 
 /// The line that says why a run can't begin.
 fn refusal_line(alloc: Global, error: BeginError) -> Result<Text, NoMemory>
-    ensures { IfOk result (λ line. RefusalLine error line) }
+    ensures { IfOk result (λ line. IsRefusalLine error line) }
 {
     match error {
         BeginError::StartCount { needed, given } => count_line(alloc, needed, given),
@@ -69,11 +69,11 @@ pub fn begin<'m>(
 }
 
 /// The refusal of starting values that aren't allowed.
-pub fn refuse_start(alloc: Global, error: BeginError) -> Result<Said, Failure>
-    ensures { RefusesRun error result }
+pub fn refuse_start(alloc: Global, error: BeginError) -> Result<DeliveryOutcome, Failure>
+    ensures { RefusesToBegin error result }
 {
     match refusal_line(alloc, error) {
-        Ok(line) => Ok(Said::Refused(Refusal::BadStart, line)),
+        Ok(line) => Ok(DeliveryOutcome::Refused(Refusal::BadStart, line)),
         Err(_) => Err(Failure::NoMemory),
     }
 }

@@ -15,7 +15,7 @@ ghost use Rattle.job_answers.specs.Complained.{HasComplaint};
 ghost use Rattle.answer_delivery.specs.Statuses.{status_of_answer};
 ghost use Rattle.job_answers.specs.Inner.TextFacts.{TextFacts};
 
-use static_laws::one_fault_is_told;
+use static_laws::accepted_or_one_fault;
 use text_laws::{openings_have_a_limit, texts_have_one_reading};
 
 /// The facts about texts that the layers below give.
@@ -24,7 +24,7 @@ fn texts_keep_their_laws()
 {
     texts_have_one_reading();
     openings_have_a_limit();
-    one_fault_is_told();
+    accepted_or_one_fault();
 }
 
 /// A text within its limit has one complaint or reads as a model, and never both.

@@ -17,7 +17,7 @@ ghost use Rattle.job_answers.specs.SavedComplaints.{IsSavedComplaint};
 ghost use Rattle.job_answers.specs.SavedReading.{ReadsSaved};
 
 use snapshot_text::snapshots_have_one_reading;
-use static_laws::one_fault_is_told;
+use static_laws::accepted_or_one_fault;
 
 /// A document within its limit has one complaint or reads as two models and a certificate, and never both.
 pub fn documents_have_one_complaint()
@@ -29,7 +29,7 @@ pub fn documents_have_one_complaint()
     ensures some { (text : List ℕ) → length text ≤ DOCUMENT_MAX
         → HasDocumentComplaint text ⊎ ((g : EventGraph) × (applications : List RuleApplication) × (h : EventGraph) × ReadsDocument text g applications h) }
 {
-    one_fault_is_told();
+    accepted_or_one_fault();
 }
 
 /// A saved document within its limit has one complaint or reads as a model and a saved run, and never both.
@@ -39,7 +39,7 @@ pub fn saved_documents_have_one_complaint()
     ensures one_reading { (text : List ℕ) (g h : EventGraph) (s t : SavedRun) → ReadsSaved text g s → ReadsSaved text h t → (g ≡ h) × (s ≡ t) }
     ensures some { (text : List ℕ) → length text ≤ DOCUMENT_MAX → HasSavedComplaint text ⊎ ((g : EventGraph) × (s : SavedRun) × ReadsSaved text g s) }
 {
-    one_fault_is_told();
+    accepted_or_one_fault();
     snapshots_have_one_reading();
 }
 

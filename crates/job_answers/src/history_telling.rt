@@ -5,7 +5,7 @@ ghost use Rattle.model_core.specs.Code.Views.{graph_of};
 ghost use Rattle.watch_trace.specs.Tracing.{moment_of};
 ghost use Rattle.job_answers.specs.Inner.RunSteps.{ending, DeliversHistory};
 
-use answer_delivery::{End, Failure, Said, close};
+use answer_delivery::{DeliveryOutcome, End, Failure, close};
 use event_list::Pending;
 use run_control::Run;
 use sig_base::Sink;
@@ -27,13 +27,13 @@ fn ending(outcome: Outcome) -> Result<End, Failure>
 
 /// Writes the history of a run from its present moment on, and finishes the output. The program ends after it, so the run
 /// isn't taken apart.
-pub(crate) fn tell_from<'m, P: Pending + Drop, K: Sink>(
+pub(crate) fn write_history_from<'m, P: Pending + Drop, K: Sink>(
     run: Run<'m, P>,
     tracer: Tracer<'m>,
     until: u64,
     events: u64,
     output: &mut K,
-) -> Result<Said, Failure>
+) -> Result<DeliveryOutcome, Failure>
     requires soon { until ≤ 2 ^ 48 }
     requires budget { run.turns + events ≤ 2 ^ 40 }
     requires one_model { tracer.model ≡ run.model }

@@ -2,7 +2,7 @@
 
 ghost use Rattle.std.specs.Prelude.{◌≡◌};
 ghost use Rattle.job_answers.specs.declared.reading_error.ReadingError.TheVariants.{NoMemory as OutOfMemory};
-ghost use Rattle.job_answers.specs.Inner.Refusals.{uncut, unread, unaccepted};
+ghost use Rattle.job_answers.specs.Inner.Refusals.{lexing_complaint, parsing_complaint, static_complaint};
 
 use answer_delivery::Complaint;
 use model_lex::{LexError, ParseError};
@@ -19,7 +19,7 @@ pub enum ReadingError {
 }
 
 impl From<LexError> for ReadingError {
-    ghost from_gives = { λ error e. e ≡ uncut error };
+    ghost from_gives = { λ error e. e ≡ lexing_complaint error };
 
     fn from(error: LexError) -> ReadingError {
         match error {
@@ -33,7 +33,7 @@ impl From<LexError> for ReadingError {
 }
 
 impl From<ParseError> for ReadingError {
-    ghost from_gives = { λ error e. e ≡ unread error };
+    ghost from_gives = { λ error e. e ≡ parsing_complaint error };
 
     fn from(error: ParseError) -> ReadingError {
         match error {
@@ -51,7 +51,7 @@ impl From<ParseError> for ReadingError {
 }
 
 impl From<StaticError> for ReadingError {
-    ghost from_gives = { λ error e. e ≡ unaccepted error };
+    ghost from_gives = { λ error e. e ≡ static_complaint error };
 
     fn from(error: StaticError) -> ReadingError {
         match error {

@@ -16,8 +16,8 @@ pub record LeftInPlace {X A : Type 0} (view : X → A) (left : ℕ → List A �
   pub long : length ys ≡ length xs
 
 -- the item of ys at place i moves up after the first k, if it stays: so the list is zs, and r items are kept
-abbrev pub MovedUp : {X : Type 0} → Bool → ℕ → ℕ → ℕ → List X → List X → Type 0
-MovedUp stays k i r ys zs = record {
+abbrev pub IsMovedUp : {X : Type 0} → Bool → ℕ → ℕ → ℕ → List X → List X → Type 0
+IsMovedUp stays k i r ys zs = record {
   count : r ≡ k + cond stays 1 0;
   front : take r zs ≡ take k ys ++ cond stays (take 1 (drop i ys)) [];
   rest : drop (i + 1) zs ≡ drop (i + 1) ys;
@@ -37,7 +37,7 @@ module _ {X A : Type 0} {view : X → A} {left : ℕ → List A → List A} {xs 
   -- the item x at place i is written anew as y, and then kept or not
   pub one_left : (x y : X) (b : Bool) {r : ℕ} {zs : List X} → i < end → end ≡ told → told ≡ length xs → x ≡ get_or ys i x
       → ((later : List A) → left i (view x ∷ later) ≡ cond b (view y ∷ []) [] ++ left (suc i) later)
-      → MovedUp b k i r (set ys i y) zs → LeftInPlace view left xs zs r (i + 1)
+      → IsMovedUp b k i r (set ys i y) zs → LeftInPlace view left xs zs r (i + 1)
   one_left x y b {r} {zs} below many whole is splits moved =
       let here : drop i ys ≡ x ∷ drop (i + 1) ys = drop_more ys i x (omega (arith, h.long)) ∙ ap (λ z. z ∷ drop (i + 1) ys) (sym is) in
       let there : drop i xs ≡ get_or xs i x ∷ drop (i + 1) xs = drop_more xs i x (omega arith) in
@@ -62,11 +62,11 @@ module _ {X A : Type 0} {view : X → A} {left : ℕ → List A → List A} {xs 
   -- the item at place i is kept or not, as it is
   pub one_kept : (b : Bool) {r : ℕ} {zs : List X} → i < end → end ≡ told → told ≡ length xs
       → ((x : X) (later : List A) → left i (view x ∷ later) ≡ cond b (view x ∷ []) [] ++ left (suc i) later)
-      → MovedUp b k i r ys zs → LeftInPlace view left xs zs r (i + 1)
+      → IsMovedUp b k i r ys zs → LeftInPlace view left xs zs r (i + 1)
   one_kept b {r} {zs} below many whole splits moved =
       let (x, is) = some_there ys i (omega (arith, h.long)) in
       let same : ys ≡ set ys i x = sym (set-get_or ys i x) ∙ ap (set ys i) (sym is) in
-      one_left x x b below many whole is (splits x) (subst (λ (us : List X). MovedUp b k i r us zs) same moved)
+      one_left x x b below many whole is (splits x) (subst (λ (us : List X). IsMovedUp b k i r us zs) same moved)
 
   pub all_left : end ≤ i → end ≡ told → told ≡ length xs → left i [] ≡ [] → map view (take k ys) ≡ left 0 (map view xs)
   all_left beyond many whole none =

@@ -7,7 +7,7 @@ use Rattle.std.proofs.lemmas.List.FromFn.{length-map-range_with_len}
 use Rattle.std.proofs.lemmas.Bool.{not-true, cases_Bool}
 use Rattle.model_core.specs.Rules.Conditions.{first_failed}
 use Rattle.model_core.specs.Rules.MarkedPlaces.{is_marked, unmarked_places}
-use Rattle.model_core.specs.Rules.Drop.{lists_some, lists_exactly, staying_marks}
+use Rattle.model_core.specs.Rules.Drop.{is_nonempty_list, lists_exactly, staying_marks}
 use Rattle.mark_laws.proofs.Marks.{Marked}
 use Rattle.model_core.proofs.Among.{Among, any-among, among-any, among-filter}
 use Rattle.mark_laws.proofs.MarksBelow.{marked-within, equal-by_places, tested-marked, marked-tested}
@@ -79,7 +79,7 @@ exactly-equal (x ∷ a) (y ∷ b) e = by (nat_eq x y) refl e (exactly-equal a b)
 
 -- ---- the two conditions of a rule that takes a list away
 
-pub some_given : (places : List ℕ) → (length places ≡ 0 → ⊥) → lists_some places ≡ true
+pub some_given : (places : List ℕ) → (length places ≡ 0 → ⊥) → is_nonempty_list places ≡ true
 some_given [] some = absurd (some refl)
 some_given (k ∷ ks) some = refl
 
@@ -87,5 +87,5 @@ pub none_unequal : (b : Bool) → false ≡ not b → b ≡ true
 none_unequal true e = refl
 none_unequal false e = cc
 
-pub both_conditions : (places others : List ℕ) → lists_some places ≡ true → lists_exactly places others ≡ true → first_failed (lists_some places ∷ lists_exactly places others ∷ []) ≡ None
+pub both_conditions : (places others : List ℕ) → is_nonempty_list places ≡ true → lists_exactly places others ≡ true → first_failed (is_nonempty_list places ∷ lists_exactly places others ∷ []) ≡ None
 both_conditions places others some exactly = ap₂ (λ a b. first_failed (a ∷ b ∷ [])) some exactly

@@ -5,7 +5,7 @@ ghost use Rattle.model_core.specs.Rules.Entailed.{entailed_marks};
 ghost use Rattle.mark_laws.specs.PlacePairs.{places_behind, pairs_from};
 ghost use Rattle.marked_walks.specs.Inner.Finding.{found_of, find_one, find_all, find_nth, Going};
 
-use crate::places_behind::PlacesBehind;
+use crate::places_behind::PlaceSuccessors;
 use sig_base::NoMemory;
 use std::alloc::Global;
 
@@ -50,7 +50,7 @@ impl Finder {
     }
 
     /// Marks one of the successors of this place, if there is such a one.
-    fn follow_nth<N: PlacesBehind>(
+    fn follow_nth<N: PlaceSuccessors>(
         &mut self,
         next: &N,
         place: usize,
@@ -58,24 +58,24 @@ impl Finder {
     ) -> Result<(), NoMemory>
         ensures { OnOk result (found_of self.new ≡ find_nth (found_of self.old) (places_behind (N.lists next.now) place) nth) }
     {
-        match next.nth_behind(place, nth) {
+        match next.nth_successor(place, nth) {
             Some(found) => self.find(found),
             None => Ok(()),
         }
     }
 
     /// Marks the successors of this place.
-    fn follow_one<N: PlacesBehind>(&mut self, next: &N, place: usize) -> Result<(), NoMemory>
+    fn follow_one<N: PlaceSuccessors>(&mut self, next: &N, place: usize) -> Result<(), NoMemory>
         ensures { OnOk result (found_of self.new ≡ find_all (found_of self.old) (places_behind (N.lists next.now) place)) }
     {
-        for nth in 0..next.count_behind(place) {
+        for nth in 0..next.successor_count(place) {
             self.follow_nth(next, place, nth)?;
         }
         Ok(())
     }
 
     /// Finds the successors of the places that wait, and of those which these find, until none waits.
-    fn follow<N: PlacesBehind>(&mut self, first: &[usize], next: &N) -> Result<(), NoMemory>
+    fn follow<N: PlaceSuccessors>(&mut self, first: &[usize], next: &N) -> Result<(), NoMemory>
         requires { Going first.now (N.lists next.now) (found_of self.old) }
         ensures going { OnOk result (Going first.now (N.lists next.now) (found_of self.new)) }
         ensures none_waits { OnOk result ((found_of self.new).waiting ≡ []) }
@@ -88,7 +88,7 @@ impl Finder {
 }
 
 /// For each place whether it is one of the first, or a successor of one that is marked.
-pub fn entailed<N: PlacesBehind>(
+pub fn entailed<N: PlaceSuccessors>(
     alloc: Global,
     first: &[usize],
     next: &N,

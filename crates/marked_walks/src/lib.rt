@@ -14,6 +14,6 @@ pub use entailing::entailed;
 pub use law::marks_are_of_entailed_places;
 pub use marks::{is_marked, unmarked};
 pub use moving_up::{keep, keep_staying};
-pub use places_behind::PlacesBehind;
+pub use places_behind::PlaceSuccessors;
 pub use renumbering::{NewPlaces, renumber_vertices, renumber_watch};
 pub use staying::Staying;

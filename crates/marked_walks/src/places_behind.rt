@@ -4,7 +4,7 @@ ghost use Rattle.std.specs.Prelude.{◌≡◌, ℕ, List, length, slice_get};
 ghost use Rattle.mark_laws.specs.PlacePairs.{places_behind};
 
 /// For each of some places, counted from 0, its successors.
-pub trait PlacesBehind {
+pub trait PlaceSuccessors {
     // The successors of each place.
     ghost lists: { Self → List (List ℕ) };
 
@@ -13,10 +13,10 @@ pub trait PlacesBehind {
         ensures { result ≡ length (lists self.now) };
 
     /// How many successors this place has: none if there is no such place.
-    fn count_behind(&self, place: usize) -> usize
+    fn successor_count(&self, place: usize) -> usize
         ensures { result ≡ length (places_behind (lists self.now) place) };
 
     /// The successor of this place that has so many before it, if there is one.
-    fn nth_behind(&self, place: usize, nth: usize) -> Option<usize>
+    fn nth_successor(&self, place: usize, nth: usize) -> Option<usize>
         ensures { result ≡ slice_get (places_behind (lists self.now) place) nth };
 }

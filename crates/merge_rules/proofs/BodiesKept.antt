@@ -9,49 +9,49 @@ use Rattle.merge_rules.specs.Growth.{body_lines}
 use Rattle.merge_rules.specs.Hollowed.{hollow, hollowed, merged_leaving}
 use Rattle.merge_rules.specs.declared.taking_over.SecondVertex.{SecondVertex}
 use Rattle.merge_rules.specs.declared.taking_over.SecondVertex.TheVariants as seconds
-use Rattle.merge_rules.specs.Known.{TellsLength, AreBodies}
+use Rattle.merge_rules.specs.FactsOfModel.{LengthIsRight, BodiesAreRight}
 use Rattle.merge_rules.specs.KnownLess.{bytes_left}
 use Rattle.mark_laws.proofs.EntailedMarks.{same-place}
 use Rattle.merge_rules.proofs.MergedText.ValidMerged.{name_stays}
 use Rattle.merge_rules.proofs.MergedText.MergedLength.{body_elsewhere}
 
 -- the numbers of more places are none
-pub are-alike : (g : EventGraph) (old new : List (Option ℕ)) → ((k : ℕ) → slice_index_or new k None ≡ slice_index_or old k None) → AreBodies g old → AreBodies g new
-are-alike g old new same are k = subst (λ (n : Option ℕ). TellsLength n (body_lines g (vertex_at g k))) (sym (same k)) (are k)
+pub are-alike : (g : EventGraph) (old new : List (Option ℕ)) → ((k : ℕ) → slice_index_or new k None ≡ slice_index_or old k None) → BodiesAreRight g old → BodiesAreRight g new
+are-alike g old new same are k = subst (λ (n : Option ℕ). LengthIsRight n (body_lines g (vertex_at g k))) (sym (same k)) (are k)
 
 -- ---- one number changes
 
-put-there : (n : Option ℕ) (k : ℕ) (bodies : List (Option ℕ)) (lines : List ℕ) → TellsLength n lines → TellsLength (slice_index_or (with_place (λ m. n) k bodies) k None) lines
+put-there : (n : Option ℕ) (k : ℕ) (bodies : List (Option ℕ)) (lines : List ℕ) → LengthIsRight n lines → LengthIsRight (slice_index_or (with_place (λ m. n) k bodies) k None) lines
 put-there n k [] lines tells = tt
 put-there n zero (b ∷ bodies) lines tells = tells
 put-there n (suc k) (b ∷ bodies) lines tells = put-there n k bodies lines tells
 
 -- it is right of another graph, in which the other vertices have the lines that they had
 pub are-put : (g h : EventGraph) (place : ℕ) (n : Option ℕ) (bodies : List (Option ℕ)) → ((k : ℕ) → (k == place) ≡ false → body_lines h (vertex_at h k) ≡ body_lines g (vertex_at g k))
-    → TellsLength n (body_lines h (vertex_at h place)) → AreBodies g bodies → AreBodies h (with_place (λ m. n) place bodies)
+    → LengthIsRight n (body_lines h (vertex_at h place)) → BodiesAreRight g bodies → BodiesAreRight h (with_place (λ m. n) place bodies)
 are-put g h place n bodies same tells are k = by (k == place) refl where
-  by : (c : Bool) → (k == place) ≡ c → TellsLength (slice_index_or (with_place (λ m. n) place bodies) k None) (body_lines h (vertex_at h k))
+  by : (c : Bool) → (k == place) ≡ c → LengthIsRight (slice_index_or (with_place (λ m. n) place bodies) k None) (body_lines h (vertex_at h k))
   by true is =
-      subst (λ j. TellsLength (slice_index_or (with_place (λ m. n) place bodies) j None) (body_lines h (vertex_at h j))) (sym (same-place k place is))
+      subst (λ j. LengthIsRight (slice_index_or (with_place (λ m. n) place bodies) j None) (body_lines h (vertex_at h j))) (sym (same-place k place is))
       (put-there n place bodies (body_lines h (vertex_at h place)) tells)
   by false apart =
-      subst (λ (m : Option ℕ). TellsLength m (body_lines h (vertex_at h k))) (sym (placed-elsewhere (λ m. n) place k bodies None apart))
-      (subst (TellsLength (slice_index_or bodies k None)) (sym (same k apart)) (are k))
+      subst (λ (m : Option ℕ). LengthIsRight m (body_lines h (vertex_at h k))) (sym (placed-elsewhere (λ m. n) place k bodies None apart))
+      (subst (LengthIsRight (slice_index_or bodies k None)) (sym (same k apart)) (are k))
 
-pub are-counted : (g : EventGraph) (place : ℕ) (n : Option ℕ) (bodies : List (Option ℕ)) → TellsLength n (body_lines g (vertex_at g place)) → AreBodies g bodies → AreBodies g (with_place (λ m. n) place bodies)
+pub are-counted : (g : EventGraph) (place : ℕ) (n : Option ℕ) (bodies : List (Option ℕ)) → LengthIsRight n (body_lines g (vertex_at g place)) → BodiesAreRight g bodies → BodiesAreRight g (with_place (λ m. n) place bodies)
 are-counted g place n bodies = are-put g g place n bodies (λ k apart. refl)
 
 -- ---- a merge
 
-pub are-joined : (g : EventGraph) (first second : ℕ) (n : Option ℕ) (bodies : List (Option ℕ)) → TellsLength n (body_lines (merged g first second) (vertex_at (merged g first second) first))
-    → AreBodies g bodies → AreBodies (merged g first second) (with_place (λ m. n) first bodies)
+pub are-joined : (g : EventGraph) (first second : ℕ) (n : Option ℕ) (bodies : List (Option ℕ)) → LengthIsRight n (body_lines (merged g first second) (vertex_at (merged g first second) first))
+    → BodiesAreRight g bodies → BodiesAreRight (merged g first second) (with_place (λ m. n) first bodies)
 are-joined g first second n bodies =
     let b = vertex_at g second in
     are-put g (merged g first second) first n bodies (body_elsewhere g (merged_with b) (name_stays b) first)
 
 -- and where less is left of the second
-pub are-left : (left : SecondVertex) (g : EventGraph) (first second n : ℕ) (bodies : List (Option ℕ)) → TellsLength (Some n) (body_lines (merged_leaving left g first second) (vertex_at (merged_leaving left g first second) second))
-    → AreBodies (merged g first second) bodies → AreBodies (merged_leaving left g first second) (with_place (λ m. Some n) second bodies)
+pub are-left : (left : SecondVertex) (g : EventGraph) (first second n : ℕ) (bodies : List (Option ℕ)) → LengthIsRight (Some n) (body_lines (merged_leaving left g first second) (vertex_at (merged_leaving left g first second) second))
+    → BodiesAreRight (merged g first second) bodies → BodiesAreRight (merged_leaving left g first second) (with_place (λ m. Some n) second bodies)
 are-left seconds.Stays g first second n bodies = are-counted (merged g first second) second (Some n) bodies
 are-left seconds.GivesAway g first second n bodies = are-put (merged g first second) (hollowed (merged g first second) second) second (Some n) bodies (body_elsewhere (merged g first second) hollow (λ v. refl) second)
 

@@ -12,12 +12,12 @@ use Rattle.model_core.specs.Text.VersionNeeded.{has_many_targets, has_later_part
 use Rattle.model_core.specs.Rules.Exclusive.{exclusive}
 use Rattle.model_core.specs.Rules.PlacedEdges.{edge_at, with_place, with_vertex}
 use Rattle.model_core.specs.Rules.Prune.{without_edge, pruned}
-use Rattle.model_core.specs.Rules.Settle.{unconditional, with_settled, settled}
+use Rattle.model_core.specs.Rules.Settle.{with_true_condition, with_settled, settled}
 use Rattle.model_core.specs.Rules.UrgentEdges.{is_urgent, each_pair, urgent_conditions, single_urgent}
 use Rattle.model_core.proofs.BothTrue.{and_first, and_second}
 use Rattle.merge_rules.specs.Growth.{body_lines, capped}
-use Rattle.merge_rules.specs.Known.{TellsLines, TellsLength, TellsVersion}
-use Rattle.merge_rules.specs.Inner.LosesBytes.{LosesBytes}
+use Rattle.merge_rules.specs.FactsOfModel.{LinesAreRight, LengthIsRight, VersionIsRight}
+use Rattle.merge_rules.specs.Inner.HasFewerBytes.{HasFewerBytes}
 use Rattle.merge_rules.proofs.OneStepForTwo.PlacedElement.{lengths_placed}
 use Rattle.merge_rules.proofs.OneStepForTwo.MergeHolds.{read_at}
 use Rattle.merge_rules.proofs.SingleUrgentModels.PlainEdges.{is_there}
@@ -29,7 +29,7 @@ use Rattle.merge_rules.proofs.MergedText.VersionMerged.{needed-same, needed-prun
 
 -- where the edges of a vertex have fewer bytes and it is the same beside them
 edges-fewer : (g : EventGraph) (f : EventVertex → EventVertex) (k gone : ℕ) (v : EventVertex) → ((x : EventVertex) → (f x).name ≡ x.name) → ((x : EventVertex) → (f x).parameters ≡ x.parameters) → ((x : EventVertex) → (f x).changes ≡ x.changes)
-    → slice_get g.vertices k ≡ Some v → total (edge_line g) (f (vertex_at g k)).edges + gone ≡ total (edge_line g) (vertex_at g k).edges → LosesBytes g (with_vertex f k g) k gone
+    → slice_get g.vertices k ≡ Some v → total (edge_line g) (f (vertex_at g k)).edges + gone ≡ total (edge_line g) (vertex_at g k).edges → HasFewerBytes g (with_vertex f k g) k gone
 edges-fewer g f k gone v name parameters changes there fewer =
     let x = vertex_at g k in
     let old_lines = lines_length g x in
@@ -60,7 +60,7 @@ edge-there g vertex edge e there =
     let (v, at, among) = option_and_then_some (λ (v : EventVertex). slice_get v.edges edge) (slice_get g.vertices vertex) e there (λ v is makes. (v, is, makes)) in
     (v, at, subst (λ (x : EventVertex). slice_get x.edges edge ≡ Some e) (sym (read_at g.vertices vertex no_vertex v at)) among)
 
-pub prune-loses : (g : EventGraph) (vertex edge : ℕ) (e : EventEdge) → edge_at g vertex edge ≡ Some e → LosesBytes g (pruned g vertex edge) vertex (length (edge_line g e))
+pub prune-loses : (g : EventGraph) (vertex edge : ℕ) (e : EventEdge) → edge_at g vertex edge ≡ Some e → HasFewerBytes g (pruned g vertex edge) vertex (length (edge_line g e))
 prune-loses g vertex edge e there =
     let (v, at, among) = edge-there g vertex edge e there in
     edges-fewer g (without_edge edge) vertex (length (edge_line g e)) v (λ x. refl) (λ x. refl) (λ x. refl) at (total-without (edge_line g) (vertex_at g vertex).edges edge e among)
@@ -73,10 +73,10 @@ undrawn-pruned g vertex edge e there undrawn =
     only-one e = cc
 
 -- what is known of the version stays so where the edge doesn't draw its delay
-pub version-pruned : (g : EventGraph) (vertex edge : ℕ) (e : EventEdge) → edge_at g vertex edge ≡ Some e → (old new : Option Bool) → IfSome new (λ two. (old ≡ Some two) × (has_drawn_delay e ≡ false)) → TellsVersion g old → TellsVersion (pruned g vertex edge) new
+pub version-pruned : (g : EventGraph) (vertex edge : ℕ) (e : EventEdge) → edge_at g vertex edge ≡ Some e → (old new : Option Bool) → IfSome new (λ two. (old ≡ Some two) × (has_drawn_delay e ≡ false)) → VersionIsRight g old → VersionIsRight (pruned g vertex edge) new
 version-pruned g vertex edge e there old None is tells = tt
 version-pruned g vertex edge e there old (Some two) (was, undrawn) tells =
-    let told : two ≡ needs_version_two g = subst (TellsVersion g) was tells in
+    let told : two ≡ needs_version_two g = subst (VersionIsRight g) was tells in
     told ∙ sym (undrawn-pruned g vertex edge e there undrawn)
 
 -- urgent edges exclude each other without one of them as well
@@ -117,22 +117,22 @@ pruned_single g vertex edge single =
 
 -- ---- a settle
 
-settled-line : (g : EventGraph) (e : EventEdge) → length (edge_line g (unconditional e)) + length (condition_text g e.condition) ≡ length (edge_line g e)
+settled-line : (g : EventGraph) (e : EventEdge) → length (edge_line g (with_true_condition e)) + length (condition_text g e.condition) ≡ length (edge_line g e)
 settled-line g e =
     let front = edge_word e.kind ++ vertex_name g e.target ++ in_parentheses (expression_texts g e.values) ++ timing_text g e.kind in
     omega (arith, length-append (front ++ []) (codes ";\n"), length-append front [], length-append (front ++ condition_text g e.condition) (codes ";\n"), length-append front (condition_text g e.condition))
 
-pub settle-loses : (g : EventGraph) (vertex edge : ℕ) (e : EventEdge) → edge_at g vertex edge ≡ Some e → LosesBytes g (settled g vertex edge) vertex (length (condition_text g e.condition))
+pub settle-loses : (g : EventGraph) (vertex edge : ℕ) (e : EventEdge) → edge_at g vertex edge ≡ Some e → HasFewerBytes g (settled g vertex edge) vertex (length (condition_text g e.condition))
 settle-loses g vertex edge e there =
     let (v, at, among) = edge-there g vertex edge e there in
     let es = (vertex_at g vertex).edges in
-    let placed = lengths_placed (edge_line g) unconditional edge es e e among in
+    let placed = lengths_placed (edge_line g) with_true_condition edge es e e among in
     let here = ap (λ (x : EventEdge). length (edge_line g x)) (read_at es edge e e among) in
-    let new = ap (λ (x : EventEdge). length (edge_line g (unconditional x))) (read_at es edge e e among) in
+    let new = ap (λ (x : EventEdge). length (edge_line g (with_true_condition x))) (read_at es edge e e among) in
     let line = settled-line g e in
     edges-fewer g (with_settled edge) vertex (length (condition_text g e.condition)) v (λ x. refl) (λ x. refl) (λ x. refl) at (omega (arith, placed, here, new, line))
 
-drawn-settled : (es : List EventEdge) (k : ℕ) → list_any has_drawn_delay (with_place unconditional k es) ≡ list_any has_drawn_delay es
+drawn-settled : (es : List EventEdge) (k : ℕ) → list_any has_drawn_delay (with_place with_true_condition k es) ≡ list_any has_drawn_delay es
 drawn-settled [] k = refl
 drawn-settled (e ∷ es) zero = refl
 drawn-settled (e ∷ es) (suc k) = ap (λ b. has_drawn_delay e || b) (drawn-settled es k)
@@ -142,26 +142,26 @@ needed-settled g vertex edge =
     let same : (v : EventVertex) → has_later_parts (with_settled edge v) ≡ has_later_parts v = λ v. ap (λ b. nat_lt PARAMETERS_MAX_VERSION_1 (length v.parameters) || list_any has_many_targets v.changes || b) (drawn-settled v.edges edge) in
     needed-same (with_settled edge) false g vertex (λ v there e. inl (sym (same v) ∙ e)) (λ v there e. same v ∙ e) (λ no. cc)
 
-pub version-settled : (g : EventGraph) (vertex edge : ℕ) (two : Option Bool) → TellsVersion g two → TellsVersion (settled g vertex edge) two
+pub version-settled : (g : EventGraph) (vertex edge : ℕ) (two : Option Bool) → VersionIsRight g two → VersionIsRight (settled g vertex edge) two
 version-settled g vertex edge None tells = tt
 version-settled g vertex edge (Some two) tells = tells ∙ sym (needed-settled g vertex edge)
 
 -- where the urgent edges of its vertex exclude each other with the new condition
-pub settled_single : (g : EventGraph) (vertex edge : ℕ) → single_urgent g ≡ true → each_pair (exclusive g) (urgent_conditions (with_place unconditional edge (vertex_at g vertex).edges)) ≡ true → single_urgent (settled g vertex edge) ≡ true
+pub settled_single : (g : EventGraph) (vertex edge : ℕ) → single_urgent g ≡ true → each_pair (exclusive g) (urgent_conditions (with_place with_true_condition edge (vertex_at g vertex).edges)) ≡ true → single_urgent (settled g vertex edge) ≡ true
 settled_single g vertex edge single here = apart_placed g (with_settled edge) vertex g.vertices here single
 
 -- ---- what is known
 
 -- of numbers that are known to the last byte, what is left
-pub lines-left : (g h : EventGraph) (vertex bytes gone : ℕ) (old new : Option ℕ) → LosesBytes g h vertex bytes → gone ≡ capped bytes → IfSome new (λ left. (old ≡ Some (left + gone)) × (left + gone < 2 ^ 64 - 1)) → TellsLines g old → TellsLines h new
+pub lines-left : (g h : EventGraph) (vertex bytes gone : ℕ) (old new : Option ℕ) → HasFewerBytes g h vertex bytes → gone ≡ capped bytes → IfSome new (λ left. (old ≡ Some (left + gone)) × (left + gone < 2 ^ 64 - 1)) → LinesAreRight g old → LinesAreRight h new
 lines-left g h vertex bytes gone old None loses is taken tells = tt
 lines-left g h vertex bytes gone old (Some left) loses is (whole, short) tells =
-    let told : length (version_line (needs_version_two g)) + (left + gone) ≡ length (canonical g) = subst (TellsLines g) whole tells in
+    let told : length (version_line (needs_version_two g)) + (left + gone) ≡ length (canonical g) = subst (LinesAreRight g) whole tells in
     omega (arith, told, loses.text, is, short)
 
-pub body-left : (g h : EventGraph) (vertex bytes gone : ℕ) (old new : Option ℕ) → LosesBytes g h vertex bytes → gone ≡ capped bytes → IfSome new (λ left. (old ≡ Some (left + gone)) × (left + gone < 2 ^ 64 - 1))
-    → TellsLength old (body_lines g (vertex_at g vertex)) → TellsLength new (body_lines h (vertex_at h vertex))
+pub body-left : (g h : EventGraph) (vertex bytes gone : ℕ) (old new : Option ℕ) → HasFewerBytes g h vertex bytes → gone ≡ capped bytes → IfSome new (λ left. (old ≡ Some (left + gone)) × (left + gone < 2 ^ 64 - 1))
+    → LengthIsRight old (body_lines g (vertex_at g vertex)) → LengthIsRight new (body_lines h (vertex_at h vertex))
 body-left g h vertex bytes gone old None loses is taken tells = tt
 body-left g h vertex bytes gone old (Some left) loses is (whole, short) tells =
-    let told : left + gone ≡ capped (length (body_lines g (vertex_at g vertex))) = subst (λ (n : Option ℕ). TellsLength n (body_lines g (vertex_at g vertex))) whole tells in
+    let told : left + gone ≡ capped (length (body_lines g (vertex_at g vertex))) = subst (λ (n : Option ℕ). LengthIsRight n (body_lines g (vertex_at g vertex))) whole tells in
     omega (arith, told, loses.body, is, short)

@@ -17,7 +17,7 @@ use Rattle.model_core.proofs.Among.{either_true, first_true, second_true}
 use Rattle.model_core.proofs.BothTrue.{and_first, and_second}
 use Rattle.model_core.proofs.PlacesChanged.{length_placed, placed-elsewhere, placed-there, suc-apart, apart-turned}
 use Rattle.merge_rules.specs.Growth.{body_lines, bytes_leaving}
-use Rattle.merge_rules.specs.Hollowed.{hollow, hollowed, second_left, merged_leaving}
+use Rattle.merge_rules.specs.Hollowed.{hollow, hollowed, second_after_merge, merged_leaving}
 use Rattle.merge_rules.specs.declared.taking_over.SecondVertex.{SecondVertex}
 use Rattle.merge_rules.specs.declared.taking_over.SecondVertex.TheVariants as seconds
 use Rattle.merge_rules.proofs.OneStepForTwo.MergeHolds.{Mergeable, conditions_hold, is_below}
@@ -52,7 +52,7 @@ set_is f (y ∷ xs) zero x d is = ap (λ z. z ∷ xs) is
 set_is f (y ∷ xs) (suc k) x d is = ap (λ ys. y ∷ ys) (set_is f xs k x d is)
 
 -- what is left of the second vertex is set in its place, and the first one takes over what it did
-pub left_set : (left : SecondVertex) (g : EventGraph) (first second : ℕ) (x : EventVertex) → (first == second) ≡ false → x ≡ second_left left (vertex_at g second)
+pub left_set : (left : SecondVertex) (g : EventGraph) (first second : ℕ) (x : EventVertex) → (first == second) ≡ false → x ≡ second_after_merge left (vertex_at g second)
     → record g { vertices = with_place (merged_with (vertex_at g second)) first (slice_set g.vertices second x) } ≡ merged_leaving left g first second
 left_set seconds.Stays g first second x apart is =
     ap (λ (vs : List EventVertex). record g { vertices = with_place (merged_with (vertex_at g second)) first vs }) (ap (slice_set g.vertices second) is ∙ set-get_or g.vertices second no_vertex)

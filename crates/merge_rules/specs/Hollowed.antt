@@ -15,9 +15,9 @@ abbrev pub hollowed : EventGraph → ℕ → EventGraph
 hollowed g place = with_vertex hollow place g
 
 -- what is left of a vertex
-abbrev pub second_left : SecondVertex → EventVertex → EventVertex
-second_left seconds.Stays v = v
-second_left seconds.GivesAway v = hollow v
+abbrev pub second_after_merge : SecondVertex → EventVertex → EventVertex
+second_after_merge seconds.Stays v = v
+second_after_merge seconds.GivesAway v = hollow v
 
 -- the result of a merge that leaves this of its second vertex
 abbrev pub merged_leaving : SecondVertex → EventGraph → ℕ → ℕ → EventGraph

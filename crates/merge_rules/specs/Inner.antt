@@ -1,4 +1,4 @@
 -- The code of this crate, restated for its proofs. No public clause cites these.
-pub mod LosesBytes
+pub mod HasFewerBytes
 pub mod PairMoves
 pub mod ReadingEdges

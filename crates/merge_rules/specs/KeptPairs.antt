@@ -8,8 +8,8 @@ use Rattle.merge_rules.specs.PairStanding.{target_at_once, acts_unseen}
 use Rattle.merge_rules.specs.Growth.{pair_growth}
 use Rattle.merge_rules.specs.declared.growth.Growth.{Growth}
 use Rattle.merge_rules.specs.declared.kept_pairs.KeptPair.{KeptPair}
-use Rattle.merge_rules.specs.declared.kept_pairs.Standing.{Standing}
-use Rattle.merge_rules.specs.declared.kept_pairs.Standing.TheVariants as standings
+use Rattle.merge_rules.specs.declared.kept_pairs.PairAnswer.{PairAnswer}
+use Rattle.merge_rules.specs.declared.kept_pairs.PairAnswer.TheVariants as standings
 
 -- ---- edges that lead to a place
 
@@ -30,21 +30,21 @@ has_incoming g k = list_any (λ (v : EventVertex). list_any (leads_to k) v.edges
 -- ---- what is right of a graph
 
 -- a standing that is known says rightly whether the two fit, and where they do by how much their merge makes the text longer
-abbrev pub TellsFit : Standing → Option Growth → Type 0
-TellsFit standings.Unknown growth = Unit {0}
-TellsFit standings.Refused growth = growth ≡ None
-TellsFit (standings.Fits kept) growth = growth ≡ Some kept
+abbrev pub FitIsRight : PairAnswer → Option Growth → Type 0
+FitIsRight standings.Unknown growth = Unit {0}
+FitIsRight standings.Refused growth = growth ≡ None
+FitIsRight (standings.Fits kept) growth = growth ≡ Some kept
 
 -- the answer, where there is one, says rightly whether this vertex acts unseen
-abbrev pub TellsUnseen : Option Bool → EventGraph → EventVertex → Type 0
-TellsUnseen (Some unseen) g v = unseen ≡ acts_unseen g v
-TellsUnseen None g v = Unit {0}
+abbrev pub UnseenIsRight : Option Bool → EventGraph → EventVertex → Type 0
+UnseenIsRight (Some unseen) g v = unseen ≡ acts_unseen g v
+UnseenIsRight None g v = Unit {0}
 
 -- what is kept of the vertex at this place is right
-pub record IsPair (g : EventGraph) (k : ℕ) (p : KeptPair) : Type 0 where
+pub record PairIsRight (g : EventGraph) (k : ℕ) (p : KeptPair) : Type 0 where
   pub target : p.target ≡ target_at_once (vertex_at g k)
-  pub standing : TellsFit p.standing (pair_growth g k)
-  pub unseen : TellsUnseen p.unseen g (vertex_at g k)
+  pub standing : FitIsRight p.standing (pair_growth g k)
+  pub unseen : UnseenIsRight p.unseen g (vertex_at g k)
   pub incoming : p.incoming ≡ edges_to g.vertices k
 
 -- what a missing place has
@@ -52,6 +52,6 @@ abbrev pub no_pair : KeptPair
 no_pair = record { target = None; standing = standings.Unknown; unseen = None; incoming = 0 }
 
 -- what is kept of each vertex is right
-pub record ArePairs (g : EventGraph) (pairs : List KeptPair) : Type 0 where
+pub record PairsAreRight (g : EventGraph) (pairs : List KeptPair) : Type 0 where
   pub long : length pairs ≡ length g.vertices
-  pub each : (k : ℕ) → k < length g.vertices → IsPair g k (slice_index_or pairs k no_pair)
+  pub each : (k : ℕ) → k < length g.vertices → PairIsRight g k (slice_index_or pairs k no_pair)

@@ -6,7 +6,7 @@ use Rattle.model_core.specs.Text.Canonical.{edge_line, condition_text}
 use Rattle.model_core.specs.Rules.PlacedEdges.{edge_at, with_place}
 use Rattle.range_bounds.specs.LiveEdges.{may_take_any_condition}
 use Rattle.merge_rules.specs.Growth.{capped}
-use Rattle.merge_rules.specs.declared.known.Known.{Known}
+use Rattle.merge_rules.specs.declared.known.FactsOfModel.{FactsOfModel}
 
 -- the number, where it has 64 bits
 abbrev pub in_64_bits : Option ℕ → Option ℕ
@@ -21,20 +21,20 @@ abbrev pub still_single : Option Bool → Option Bool
 still_single single = option_and_then (λ is. cond is (Some true) None) single
 
 -- what the vertex at this place does has so many bytes less
-abbrev pub known_less : Known → ℕ → ℕ → Known
-known_less known vertex gone = record known { lines = bytes_left known.lines gone; bodies = with_place (λ bytes. bytes_left bytes gone) vertex known.bodies }
+abbrev pub facts_after_loss : FactsOfModel → ℕ → ℕ → FactsOfModel
+facts_after_loss known vertex gone = record known { lines = bytes_left known.lines gone; bodies = with_place (λ bytes. bytes_left bytes gone) vertex known.bodies }
 
 -- the edge at this place of the vertex at this place is pruned
-abbrev pub known_pruned : EventGraph → ℕ → ℕ → Known → Known
-known_pruned g vertex edge known = option_map_or
-    (λ (e : EventEdge). record (known_less known vertex (capped (length (edge_line g e)))) { version_two = cond (has_drawn_delay e) None known.version_two; single = still_single known.single })
+abbrev pub facts_after_prune : EventGraph → ℕ → ℕ → FactsOfModel → FactsOfModel
+facts_after_prune g vertex edge known = option_map_or
+    (λ (e : EventEdge). record (facts_after_loss known vertex (capped (length (edge_line g e)))) { version_two = cond (has_drawn_delay e) None known.version_two; single = still_single known.single })
     (edge_at g vertex edge) known
 
 -- where it is settled, a graph stays single urgent if that edge may take any condition
 abbrev pub single_settled : EventGraph → ℕ → ℕ → Option Bool → Option Bool
 single_settled g vertex edge single = option_and_then (λ (v : EventVertex). cond (may_take_any_condition g v.edges edge) (still_single single) None) (slice_get g.vertices vertex)
 
-abbrev pub known_settled : EventGraph → ℕ → ℕ → Known → Known
-known_settled g vertex edge known = option_map_or
-    (λ (e : EventEdge). record (known_less known vertex (capped (length (condition_text g e.condition)))) { single = single_settled g vertex edge known.single })
+abbrev pub facts_after_settle : EventGraph → ℕ → ℕ → FactsOfModel → FactsOfModel
+facts_after_settle g vertex edge known = option_map_or
+    (λ (e : EventEdge). record (facts_after_loss known vertex (capped (length (condition_text g e.condition)))) { single = single_settled g vertex edge known.single })
     (edge_at g vertex edge) known

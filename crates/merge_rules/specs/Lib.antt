@@ -3,7 +3,7 @@ pub mod Inner
 pub mod PairStanding
 pub mod Growth
 pub mod Hollowed
-pub mod Known
+pub mod FactsOfModel
 pub mod KnownLess
 pub mod NothingCounted
 pub mod UrgentVertices

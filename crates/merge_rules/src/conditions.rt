@@ -13,7 +13,7 @@ ghost use Rattle.model_core.specs.Rules.UrgentEdges.{plain_urgent_edge, single_u
 ghost use Rattle.model_core.specs.Rules.Merge.{set_parameters, leads_to, is_watched_vertex, reads_none_of, is_unwatched, happens_unseen, values_at_once, other_edges, merge_conditions};
 ghost use Rattle.model_core.specs.Code.Views.{graph_of, expression_of, change_of, edge_of, vertex_of, watched_of};
 ghost use Rattle.merge_rules.specs.PairStanding.{acts_unseen};
-ghost use Rattle.merge_rules.specs.KeptPairs.{TellsUnseen};
+ghost use Rattle.merge_rules.specs.KeptPairs.{UnseenIsRight};
 ghost use Rattle.merge_rules.specs.Inner.ReadingEdges.{is_calm};
 
 use crate::at_once::edge_at_once;
@@ -141,7 +141,7 @@ pub(crate) fn acts_unseen_at(model: &Model, vertex: usize) -> bool
 
 /// Whether the second vertex acts unseen, which may be known.
 fn second_acts_unseen(model: &Model, unseen: Option<bool>, second: &Vertex) -> bool
-    requires { TellsUnseen unseen (graph_of model.now) (vertex_of second.now) }
+    requires { UnseenIsRight unseen (graph_of model.now) (vertex_of second.now) }
     ensures { result ≡ acts_unseen (graph_of model.now) (vertex_of second.now) }
 {
     match unseen {
@@ -168,7 +168,7 @@ fn second_happens_unseen(
     first: &Vertex,
     second: &Vertex,
 ) -> bool
-    requires { TellsUnseen unseen (graph_of model.now) (vertex_of second.now) }
+    requires { UnseenIsRight unseen (graph_of model.now) (vertex_of second.now) }
     ensures { result ≡ happens_unseen (graph_of model.now) (vertex_of second.now) (values_at_once (vertex_of first.now)) }
 {
     second_acts_unseen(model, unseen, second) && takes_quietly(model, first, second)
@@ -198,7 +198,7 @@ fn others_stand_aside<R: ReadsWritten>(
 
 /// Whether the first vertex isn't watched, or the second event happens unseen.
 fn notes_stay(model: &Model, unseen: Option<bool>, first: usize, a: &Vertex, b: &Vertex) -> bool
-    requires { TellsUnseen unseen (graph_of model.now) (vertex_of b.now) }
+    requires { UnseenIsRight unseen (graph_of model.now) (vertex_of b.now) }
     ensures { result ≡ (not (is_watched_vertex (graph_of model.now) first) || happens_unseen (graph_of model.now) (vertex_of b.now) (values_at_once (vertex_of a.now))) }
 {
     !is_watched(model, first) || second_happens_unseen(model, unseen, a, b)
@@ -215,7 +215,7 @@ fn failed_later<R: ReadsWritten>(
     a: &Vertex,
     b: &Vertex,
 ) -> Option<u8>
-    requires unseen { TellsUnseen unseen (graph_of model.now) (vertex_of b.now) }
+    requires unseen { UnseenIsRight unseen (graph_of model.now) (vertex_of b.now) }
     requires ready { R.ready readers.old (length model.now.vars) }
     requires first { vertex_of a.now ≡ vertex_at (graph_of model.now) first }
     requires second { vertex_of b.now ≡ vertex_at (graph_of model.now) second }
@@ -248,7 +248,7 @@ pub(crate) fn failed_before_limits<R: ReadsWritten>(
     second: usize,
 ) -> Option<u8>
     requires single { single ≡ single_urgent (graph_of model.now) }
-    requires unseen { TellsUnseen unseen (graph_of model.now) (vertex_at (graph_of model.now) second) }
+    requires unseen { UnseenIsRight unseen (graph_of model.now) (vertex_at (graph_of model.now) second) }
     requires ready { R.ready readers.old (length model.now.vars) }
     ensures same { readers.new ≡ readers.old }
     ensures failed { result ≡ first_failed (take 7 (merge_conditions (graph_of model.now) first second)) }

@@ -7,10 +7,10 @@ ghost use Rattle.model_core.specs.Run.Step.{vertex_at};
 ghost use Rattle.model_core.specs.Rules.UrgentEdges.{plain_urgent_edge};
 ghost use Rattle.model_core.specs.Rules.Merge.{merge_at, first_merge};
 ghost use Rattle.model_core.specs.Code.Views.{graph_of, vertex_of};
-ghost use Rattle.merge_rules.specs.Known.{IsKnown};
+ghost use Rattle.merge_rules.specs.FactsOfModel.{FactsAreRight};
 
 use crate::at_once::edge_at_once;
-use crate::known::Known;
+use crate::known::FactsOfModel;
 use crate::merging::failed_merge;
 use crate::reads_written::{ReadsWritten, Walk};
 use model_core::{Model, Vertex};
@@ -28,16 +28,16 @@ pub(crate) fn target_at_once(vertex: &Vertex) -> Option<usize>
 /// The vertex at this place with the one to which its plain urgent edge leads, where they may be merged.
 fn merge_at<R: ReadsWritten>(
     model: &Model,
-    known: &mut Known,
+    known: &mut FactsOfModel,
     readers: &mut R,
     first: usize,
     vertex: &Vertex,
 ) -> Option<(usize, usize)>
-    requires known { IsKnown (graph_of model.now) known.old }
+    requires known { FactsAreRight (graph_of model.now) known.old }
     requires ready { R.ready readers.old (length model.now.vars) }
     requires there { vertex_of vertex.now ≡ vertex_at (graph_of model.now) first }
     ensures found { result ≡ merge_at (graph_of model.now) first }
-    ensures known { IsKnown (graph_of model.now) known.new }
+    ensures known { FactsAreRight (graph_of model.now) known.new }
     ensures same { readers.new ≡ readers.old }
 {
     match target_at_once(vertex) {
@@ -50,15 +50,15 @@ fn merge_at<R: ReadsWritten>(
 }
 
 /// The first two vertices that may be merged, with this way to find what edges read.
-fn first_told_by<R: ReadsWritten>(
+fn first_merge_by<R: ReadsWritten>(
     model: &Model,
-    known: &mut Known,
+    known: &mut FactsOfModel,
     readers: &mut R,
 ) -> Option<(usize, usize)>
-    requires known { IsKnown (graph_of model.now) known.old }
+    requires known { FactsAreRight (graph_of model.now) known.old }
     requires ready { R.ready readers.old (length model.now.vars) }
     ensures found { result ≡ first_merge (graph_of model.now) }
-    ensures known { IsKnown (graph_of model.now) known.new }
+    ensures known { FactsAreRight (graph_of model.now) known.new }
     ensures same { readers.new ≡ readers.old }
 {
     for (first, vertex) in model.vertices.as_slice().iter().enumerate() {
@@ -75,5 +75,5 @@ fn first_told_by<R: ReadsWritten>(
 pub fn first_merge(model: &Model) -> Option<(usize, usize)>
     ensures { result ≡ first_merge (graph_of model.now) }
 {
-    first_told_by(model, &mut Known::nothing(), &mut Walk)
+    first_merge_by(model, &mut FactsOfModel::nothing(), &mut Walk)
 }

@@ -4,7 +4,7 @@
 ghost use Rattle.std.specs.Prelude.{◌≡◌, map, OnOk, IfOk};
 ghost use Rattle.model_core.specs.Rules.PlacedEdges.{with_place};
 ghost use Rattle.model_core.specs.Code.Views.{edge_of, vertex_of};
-ghost use Rattle.merge_rules.specs.Inner.PairMoves.{unasked, with_more, with_fewer, edges_added, all_edges_added, edges_taken, asked_again, led_nowhere, pairs_merged, moved_up};
+ghost use Rattle.merge_rules.specs.Inner.PairMoves.{fresh_pair, with_more, with_fewer, edges_added, all_edges_added, edges_taken, standing_forgotten, target_removed, pairs_merged, moved_up};
 
 use crate::first_pair::target_at_once;
 use crate::growth::Growth;
@@ -14,7 +14,7 @@ use std::alloc::Global;
 
 /// Whether a vertex and the target of its plain urgent edge can be merged, as far as it depends on the two.
 #[derive(Clone, Copy)]
-pub(crate) enum Standing {
+pub(crate) enum PairAnswer {
     /// They haven't been looked at.
     Unknown,
     /// They can't.
@@ -28,7 +28,7 @@ pub(crate) enum Standing {
 pub(crate) struct KeptPair {
     /// Where its plain urgent edge leads, if it has one.
     pub(crate) target: Option<usize>,
-    pub(crate) standing: Standing,
+    pub(crate) standing: PairAnswer,
     /// Whether it acts unseen once it has its values, if that was asked.
     pub(crate) unseen: Option<bool>,
     /// How many edges lead to the vertex.
@@ -36,24 +36,24 @@ pub(crate) struct KeptPair {
 }
 
 /// What is known of a vertex that hasn't been looked at.
-fn unasked(vertex: &Vertex) -> KeptPair
-    ensures { result ≡ unasked (vertex_of vertex.now) }
+fn fresh_pair(vertex: &Vertex) -> KeptPair
+    ensures { result ≡ fresh_pair (vertex_of vertex.now) }
 {
     KeptPair {
         target: target_at_once(vertex),
-        standing: Standing::Unknown,
+        standing: PairAnswer::Unknown,
         unseen: None,
         incoming: 0,
     }
 }
 
 /// What is known of vertices that haven't been looked at.
-pub(crate) fn all_unasked(alloc: Global, vertices: &[Vertex]) -> Result<Vec<KeptPair>, NoMemory>
-    ensures { IfOk result (λ pairs. pairs.items ≡ map unasked (map vertex_of vertices.now)) }
+pub(crate) fn fresh_pairs(alloc: Global, vertices: &[Vertex]) -> Result<Vec<KeptPair>, NoMemory>
+    ensures { IfOk result (λ pairs. pairs.items ≡ map fresh_pair (map vertex_of vertices.now)) }
 {
     let mut pairs = Vec::with_capacity(alloc, vertices.len())?;
     for vertex in vertices {
-        pairs.push(unasked(vertex))?;
+        pairs.push(fresh_pair(vertex))?;
     }
     Ok(pairs)
 }
@@ -115,12 +115,12 @@ pub(crate) fn take_edges(pairs: &mut Vec<KeptPair>, edges: &[Edge])
 }
 
 /// What is known of a vertex once another one has changed.
-fn asked_again(first: usize, pair: KeptPair) -> KeptPair
-    ensures { result ≡ asked_again first pair }
+fn standing_forgotten(first: usize, pair: KeptPair) -> KeptPair
+    ensures { result ≡ standing_forgotten first pair }
 {
     match pair.target {
         Some(target) if target == first => KeptPair {
-            standing: Standing::Unknown,
+            standing: PairAnswer::Unknown,
             ..pair
         },
         _ => pair,
@@ -128,22 +128,22 @@ fn asked_again(first: usize, pair: KeptPair) -> KeptPair
 }
 
 /// What leads at once to this vertex, which has changed, is looked at again.
-fn ask_again(pairs: &mut Vec<KeptPair>, first: usize)
-    ensures { pairs.new.items ≡ map (asked_again first) pairs.old.items }
+fn forget_standings(pairs: &mut Vec<KeptPair>, first: usize)
+    ensures { pairs.new.items ≡ map (standing_forgotten first) pairs.old.items }
 {
     for pair in pairs.iter_mut() {
-        *pair = asked_again(first, *pair);
+        *pair = standing_forgotten(first, *pair);
     }
 }
 
 /// Makes the plain urgent edge of a vertex lead nowhere, since it is gone, and the vertex does something else.
-fn lead_nowhere(pairs: &mut Vec<KeptPair>, first: usize)
-    ensures { pairs.new.items ≡ with_place led_nowhere first pairs.old.items }
+fn remove_target(pairs: &mut Vec<KeptPair>, first: usize)
+    ensures { pairs.new.items ≡ with_place target_removed first pairs.old.items }
 {
     if first < pairs.len() {
         pairs[first] = KeptPair {
             target: None,
-            standing: Standing::Refused,
+            standing: PairAnswer::Refused,
             unseen: None,
             incoming: pairs[first].incoming,
         };
@@ -161,8 +161,8 @@ pub(crate) fn take_over_pairs(
 {
     add_edges(pairs, edges)?;
     take_edge(pairs, second);
-    ask_again(pairs, first);
-    lead_nowhere(pairs, first);
+    forget_standings(pairs, first);
+    remove_target(pairs, first);
     Ok(())
 }
 

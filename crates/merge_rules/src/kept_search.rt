@@ -10,18 +10,18 @@ ghost use Rattle.model_core.specs.Rules.Drop.{dropped};
 ghost use Rattle.model_core.specs.Rules.UrgentEdges.{single_urgent};
 ghost use Rattle.model_core.specs.Rules.Merge.{is_watched_vertex, merge_conditions, merged, merge_at, first_merge};
 ghost use Rattle.model_core.specs.Code.Views.{graph_of, edge_of, vertex_of};
-ghost use Rattle.merge_rules.specs.Known.{IsKnown};
+ghost use Rattle.merge_rules.specs.FactsOfModel.{FactsAreRight};
 ghost use Rattle.merge_rules.specs.NothingCounted.{NothingCounted};
 ghost use Rattle.merge_rules.specs.PairStanding.{target_at_once, acts_unseen, pair_fits};
 ghost use Rattle.merge_rules.specs.Growth.{pair_growth};
-ghost use Rattle.merge_rules.specs.KeptPairs.{has_incoming, TellsFit, TellsUnseen, ArePairs};
+ghost use Rattle.merge_rules.specs.KeptPairs.{has_incoming, FitIsRight, UnseenIsRight, PairsAreRight};
 
 use crate::conditions::{acts_unseen_at, failed_before_limits};
 use crate::growth::{Growth, grows_by};
 use crate::kept_pairs::{
-    KeptPair, Standing, add_all_edges, all_unasked, move_up, take_edges, take_over_pairs,
+    KeptPair, PairAnswer, add_all_edges, fresh_pairs, move_up, take_edges, take_over_pairs,
 };
-use crate::known::Known;
+use crate::known::FactsOfModel;
 use crate::law::merging_keeps_the_meaning;
 use crate::within_limits::{has_short_text, keeps_few_parts};
 use model_core::{Edge, Model, Vertex, is_watched};
@@ -65,7 +65,7 @@ fn pair_fits(
     first: usize,
     second: usize,
 ) -> bool
-    requires unseen { TellsUnseen unseen (graph_of model.now) (vertex_at (graph_of model.now) second) }
+    requires unseen { UnseenIsRight unseen (graph_of model.now) (vertex_at (graph_of model.now) second) }
     requires counts { NothingCounted (length model.now.vars) counts.old }
     requires single { single_urgent (graph_of model.now) ≡ true }
     requires target { target_at_once (vertex_at (graph_of model.now) first) ≡ Some second }
@@ -80,12 +80,12 @@ fn pair_fits(
 }
 
 /// What is known of two once it was asked whether they fit, and by how much their merge makes the text longer.
-fn standing(growth: Option<Growth>) -> Standing
-    ensures { TellsFit result growth }
+fn standing(growth: Option<Growth>) -> PairAnswer
+    ensures { FitIsRight result growth }
 {
     match growth {
-        Some(growth) => Standing::Fits(growth),
-        None => Standing::Refused,
+        Some(growth) => PairAnswer::Fits(growth),
+        None => PairAnswer::Refused,
     }
 }
 
@@ -93,7 +93,7 @@ fn standing(growth: Option<Growth>) -> Standing
 /// model is, is then known.
 fn short_merge(
     model: &Model,
-    known: &mut Known,
+    known: &mut FactsOfModel,
     growth: Option<Growth>,
     first: usize,
     second: usize,
@@ -102,9 +102,9 @@ fn short_merge(
     requires target { target_at_once (vertex_at (graph_of model.now) first) ≡ Some second }
     requires there { first < length model.now.vertices }
     requires growth { growth ≡ pair_growth (graph_of model.now) first }
-    requires known { IsKnown (graph_of model.now) known.old }
+    requires known { FactsAreRight (graph_of model.now) known.old }
     ensures found { result ≡ merge_at (graph_of model.now) first }
-    ensures known { IsKnown (graph_of model.now) known.new }
+    ensures known { FactsAreRight (graph_of model.now) known.new }
 {
     let Some(grows) = growth else {
         return None;
@@ -120,28 +120,28 @@ fn short_merge(
 impl KeptPairs {
     /// Of a model that is new.
     pub fn begin(alloc: Global, model: &Model) -> Result<KeptPairs, NoMemory>
-        ensures { IfOk result (λ pairs. ArePairs (graph_of model.now) pairs) }
+        ensures { IfOk result (λ pairs. PairsAreRight (graph_of model.now) pairs) }
     {
         let vertices = model.vertices.as_slice();
-        let mut pairs = all_unasked(alloc, vertices)?;
+        let mut pairs = fresh_pairs(alloc, vertices)?;
         add_all_edges(&mut pairs, vertices)?;
         Ok(KeptPairs { pairs })
     }
 
     /// Whether an edge leads to the vertex at this place.
-    pub fn is_led_to(&self, vertex: usize) -> bool
+    pub fn has_incoming_edge(&self, vertex: usize) -> bool
         requires there { vertex < length self.now }
-        ensures { (g : EventGraph) → ArePairs g self.now → result ≡ has_incoming g vertex }
+        ensures { (g : EventGraph) → PairsAreRight g self.now → result ≡ has_incoming g vertex }
     {
         self.pairs[vertex].incoming > 0
     }
 
     /// Whether the vertex at this place acts unseen once it has its values, which is then known.
     fn find_unseen(&mut self, model: &Model, vertex: usize) -> bool
-        requires kept { ArePairs (graph_of model.now) self.old }
+        requires kept { PairsAreRight (graph_of model.now) self.old }
         requires there { vertex < length model.now.vertices }
         ensures is { result ≡ acts_unseen (graph_of model.now) (vertex_at (graph_of model.now) vertex) }
-        ensures kept { ArePairs (graph_of model.now) self.new }
+        ensures kept { PairsAreRight (graph_of model.now) self.new }
     {
         let pair = self.pairs[vertex];
         if let Some(unseen) = pair.unseen {
@@ -156,10 +156,10 @@ impl KeptPairs {
     }
 
     /// Whether the second of two acts unseen, where it matters: where the first is watched.
-    fn unseen_behind(&mut self, model: &Model, first: usize, second: usize) -> Option<bool>
-        requires { ArePairs (graph_of model.now) self.old }
-        ensures unseen { TellsUnseen result (graph_of model.now) (vertex_at (graph_of model.now) second) }
-        ensures kept { ArePairs (graph_of model.now) self.new }
+    fn unseen_where_watched(&mut self, model: &Model, first: usize, second: usize) -> Option<bool>
+        requires { PairsAreRight (graph_of model.now) self.old }
+        ensures unseen { UnseenIsRight result (graph_of model.now) (vertex_at (graph_of model.now) second) }
+        ensures kept { PairsAreRight (graph_of model.now) self.new }
     {
         if second < model.vertices.len() && is_watched(model, first) {
             Some(self.find_unseen(model, second))
@@ -169,26 +169,26 @@ impl KeptPairs {
     }
 
     /// By how much a merge of the two makes the text longer, where they fit.
-    fn ask(
+    fn measure_pair(
         &mut self,
         model: &Model,
-        known: &mut Known,
+        known: &mut FactsOfModel,
         counts: &mut UseCounts,
         first: usize,
         second: usize,
     ) -> Option<Growth>
-        requires kept { ArePairs (graph_of model.now) self.old }
-        requires known { IsKnown (graph_of model.now) known.old }
+        requires kept { PairsAreRight (graph_of model.now) self.old }
+        requires known { FactsAreRight (graph_of model.now) known.old }
         requires counts { NothingCounted (length model.now.vars) counts.old }
         requires single { single_urgent (graph_of model.now) ≡ true }
         requires target { target_at_once (vertex_at (graph_of model.now) first) ≡ Some second }
         requires there { first < length model.now.vertices }
         ensures growth { result ≡ pair_growth (graph_of model.now) first }
-        ensures kept { ArePairs (graph_of model.now) self.new }
-        ensures known { IsKnown (graph_of model.now) known.new }
+        ensures kept { PairsAreRight (graph_of model.now) self.new }
+        ensures known { FactsAreRight (graph_of model.now) known.new }
         ensures counts { counts.new ≡ counts.old }
     {
-        let unseen = self.unseen_behind(model, first, second);
+        let unseen = self.unseen_where_watched(model, first, second);
         if !pair_fits(model, unseen, counts, first, second) {
             return None;
         }
@@ -200,38 +200,38 @@ impl KeptPairs {
     fn pair_growth(
         &mut self,
         model: &Model,
-        known: &mut Known,
+        known: &mut FactsOfModel,
         counts: &mut UseCounts,
-        standing: Standing,
+        standing: PairAnswer,
         first: usize,
         second: usize,
     ) -> Option<Growth>
-        requires kept { ArePairs (graph_of model.now) self.old }
-        requires known { IsKnown (graph_of model.now) known.old }
+        requires kept { PairsAreRight (graph_of model.now) self.old }
+        requires known { FactsAreRight (graph_of model.now) known.old }
         requires counts { NothingCounted (length model.now.vars) counts.old }
         requires single { single_urgent (graph_of model.now) ≡ true }
         requires target { target_at_once (vertex_at (graph_of model.now) first) ≡ Some second }
         requires there { first < length model.now.vertices }
-        requires standing { TellsFit standing (pair_growth (graph_of model.now) first) }
+        requires standing { FitIsRight standing (pair_growth (graph_of model.now) first) }
         ensures growth { result ≡ pair_growth (graph_of model.now) first }
-        ensures kept { ArePairs (graph_of model.now) self.new }
-        ensures known { IsKnown (graph_of model.now) known.new }
+        ensures kept { PairsAreRight (graph_of model.now) self.new }
+        ensures known { FactsAreRight (graph_of model.now) known.new }
         ensures counts { counts.new ≡ counts.old }
     {
         match standing {
-            Standing::Unknown => self.ask(model, known, counts, first, second),
-            Standing::Refused => None,
-            Standing::Fits(growth) => Some(growth),
+            PairAnswer::Unknown => self.measure_pair(model, known, counts, first, second),
+            PairAnswer::Refused => None,
+            PairAnswer::Fits(growth) => Some(growth),
         }
     }
 
     /// Keeps whether the vertex at this place and the target of its plain urgent edge fit, and by how much their merge makes
     /// the text longer.
-    fn tell_standing(&mut self, model: &Model, first: usize, growth: Option<Growth>)
-        requires kept { ArePairs (graph_of model.now) self.old }
+    fn keep_standing(&mut self, model: &Model, first: usize, growth: Option<Growth>)
+        requires kept { PairsAreRight (graph_of model.now) self.old }
         requires there { first < length model.now.vertices }
         requires growth { growth ≡ pair_growth (graph_of model.now) first }
-        ensures { ArePairs (graph_of model.now) self.new }
+        ensures { PairsAreRight (graph_of model.now) self.new }
     {
         let pair = self.pairs[first];
         self.pairs[first] = KeptPair {
@@ -244,18 +244,18 @@ impl KeptPairs {
     fn merge_at(
         &mut self,
         model: &Model,
-        known: &mut Known,
+        known: &mut FactsOfModel,
         counts: &mut UseCounts,
         first: usize,
     ) -> Option<(usize, usize)>
-        requires kept { ArePairs (graph_of model.now) self.old }
+        requires kept { PairsAreRight (graph_of model.now) self.old }
         requires single { single_urgent (graph_of model.now) ≡ true }
         requires there { first < length model.now.vertices }
-        requires known { IsKnown (graph_of model.now) known.old }
+        requires known { FactsAreRight (graph_of model.now) known.old }
         requires counts { NothingCounted (length model.now.vars) counts.old }
         ensures found { result ≡ merge_at (graph_of model.now) first }
-        ensures kept { ArePairs (graph_of model.now) self.new }
-        ensures known { IsKnown (graph_of model.now) known.new }
+        ensures kept { PairsAreRight (graph_of model.now) self.new }
+        ensures known { FactsAreRight (graph_of model.now) known.new }
         ensures counts { counts.new ≡ counts.old }
     {
         let pair = self.pairs[first];
@@ -263,7 +263,7 @@ impl KeptPairs {
             None => None,
             Some(second) => {
                 let growth = self.pair_growth(model, known, counts, pair.standing, first, second);
-                self.tell_standing(model, first, growth);
+                self.keep_standing(model, first, growth);
                 short_merge(model, known, growth, first, second)
             }
         }
@@ -273,16 +273,16 @@ impl KeptPairs {
     fn first_single(
         &mut self,
         model: &Model,
-        known: &mut Known,
+        known: &mut FactsOfModel,
         counts: &mut UseCounts,
     ) -> Option<(usize, usize)>
-        requires kept { ArePairs (graph_of model.now) self.old }
+        requires kept { PairsAreRight (graph_of model.now) self.old }
         requires single { single_urgent (graph_of model.now) ≡ true }
-        requires known { IsKnown (graph_of model.now) known.old }
+        requires known { FactsAreRight (graph_of model.now) known.old }
         requires counts { NothingCounted (length model.now.vars) counts.old }
         ensures found { result ≡ first_merge (graph_of model.now) }
-        ensures kept { ArePairs (graph_of model.now) self.new }
-        ensures known { IsKnown (graph_of model.now) known.new }
+        ensures kept { PairsAreRight (graph_of model.now) self.new }
+        ensures known { FactsAreRight (graph_of model.now) known.new }
         ensures counts { counts.new ≡ counts.old }
     {
         for first in 0..model.vertices.len() {
@@ -299,15 +299,15 @@ impl KeptPairs {
     pub fn first_merge(
         &mut self,
         model: &Model,
-        known: &mut Known,
+        known: &mut FactsOfModel,
         counts: &mut UseCounts,
     ) -> Option<(usize, usize)>
-        requires kept { ArePairs (graph_of model.now) self.old }
-        requires known { IsKnown (graph_of model.now) known.old }
+        requires kept { PairsAreRight (graph_of model.now) self.old }
+        requires known { FactsAreRight (graph_of model.now) known.old }
         requires counts { NothingCounted (length model.now.vars) counts.old }
         ensures found { result ≡ first_merge (graph_of model.now) }
-        ensures kept { ArePairs (graph_of model.now) self.new }
-        ensures known { IsKnown (graph_of model.now) known.new }
+        ensures kept { PairsAreRight (graph_of model.now) self.new }
+        ensures known { FactsAreRight (graph_of model.now) known.new }
         ensures counts { counts.new ≡ counts.old }
     {
         if known.find_single(model) {
@@ -318,10 +318,10 @@ impl KeptPairs {
     }
 
     /// Notes that two vertices of the model are about to be merged: what is kept is then right of the result.
-    pub fn tell_merge(&mut self, model: &Model, first: usize, second: usize) -> Result<(), NoMemory>
-        requires kept { ArePairs (graph_of model.now) self.old }
+    pub fn note_merge(&mut self, model: &Model, first: usize, second: usize) -> Result<(), NoMemory>
+        requires kept { PairsAreRight (graph_of model.now) self.old }
         requires holds { first_failed (merge_conditions (graph_of model.now) first second) ≡ None }
-        ensures { OnOk result (ArePairs (merged (graph_of model.now) first second) self.new) }
+        ensures { OnOk result (PairsAreRight (merged (graph_of model.now) first second) self.new) }
     {
         let edges = edges_at(model.vertices.as_slice(), second);
         take_over_pairs(&mut self.pairs, first, second, edges)
@@ -330,8 +330,8 @@ impl KeptPairs {
     /// Notes the drop of a vertex that has these edges, to which no edge leads and which isn't watched.
     fn take_away(&mut self, edges: &[Edge], gone: usize)
         requires { gone < length self.old }
-        ensures { (g : EventGraph) → ArePairs g self.old → IsValid g → has_incoming g gone ≡ false → is_watched_vertex g gone ≡ false
-            → map edge_of edges.now ≡ (vertex_at g gone).edges → ArePairs (dropped g (gone ∷ [])) self.new }
+        ensures { (g : EventGraph) → PairsAreRight g self.old → IsValid g → has_incoming g gone ≡ false → is_watched_vertex g gone ≡ false
+            → map edge_of edges.now ≡ (vertex_at g gone).edges → PairsAreRight (dropped g (gone ∷ [])) self.new }
     {
         validity_is_by_parts();
         take_edges(&mut self.pairs, edges);
@@ -341,12 +341,12 @@ impl KeptPairs {
 
     /// Notes that the second of two vertices of the model is about to be dropped after their merge, which was noted, where no
     /// edge leads to it then.
-    pub fn tell_drop_behind(&mut self, model: &Model, first: usize, second: usize)
-        requires kept { ArePairs (merged (graph_of model.now) first second) self.old }
+    pub fn note_drop_after_merge(&mut self, model: &Model, first: usize, second: usize)
+        requires kept { PairsAreRight (merged (graph_of model.now) first second) self.old }
         requires valid { IsValid (graph_of model.now) }
         requires holds { first_failed (merge_conditions (graph_of model.now) first second) ≡ None }
         requires unled { has_incoming (merged (graph_of model.now) first second) second ≡ false }
-        ensures { ArePairs (dropped (merged (graph_of model.now) first second) (second ∷ [])) self.new }
+        ensures { PairsAreRight (dropped (merged (graph_of model.now) first second) (second ∷ [])) self.new }
     {
         merging_keeps_the_meaning();
         self.take_away(edges_at(model.vertices.as_slice(), second), second);

@@ -12,7 +12,7 @@ ghost use Rattle.model_core.specs.Rules.Merge.{merge_conditions, merged};
 ghost use Rattle.model_core.specs.Rules.UrgentEdges.{single_urgent};
 ghost use Rattle.model_core.specs.Code.Views.{graph_of};
 ghost use Rattle.merge_rules.specs.Growth.{body_lines, capped, growth};
-ghost use Rattle.merge_rules.specs.Known.{IsMeasured, TellsSingle, TellsLength, IsKnown, text_length};
+ghost use Rattle.merge_rules.specs.FactsOfModel.{TextLengthIsRight, SingleIsRight, LengthIsRight, FactsAreRight, text_length};
 ghost use Rattle.merge_rules.specs.KnownLess.{in_64_bits, still_single};
 
 use crate::bodies::Bodies;
@@ -31,7 +31,7 @@ pub(crate) fn version_length(version_two: bool) -> u64
 
 /// What is known of a model beside itself. Nothing is known of where there is None.
 #[derive(Drop)]
-pub struct Known {
+pub struct FactsOfModel {
     /// How many bytes its canonical text has after the line of its version.
     pub lines: Option<u64>,
     /// Whether only a text of version 2 can write it, so that its canonical text has that line.
@@ -42,12 +42,12 @@ pub struct Known {
     pub bodies: Bodies,
 }
 
-impl Known {
+impl FactsOfModel {
     /// Nothing is known, which is so of each model, and of single vertices nothing will be kept.
-    pub fn nothing() -> Known
-        ensures { (g : EventGraph) → IsKnown g result }
+    pub fn nothing() -> FactsOfModel
+        ensures { (g : EventGraph) → FactsAreRight g result }
     {
-        Known {
+        FactsOfModel {
             lines: None,
             version_two: None,
             single: None,
@@ -56,10 +56,10 @@ impl Known {
     }
 
     /// Nothing is known yet. What is found of single vertices will be kept, for as many of them as there is memory.
-    pub fn begin(alloc: Global) -> Known
-        ensures { (g : EventGraph) → IsKnown g result }
+    pub fn begin(alloc: Global) -> FactsOfModel
+        ensures { (g : EventGraph) → FactsAreRight g result }
     {
-        Known {
+        FactsOfModel {
             lines: None,
             version_two: None,
             single: None,
@@ -71,8 +71,8 @@ impl Known {
     /// was with them.
     pub fn single_without_parts(&self) -> Option<bool>
         ensures is { result ≡ still_single self.now.single }
-        ensures dropped { (g : EventGraph) (vertices : List ℕ) → IsKnown g self.now → TellsSingle (dropped g vertices) result }
-        ensures pruned { (g : EventGraph) (vertex edge : ℕ) → IsKnown g self.now → TellsSingle (pruned g vertex edge) result }
+        ensures dropped { (g : EventGraph) (vertices : List ℕ) → FactsAreRight g self.now → SingleIsRight (dropped g vertices) result }
+        ensures pruned { (g : EventGraph) (vertex edge : ℕ) → FactsAreRight g self.now → SingleIsRight (pruned g vertex edge) result }
     {
         match self.single {
             Some(single) if single => Some(single),
@@ -81,8 +81,8 @@ impl Known {
     }
 
     /// What is known after a drop: that the model is single urgent, where it was.
-    pub fn behind_drop(&mut self)
-        ensures { (g : EventGraph) (vertices : List ℕ) → IsKnown g self.old → IsKnown (dropped g vertices) self.new }
+    pub fn keep_single_after_drop(&mut self)
+        ensures { (g : EventGraph) (vertices : List ℕ) → FactsAreRight g self.old → FactsAreRight (dropped g vertices) self.new }
     {
         self.single = self.single_without_parts();
         self.lines = None;
@@ -92,9 +92,9 @@ impl Known {
 
     /// Whether the model is single urgent, which is then known.
     pub(crate) fn find_single(&mut self, model: &Model) -> bool
-        requires { IsKnown (graph_of model.now) self.old }
+        requires { FactsAreRight (graph_of model.now) self.old }
         ensures is { result ≡ single_urgent (graph_of model.now) }
-        ensures known { IsKnown (graph_of model.now) self.new }
+        ensures known { FactsAreRight (graph_of model.now) self.new }
     {
         if let Some(single) = self.single {
             return single;
@@ -106,10 +106,10 @@ impl Known {
 
     /// Whether only a text of version 2 can write the model, which is then known.
     pub(crate) fn find_version(&mut self, model: &Model) -> bool
-        requires { IsKnown (graph_of model.now) self.old }
+        requires { FactsAreRight (graph_of model.now) self.old }
         ensures is { result ≡ needs_version_two (graph_of model.now) }
         ensures kept { self.new.version_two ≡ Some result }
-        ensures known { IsKnown (graph_of model.now) self.new }
+        ensures known { FactsAreRight (graph_of model.now) self.new }
     {
         if let Some(version_two) = self.version_two {
             return version_two;
@@ -122,7 +122,7 @@ impl Known {
     /// How many bytes the canonical text of the model has, or None where that isn't known or they are 2^64 or more.
     pub fn text_length(&self) -> Option<u64>
         ensures is { result ≡ in_64_bits (text_length self.now) }
-        ensures measured { (g : EventGraph) → IsKnown g self.now → IsMeasured g result }
+        ensures measured { (g : EventGraph) → FactsAreRight g self.now → TextLengthIsRight g result }
     {
         let version = version_length(self.version_two?);
         self.lines?.checked_add(version)
@@ -130,8 +130,8 @@ impl Known {
 
     /// Finds how many bytes the canonical text of the model has, which is then known, unless they are 2^64 - 1 or more.
     fn measure(&mut self, model: &Model)
-        requires { IsKnown (graph_of model.now) self.old }
-        ensures { IsKnown (graph_of model.now) self.new }
+        requires { FactsAreRight (graph_of model.now) self.old }
+        ensures { FactsAreRight (graph_of model.now) self.new }
     {
         let version = version_length(self.find_version(model));
         if self.lines.is_none() {
@@ -144,9 +144,9 @@ impl Known {
 
     /// How many bytes the canonical text of the model has, which is then known, or None where they are 2^64 - 1 or more.
     pub(crate) fn find_bytes(&mut self, model: &Model) -> Option<u64>
-        requires { IsKnown (graph_of model.now) self.old }
-        ensures is { IsMeasured (graph_of model.now) result }
-        ensures known { IsKnown (graph_of model.now) self.new }
+        requires { FactsAreRight (graph_of model.now) self.old }
+        ensures is { TextLengthIsRight (graph_of model.now) result }
+        ensures known { FactsAreRight (graph_of model.now) self.new }
     {
         self.measure(model);
         self.text_length()
@@ -155,10 +155,10 @@ impl Known {
     /// How many bytes the lines of the changes and edges of the vertex at this place have, or 2^64 - 1 where they have more.
     /// That is then known, unless there is no memory to keep it.
     pub(crate) fn find_body(&mut self, model: &Model, vertex: usize) -> u64
-        requires known { IsKnown (graph_of model.now) self.old }
+        requires known { FactsAreRight (graph_of model.now) self.old }
         requires there { vertex < length model.now.vertices }
         ensures is { result ≡ capped (length (body_lines (graph_of model.now) (vertex_at (graph_of model.now) vertex))) }
-        ensures known { IsKnown (graph_of model.now) self.new }
+        ensures known { FactsAreRight (graph_of model.now) self.new }
     {
         if let Some(bytes) = self.bodies.get(vertex) {
             return bytes;
@@ -178,11 +178,11 @@ impl Known {
         second: usize,
         grows: Growth,
     ) -> Option<u64>
-        requires known { IsKnown (graph_of model.now) self.old }
+        requires known { FactsAreRight (graph_of model.now) self.old }
         requires holds { first_failed (merge_conditions (graph_of model.now) first second) ≡ None }
         requires grows { grows ≡ growth (graph_of model.now) first }
-        ensures is { TellsLength result (body_lines (merged (graph_of model.now) first second) (vertex_at (merged (graph_of model.now) first second) first)) }
-        ensures known { IsKnown (graph_of model.now) self.new }
+        ensures is { LengthIsRight result (body_lines (merged (graph_of model.now) first second) (vertex_at (merged (graph_of model.now) first second) first)) }
+        ensures known { FactsAreRight (graph_of model.now) self.new }
     {
         let body = self.find_body(model, first);
         if body == u64::MAX {

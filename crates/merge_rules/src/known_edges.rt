@@ -10,11 +10,11 @@ ghost use Rattle.model_core.specs.Rules.Prune.{prune_conditions, pruned};
 ghost use Rattle.model_core.specs.Rules.Settle.{settle_conditions, settled};
 ghost use Rattle.model_core.specs.Code.Views.{graph_of, edge_of, expression_of};
 ghost use Rattle.merge_rules.specs.Growth.{capped};
-ghost use Rattle.merge_rules.specs.Known.{TellsLines, TellsVersion, TellsSingle, AreBodies, IsKnown};
-ghost use Rattle.merge_rules.specs.KnownLess.{bytes_left, known_less, known_pruned, single_settled, known_settled};
-ghost use Rattle.merge_rules.specs.Inner.LosesBytes.{LosesBytes};
+ghost use Rattle.merge_rules.specs.FactsOfModel.{LinesAreRight, VersionIsRight, SingleIsRight, BodiesAreRight, FactsAreRight};
+ghost use Rattle.merge_rules.specs.KnownLess.{bytes_left, facts_after_loss, facts_after_prune, single_settled, facts_after_settle};
+ghost use Rattle.merge_rules.specs.Inner.HasFewerBytes.{HasFewerBytes};
 
-use crate::known::Known;
+use crate::known::FactsOfModel;
 use model_core::{Edge, Expr, Model, has_drawn_delay};
 use model_print::{edge_length, expr_length};
 use range_bounds::may_take_any_condition;
@@ -28,7 +28,7 @@ fn edge_at(model: &Model, vertex: usize, edge: usize) -> Option<&Edge>
 }
 
 /// What is left of so many bytes without these, or None where one of the two isn't known to the last byte.
-fn left_of(bytes: Option<u64>, gone: u64) -> Option<u64>
+fn bytes_after_loss(bytes: Option<u64>, gone: u64) -> Option<u64>
     ensures is { result ≡ bytes_left bytes gone }
     ensures left { IfSome result (λ left. (bytes ≡ Some (left + gone)) × (left + gone < 2 ^ 64 - 1)) }
 {
@@ -63,38 +63,38 @@ fn version_without(version_two: Option<bool>, edge: &Edge) -> Option<bool>
 
 /// Turns what is known of a model into what is known of one whose vertex at this place has so many bytes less in its lines.
 /// Whether that one needs version 2 of a text, and is single urgent, is known of it already, where it is.
-fn lose(known: &mut Known, vertex: usize, gone: u64)
-    ensures is { known.new ≡ known_less known.old vertex gone }
-    ensures loses { (g h : EventGraph) (bytes : ℕ) → gone ≡ capped bytes → LosesBytes g h vertex bytes
-        → TellsLines g known.old.lines → AreBodies g known.old.bodies → TellsVersion h known.old.version_two → TellsSingle h known.old.single
-        → IsKnown h known.new }
+fn lose_bytes(known: &mut FactsOfModel, vertex: usize, gone: u64)
+    ensures is { known.new ≡ facts_after_loss known.old vertex gone }
+    ensures loses { (g h : EventGraph) (bytes : ℕ) → gone ≡ capped bytes → HasFewerBytes g h vertex bytes
+        → LinesAreRight g known.old.lines → BodiesAreRight g known.old.bodies → VersionIsRight h known.old.version_two → SingleIsRight h known.old.single
+        → FactsAreRight h known.new }
 {
-    known.lines = left_of(known.lines, gone);
-    let body = left_of(known.bodies.get(vertex), gone);
+    known.lines = bytes_after_loss(known.lines, gone);
+    let body = bytes_after_loss(known.bodies.get(vertex), gone);
     known.bodies.put(vertex, body);
 }
 
 /// Turns what is known of a model into what is known after a prune of the edge at a place of the vertex at a place. It is called
 /// before the prune.
-pub fn know_pruned(model: &Model, known: &mut Known, vertex: usize, edge: usize)
-    requires known { IsKnown (graph_of model.now) known.old }
-    ensures is { known.new ≡ known_pruned (graph_of model.now) vertex edge known.old }
-    ensures known { first_failed (prune_conditions (graph_of model.now) vertex edge) ≡ None → IsKnown (pruned (graph_of model.now) vertex edge) known.new }
+pub fn keep_after_prune(model: &Model, known: &mut FactsOfModel, vertex: usize, edge: usize)
+    requires known { FactsAreRight (graph_of model.now) known.old }
+    ensures is { known.new ≡ facts_after_prune (graph_of model.now) vertex edge known.old }
+    ensures known { first_failed (prune_conditions (graph_of model.now) vertex edge) ≡ None → FactsAreRight (pruned (graph_of model.now) vertex edge) known.new }
 {
     let Some(edge) = edge_at(model, vertex, edge) else {
         return;
     };
     known.single = known.single_without_parts();
     known.version_two = version_without(known.version_two, edge);
-    lose(known, vertex, edge_length(edge, model));
+    lose_bytes(known, vertex, edge_length(edge, model));
 }
 
 /// Whether it is known that the model is single urgent after a settle of the edge at a place of the vertex at a place: where it
 /// was, and that edge may take any condition.
 fn single_settled(model: &Model, single: Option<bool>, vertex: usize, edge: usize) -> Option<bool>
-    requires { TellsSingle (graph_of model.now) single }
+    requires { SingleIsRight (graph_of model.now) single }
     ensures is { result ≡ single_settled (graph_of model.now) vertex edge single }
-    ensures tells { TellsSingle (settled (graph_of model.now) vertex edge) result }
+    ensures tells { SingleIsRight (settled (graph_of model.now) vertex edge) result }
 {
     let edges = model.vertices.as_slice().get(vertex)?.edges.as_slice();
     if single? && may_take_any_condition(model, edges, edge) {
@@ -106,14 +106,14 @@ fn single_settled(model: &Model, single: Option<bool>, vertex: usize, edge: usiz
 
 /// Turns what is known of a model into what is known after a settle of the edge at a place of the vertex at a place. It is called
 /// before the settle.
-pub fn know_settled(model: &Model, known: &mut Known, vertex: usize, edge: usize)
-    requires known { IsKnown (graph_of model.now) known.old }
-    ensures is { known.new ≡ known_settled (graph_of model.now) vertex edge known.old }
-    ensures known { first_failed (settle_conditions (graph_of model.now) vertex edge) ≡ None → IsKnown (settled (graph_of model.now) vertex edge) known.new }
+pub fn keep_after_settle(model: &Model, known: &mut FactsOfModel, vertex: usize, edge: usize)
+    requires known { FactsAreRight (graph_of model.now) known.old }
+    ensures is { known.new ≡ facts_after_settle (graph_of model.now) vertex edge known.old }
+    ensures known { first_failed (settle_conditions (graph_of model.now) vertex edge) ≡ None → FactsAreRight (settled (graph_of model.now) vertex edge) known.new }
 {
     let Some(settled) = edge_at(model, vertex, edge) else {
         return;
     };
     known.single = single_settled(model, known.single, vertex, edge);
-    lose(known, vertex, condition_length(&settled.condition, model));
+    lose_bytes(known, vertex, condition_length(&settled.condition, model));
 }

@@ -2,7 +2,7 @@
 
 ghost use Rattle.std.specs.Prelude.{◌≡◌, ℕ, suc, ◌+◌, ◌≤◌, ◌^◌, ℤ, true, List, length, take, Some, None, Ok};
 ghost use Rattle.model_core.specs.EventGraph.{EventGraph};
-ghost use Rattle.model_core.specs.Run.Pending.{TakenOff, next_entry};
+ghost use Rattle.model_core.specs.Run.Pending.{EntryAndRest, next_entry};
 ghost use Rattle.model_core.specs.Run.Step.{Configuration, step};
 ghost use Rattle.model_core.specs.Run.History.{start};
 ghost use Rattle.model_core.specs.Run.Same.{Same};
@@ -25,7 +25,7 @@ use round_trip::validity_is_by_parts;
 /// keeps it, from any configuration of which it holds.
 pub fn at_most_one_event_is_urgent()
     ensures begins { (g : EventGraph) (starts : List ℤ) → IsValid g → IsSettled g (start g starts).now }
-    ensures kept { (g : EventGraph) (seed : ℕ) (c d : Configuration) (n : TakenOff) → IsValid g → single_urgent g ≡ true
+    ensures kept { (g : EventGraph) (seed : ℕ) (c d : Configuration) (n : EntryAndRest) → IsValid g → single_urgent g ≡ true
         → IsSettled g c → next_entry c.pending ≡ Some n → n.entry.time ≤ 2 ^ 48 → step g seed c n ≡ Ok d
         → IsSettled g d }
 {

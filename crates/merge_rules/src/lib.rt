@@ -20,8 +20,8 @@ mod within_limits;
 pub use bodies::Bodies;
 pub use first_pair::first_merge;
 pub use kept_search::KeptPairs;
-pub use known::Known;
-pub use known_edges::{know_pruned, know_settled};
+pub use known::FactsOfModel;
+pub use known_edges::{keep_after_prune, keep_after_settle};
 pub use law::{
     at_most_one_event_is_urgent, merging_adds_the_growth, merging_brings_no_rule_of_edges,
     merging_keeps_the_meaning, merging_takes_an_urgent_edge,

@@ -3,17 +3,17 @@
 ghost use Rattle.std.specs.Prelude.{◌≡◌, true, Some, None, length, OnOk, OnErr, IfErr};
 ghost use Rattle.model_core.specs.Text.Canonical.{canonical};
 ghost use Rattle.model_core.specs.Rules.Conditions.{first_failed};
-ghost use Rattle.model_core.specs.Rules.ConditionTold.{TellsCondition};
+ghost use Rattle.model_core.specs.Rules.ConditionTold.{NamesCondition};
 ghost use Rattle.model_core.specs.Rules.Merge.{merge_conditions, merged};
 ghost use Rattle.model_core.specs.Code.Views.{graph_of};
 ghost use Rattle.merge_rules.specs.Growth.{bytes_leaving};
 ghost use Rattle.merge_rules.specs.Hollowed.{merged_leaving};
-ghost use Rattle.merge_rules.specs.Known.{IsKnown, text_length};
+ghost use Rattle.merge_rules.specs.FactsOfModel.{FactsAreRight, text_length};
 ghost use Rattle.merge_rules.specs.NothingCounted.{NothingCounted};
 
 use crate::conditions::failed_before_limits;
 use crate::growth::grows_by;
-use crate::known::{Known, version_length};
+use crate::known::{FactsOfModel, version_length};
 use crate::reads_written::ReadsWritten;
 use crate::taking_over::{SecondVertex, put_together};
 use crate::within_limits::{is_within_limits, merged_length, urgent_place};
@@ -25,15 +25,15 @@ use use_analysis::UseCounts;
 /// The first condition of merge that fails, by its number from 1. What is found of the model on the way is known then.
 pub(crate) fn failed_merge<R: ReadsWritten>(
     model: &Model,
-    known: &mut Known,
+    known: &mut FactsOfModel,
     readers: &mut R,
     first: usize,
     second: usize,
 ) -> Option<u8>
-    requires known { IsKnown (graph_of model.now) known.old }
+    requires known { FactsAreRight (graph_of model.now) known.old }
     requires ready { R.ready readers.old (length model.now.vars) }
     ensures failed { result ≡ first_failed (merge_conditions (graph_of model.now) first second) }
-    ensures known { IsKnown (graph_of model.now) known.new }
+    ensures known { FactsAreRight (graph_of model.now) known.new }
     ensures same { readers.new ≡ readers.old }
 {
     let single = known.find_single(model);
@@ -61,16 +61,16 @@ fn bytes_leaving(second: SecondVertex, body: u64) -> u64
 pub fn merge_holding(
     alloc: Global,
     model: &mut Model,
-    known: &mut Known,
+    known: &mut FactsOfModel,
     vertex: usize,
     target: usize,
     second: SecondVertex,
 ) -> Result<(), NoMemory>
-    requires known { IsKnown (graph_of model.old) known.old }
+    requires known { FactsAreRight (graph_of model.old) known.old }
     requires holds { first_failed (merge_conditions (graph_of model.old) vertex target) ≡ None }
     ensures done { OnOk result (graph_of model.new ≡ merged_leaving second (graph_of model.old) vertex target) }
     ensures unchanged { OnErr result (graph_of model.new ≡ graph_of model.old) }
-    ensures known { IsKnown (graph_of model.new) known.new }
+    ensures known { FactsAreRight (graph_of model.new) known.new }
     ensures measured { OnOk result ((text_length known.new ≡ Some (length (canonical (graph_of model.new)))) × (known.new.single ≡ Some true)) }
 {
     let body = known.find_body(model, target);
@@ -94,19 +94,19 @@ pub fn merge_holding(
 pub fn merge_measured(
     alloc: Global,
     model: &mut Model,
-    known: &mut Known,
+    known: &mut FactsOfModel,
     counts: &mut UseCounts,
     vertex: usize,
     target: usize,
     second: SecondVertex,
 ) -> Result<(), RuleError>
-    requires known { IsKnown (graph_of model.old) known.old }
+    requires known { FactsAreRight (graph_of model.old) known.old }
     requires counts { NothingCounted (length model.old.vars) counts.old }
     ensures done { OnOk result ((first_failed (merge_conditions (graph_of model.old) vertex target) ≡ None)
         × (graph_of model.new ≡ merged_leaving second (graph_of model.old) vertex target)) }
-    ensures refused { IfErr result (λ e. TellsCondition e (first_failed (merge_conditions (graph_of model.old) vertex target))) }
+    ensures refused { IfErr result (λ e. NamesCondition e (first_failed (merge_conditions (graph_of model.old) vertex target))) }
     ensures unchanged { OnErr result (graph_of model.new ≡ graph_of model.old) }
-    ensures known { IsKnown (graph_of model.new) known.new }
+    ensures known { FactsAreRight (graph_of model.new) known.new }
     ensures measured { OnOk result ((text_length known.new ≡ Some (length (canonical (graph_of model.new)))) × (known.new.single ≡ Some true)) }
     ensures counts { counts.new ≡ counts.old }
 {
@@ -128,14 +128,14 @@ pub fn merge(
 ) -> Result<(), RuleError>
     ensures done { OnOk result ((first_failed (merge_conditions (graph_of model.old) vertex target) ≡ None)
         × (graph_of model.new ≡ merged (graph_of model.old) vertex target)) }
-    ensures refused { IfErr result (λ e. TellsCondition e (first_failed (merge_conditions (graph_of model.old) vertex target))) }
+    ensures refused { IfErr result (λ e. NamesCondition e (first_failed (merge_conditions (graph_of model.old) vertex target))) }
     ensures unchanged { OnErr result (graph_of model.new ≡ graph_of model.old) }
 {
     let mut counts = UseCounts::begin(alloc, model)?;
     merge_measured(
         alloc,
         model,
-        &mut Known::nothing(),
+        &mut FactsOfModel::nothing(),
         &mut counts,
         vertex,
         target,

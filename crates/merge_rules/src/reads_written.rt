@@ -6,7 +6,7 @@ ghost use Rattle.std.specs.List.{list_any};
 ghost use Rattle.model_core.specs.Rules.Uses.{vertex_writes};
 ghost use Rattle.model_core.specs.Code.Views.{edge_of, vertex_of};
 ghost use Rattle.merge_rules.specs.NothingCounted.{NothingCounted};
-ghost use Rattle.merge_rules.specs.Inner.ReadingEdges.{reads_it, reads_one_of, counted, uncounted, told_by_counts};
+ghost use Rattle.merge_rules.specs.Inner.ReadingEdges.{reads_it, reads_one_of, counted, uncounted, is_read_by_counts};
 
 use model_core::{Edge, Model, Vertex};
 use sig_base::EDGES_MAX;
@@ -128,7 +128,7 @@ struct Counted<'e> {
 }
 
 impl NumberTest for Counted<'_> {
-    ghost test = { λ c v. told_by_counts c.variables c.counts.now.readers (map edge_of c.before.now) (map edge_of c.behind.now) v };
+    ghost test = { λ c v. is_read_by_counts c.variables c.counts.now.readers (map edge_of c.before.now) (map edge_of c.behind.now) v };
 
     fn passes(&self, number: usize) -> bool {
         if number < self.variables {

@@ -11,7 +11,7 @@ ghost use Rattle.model_core.specs.Rules.PlacedEdges.{with_vertex};
 ghost use Rattle.model_core.specs.Rules.Merge.{set_parameters, merged_with};
 ghost use Rattle.model_core.specs.Run.Step.{vertex_at};
 ghost use Rattle.model_core.specs.Code.Views.{graph_of, expression_of, location_of, change_of, edge_of, vertex_of};
-ghost use Rattle.merge_rules.specs.Hollowed.{hollow, second_left, merged_leaving};
+ghost use Rattle.merge_rules.specs.Hollowed.{hollow, second_after_merge, merged_leaving};
 
 use model_core::{Change, Edge, Expr, Model, Target, Vertex, copy_name, copy_vertex};
 use sig_base::{List, NoMemory};
@@ -168,8 +168,8 @@ fn hollow_copy(alloc: Global, vertex: &Vertex) -> Result<Vertex, NoMemory>
 }
 
 /// A copy of what is left of a vertex.
-fn copy_left(alloc: Global, vertex: &Vertex, second: SecondVertex) -> Result<Vertex, NoMemory>
-    ensures { IfOk result (λ copy. vertex_of copy ≡ second_left second (vertex_of vertex.now)) }
+fn copy_second(alloc: Global, vertex: &Vertex, second: SecondVertex) -> Result<Vertex, NoMemory>
+    ensures { IfOk result (λ copy. vertex_of copy ≡ second_after_merge second (vertex_of vertex.now)) }
 {
     match second {
         SecondVertex::Stays => copy_vertex(alloc, vertex),
@@ -205,7 +205,7 @@ pub(crate) fn put_together(
 {
     let vertex = &model.vertices.as_slice()[target];
     let targets = scalar_targets(alloc, vertex.params.as_slice())?;
-    let left = copy_left(alloc, vertex, second)?;
+    let left = copy_second(alloc, vertex, second)?;
     let other = replace_at(model, target, left);
     match take_over_at(model, first, place, targets, other) {
         Ok(()) => Ok(()),

@@ -10,11 +10,11 @@ ghost use Rattle.model_core.specs.Rules.Conditions.{first_failed};
 ghost use Rattle.model_core.specs.Rules.UrgentEdges.{plain_urgent};
 ghost use Rattle.model_core.specs.Rules.Merge.{set_parameters, merged_with, merged, has_few_parts, is_within_limits, merge_conditions};
 ghost use Rattle.model_core.specs.Code.Views.{graph_of, vertex_of};
-ghost use Rattle.merge_rules.specs.Known.{IsMeasured, IsKnown};
+ghost use Rattle.merge_rules.specs.FactsOfModel.{TextLengthIsRight, FactsAreRight};
 ghost use Rattle.merge_rules.specs.Growth.{bytes_gone, capped, growth};
 
 use crate::growth::{Growth, grows_by};
-use crate::known::Known;
+use crate::known::FactsOfModel;
 use model_core::{Model, Vertex};
 use model_print::length_without_edge;
 use range_bounds::plain_urgent;
@@ -70,7 +70,7 @@ pub(crate) fn urgent_place(first: &Vertex) -> usize
 /// How many bytes the canonical text has without the plain urgent edge of the first vertex, whose line has so many, or
 /// 2^64 - 1 where it has more.
 fn length_without(model: &Model, bytes: Option<u64>, first: usize, second: usize, gone: u64) -> u64
-    requires measured { IsMeasured (graph_of model.now) bytes }
+    requires measured { TextLengthIsRight (graph_of model.now) bytes }
     requires holds { first_failed (take 7 (merge_conditions (graph_of model.now) first second)) ≡ None }
     requires gone { gone ≡ capped (bytes_gone (graph_of model.now) first) }
     ensures { result ≡ capped (length (canonical (graph_of model.now)) - bytes_gone (graph_of model.now) first) }
@@ -93,7 +93,7 @@ pub(crate) fn merged_length(
     second: usize,
     grows: Growth,
 ) -> u64
-    requires measured { IsMeasured (graph_of model.now) bytes }
+    requires measured { TextLengthIsRight (graph_of model.now) bytes }
     requires holds { first_failed (take 7 (merge_conditions (graph_of model.now) first second)) ≡ None }
     requires grows { grows ≡ growth (graph_of model.now) first }
     ensures { result ≡ capped (length (canonical (merged (graph_of model.now) first second))) }
@@ -118,7 +118,7 @@ pub(crate) fn has_short_text(
     second: usize,
     grows: Growth,
 ) -> bool
-    requires measured { IsMeasured (graph_of model.now) bytes }
+    requires measured { TextLengthIsRight (graph_of model.now) bytes }
     requires holds { first_failed (take 7 (merge_conditions (graph_of model.now) first second)) ≡ None }
     requires grows { grows ≡ growth (graph_of model.now) first }
     ensures { result ≡ nat_le (length (canonical (merged (graph_of model.now) first second))) TEXT_MAX }
@@ -129,14 +129,14 @@ pub(crate) fn has_short_text(
 /// Whether the result is within the limits. What is found of the model on the way is known then.
 pub(crate) fn is_within_limits(
     model: &Model,
-    known: &mut Known,
+    known: &mut FactsOfModel,
     first: usize,
     second: usize,
 ) -> bool
-    requires known { IsKnown (graph_of model.now) known.old }
+    requires known { FactsAreRight (graph_of model.now) known.old }
     requires holds { first_failed (take 7 (merge_conditions (graph_of model.now) first second)) ≡ None }
     ensures is { result ≡ is_within_limits (merged (graph_of model.now) first second) first }
-    ensures known { IsKnown (graph_of model.now) known.new }
+    ensures known { FactsAreRight (graph_of model.now) known.new }
 {
     if !keeps_few_parts(model, first, second) {
         return false;

@@ -7,41 +7,41 @@ use Rattle.model_core.specs.Text.Lexing.{Lexeme, Front, Between, Longest, Neithe
 use Rattle.model_core.specs.Code.TokenViews.{lexeme_of}
 use Rattle.model_lex.specs.declared.piece.Piece.{Piece}
 use Rattle.model_lex.specs.PieceViews.{piece_of}
-use Rattle.model_lex.specs.TokenOrder.{StandInOrder}
+use Rattle.model_lex.specs.TokenOrder.{TokensInOrder}
 use Rattle.model_lex.proofs.FrontLemmas.{Fits, front-front_at, front_at-fits}
 
 -- tokens in order from a place on are in order from an earlier one on
-earlier : (from from' : ℕ) (ls : List Lexeme) (to : ℕ) → from' ≤ from → StandInOrder from ls to → StandInOrder from' ls to
+earlier : (from from' : ℕ) (ls : List Lexeme) (to : ℕ) → from' ≤ from → TokensInOrder from ls to → TokensInOrder from' ls to
 earlier from from' [] to le order = omega arith
 earlier from from' (l ∷ ls) to le order = (omega (arith, order.0), order.1, order.2)
 
 -- no token ends after the last place
-within : (from : ℕ) (ls : List Lexeme) (to : ℕ) → StandInOrder from ls to → from ≤ to
+within : (from : ℕ) (ls : List Lexeme) (to : ℕ) → TokensInOrder from ls to → from ≤ to
 within from [] to order = order
 within from (l ∷ ls) to order = omega (arith, order.0, order.1, within l.to ls to order.2)
 
-pub in_text : (from : ℕ) (ls : List Lexeme) (to : ℕ) → StandInOrder from ls to → (k : ℕ) (d : Lexeme) → k < length ls → ((get_or ls k d).from < (get_or ls k d).to) × ((get_or ls k d).to ≤ to)
+pub in_text : (from : ℕ) (ls : List Lexeme) (to : ℕ) → TokensInOrder from ls to → (k : ℕ) (d : Lexeme) → k < length ls → ((get_or ls k d).from < (get_or ls k d).to) × ((get_or ls k d).to ≤ to)
 in_text from [] to order k d k_in = absurd (omega arith)
 in_text from (l ∷ ls) to order zero d k_in = (order.1, within l.to ls to order.2)
 in_text from (l ∷ ls) to order (suc k) d k_in = in_text l.to ls to order.2 k d (omega arith)
 
 -- a front is put before tokens that are in order after it
-front_in_order : (at to : ℕ) (f : Front) (later : Result (List Lexeme) ℕ) → 1 ≤ front_length f → ((ls : List Lexeme) → later ≡ Ok ls → StandInOrder (at + front_length f) ls to) → (ls : List Lexeme) → after_front at f later ≡ Ok ls → StandInOrder at ls to
+front_in_order : (at to : ℕ) (f : Front) (later : Result (List Lexeme) ℕ) → 1 ≤ front_length f → ((ls : List Lexeme) → later ≡ Ok ls → TokensInOrder (at + front_length f) ls to) → (ls : List Lexeme) → after_front at f later ≡ Ok ls → TokensInOrder at ls to
 front_in_order at to (Between n) later some order ls is = earlier (at + n) at ls to (omega arith) (order ls is)
 front_in_order at to (Longest n kind) (Ok later) some order ls is =
     let same : record { from = at; to = at + n; kind = kind } ∷ later ≡ ls = cc in
-    subst (λ ls. StandInOrder at ls to) same (omega arith, omega arith, order later refl)
+    subst (λ ls. TokensInOrder at ls to) same (omega arith, omega arith, order later refl)
 front_in_order at to (Longest n kind) (Err place) some order ls is = cc
 front_in_order at to Neither later some order ls is = cc
 
-at_equal : (from from' : ℕ) (ls : List Lexeme) (to to' : ℕ) → from ≡ from' → to ≡ to' → StandInOrder from ls to → StandInOrder from' ls to'
+at_equal : (from from' : ℕ) (ls : List Lexeme) (to to' : ℕ) → from ≡ from' → to ≡ to' → TokensInOrder from ls to → TokensInOrder from' ls to'
 at_equal from from' ls to to' same_from same_to order =
-    subst (λ a. StandInOrder a ls to') same_from (subst (λ b. StandInOrder from ls b) same_to order)
+    subst (λ a. TokensInOrder a ls to') same_from (subst (λ b. TokensInOrder from ls b) same_to order)
 
-from_in_order : (at inside : ℕ) (s : List ℕ) (ls : List Lexeme) → inside ≤ length s → tokens_from at inside s ≡ Ok ls → StandInOrder (at + inside) ls (at + length s)
+from_in_order : (at inside : ℕ) (s : List ℕ) (ls : List Lexeme) → inside ≤ length s → tokens_from at inside s ≡ Ok ls → TokensInOrder (at + inside) ls (at + length s)
 from_in_order at inside [] ls inside_in is =
     let none : [] ≡ ls = cc in
-    subst (λ ls. StandInOrder (at + inside) ls (at + 0)) none (omega arith)
+    subst (λ ls. TokensInOrder (at + inside) ls (at + 0)) none (omega arith)
 from_in_order at (suc inside) (c ∷ s) ls inside_in is =
     at_equal (at + 1 + inside) (at + suc inside) ls (at + 1 + length s) (at + suc (length s)) (omega arith) (omega arith)
     (from_in_order (at + 1) inside s ls (omega arith) is)
@@ -55,7 +55,7 @@ from_in_order at zero (c ∷ s) ls inside_in is =
     (from_in_order (at + 1) (front_length (front c s) - 1) s ls (omega arith) is))
     ls is)
 
-pub tokens_of-in_order : (text : List ℕ) (ls : List Lexeme) → tokens_of text ≡ Ok ls → StandInOrder 0 ls (length text)
+pub tokens_of-in_order : (text : List ℕ) (ls : List Lexeme) → tokens_of text ≡ Ok ls → TokensInOrder 0 ls (length text)
 tokens_of-in_order text ls is =
     at_equal (0 + 0) 0 ls (0 + length text) (length text) refl (omega arith) (from_in_order 0 0 text ls (omega arith) is)
 

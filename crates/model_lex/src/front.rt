@@ -3,7 +3,7 @@
 ghost use Rattle.std.specs.Prelude.{◌≡◌, ◌≢◌, ◌<◌, ◌+◌, ◌^◌, ◌∷◌, ◌++◌, [], ℕ, Err, drop, length, map, IfOk, OnOk, vec_len, vec_capacity};
 ghost use Rattle.model_core.specs.Text.Lexing.{Neither, symbol_among, all_symbols};
 ghost use Rattle.model_lex.specs.PieceViews.{piece_of};
-ghost use Rattle.model_lex.specs.Inner.Fronts.{front_at, symbol_seen, Passes};
+ghost use Rattle.model_lex.specs.Inner.Fronts.{front_at, symbol_as_front, Passes};
 
 use crate::classes::{Class, class_of};
 use crate::lex_error::LexError;
@@ -54,7 +54,7 @@ pub(crate) fn pass_over(list: &mut Vec<Piece>, text: &[u8], at: usize) -> Result
 /// The longest symbol that the bytes begin with, and before it its length.
 fn symbol_front(bytes: &[u8]) -> Option<(usize, Symbol)>
     requires { 0 < length bytes.now }
-    ensures { symbol_seen result ≡ symbol_among all_symbols bytes.now }
+    ensures { symbol_as_front result ≡ symbol_among all_symbols bytes.now }
 {
     let first = bytes[0];
     let second = if bytes.len() > 1 { bytes[1] } else { 0 };

@@ -10,7 +10,7 @@ ghost use Rattle.model_lex.specs.PiecesOfText.{pieces_lexemes};
 
 use crate::front::pass_over;
 use crate::lex_error::LexError;
-use crate::order::pieces_stand_in_text;
+use crate::order::pieces_are_in_text;
 use crate::piece::{Piece, token_of};
 use crate::piece_list::Pieces;
 use crate::token_list::Tokens;
@@ -34,7 +34,7 @@ pub fn tokens<'t>(alloc: Global, text: &'t [u8]) -> Result<Tokens<'t>, LexError>
 fn tokens_of_pieces(alloc: Global, pieces: &Pieces<'_>) -> Result<List<Token>, NoMemory>
     ensures { IfOk result (λ list. map (lexeme_of pieces.now.text.now) list ≡ pieces_lexemes pieces.now) }
 {
-    pieces_stand_in_text();
+    pieces_are_in_text();
     let mut list = List::from_vec(Vec::with_capacity(alloc, pieces.list.len())?);
     for piece in pieces.list.as_slice() {
         list.push(token_of(pieces.text, *piece))?;

@@ -18,9 +18,7 @@ mod words;
 pub use lex_error::LexError;
 pub use lexer::{pieces, tokens};
 pub use numbers::literal_value;
-pub use order::{
-    pieces_are_the_tokens, pieces_stand_in_text, texts_are_cut, tokens_stand_in_order,
-};
+pub use order::{pieces_are_in_text, pieces_are_the_tokens, texts_are_cut, tokens_are_in_order};
 pub use parse_error::ParseError;
 pub use piece::{Piece, PieceKind};
 pub use piece_list::Pieces;

@@ -3,7 +3,7 @@
 ghost use Rattle.std.specs.Prelude.{◌≡◌, ◌+◌, ◌↔◌, ◌<◌, ◌≤◌, ℕ, List, Result, Ok, All, length};
 ghost use Rattle.model_core.specs.Text.Lexing.{Lexeme, tokens_of};
 ghost use Rattle.model_lex.specs.TextCut.{IsCut};
-ghost use Rattle.model_lex.specs.TokenOrder.{StandInOrder};
+ghost use Rattle.model_lex.specs.TokenOrder.{TokensInOrder};
 ghost use Rattle.model_lex.specs.Lexemes.{lexemes};
 ghost use Rattle.model_lex.specs.PiecesOfText.{pieces_lexemes};
 ghost use Rattle.model_lex.specs.declared.token_list.Tokens.{Tokens};
@@ -16,14 +16,14 @@ pub fn texts_are_cut()
 {}
 
 /// The law that the tokens follow one another in their text, each of at least a byte.
-pub fn tokens_stand_in_order()
-    ensures in_order { (text : List ℕ) (ls : List Lexeme) → tokens_of text ≡ Ok ls → StandInOrder 0 ls (length text) }
+pub fn tokens_are_in_order()
+    ensures in_order { (text : List ℕ) (ls : List Lexeme) → tokens_of text ≡ Ok ls → TokensInOrder 0 ls (length text) }
     // So a reader may take the bytes of any token out of the text.
     ensures in_text { (t : Tokens) → All (λ k. (k.from < k.to) × (k.to ≤ length t.text.now)) t.list }
 {}
 
 /// The law that each piece of a text has at least a byte, and ends where the text ends, or before.
-pub fn pieces_stand_in_text()
+pub fn pieces_are_in_text()
     ensures { (t : Pieces) → All (λ p. (0 < p.length) × (p.from + p.length ≤ length t.text.now)) t.list }
 {}
 

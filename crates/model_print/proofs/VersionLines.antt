@@ -38,8 +38,8 @@ module _ {X Y : Type 0} (view : X → Y) (test : Y → Bool) (xs : List X) (k j 
   pub any_before : (b : Bool) → b ≡ true → b ≡ list_any test (map view (take k xs)) → b ≡ list_any test (remove (map view xs) k)
   any_before b so is = so ∙ ap (λ a. a || list_any test (map view (drop j xs))) (sym so ∙ is) ∙ apart
 
-  pub any_behind : (b c : Bool) → b ≡ false → b ≡ list_any test (map view (take k xs)) → c ≡ list_any test (map view (drop j xs)) → c ≡ list_any test (remove (map view xs) k)
-  any_behind b c so before behind = ap₂ (λ a d. a || d) (sym so ∙ before) behind ∙ apart
+  pub any_after_place : (b c : Bool) → b ≡ false → b ≡ list_any test (map view (take k xs)) → c ≡ list_any test (map view (drop j xs)) → c ≡ list_any test (remove (map view xs) k)
+  any_after_place b c so before behind = ap₂ (λ a d. a || d) (sym so ∙ before) behind ∙ apart
 
 -- all but the one at a place, and then that one changed
 any_changed : {A : Type 0} (test : A → Bool) (f : A → A) (k : ℕ) (xs : List A) → (list_any test (remove xs k) || option_map_or (λ x. test (f x)) (slice_get xs k) false) ≡ list_any test (with_place f k xs)
@@ -58,8 +58,8 @@ module _ (g : EventGraph) (vertex edge : ℕ) where
   pub needed_pruned_before : (b : Bool) → b ≡ true → b ≡ (list_any is_large_array g.variables || list_any has_later_parts (remove g.vertices vertex)) → b ≡ needs_version_two (pruned g vertex edge)
   needed_pruned_before b so is = so ∙ ap (λ a. a || option_map_or (λ v. has_later_parts (without_edge edge v)) (slice_get g.vertices vertex) false) (sym so ∙ is) ∙ pruned_apart
 
-  pub needed_pruned_behind : (b c : Bool) → b ≡ false → b ≡ (list_any is_large_array g.variables || list_any has_later_parts (remove g.vertices vertex)) → c ≡ option_map_or (λ v. has_later_parts (without_edge edge v)) (slice_get g.vertices vertex) false → c ≡ needs_version_two (pruned g vertex edge)
-  needed_pruned_behind b c so before behind = ap₂ (λ a d. a || d) (sym so ∙ before) behind ∙ pruned_apart
+  pub needed_pruned_after : (b c : Bool) → b ≡ false → b ≡ (list_any is_large_array g.variables || list_any has_later_parts (remove g.vertices vertex)) → c ≡ option_map_or (λ v. has_later_parts (without_edge edge v)) (slice_get g.vertices vertex) false → c ≡ needs_version_two (pruned g vertex edge)
+  needed_pruned_after b c so before behind = ap₂ (λ a d. a || d) (sym so ∙ before) behind ∙ pruned_apart
 
 -- edges that lead elsewhere have the delays that they had
 later_renumbered : (f : ℕ → ℕ) (v : EventVertex) → has_later_parts (vertex_renumbered f v) ≡ has_later_parts v

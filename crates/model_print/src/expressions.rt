@@ -5,7 +5,9 @@ ghost use Rattle.model_core.specs.Text.Canonical.{truth_text, level as level_of,
 ghost use Rattle.model_core.specs.Code.Views.{graph_of, expression_of};
 
 use crate::names::put_variable_name;
-use crate::operators::{left_level, operator_level, put_call, put_infix, right_level};
+use crate::operators::{
+    left_operand_level, operator_level, put_call, put_infix, right_operand_level,
+};
 use crate::pen::{Pen, put_comma, put_signed};
 use model_core::{Expr, Model};
 
@@ -64,7 +66,7 @@ fn put_operand<P: Pen>(out: &mut P, model: &Model, asked: u8, expr: &Expr)
 
 /// Puts an operand after a sign or a word.
 #[cycle(printing)]
-fn put_behind<P: Pen>(out: &mut P, model: &Model, sign: &[u8], asked: u8, expr: &Expr)
+fn put_after_sign<P: Pen>(out: &mut P, model: &Model, sign: &[u8], asked: u8, expr: &Expr)
     ensures { P.adds out.old out.new (sign.now ++ operand asked (expression_of expr.now) (expression_text (graph_of model.now) (expression_of expr.now))) }
 {
     out.put_bytes(sign);
@@ -87,8 +89,8 @@ pub(crate) fn put_expression<P: Pen>(out: &mut P, model: &Model, expr: &Expr)
             put_expression(out, model, index);
             out.put_bytes(b"]");
         }
-        Expr::Neg(number) => put_behind(out, model, b"-", NEGATIVE_LEVEL, number),
-        Expr::Not(truth) => put_behind(out, model, b"not ", NOT_LEVEL, truth),
+        Expr::Neg(number) => put_after_sign(out, model, b"-", NEGATIVE_LEVEL, number),
+        Expr::Not(truth) => put_after_sign(out, model, b"not ", NOT_LEVEL, truth),
         Expr::Binary(op, left, right) => {
             if operator_level(*op) == CALL_LEVEL {
                 put_call(out, *op);
@@ -97,9 +99,9 @@ pub(crate) fn put_expression<P: Pen>(out: &mut P, model: &Model, expr: &Expr)
                 put_expression(out, model, right);
                 out.put_bytes(b")");
             } else {
-                put_operand(out, model, left_level(*op), left);
+                put_operand(out, model, left_operand_level(*op), left);
                 put_infix(out, *op);
-                put_operand(out, model, right_level(*op), right);
+                put_operand(out, model, right_operand_level(*op), right);
             }
         }
         Expr::If(test, yes, no) => {
@@ -128,7 +130,7 @@ pub(crate) fn put_expressions<P: Pen>(out: &mut P, model: &Model, exprs: &[Expr]
 }
 
 /// Puts the values that an edge carries in parentheses, or nothing where it carries none.
-pub(crate) fn put_passed<P: Pen>(out: &mut P, model: &Model, values: &[Expr])
+pub(crate) fn put_carried_values<P: Pen>(out: &mut P, model: &Model, values: &[Expr])
     ensures { P.adds out.old out.new (in_parentheses (expression_texts (graph_of model.now) (map expression_of values.now))) }
 {
     if values.is_empty() {

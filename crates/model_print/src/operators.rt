@@ -1,7 +1,7 @@
 //! Operators: how each is written, and how tightly it binds.
 
 ghost use Rattle.std.specs.Prelude.{◌≡◌, ◌++◌, codes};
-ghost use Rattle.model_core.specs.Text.Canonical.{operator_level as level_of, left_level as left_level_of, right_level as right_level_of, operator_text};
+ghost use Rattle.model_core.specs.Text.Canonical.{operator_level as level_of, left_operand_level as left_level_of, right_operand_level as right_level_of, operator_text};
 ghost use Rattle.model_core.specs.Code.Views.{operator_of};
 
 use crate::pen::Pen;
@@ -23,7 +23,7 @@ pub(crate) fn operator_level(op: Op) -> u8
 }
 
 /// How tightly the left operand has to bind. Comparisons don't chain.
-pub(crate) fn left_level(op: Op) -> u8
+pub(crate) fn left_operand_level(op: Op) -> u8
     ensures { result ≡ left_level_of (operator_of op) }
 {
     match op {
@@ -33,7 +33,7 @@ pub(crate) fn left_level(op: Op) -> u8
 }
 
 /// How tightly the right operand has to bind. Chains group to the left.
-pub(crate) fn right_level(op: Op) -> u8
+pub(crate) fn right_operand_level(op: Op) -> u8
     ensures { result ≡ right_level_of (operator_of op) }
 {
     operator_level(op) + 1

@@ -54,7 +54,7 @@ fn has_later_parts_without(vertex: &Vertex, edge: usize) -> bool
 }
 
 /// Whether the vertex at this place has, where there is one.
-fn lacking_has_later_parts(vertices: &[Vertex], lacking: usize, edge: usize) -> bool
+fn shortened_has_later_parts(vertices: &[Vertex], lacking: usize, edge: usize) -> bool
     ensures { result ≡ option_map_or (λ v. has_later_parts (without_edge edge v)) (slice_get (map vertex_of vertices.now) lacking) false }
 {
     match vertices.get(lacking) {
@@ -68,5 +68,5 @@ pub(crate) fn needs_version_two_without_edge(model: &Model, vertex: usize, edge:
     ensures { result ≡ needs_version_two (pruned (graph_of model.now) vertex edge) }
 {
     needs_version_two_without(model, vertex)
-        || lacking_has_later_parts(model.vertices.as_slice(), vertex, edge)
+        || shortened_has_later_parts(model.vertices.as_slice(), vertex, edge)
 }

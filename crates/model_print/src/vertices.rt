@@ -6,7 +6,7 @@ ghost use Rattle.model_core.specs.Text.Canonical.{index_text, location_text, cho
 ghost use Rattle.model_core.specs.Rules.Merge.{set_parameters};
 ghost use Rattle.model_core.specs.Code.Views.{graph_of, expression_of, location_of, choice_of, change_of, edge_delay_of, edge_kind_of, edge_of, vertex_of};
 
-use crate::expressions::{put_expression, put_expressions, put_passed};
+use crate::expressions::{put_carried_values, put_expression, put_expressions};
 use crate::names::{put_table_name, put_variable_name, put_vertex_name};
 use crate::pen::{Pen, put_comma, put_number, put_signed};
 use model_core::{Change, Choice, Delay, Edge, EdgeForm, Expr, Model, Target, Vertex};
@@ -172,7 +172,7 @@ pub(crate) fn put_edge_to<P: Pen>(out: &mut P, model: &Model, target: usize, edg
 {
     put_edge_word(out, &edge.form);
     put_vertex_name(out, model, target);
-    put_passed(out, model, edge.values.as_slice());
+    put_carried_values(out, model, edge.values.as_slice());
     put_timing(out, model, &edge.form);
     put_condition(out, model, &edge.condition);
     out.put_bytes(b";\n");

@@ -2,7 +2,7 @@
 use Rattle.std.proofs.Common.{◌≡◌, ℕ, List, refl, subst, sym}
 use Rattle.std.specs.Prelude.{Result, Ok, Err}
 use Rattle.model_core.specs.Text.Lexing.{Lexeme}
-use Rattle.model_core.specs.Text.FirstWrong.{told_place}
+use Rattle.model_core.specs.Text.FirstWrong.{wrong_place}
 use Rattle.text_laws.specs.FormatReader.{Parse, took, stuck}
 use Rattle.model_lex.specs.declared.parse_error.ParseError.{ParseError}
 use Rattle.model_lex.specs.declared.parse_error.ParseError.TheVariants as errors
@@ -13,14 +13,14 @@ use Rattle.model_read.specs.ReadCalls.{Returned, placed_at}
 -- Seen by view, the result is what was taken, or the place is that of the first token that the call left.
 abbrev pub Tells : {A B : Type 0} → (A → B) → List ℕ → Result A ParseError → List Lexeme → Parse B → Type 0
 Tells view text (Ok x) left parse = parse ≡ took (view x) left
-Tells view text (Err (errors.Unexpected at)) left parse = (parse ≡ stuck left) × (told_place text left ≡ at)
+Tells view text (Err (errors.Unexpected at)) left parse = (parse ≡ stuck left) × (wrong_place text left ≡ at)
 Tells view text (Err (errors.TooDeep at)) left parse = ⊥
 Tells view text (Err errors.NoMemory) left parse = Unit {0}
 
-tells_at : {A B : Type 0} (view : A → B) (text : List ℕ) (read : Result A Stop) (left : List Lexeme) (parse : Parse B) → Returned view read left parse → Tells view text (placed_at (told_place text left) read) left parse
+tells_at : {A B : Type 0} (view : A → B) (text : List ℕ) (read : Result A Stop) (left : List Lexeme) (parse : Parse B) → Returned view read left parse → Tells view text (placed_at (wrong_place text left) read) left parse
 tells_at view text (Ok x) left parse e = e
 tells_at view text (Err stops.Unexpected) left parse e = (e refl, refl)
 tells_at view text (Err stops.NoMemory) left parse e = tt
 
-pub placed-tells : {A B : Type 0} (view : A → B) (text : List ℕ) (read : Result A Stop) (left : List Lexeme) (parse : Parse B) (result : Result A ParseError) → result ≡ placed_at (told_place text left) read → Returned view read left parse → Tells view text result left parse
-placed-tells view text read left parse result is e = subst (λ r. Tells view text r left parse) (sym is) (tells_at view text read left parse e)
+pub placed-names : {A B : Type 0} (view : A → B) (text : List ℕ) (read : Result A Stop) (left : List Lexeme) (parse : Parse B) (result : Result A ParseError) → result ≡ placed_at (wrong_place text left) read → Returned view read left parse → Tells view text result left parse
+placed-names view text read left parse result is e = subst (λ r. Tells view text r left parse) (sym is) (tells_at view text read left parse e)

@@ -8,7 +8,7 @@ use Rattle.model_lex.specs.declared.piece.Piece.{Piece}
 use Rattle.model_core.specs.Text.Lexing.{Lexeme}
 use Rattle.model_core.specs.Text.Written.{WrittenModel}
 use Rattle.model_core.specs.Text.Language.{text_format, IsText, BeginsWithText}
-use Rattle.model_core.specs.Text.FirstWrong.{told_place, IsUnexpectedAt}
+use Rattle.model_core.specs.Text.FirstWrong.{wrong_place, IsUnexpectedAt}
 use Rattle.model_core.specs.Text.Openings.{is_end_word, front_to_end, too_deep_at, HasFewOpenings}
 use Rattle.model_core.specs.Code.WrittenViews.{written_model}
 use Rattle.model_lex.specs.PieceViews.{piece_of}
@@ -80,12 +80,12 @@ no_front tokens rest e m d =
     let f : text_and_rest tokens ≡ took m s.0 = spelled-is_read tokens m s.0 (text-is_front tokens m s.0 s.1 d) in
     absurd cc
 
-same_place : (text : List ℕ) (rest : List Lexeme) → told_place text (front_to_end rest) ≡ told_place text rest
+same_place : (text : List ℕ) (rest : List Lexeme) → wrong_place text (front_to_end rest) ≡ wrong_place text rest
 same_place text [] = refl
 same_place text (t ∷ rest) = refl
 
 -- where the reader is stuck, so is the front
-pub front-unexpected : (text : List ℕ) (tokens rest : List Lexeme) (at : ℕ) → (text_and_rest tokens ≡ stuck rest) × (told_place text rest ≡ at) → IsUnexpectedAt text (front_to_end tokens) at
+pub front-unexpected : (text : List ℕ) (tokens rest : List Lexeme) (at : ℕ) → (text_and_rest tokens ≡ stuck rest) × (wrong_place text rest ≡ at) → IsUnexpectedAt text (front_to_end tokens) at
 front-unexpected text tokens rest at (e, told) = record {
   none = no_front tokens rest e;
   rest = front_to_end rest;

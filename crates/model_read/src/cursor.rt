@@ -5,7 +5,7 @@ ghost use Rattle.std.specs.Option.{option_map, is_some, IfSome};
 ghost use Rattle.model_core.specs.declared.token.Word.TheVariants.{Not};
 ghost use Rattle.model_core.specs.Code.WrittenViews.{written_name, written_number};
 ghost use Rattle.model_core.specs.Text.Format.{AName, ASpelled, ANumber, AWord, ASymbol, reserved, mark, this_name, any_name, any_number, maybe};
-ghost use Rattle.model_core.specs.Text.FirstWrong.{told_place};
+ghost use Rattle.model_core.specs.Text.FirstWrong.{wrong_place};
 ghost use Rattle.model_core.specs.Text.SnapshotGrammar.{exact_format};
 ghost use Rattle.text_laws.specs.FirstTokens.{begins_as};
 ghost use Rattle.text_laws.specs.FormatReader.{took, stuck, whole_read};
@@ -19,7 +19,7 @@ ghost use Rattle.model_read.specs.Spelled.{spelled_name, digits_written};
 use crate::operators::{CONJUNCTIONS, Infix, infix_of};
 use crate::stop::Stop;
 use model_core::{RawName, RawNumber, Symbol, Word};
-use model_lex::{Piece, PieceKind, Pieces, literal_value, pieces_stand_in_text};
+use model_lex::{Piece, PieceKind, Pieces, literal_value, pieces_are_in_text};
 use sig_base::Name;
 use std::alloc::Global;
 use std::marker::Model;
@@ -86,13 +86,13 @@ impl<'t> Cursor<'t> {
     pub fn from_place(pieces: &'t Pieces<'_>, from: usize) -> Cursor<'t>
         ensures { result ≡ drop from (pieces_lexemes pieces.now) }
     {
-        pieces_stand_in_text();
+        pieces_are_in_text();
         Cursor::new(pieces.text, pieces_from(pieces.list.as_slice(), from))
     }
 
     /// The byte at which the next token begins, or where none is left the number `end`.
     pub fn place(&self, end: usize) -> usize
-        ensures { (text : List ℕ) → end ≡ length text → result ≡ told_place text self.now }
+        ensures { (text : List ℕ) → end ≡ length text → result ≡ wrong_place text self.now }
     {
         match self.tokens {
             [] => end,

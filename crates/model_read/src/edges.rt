@@ -18,7 +18,7 @@ use crate::expressions::expression;
 use crate::phrase::{Phrase, Repeated, separated};
 use crate::stop::Stop;
 use model_core::{RawDelay, RawEdge, RawEdgeForm, RawExpr, RawName, RawNumber, Symbol, Word};
-use sig_base::{Held, List};
+use sig_base::{HeldValue, List};
 use std::alloc::Global;
 
 /// Reads the values that an edge carries, where they are written.
@@ -82,7 +82,7 @@ fn priority(cursor: &mut Cursor<'_>) -> Result<Option<RawNumber>, Stop>
 fn timing(alloc: Global, cursor: &mut Cursor<'_>) -> Result<RawEdgeForm, Stop>
     ensures { Returned written_edge_kind result cursor.new (language_reader timing_format cursor.old) }
 {
-    let delay = Held::of(after(alloc, cursor)?);
+    let delay = HeldValue::of(after(alloc, cursor)?);
     let priority = priority(cursor)?;
     Ok(RawEdgeForm::Schedule {
         delay: delay.free(),
@@ -97,9 +97,9 @@ fn schedule(alloc: Global, cursor: &mut Cursor<'_>) -> Result<RawEdge, Stop>
 {
     let at = cursor.word(Word::Schedule)?;
     let target = cursor.name(alloc)?;
-    let values = Held::of(values(alloc, cursor)?);
+    let values = HeldValue::of(values(alloc, cursor)?);
     let form = timing(alloc, cursor)?;
-    let condition = Held::of(condition(alloc, cursor)?);
+    let condition = HeldValue::of(condition(alloc, cursor)?);
     cursor.symbol(Symbol::Semicolon)?;
     Ok(RawEdge {
         at,
@@ -117,8 +117,8 @@ fn urgent(alloc: Global, cursor: &mut Cursor<'_>) -> Result<RawEdge, Stop>
 {
     let at = cursor.word(Word::Urgent)?;
     let target = cursor.name(alloc)?;
-    let values = Held::of(values(alloc, cursor)?);
-    let condition = Held::of(condition(alloc, cursor)?);
+    let values = HeldValue::of(values(alloc, cursor)?);
+    let condition = HeldValue::of(condition(alloc, cursor)?);
     cursor.symbol(Symbol::Semicolon)?;
     Ok(RawEdge {
         at,
@@ -171,8 +171,8 @@ fn cancel(alloc: Global, cursor: &mut Cursor<'_>) -> Result<RawEdge, Stop>
     ensures { Returned written_edge result cursor.new (language_reader cancel_format cursor.old) }
 {
     let at = cursor.word(Word::Cancel)?;
-    let cancelled = Held::of(cancelled(alloc, cursor)?);
-    let condition = Held::of(condition(alloc, cursor)?);
+    let cancelled = HeldValue::of(cancelled(alloc, cursor)?);
+    let condition = HeldValue::of(condition(alloc, cursor)?);
     cursor.symbol(Symbol::Semicolon)?;
     let Cancellation {
         target,

@@ -16,7 +16,7 @@ use crate::cursor::Cursor;
 use crate::operators::{CONJUNCTIONS, LEVELS, next_level};
 use crate::stop::Stop;
 use model_core::{Op, RawExpr, RawForm, RawName, Symbol, Word};
-use sig_base::Held;
+use sig_base::HeldValue;
 use std::alloc::Global;
 
 /// Reads an expression.
@@ -109,7 +109,7 @@ fn others(
     let mut left = first;
     let mut least = least;
     while let Some(infix) = cursor.infix(least, under) {
-        let held = Held::of(left);
+        let held = HeldValue::of(left);
         let right = operand(alloc, cursor, infix.level)?;
         left = joined(alloc, held.free(), infix.op, right)?;
         least = next_level(infix.level);
@@ -123,7 +123,7 @@ fn joined(alloc: Global, left: RawExpr, op: Op, right: RawExpr) -> Result<RawExp
     ensures memory { (e : Stop) → result ≡ Err e → e ≡ Stop.NoMemory }
 {
     let at = left.at;
-    let right = Held::of(right);
+    let right = HeldValue::of(right);
     let form = RawForm::Binary(op, Box::new(alloc, left)?, Box::new(alloc, right.free())?);
     Ok(RawExpr { at, form })
 }
@@ -186,7 +186,7 @@ fn bracketed(alloc: Global, cursor: &mut Cursor<'_>) -> Result<RawExpr, Stop>
     ensures shorter { IfOk result (λ e. length cursor.new + 1 ≤ length cursor.old) }
 {
     cursor.symbol(Symbol::OpenBracket)?;
-    let index = Held::of(expression(alloc, cursor)?);
+    let index = HeldValue::of(expression(alloc, cursor)?);
     cursor.symbol(Symbol::CloseBracket)?;
     Ok(index.free())
 }

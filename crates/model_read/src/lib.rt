@@ -23,6 +23,6 @@ pub use operators::{CONJUNCTIONS, Infix, LEVELS, next_level};
 pub use phrase::{Phrase, Repeated, many, packed, separated};
 pub use places::Places;
 pub use stop::{Stop, placed};
-pub use text::{begun_model, parse_front_pieces, parse_pieces};
+pub use text::{parse_front_pieces, parse_pieces, read_model_beginning};
 pub use token_calls::{parse, parse_front};
-pub use vertices::begun_vertex;
+pub use vertices::read_vertex_beginning;

@@ -23,7 +23,7 @@ fn ends_part(kind: PieceKind) -> bool
 
 /// How a count of openings takes a token: as the end of a part, as an opening, or as neither.
 #[derive(Clone, Copy)]
-enum Counted {
+enum OpeningStep {
     End,
     Opening,
     Other,
@@ -31,7 +31,7 @@ enum Counted {
 
 /// How a count of openings takes a symbol.
 #[inline(always)]
-fn count_of_symbol(symbol: Symbol) -> Counted
+fn count_of_symbol(symbol: Symbol) -> OpeningStep
     ensures { IsCounted result (Mark symbol) }
 {
     match symbol {
@@ -47,28 +47,28 @@ fn count_of_symbol(symbol: Symbol) -> Counted
         | Symbol::Over
         | Symbol::Percent
         | Symbol::OpenParenthesis
-        | Symbol::OpenBracket => Counted::Opening,
-        Symbol::Semicolon | Symbol::OpenBrace | Symbol::CloseBrace => Counted::End,
+        | Symbol::OpenBracket => OpeningStep::Opening,
+        Symbol::Semicolon | Symbol::OpenBrace | Symbol::CloseBrace => OpeningStep::End,
         Symbol::Comma
         | Symbol::Colon
         | Symbol::Becomes
         | Symbol::To
         | Symbol::CloseParenthesis
-        | Symbol::CloseBracket => Counted::Other,
+        | Symbol::CloseBracket => OpeningStep::Other,
     }
 }
 
 /// How a count of openings takes a token of the kind.
 #[inline(always)]
-fn count_of(kind: PieceKind) -> Counted
+fn count_of(kind: PieceKind) -> OpeningStep
     ensures { (bytes : List ℕ) → IsCounted result (piece_kind bytes kind) }
 {
     match kind {
         PieceKind::Symbol(symbol) => count_of_symbol(symbol),
         PieceKind::Word(Word::Or | Word::And | Word::Not | Word::If | Word::Min | Word::Max) => {
-            Counted::Opening
+            OpeningStep::Opening
         }
-        PieceKind::Word(_) | PieceKind::Name | PieceKind::Number => Counted::Other,
+        PieceKind::Word(_) | PieceKind::Name | PieceKind::Number => OpeningStep::Other,
     }
 }
 
@@ -109,14 +109,14 @@ fn counted_too_deep(tokens: &[Piece], limit: usize) -> Option<usize>
     let mut room = limit;
     for token in tokens {
         match count_of(token.kind) {
-            Counted::Opening => {
+            OpeningStep::Opening => {
                 if room == 0 {
                     return Some(token.from as usize);
                 }
                 room -= 1;
             }
-            Counted::End => room = limit,
-            Counted::Other => {}
+            OpeningStep::End => room = limit,
+            OpeningStep::Other => {}
         }
     }
     None

@@ -1,7 +1,7 @@
 //! Why a reader stops.
 
 ghost use Rattle.std.specs.Prelude.{◌≡◌, ℕ, List, length};
-ghost use Rattle.model_core.specs.Text.FirstWrong.{told_place};
+ghost use Rattle.model_core.specs.Text.FirstWrong.{wrong_place};
 ghost use Rattle.model_read.specs.ReadCalls.{placed_at};
 ghost use Rattle.model_read.specs.declared.stop.Stop.TheVariants.{NoMemory as OutOfMemory};
 
@@ -45,7 +45,7 @@ impl From<NoMemory> for Stop {
 
 /// What was read, or why not, with the place of the next token. The text has so many bytes.
 pub fn placed<T>(read: Result<T, Stop>, cursor: &Cursor<'_>, bytes: usize) -> Result<T, ParseError>
-    ensures { (text : List ℕ) → bytes ≡ length text → result ≡ placed_at (told_place text cursor.now) read }
+    ensures { (text : List ℕ) → bytes ≡ length text → result ≡ placed_at (wrong_place text cursor.now) read }
 {
     match read {
         Ok(value) => Ok(value),

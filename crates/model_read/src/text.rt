@@ -20,8 +20,8 @@ use crate::openings::{first_too_deep, front_length};
 use crate::phrase::{at_least_one, many};
 use crate::stop::{Stop, placed};
 use model_core::{RawModel, RawNumber, Symbol, Word};
-use model_lex::{ParseError, Pieces, pieces_stand_in_text};
-use sig_base::{Held, List, OPENINGS_MAX};
+use model_lex::{ParseError, Pieces, pieces_are_in_text};
+use sig_base::{HeldValue, List, OPENINGS_MAX};
 use std::alloc::Global;
 
 /// The line of the version: the byte of its word `version`, and the number after it.
@@ -66,7 +66,7 @@ fn version_number(version: Option<RawVersion>) -> Option<RawNumber>
 
 /// Reads what comes before the vertices of a model. The model that it gives has no vertices, and ends at byte 0.
 #[tactic(auto, unfolding(crate::specs::Beginnings::model_beginning))]
-pub fn begun_model(alloc: Global, cursor: &mut Cursor<'_>) -> Result<RawModel, Stop>
+pub fn read_model_beginning(alloc: Global, cursor: &mut Cursor<'_>) -> Result<RawModel, Stop>
     ensures { Returned (λ m. with_vertices (written_model m)) result cursor.new (language_reader model_beginning cursor.old) }
 {
     let version = version(cursor)?;
@@ -93,7 +93,7 @@ pub fn begun_model(alloc: Global, cursor: &mut Cursor<'_>) -> Result<RawModel, S
 fn model(alloc: Global, cursor: &mut Cursor<'_>) -> Result<RawModel, Stop>
     ensures { Returned written_model result cursor.new (text_and_rest cursor.old) }
 {
-    let begun = Held::of(begun_model(alloc, cursor)?);
+    let begun = HeldValue::of(read_model_beginning(alloc, cursor)?);
     let vertices = at_least_one(alloc, cursor)?;
     let end_at = cursor.word(Word::End)?;
     Ok(RawModel {
@@ -107,7 +107,7 @@ fn model(alloc: Global, cursor: &mut Cursor<'_>) -> Result<RawModel, Stop>
 fn whole(alloc: Global, cursor: &mut Cursor<'_>) -> Result<RawModel, Stop>
     ensures { Returned written_model result cursor.new (text_read cursor.old) }
 {
-    let model = Held::of(model(alloc, cursor)?);
+    let model = HeldValue::of(model(alloc, cursor)?);
     cursor.end()?;
     Ok(model.free())
 }
@@ -124,7 +124,7 @@ pub fn parse_pieces(alloc: Global, pieces: &Pieces<'_>) -> Result<RawModel, Pars
         → (too_deep_at OPENINGS_MAX (pieces_lexemes pieces.now) ≡ None) × IsUnexpectedAt pieces.now.text.now (pieces_lexemes pieces.now) at }
     ensures too_deep { (at : ℕ) → result ≡ Err (ParseError.TooDeep at) → too_deep_at OPENINGS_MAX (pieces_lexemes pieces.now) ≡ Some at }
 {
-    pieces_stand_in_text();
+    pieces_are_in_text();
     let list = pieces.list.as_slice();
     if let Some(at) = first_too_deep(list, OPENINGS_MAX) {
         return Err(ParseError::TooDeep { at });
@@ -153,7 +153,7 @@ pub fn parse_front_pieces(
     ensures too_deep { (at : ℕ) → result ≡ Err (ParseError.TooDeep at)
         → too_deep_at OPENINGS_MAX (front_to_end (drop from (pieces_lexemes pieces.now))) ≡ Some at }
 {
-    pieces_stand_in_text();
+    pieces_are_in_text();
     let some = &pieces.list.as_slice()[from..];
     if let Some(at) = first_too_deep(&some[..front_length(some)], OPENINGS_MAX) {
         return Err(ParseError::TooDeep { at });

@@ -16,7 +16,7 @@ use crate::cursor::Cursor;
 use crate::phrase::{Phrase, Repeated, many, separated};
 use crate::stop::Stop;
 use model_core::{RawName, RawVertex, Symbol, Word};
-use sig_base::{Held, List};
+use sig_base::{HeldValue, List};
 use std::alloc::Global;
 
 /// Reads the parameters of a vertex, where they are written.
@@ -33,7 +33,7 @@ fn parameters(alloc: Global, cursor: &mut Cursor<'_>) -> Result<Option<List<RawN
 
 /// Reads what comes before the changes of a vertex. The vertex that it gives has neither changes nor edges.
 #[tactic(auto, unfolding(crate::specs::Beginnings::vertex_beginning))]
-pub fn begun_vertex(alloc: Global, cursor: &mut Cursor<'_>) -> Result<RawVertex, Stop>
+pub fn read_vertex_beginning(alloc: Global, cursor: &mut Cursor<'_>) -> Result<RawVertex, Stop>
     ensures { Returned (λ v. with_body (written_vertex v)) result cursor.new (language_reader vertex_beginning cursor.old) }
 {
     let at = cursor.word(Word::Vertex)?;
@@ -58,7 +58,7 @@ impl<'t> Phrase<'t> for RawVertex {
 
     #[tactic(auto, unfolding(model_core::specs::Text::Language::vertex_format, crate::specs::Beginnings::vertex_beginning))]
     fn read(alloc: Global, cursor: &mut Cursor<'t>) -> Result<RawVertex, Stop> {
-        let begun = Held::of(begun_vertex(alloc, cursor)?);
+        let begun = HeldValue::of(read_vertex_beginning(alloc, cursor)?);
         let changes = many(alloc, cursor)?;
         let edges = many(alloc, cursor)?;
         cursor.symbol(Symbol::CloseBrace)?;

@@ -31,9 +31,9 @@ absent p before begun = rw begun refl
 
 module _ {A B : Type 0} (f : LanguageFormat A) (means : List ℕ → Option Meaning) (faults : A → List StaticFault) (number : Declared → A → Option B) where
   -- a part after a token
-  pub behind_token : {W : Type 0} (p : LanguageFormat W) (before between after : List Lexeme) (w : W) (x : B) → language_reader p before ≡ took w between
+  pub after_a_token : {W : Type 0} (p : LanguageFormat W) (before between after : List Lexeme) (w : W) (x : B) → language_reader p before ≡ took w between
       → ReadSure f means faults number between after x → ReadSure (p *> f) means faults number before after x
-  behind_token p before between after w x e r = record { written = r.written; read = follows p f before between after w r.written e r.read; unbroken = r.unbroken; numbers = r.numbers }
+  after_a_token p before between after w x e r = record { written = r.written; read = follows p f before between after w r.written e r.read; unbroken = r.unbroken; numbers = r.numbers }
 
   -- a part that may be left out, and is there
   pub is_there : (default : B) (before after : List Lexeme) (x : B) → begins_among (first_sorts level_lookahead f) before ≡ true

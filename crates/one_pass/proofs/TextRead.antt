@@ -28,7 +28,7 @@ use Rattle.static_laws.proofs.WholeModel.{model_checked, all_told, is_accepted}
 use Rattle.static_laws.proofs.StaticTwins.Twins.{both_empty}
 use Rattle.static_laws.proofs.StaticTwins.ModelTwin.{parts_kept}
 use Rattle.static_laws.proofs.StaticTwins.VersionTwin.{version_twin}
-use Rattle.one_pass.specs.Inner.ReadParts.{ReadVertices, ReadBehind}
+use Rattle.one_pass.specs.Inner.ReadParts.{ReadVertices, ReadVerticesAfter}
 use Rattle.one_pass.proofs.Sure.{checked_surely}
 use Rattle.one_pass.proofs.Alike.{same-meaning, same-takes, same-faults}
 
@@ -41,7 +41,7 @@ pub model_taken : (m : WrittenModel) (means : List ℕ → Option Meaning) (take
     → CheckedPlain t2 t3 (flat_map table_faults m.tables) (each_numbered numbering.table m.tables) ts
     → CheckedPart means t3 t4 (flat_map (use_faults means AsWatched) (written_items m.watch) ++ repeated_names [] (written_items m.watch)) (λ d. each_numbered (numbering.watched d) (written_items m.watch)) ws
     → ReadVertices means taken m.vertices before after vs
-    → ReadBehind m before after t0 t4 (record { name = m.name.name; variables = xs; tables = ts; watch = ws; vertices = vs })
+    → ReadVerticesAfter m before after t0 t4 (record { name = m.name.name; variables = xs; tables = ts; watch = ws; vertices = vs })
 model_taken m means taken before after t0 t1 t2 t3 t4 xs ts ws vs is takes head variables tables watch vertices = record {
   vertices = vertices.parts.written;
   read = vertices.parts.read;

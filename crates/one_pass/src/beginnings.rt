@@ -9,7 +9,7 @@ ghost use Rattle.one_pass.specs.Inner.ReadParts.{BeginAlike};
 use crate::not_read::NotRead;
 use model_core::{RawName, RawVertex, Word};
 use model_lex::{Piece, PieceKind};
-use model_read::{Cursor, begun_vertex};
+use model_read::{Cursor, read_vertex_beginning};
 use sig_base::List;
 use sig_types::items;
 use std::alloc::Global;
@@ -26,7 +26,7 @@ pub(crate) fn beginnings(
     for (place, token) in tokens.iter().enumerate() {
         if token.kind == PieceKind::Word(Word::Vertex) {
             let mut cursor = Cursor::new(text, &tokens[place..]);
-            begun.push(begun_vertex(alloc, &mut cursor)?)?;
+            begun.push(read_vertex_beginning(alloc, &mut cursor)?)?;
         }
     }
     Ok(begun)

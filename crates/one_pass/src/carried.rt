@@ -16,7 +16,7 @@ use crate::values::values;
 use model_core::{Expr, Kind, Symbol};
 use model_read::{Cursor, Spelling};
 use sig_base::List;
-use sig_types::{Names, Told, spelled_vertex};
+use sig_types::{FirstFault, Names, spelled_vertex};
 use std::alloc::Global;
 
 /// Reads values in parentheses: one of each of these kinds.
@@ -56,7 +56,7 @@ fn given(
 fn target(names: &Names, name: Spelling<'_>) -> Result<usize, NotRead>
     ensures { IfOk result (λ k. IsVertex (meaning_of names.now) (spelled_name name.entry) k) }
 {
-    let mut told = Told::new();
+    let mut told = FirstFault::new();
     let place = spelled_vertex(names, name.bytes, name.at, &mut told);
     match (told.fault(), place) {
         (None, Some(place)) => Ok(place),

@@ -17,13 +17,13 @@ ghost use Rattle.one_pass.specs.Inner.ReadSources.{IsSource, ReadSource};
 
 use crate::expressions::{Operand, bracketed, known};
 use crate::not_read::NotRead;
-use crate::refusing::refuse_told;
+use crate::refusing::refuse_fault;
 use crate::values::values;
 use arrayvec::ArrayVec;
 use model_core::{Change, Choice, Kind, Symbol, Target, Word};
 use model_read::{Cursor, RawSource, packed};
-use sig_base::{Held, List, NoMemory, TARGETS_MAX};
-use sig_types::{Names, Told, Typed, kinds_differ};
+use sig_base::{HeldValue, List, NoMemory, TARGETS_MAX};
+use sig_types::{FirstFault, Names, Typed, kinds_differ};
 use std::alloc::Global;
 
 /// Reads a variable or a cell that takes a value.
@@ -59,7 +59,7 @@ struct TypedTargets {
 
 /// The list of one target, with room for another where a comma comes: most changes have one target or two.
 #[inline(always)]
-fn begun_targets(
+fn targets_begun_with(
     alloc: Global,
     cursor: &Cursor<'_>,
     first: Target,
@@ -80,7 +80,7 @@ fn targets(alloc: Global, cursor: &mut Cursor<'_>, names: &Names) -> Result<Type
     ensures few { IfOk result (λ t. length t.kinds.items ≤ TARGETS_MAX) }
 {
     let first = target(alloc, cursor, names)?;
-    let mut targets = begun_targets(alloc, cursor, first.part)?;
+    let mut targets = targets_begun_with(alloc, cursor, first.part)?;
     let mut kinds = ArrayVec::new();
     kinds.push(first.kind);
     while cursor.begins_symbol(Symbol::Comma) {
@@ -114,9 +114,9 @@ fn set(alloc: Global, cursor: &mut Cursor<'_>, names: &Names) -> Result<Change, 
 fn checked(names: &Names, raw: &RawSource) -> Result<(u8, Choice), NotRead>
     ensures { IfOk result (λ s. IsSource (meaning_of names.now) (written_source raw.now) s.0 (choice_of s.1)) }
 {
-    let mut told = Told::new();
+    let mut told = FirstFault::new();
     let source = sig_types::source(names, &raw.stream, &raw.choice, &mut told);
-    refuse_told(&told)?;
+    refuse_fault(&told)?;
     Ok(source)
 }
 
@@ -141,7 +141,7 @@ fn draw(alloc: Global, cursor: &mut Cursor<'_>, names: &Names) -> Result<Change,
     if kinds_differ(Some(Kind::Range), typed.kind) {
         return Err(NotRead::Unsure);
     }
-    let target = Held::of(typed.part);
+    let target = HeldValue::of(typed.part);
     let (stream, choice) = source(alloc, cursor, names)?;
     cursor.symbol(Symbol::Semicolon)?;
     Ok(Change::Draw {

@@ -19,12 +19,12 @@ ghost use Rattle.one_pass.specs.Inner.ReadParts.{ReadSure};
 use crate::carried::carried;
 use crate::changes::source;
 use crate::not_read::NotRead;
-use crate::refusing::refuse_told;
+use crate::refusing::refuse_fault;
 use crate::values::value;
 use model_core::{Delay, Edge, EdgeForm, Expr, Kind, RawEdge, RawNumber, StaticKind, Symbol, Word};
 use model_read::{Cursor, Phrase};
-use sig_base::{Held, List};
-use sig_types::{Names, Told, bounded};
+use sig_base::{HeldValue, List};
+use sig_types::{FirstFault, Names, bounded};
 use std::alloc::Global;
 
 /// Reads a delay. The word `draw` decides its form.
@@ -57,9 +57,9 @@ fn within(raw: &RawNumber) -> Result<u8, NotRead>
     ensures unbroken { OnOk result (priority_faults (written_number raw.now) ≡ []) }
     ensures numbers { IfOk result (λ p. natural (written_number raw.now) ≡ Some p) }
 {
-    let mut told = Told::new();
+    let mut told = FirstFault::new();
     let priority = bounded(raw, 1, 255, StaticKind::PriorityOutside, &mut told);
-    refuse_told(&told)?;
+    refuse_fault(&told)?;
     Ok(priority as u8)
 }
 
@@ -99,9 +99,9 @@ fn schedule(
 {
     cursor.word(Word::Schedule)?;
     let carried = carried(alloc, cursor, names, taken)?;
-    let delay = Held::of(after(alloc, cursor, names)?);
+    let delay = HeldValue::of(after(alloc, cursor, names)?);
     let priority = priority(cursor)?;
-    let condition = Held::of(condition(alloc, cursor, names)?);
+    let condition = HeldValue::of(condition(alloc, cursor, names)?);
     cursor.symbol(Symbol::Semicolon)?;
     Ok(Edge {
         target: carried.target,
@@ -125,7 +125,7 @@ fn urgent(
 {
     cursor.word(Word::Urgent)?;
     let carried = carried(alloc, cursor, names, taken)?;
-    let condition = Held::of(condition(alloc, cursor, names)?);
+    let condition = HeldValue::of(condition(alloc, cursor, names)?);
     cursor.symbol(Symbol::Semicolon)?;
     Ok(Edge {
         target: carried.target,
@@ -145,9 +145,9 @@ fn checked(
     ensures unbroken { OnOk result (edge_faults (meaning_of names.now) taken.now (written_edge raw.now) ≡ []) }
     ensures numbers { IfOk result (λ e. NumberedAs (meaning_of names.now) (λ d. numbering.edge d (written_edge raw.now)) (edge_of e)) }
 {
-    let mut told = Told::new();
-    let edge = Held::of(sig_types::edge(alloc, names, taken, raw, &mut told)?);
-    refuse_told(&told)?;
+    let mut told = FirstFault::new();
+    let edge = HeldValue::of(sig_types::edge(alloc, names, taken, raw, &mut told)?);
+    refuse_fault(&told)?;
     Ok(edge.free())
 }
 

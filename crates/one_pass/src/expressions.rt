@@ -22,11 +22,11 @@ ghost use Rattle.static_laws.specs.Roles.{variable_role};
 ghost use Rattle.one_pass.specs.Inner.ReadOperands.{first_operand, TakesOperand, ClimbsFrom, ClimbsOn};
 
 use crate::not_read::NotRead;
-use crate::refusing::refuse_told;
+use crate::refusing::refuse_fault;
 use model_core::{Expr, Kind, Op, Symbol, Word};
 use model_read::{CONJUNCTIONS, Cursor, Infix, LEVELS, Spelling, next_level};
 use sig_types::{
-    Names, Told, Typed, kinds_differ, known_or, operand_kind, result_kind, right_kind,
+    FirstFault, Names, Typed, kinds_differ, known_or, operand_kind, result_kind, right_kind,
     spelled_variable,
 };
 use std::alloc::Global;
@@ -98,9 +98,9 @@ pub(crate) fn known(
     ensures numbers { IfOk result (λ v. NumberedAs (meaning_of names.now) (λ d. declared_place name.entry.bytes.now d.variables) v.part) }
     ensures kind { IfOk result (λ v. v.kind ≡ kind_in_role (variable_role is_array) (meaning_of names.now name.entry.bytes.now)) }
 {
-    let mut told = Told::new();
+    let mut told = FirstFault::new();
     let var = spelled_variable(names, is_array, name.bytes, name.at, &mut told);
-    refuse_told(&told)?;
+    refuse_fault(&told)?;
     Ok(var)
 }
 
@@ -177,7 +177,7 @@ fn operand_under(
 {
     let is_negated = cursor.begins_negation(under);
     first_operand(alloc, cursor, names, is_negated, read)?;
-    let least = least_behind(is_negated);
+    let least = least_level_after(is_negated);
     others(alloc, cursor, names, least, under, read)
 }
 
@@ -250,7 +250,7 @@ fn operators(
 }
 
 /// The least level of an operator that may come after the first operand.
-fn least_behind(is_negated: bool) -> usize
+fn least_level_after(is_negated: bool) -> usize
     ensures { result ≡ (if is_negated then 3 else 0) }
 {
     if is_negated { CONJUNCTIONS } else { 0 }

@@ -15,18 +15,18 @@ ghost use Rattle.model_lex.specs.PiecesOfText.{pieces_lexemes};
 ghost use Rattle.model_read.specs.Beginnings.{with_vertices, model_beginning};
 ghost use Rattle.static_laws.specs.DeclaredFaults.{faults_of_declared};
 ghost use Rattle.one_pass.specs.ReadModel.{AreAccepted};
-ghost use Rattle.one_pass.specs.Inner.ReadParts.{ReadVertices, ReadBehind, ReadText};
+ghost use Rattle.one_pass.specs.Inner.ReadParts.{ReadVertices, ReadVerticesAfter, ReadText};
 
 use crate::beginnings::beginnings;
 use crate::not_read::NotRead;
-use crate::refusing::refuse_told;
+use crate::refusing::refuse_fault;
 use crate::versions::refuse_version;
 use crate::vertices::vertices;
 use model_core::{Model, RawModel, RawVertex, Vertex, Word};
-use model_lex::{Pieces, pieces_stand_in_text};
-use model_read::{Cursor, begun_model, first_too_deep};
+use model_lex::{Pieces, pieces_are_in_text};
+use model_read::{Cursor, first_too_deep, read_model_beginning};
 use sig_base::{List, OPENINGS_MAX};
-use sig_types::{Names, Told, check_lists, declared, items, taken, tell_too_long};
+use sig_types::{FirstFault, Names, check_lists, declared, items, report_long_text, taken};
 use std::alloc::Global;
 
 /// Reads the vertices, which must begin as expected.
@@ -48,11 +48,11 @@ fn among_names(
     cursor: &mut Cursor<'_>,
     names: &Names,
     begun: RawModel,
-    told: &mut Told,
+    told: &mut FirstFault,
 ) -> Result<Model, NotRead>
     ensures { IfOk result (λ model. meaning_of names.now ≡ model_meaning (written_model begun)
         → (start : Option StaticFault) → told.old ≡ earliest_fault start (faults_of_declared (written_model begun))
-        → ReadBehind (written_model begun) cursor.old cursor.new start told.new (graph_of model)) }
+        → ReadVerticesAfter (written_model begun) cursor.old cursor.new start told.new (graph_of model)) }
 {
     let lists = check_lists(
         alloc,
@@ -77,9 +77,9 @@ fn behind(
     alloc: Global,
     cursor: &mut Cursor<'_>,
     begun: RawModel,
-    told: &mut Told,
+    told: &mut FirstFault,
 ) -> Result<Model, NotRead>
-    ensures { IfOk result (λ model. ReadBehind (written_model begun) cursor.old cursor.new told.old told.new (graph_of model)) }
+    ensures { IfOk result (λ model. ReadVerticesAfter (written_model begun) cursor.old cursor.new told.old told.new (graph_of model)) }
 {
     let names = declared(alloc, &begun, told)?;
     among_names(alloc, cursor, &names, begun, told)
@@ -93,7 +93,7 @@ fn beginning(
 ) -> Result<RawModel, NotRead>
     ensures { IfOk result (λ m. language_reader model_beginning cursor.old ≡ took (with_vertices (written_model m)) cursor.new) }
 {
-    let begun = begun_model(alloc, cursor)?;
+    let begun = read_model_beginning(alloc, cursor)?;
     Ok(RawModel {
         vertices: expected,
         ..begun
@@ -115,7 +115,7 @@ fn text(
     alloc: Global,
     cursor: &mut Cursor<'_>,
     expected: List<RawVertex>,
-    told: &mut Told,
+    told: &mut FirstFault,
 ) -> Result<Model, NotRead>
     requires { told.old ≡ None }
     ensures { IfOk result (λ model. ReadText cursor.old told.new (graph_of model)) }
@@ -125,7 +125,7 @@ fn text(
     let model = behind(alloc, cursor, begun, told)?;
     let end_at = ending(cursor)?;
     refuse_version(version, &model)?;
-    tell_too_long(&model, end_at, told);
+    report_long_text(&model, end_at, told);
     Ok(model)
 }
 
@@ -134,15 +134,15 @@ fn text(
 pub fn read_model(alloc: Global, pieces: &Pieces<'_>) -> Result<Model, NotRead>
     ensures { IfOk result (λ model. AreAccepted (pieces_lexemes pieces.now) (graph_of model)) }
 {
-    pieces_stand_in_text();
+    pieces_are_in_text();
     let list = pieces.list.as_slice();
     if let Some(_) = first_too_deep(list, OPENINGS_MAX) {
         return Err(NotRead::Unsure);
     }
     let expected = beginnings(alloc, pieces.text, list)?;
     let mut cursor = Cursor::new(pieces.text, list);
-    let mut told = Told::new();
+    let mut told = FirstFault::new();
     let model = text(alloc, &mut cursor, expected, &mut told)?;
-    refuse_told(&told)?;
+    refuse_fault(&told)?;
     Ok(model)
 }

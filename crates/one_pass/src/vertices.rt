@@ -13,11 +13,11 @@ ghost use Rattle.one_pass.specs.Inner.ReadParts.{BeginAlike, ReadBody, ReadVerte
 use crate::beginnings::begin_alike;
 use crate::not_read::NotRead;
 use crate::parts::take_all;
-use crate::refusing::refuse_told;
+use crate::refusing::refuse_fault;
 use model_core::{Change, Edge, Kind, RawVertex, Symbol, Vertex};
-use model_read::{Cursor, Repeated, begun_vertex};
+use model_read::{Cursor, Repeated, read_vertex_beginning};
 use sig_base::{CHANGES_MAX, EDGES_MAX, List, Name};
-use sig_types::{Names, Told, items, parameters, tell_long_name};
+use sig_types::{FirstFault, Names, items, parameters, report_long_name};
 use std::alloc::Global;
 
 /// The parameters of a vertex that begins as expected, and breaks no static rule up to its changes.
@@ -35,10 +35,10 @@ fn known_parameters(
     if !begin_alike(begun, expected) {
         return Err(NotRead::Unsure);
     }
-    let mut told = Told::new();
-    tell_long_name(&begun.name, &mut told);
+    let mut told = FirstFault::new();
+    report_long_name(&begun.name, &mut told);
     let params = parameters(alloc, names, items(&begun.params), &mut told)?;
-    refuse_told(&told)?;
+    refuse_fault(&told)?;
     Ok(params)
 }
 
@@ -84,7 +84,7 @@ fn vertex(
 ) -> Result<Vertex, NotRead>
     ensures { IfOk result (λ v. ReadVertex (meaning_of names.now) taken.now (written_vertex expected.now) cursor.old cursor.new (vertex_of v)) }
 {
-    let begun = begun_vertex(alloc, cursor)?;
+    let begun = read_vertex_beginning(alloc, cursor)?;
     let params = known_parameters(alloc, names, &begun, expected)?;
     let name = name_of(begun);
     let body = body(alloc, cursor, names, taken)?;

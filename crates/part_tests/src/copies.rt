@@ -4,7 +4,7 @@ use model_core::{
     Change, Choice, Edge, EdgeForm, Expr, Kind, Model, Op, Target, Var, Vertex, Watch, copy_expr,
     copy_model, same_expr, same_model,
 };
-use sig_base::{Held, List, Name, NoMemory, Row, Table};
+use sig_base::{HeldValue, List, Name, NoMemory, Row, Table};
 use std::alloc::Global;
 use std::mem::forget;
 use std::test::*;
@@ -46,7 +46,7 @@ fn cancelling(alloc: Global, limit: i64) -> Result<Edge, NoMemory> {
 fn drawing_vertex(alloc: Global, limit: i64) -> Result<Vertex, NoMemory> {
     let name = name(alloc, b"RUN")?;
     let params = List::of_one(alloc, 0)?;
-    let changes = Held::of(List::of_one(alloc, draw())?);
+    let changes = HeldValue::of(List::of_one(alloc, draw())?);
     let edges = List::of_one(alloc, cancelling(alloc, limit)?)?;
     Ok(Vertex {
         name,
@@ -82,8 +82,8 @@ fn table(alloc: Global) -> Result<Table, NoMemory> {
 /// A model of one variable, one table and one vertex.
 pub fn drawing_model(alloc: Global, limit: i64) -> Result<Model, NoMemory> {
     let name = name(alloc, b"DRAWING")?;
-    let vars = Held::of(List::of_one(alloc, variable(alloc)?)?);
-    let tables = Held::of(List::of_one(alloc, table(alloc)?)?);
+    let vars = HeldValue::of(List::of_one(alloc, variable(alloc)?)?);
+    let tables = HeldValue::of(List::of_one(alloc, table(alloc)?)?);
     let watch = List::of_one(alloc, Watch::Event { vertex: 0 })?;
     let vertices = List::of_one(alloc, drawing_vertex(alloc, limit)?)?;
     Ok(Model {

@@ -76,7 +76,7 @@ fn an_operand_is_printed_in_parentheses(rt: HostRuntime) -> Result<(), Fail> {
 }
 
 #[test]
-fn a_comparison_is_printed_behind_not(rt: HostRuntime) -> Result<(), Fail> {
+fn a_comparison_is_printed_after_not(rt: HostRuntime) -> Result<(), Fail> {
     let same = before(rt.alloc(), Op::Eq, Expr::Clk)?;
     let other = Expr::Not(Box::new(rt.alloc(), same)?);
     assert!(rt; is_printed(rt.alloc(), other, b"not N = clk")?);

@@ -4,21 +4,21 @@ use Rattle.std.proofs.lemmas.List.{reverse-append}
 use Rattle.model_core.specs.EventGraph.{Variable}
 use Rattle.range_infer.specs.declared.ranges_left.RangesLeft.{RangesLeft}
 use Rattle.range_infer.specs.declared.postfix.PostfixItem.TheVariants as items
-use Rattle.range_infer.specs.Inner.RangesLeft.{variables_left, StaysLeft, LeadsBack}
+use Rattle.range_infer.specs.Inner.RangesLeft.{variables_left, StaysLeft, RestoresTo}
 use Rattle.range_infer.specs.Inner.Postfix.{Walk, walked}
 use Rattle.range_infer.specs.Inner.KeptRanges.{AreKept, LeftOnWalk}
-use Rattle.range_infer.proofs.LedBack.{same_variables, stays-back, back-trans}
+use Rattle.range_infer.proofs.RestoredRanges.{same_variables, stays-back, back-trans}
 
 abbrev pub itself : (a : RangesLeft) → StaysLeft a a
 itself a = record { model = refl; ranges = refl; replaced = refl }
 
-kept-back : (first a b : RangesLeft) (ns : List ℕ) (kept : List (List Variable)) → LeadsBack a b → AreKept first ns kept a → AreKept first ns kept b
+kept-back : (first a b : RangesLeft) (ns : List ℕ) (kept : List (List Variable)) → RestoresTo a b → AreKept first ns kept a → AreKept first ns kept b
 kept-back first a b [] [] back are = back-trans first a b are back
 kept-back first a b (n ∷ ns) (rs ∷ kept) back (old, many, since, same, before) = (old, many, back-trans old a b since back, same, before)
 kept-back first a b [] (rs ∷ kept) back are = absurd are
 kept-back first a b (n ∷ ns) [] back are = absurd are
 
-pub all-back : (first now : RangesLeft) (ns : List ℕ) (kept : List (List Variable)) → AreKept first ns kept now → LeadsBack first now
+pub all-back : (first now : RangesLeft) (ns : List ℕ) (kept : List (List Variable)) → AreKept first ns kept now → RestoresTo first now
 all-back first now [] [] are = are
 all-back first now (n ∷ ns) (rs ∷ kept) (old, many, since, same, before) = back-trans first old now (all-back first old ns kept before) since
 all-back first now [] (rs ∷ kept) are = absurd are
@@ -36,7 +36,7 @@ one_kept first now ns n w many stands = record {
   kept = (now, many, stays-back now now (itself now), stands.ranges, stands.kept);
 }
 
-pub one_back : (first now next : RangesLeft) (ns : List ℕ) (n : ℕ) (w : Walk) → ((old : RangesLeft) → n ≡ length old.replaced.items → LeadsBack old now → StaysLeft old next) → LeftOnWalk first now (n ∷ ns) w → LeftOnWalk first next ns (walked w items.PutBack)
+pub one_back : (first now next : RangesLeft) (ns : List ℕ) (n : ℕ) (w : Walk) → ((old : RangesLeft) → n ≡ length old.replaced.items → RestoresTo old now → StaysLeft old next) → LeftOnWalk first now (n ∷ ns) w → LeftOnWalk first next ns (walked w items.PutBack)
 one_back first now next ns n w forgot stands = by w.kept stands.kept where
   by : (kept : List (List Variable)) → AreKept first (n ∷ ns) kept now → let u : Walk = record { ranges = w.ranges; kept = kept; found = w.found } in LeftOnWalk first next ns (walked u items.PutBack)
   by [] are = absurd are
@@ -50,7 +50,7 @@ none_back first now w stands = by w.kept stands.kept where
   by [] are = record { ranges = stands.ranges; kept = are }
   by (rs ∷ kept) are = absurd are
 
-pub last_back : (first now next : RangesLeft) (old new : List ℕ) (n : ℕ) (w : Walk) → old ≡ new ++ n ∷ [] → ((old : RangesLeft) → n ≡ length old.replaced.items → LeadsBack old now → StaysLeft old next) → LeftOnWalk first now (reverse old) w → LeftOnWalk first next (reverse new) (walked w items.PutBack)
+pub last_back : (first now next : RangesLeft) (old new : List ℕ) (n : ℕ) (w : Walk) → old ≡ new ++ n ∷ [] → ((old : RangesLeft) → n ≡ length old.replaced.items → RestoresTo old now → StaysLeft old next) → LeftOnWalk first now (reverse old) w → LeftOnWalk first next (reverse new) (walked w items.PutBack)
 last_back first now next old new n w popped forgot stands =
     one_back first now next (reverse new) n w forgot (subst (λ (ns : List ℕ). LeftOnWalk first now ns w) (ap reverse popped ∙ reverse-append new (n ∷ [])) stands)
 
@@ -64,7 +64,7 @@ last_kept first now old new n w pushed many stands =
     subst (λ (ns : List ℕ). LeftOnWalk first now ns (walked w items.Kept)) (sym (ap reverse pushed ∙ reverse-append old (n ∷ []))) (one_kept first now (reverse old) n w many stands)
 
 -- ranges that are replaced
-pub one_left : (first now next : RangesLeft) (ns : List ℕ) (w after : Walk) → variables_left next ≡ after.ranges → after.kept ≡ w.kept → LeadsBack now next → LeftOnWalk first now ns w → LeftOnWalk first next ns after
+pub one_left : (first now next : RangesLeft) (ns : List ℕ) (w after : Walk) → variables_left next ≡ after.ranges → after.kept ≡ w.kept → RestoresTo now next → LeftOnWalk first now ns w → LeftOnWalk first next ns after
 one_left first now next ns w after is same back stands = record {
   ranges = is;
   kept = subst (λ (kept : List (List Variable)). AreKept first ns kept next) (sym same) (kept-back first now next ns w.kept back stands.kept);

@@ -25,7 +25,7 @@ mod AllSeen
 mod PassedOver
 mod PartsBeside
 mod NumbersHeld
-pub mod LedBack
+pub mod RestoredRanges
 mod VariablesOfModel
 mod AssignedBeside
 mod FittingTests

@@ -11,7 +11,7 @@ use Rattle.model_core.specs.Run.Step.{no_vertex, vertex_at}
 use Rattle.model_core.specs.Static.OwnRules.{KeepsVariable, KeepsChange, KeepsEdge, KeepsVertex, KeepsParts, parameters_of}
 use Rattle.model_core.specs.Rules.BoundsOfParts.{is_truth_kind}
 use Rattle.model_core.proofs.Among.{Among, first_true, second_true, among-any}
-use Rattle.model_core.proofs.EachOne.{every-front, every-behind, every-flat_map, every-both}
+use Rattle.model_core.proofs.EachOne.{every-front, every-after, every-flat_map, every-both}
 use Rattle.run_laws.proofs.InRange.{starts_in_range}
 use Rattle.bound_laws.proofs.Soundness.Ends.{of_le}
 use Rattle.model_core.specs.Rules.RangesHold.{ZeroToOne, TruthsAreDeclared}
@@ -97,7 +97,7 @@ module _ (g : EventGraph) (ranges : List VarRange) where
         changes = every-both _ (λ (c : StateChange). Takes (into_change g (with_ranges g.variables ranges) c)) ChangeKnown (λ c keeps takes. record { keeps = keeps; takes = takes }) v.changes keeps.changes
             (every-flat_map (HoldsIncoming g ranges) (into_change g (with_ranges g.variables ranges)) v.changes (every-front (HoldsIncoming g ranges) changes edges takes));
         edges = every-both _ (λ (e : EventEdge). Takes (into_edge g (with_ranges g.variables ranges) e)) EdgeKnown (λ e keeps takes. record { keeps = keeps; takes = takes }) v.edges keeps.edges
-            (every-flat_map (HoldsIncoming g ranges) (into_edge g (with_ranges g.variables ranges)) v.edges (every-behind (HoldsIncoming g ranges) changes edges takes));
+            (every-flat_map (HoldsIncoming g ranges) (into_edge g (with_ranges g.variables ranges)) v.edges (every-after (HoldsIncoming g ranges) changes edges takes));
       }
 
   known_at : (us : List EventVertex) → AllByRecursion VertexKnown us → (k : ℕ) → VertexKnown (slice_index_or us k no_vertex)

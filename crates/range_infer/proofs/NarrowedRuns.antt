@@ -6,19 +6,19 @@ use Rattle.std.specs.List.{AllByRecursion}
 use Rattle.model_core.specs.EventGraph.{EventGraph, EventVertex, EventEdge, StateChange, Watched, WatchedVariable, WatchedVertex}
 use Rattle.model_core.specs.Run.State.{State, scalar, variable_at, in_range}
 use Rattle.model_core.specs.Run.Value.{OrFault, in_turn}
-use Rattle.model_core.specs.Run.Changes.{Changed, make_change}
-use Rattle.model_core.specs.Run.Pending.{Entry, TakenOff, next_entry}
-use Rattle.model_core.specs.Run.Edges.{Planned, treat}
+use Rattle.model_core.specs.Run.Changes.{ChangeState, make_change}
+use Rattle.model_core.specs.Run.Pending.{Entry, EntryAndRest, next_entry}
+use Rattle.model_core.specs.Run.Edges.{EdgeState, treat_edge}
 use Rattle.model_core.specs.Run.Step.{Configuration, vertex_at, receive, occur}
 use Rattle.model_core.specs.Run.History.{Moment, start}
-use Rattle.model_core.specs.Run.Same.{Same, thing, VariableNamed, Parameter, parameter}
+use Rattle.model_core.specs.Run.Same.{Same, watched_name_of, VariableNamed, Parameter, parameter}
 use Rattle.model_core.specs.Static.OwnRules.{KeepsParts}
 use Rattle.model_core.proofs.Alongside.{Alongside, both_go, both_fail, alongside-equal, alongside-known, bind-alongside, in_turn-alongside}
 use Rattle.model_core.proofs.Among.{Among}
 use Rattle.run_laws.proofs.InRange.{in_range-kept}
 use Rattle.run_laws.proofs.Keeping.{received}
 use Rattle.run_laws.proofs.MappedPending.{taken_off_mapped, next_among-every}
-use Rattle.run_laws.proofs.EdgesAlike.{unchanged, taken_off-unchanged, configuration-unchanged}
+use Rattle.run_laws.proofs.EdgesAlike.{unchanged, entries_in_order-unchanged, configuration-unchanged}
 use Rattle.run_laws.proofs.LockStep.{configuration_mapped, Follows, follows-looks}
 use Rattle.model_core.specs.declared.var_range.VarRange.{VarRange}
 use Rattle.model_core.specs.Ranges.OtherRanges.{with_range, model_with_ranges}
@@ -56,36 +56,36 @@ module _ (g : EventGraph) (ranges : List VarRange) (keeps : KeepsParts g) (fitti
       let same = same_stores g ranges fitting (zip (map scalar (vertex_at g k).parameters) values) fits s in
       one-and Inside same (λ t done. received h Inside (in_range-kept h) (vertex_at g k).parameters values s t inside (sym same ∙ done))
 
-  abbrev DrawnInside : Changed → Type 0
+  abbrev DrawnInside : ChangeState → Type 0
   DrawnInside d = Inside d.state
 
-  changes_made : (seed clk : ℕ) → clk ≤ 2 ^ 48 → (v : EventVertex) → VertexKnown g ranges v → (d : Changed) → DrawnInside d → Alongside (OneAnd DrawnInside) (in_turn (make_change g seed clk) v.changes d) (in_turn (make_change h seed clk) v.changes d)
+  changes_made : (seed clk : ℕ) → clk ≤ 2 ^ 48 → (v : EventVertex) → VertexKnown g ranges v → (d : ChangeState) → DrawnInside d → Alongside (OneAnd DrawnInside) (in_turn (make_change g seed clk) v.changes d) (in_turn (make_change h seed clk) v.changes d)
   changes_made seed clk early v known d inside =
       subst (λ (cs : List StateChange). Alongside (OneAnd DrawnInside) (in_turn (make_change g seed clk) v.changes d) (in_turn (make_change h seed clk) cs d)) (map-id v.changes)
       (in_turn-alongside (ChangeKnown g ranges) (λ c. c) (OneAnd DrawnInside) (make_change g seed clk) (make_change h seed clk) (λ c known d d2 (one, inside).
       let same = same_change g ranges fitting keeps seed clk early c d inside known in
-      subst (λ (d2 : Changed). Alongside (OneAnd DrawnInside) (make_change g seed clk c d) (make_change h seed clk c d2)) one
+      subst (λ (d2 : ChangeState). Alongside (OneAnd DrawnInside) (make_change g seed clk c d) (make_change h seed clk c d2)) one
       (one-and DrawnInside same (λ e done. (in_range-kept h).by_change seed clk c d e inside (sym same ∙ done)))) v.changes known.changes d d (refl, inside))
 
-  abbrev PlanFits : Planned → Type 0
+  abbrev PlanFits : EdgeState → Type 0
   PlanFits = PlannedFits g ranges fitting keeps
 
-  edges_treated : (seed clk : ℕ) → clk ≤ 2 ^ 48 → (v : EventVertex) → VertexKnown g ranges v → (s : State) → Inside s → (p : Planned) → PlanFits p → Alongside (OneAnd PlanFits) (in_turn (treat g seed s clk) v.edges p) (in_turn (treat h seed s clk) v.edges p)
+  edges_treated : (seed clk : ℕ) → clk ≤ 2 ^ 48 → (v : EventVertex) → VertexKnown g ranges v → (s : State) → Inside s → (p : EdgeState) → PlanFits p → Alongside (OneAnd PlanFits) (in_turn (treat_edge g seed s clk) v.edges p) (in_turn (treat_edge h seed s clk) v.edges p)
   edges_treated seed clk early v known s inside p fits =
-      subst (λ (es : List EventEdge). Alongside (OneAnd PlanFits) (in_turn (treat g seed s clk) v.edges p) (in_turn (treat h seed s clk) es p)) (map-id v.edges)
-      (in_turn-alongside (EdgeKnown g ranges) (λ e. e) (OneAnd PlanFits) (treat g seed s clk) (treat h seed s clk) (λ e known p p2 (one, fits).
-      subst (λ (p2 : Planned). Alongside (OneAnd PlanFits) (treat g seed s clk e p) (treat h seed s clk e p2)) one
+      subst (λ (es : List EventEdge). Alongside (OneAnd PlanFits) (in_turn (treat_edge g seed s clk) v.edges p) (in_turn (treat_edge h seed s clk) es p)) (map-id v.edges)
+      (in_turn-alongside (EdgeKnown g ranges) (λ e. e) (OneAnd PlanFits) (treat_edge g seed s clk) (treat_edge h seed s clk) (λ e known p p2 (one, fits).
+      subst (λ (p2 : EdgeState). Alongside (OneAnd PlanFits) (treat_edge g seed s clk e p) (treat_edge h seed s clk e p2)) one
       (one-and PlanFits (same_edge g ranges fitting keeps seed s clk e p) (λ q done. edge_fits g ranges fitting keeps s inside clk early seed e known p q fits done))) v.edges known.edges p p (refl, fits))
 
-  occurs : (seed : ℕ) (n : TakenOff) → n.entry.time ≤ 2 ^ 48 → Fits n.entry → AllByRecursion Fits n.others → (s : State) (taken : List ℕ) → Inside s → Alongside (OneAnd Sound) (occur g seed (vertex_at g n.entry.vertex) n s taken) (occur h seed (vertex_at g n.entry.vertex) n s taken)
+  occurs : (seed : ℕ) (n : EntryAndRest) → n.entry.time ≤ 2 ^ 48 → Fits n.entry → AllByRecursion Fits n.others → (s : State) (taken : List ℕ) → Inside s → Alongside (OneAnd Sound) (occur g seed (vertex_at g n.entry.vertex) n s taken) (occur h seed (vertex_at g n.entry.vertex) n s taken)
   occurs seed n due fit fits s taken inside =
       let v = vertex_at g n.entry.vertex in
       let known = vertices_known g ranges keeps inductive n.entry.vertex in
       let clk = n.entry.time in
       bind-alongside (OneAnd Inside) (OneAnd Sound) (receives n.entry.vertex n.entry.values fit s inside) _ _ (λ t t2 (one, in_t).
       bind-alongside (OneAnd DrawnInside) (OneAnd Sound) (subst (λ (t2 : State). Alongside (OneAnd DrawnInside) (in_turn (make_change g seed clk) v.changes (record { state = t; taken = taken })) (in_turn (make_change h seed clk) v.changes (record { state = t2; taken = taken }))) one (changes_made seed clk due v known (record { state = t; taken = taken }) in_t)) _ _ (λ d d2 (one, in_d).
-      bind-alongside (OneAnd PlanFits) (OneAnd Sound) (subst (λ (d2 : Changed). Alongside (OneAnd PlanFits) (in_turn (treat g seed d.state clk) v.edges (record { pending = n.others; taken = d.taken })) (in_turn (treat h seed d2.state clk) v.edges (record { pending = n.others; taken = d2.taken }))) one (edges_treated seed clk due v known d.state in_d (record { pending = n.others; taken = d.taken }) fits)) _ _ (λ p p2 (same, fit).
-      both_go (ap₂ (λ (d : Changed) (p : Planned). record { clock = clk; state = d.state; taken = p.taken; pending = p.pending }) one same, record { inside = in_d; pending = fit }))))
+      bind-alongside (OneAnd PlanFits) (OneAnd Sound) (subst (λ (d2 : ChangeState). Alongside (OneAnd PlanFits) (in_turn (treat_edge g seed d.state clk) v.edges (record { pending = n.others; taken = d.taken })) (in_turn (treat_edge h seed d2.state clk) v.edges (record { pending = n.others; taken = d2.taken }))) one (edges_treated seed clk due v known d.state in_d (record { pending = n.others; taken = d.taken }) fits)) _ _ (λ p p2 (same, fit).
+      both_go (ap₂ (λ (d : ChangeState) (p : EdgeState). record { clock = clk; state = d.state; taken = p.taken; pending = p.pending }) one same, record { inside = in_d; pending = fit }))))
 
   -- ---- each step is followed
 
@@ -96,10 +96,10 @@ module _ (g : EventGraph) (ranges : List VarRange) (keeps : KeepsParts g) (fitti
   as_mapped (both_go {s = c} {t = d} (same, sound)) = both_go (configuration-unchanged c ∙ same, sound)
   as_mapped (both_fail k) = both_fail k
 
-  steps_same : (seed : ℕ) (c : Configuration) (n : TakenOff) → Sound c → next_entry c.pending ≡ Some n → n.entry.time ≤ 2 ^ 48 → Alongside Mapped (occur g seed (vertex_at g n.entry.vertex) n c.state c.taken) (occur h seed (vertex_at h n.entry.vertex) (taken_off_mapped unchanged n) c.state c.taken)
+  steps_same : (seed : ℕ) (c : Configuration) (n : EntryAndRest) → Sound c → next_entry c.pending ≡ Some n → n.entry.time ≤ 2 ^ 48 → Alongside Mapped (occur g seed (vertex_at g n.entry.vertex) n c.state c.taken) (occur h seed (vertex_at h n.entry.vertex) (taken_off_mapped unchanged n) c.state c.taken)
   steps_same seed c n sound next due =
       let (fit, fits) = next_among-every Fits (λ e. true) c.pending sound.pending n next in
-      subst (λ (m : TakenOff). Alongside Mapped (occur g seed (vertex_at g n.entry.vertex) n c.state c.taken) (occur h seed (vertex_at g n.entry.vertex) m c.state c.taken)) (sym (taken_off-unchanged n))
+      subst (λ (m : EntryAndRest). Alongside Mapped (occur g seed (vertex_at g n.entry.vertex) n c.state c.taken) (occur h seed (vertex_at g n.entry.vertex) m c.state c.taken)) (sym (entries_in_order-unchanged n))
       (as_mapped (occurs seed n due fit fits c.state c.taken sound.inside))
 
   follows : (seed : ℕ) → Follows g h (λ s. s) (λ words. words) (λ v. v) (λ e. e.values) Sound seed
@@ -130,7 +130,7 @@ module _ (g : EventGraph) (ranges : List VarRange) (keeps : KeepsParts g) (fitti
 
   -- ---- what is seen
 
-  thing_same : (w : Watched) → thing g w ≡ thing h w
+  thing_same : (w : Watched) → watched_name_of g w ≡ watched_name_of h w
   thing_same (WatchedVariable v) = ap VariableNamed (sym (same_but_range g.variables ranges v).name)
   thing_same (WatchedVertex v) = refl
 

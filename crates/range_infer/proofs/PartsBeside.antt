@@ -8,7 +8,7 @@ use Rattle.model_core.specs.declared.incoming.Incoming.{Incoming}
 use Rattle.range_infer.specs.declared.ranges_left.RangesLeft.{RangesLeft}
 use Rattle.range_infer.specs.Inner.RangesLeft.{variables_left, StaysLeft}
 use Rattle.range_infer.specs.Inner.Readers.{one_at}
-use Rattle.range_infer.proofs.LedBack.{same_variables, stays-trans}
+use Rattle.range_infer.proofs.RestoredRanges.{same_variables, stays-trans}
 
 pub made_of_part : {A B C : Type 0} (view : A → B) (f : B → C) (xs : List A) (ys : List C) (i : ℕ) (x : A) (y : C) → ys ≡ map f (map view xs) → i < length xs → x ≡ slice_index_or xs i x → y ≡ slice_index_or ys i y → y ≡ f (view x)
 made_of_part view f xs ys i x y made small here beside =

@@ -9,7 +9,7 @@ use Rattle.model_core.specs.Rules.BoundsOf.{bounds_under}
 use Rattle.model_core.specs.Ranges.Refined.{refined}
 use Rattle.model_core.specs.declared.incoming.Incoming.{Incoming}
 use Rattle.model_core.proofs.Among.{Among, among-contained, contained-among, among-flat_map, of-among, each-among, any-among, among-any}
-use Rattle.model_core.proofs.EachOne.{every-joined, every-front, every-behind, every-flat_map, either_false}
+use Rattle.model_core.proofs.EachOne.{every-joined, every-front, every-after, every-flat_map, either_false}
 use Rattle.range_infer.specs.declared.part_reads.ValueReads.{ValueReads}
 use Rattle.range_infer.specs.declared.readers.PartPlace.{PartPlace}
 use Rattle.range_infer.specs.Inner.Moved.{is_moved}
@@ -65,7 +65,7 @@ module _ (P : Incoming → Type 0) where
     vertex_part : (p : PartPlace) (u : EventVertex) → AllByRecursion P (vertex_seen g false moved rs u) → AllByRecursion P (vertex_part_seen g false moved rs p u)
     vertex_part p u all = by p.is_edge where
       by : (b : Bool) → AllByRecursion P (cond b (flat_map edge (one_at p.place u.edges)) (flat_map change (one_at p.place u.changes)))
-      by true = one_place edge p.place u.edges (every-behind P (flat_map change u.changes) (flat_map edge u.edges) all)
+      by true = one_place edge p.place u.edges (every-after P (flat_map change u.changes) (flat_map edge u.edges) all)
       by false = one_place change p.place u.changes (every-front P (flat_map change u.changes) (flat_map edge u.edges) all)
 
     pub of_all : (us : List EventVertex) (parts : List PartPlace) → AllByRecursion P (flat_map (vertex_seen g false moved rs) us) → AllByRecursion P (flat_map (part_seen g false moved rs us) parts)

@@ -19,7 +19,7 @@ use Rattle.model_core.specs.Ranges.OtherRanges.{declared_range, with_range, with
 use Rattle.model_core.specs.Ranges.Incoming.{kept_range, assigned, into_change, into_edge, into_vertex, incoming}
 use Rattle.model_core.specs.Ranges.Inductive.{is_fixed, Encloses}
 use Rattle.model_core.specs.Ranges.Inference.{hull, grown_range, ends_moved, each_variable, next_range, round}
-use Rattle.model_core.proofs.EachOne.{every-front, every-behind, every-flat_map, every-map, every-fails}
+use Rattle.model_core.proofs.EachOne.{every-front, every-after, every-flat_map, every-map, every-fails}
 use Rattle.range_infer.specs.Inner.Moved.{is_moved, MarksMoved}
 use Rattle.range_infer.specs.Inner.PartReads.{each_reads}
 use Rattle.range_infer.specs.Inner.LookedAt.{looks_at, looks_at_value, assigned_seen, change_seen, values_seen, edge_seen, vertex_seen, incoming_seen, part_seen, TakenByReaders, TakesAgain}
@@ -134,7 +134,7 @@ module _ (g : EventGraph) (v : ℕ) (in_order : (variable_at g v).lo ≤ℤ (var
         let edges = flat_map (into_edge g old) u.edges in
         joined_alike (flat_map (change_seen g false moved new) u.changes) (flat_map (into_change g new) u.changes) (flat_map (edge_seen g false moved new) u.edges) (flat_map (into_edge g new) u.edges)
         (each_alike (change_seen g false moved new) (into_change g new) u.changes (every-map (λ (c : StateChange). AllByRecursion IsHeld (into_change g old c)) (λ (c : StateChange). GrowAlike (change_seen g false moved new c) (into_change g new c)) change_alike u.changes (every-flat_map IsHeld (into_change g old) u.changes (every-front IsHeld changes edges held))))
-        (each_alike (edge_seen g false moved new) (into_edge g new) u.edges (every-map (λ (e : EventEdge). AllByRecursion IsHeld (into_edge g old e)) (λ (e : EventEdge). GrowAlike (edge_seen g false moved new e) (into_edge g new e)) edge_alike u.edges (every-flat_map IsHeld (into_edge g old) u.edges (every-behind IsHeld changes edges held))))
+        (each_alike (edge_seen g false moved new) (into_edge g new) u.edges (every-map (λ (e : EventEdge). AllByRecursion IsHeld (into_edge g old e)) (λ (e : EventEdge). GrowAlike (edge_seen g false moved new e) (into_edge g new e)) edge_alike u.edges (every-flat_map IsHeld (into_edge g old) u.edges (every-after IsHeld changes edges held))))
 
     pub vertices_alike : (us : List EventVertex) → AllByRecursion IsHeld (flat_map (into_vertex g old) us) → GrowAlike (flat_map (vertex_seen g false moved new) us) (flat_map (into_vertex g new) us)
     vertices_alike us held =

@@ -13,7 +13,7 @@ use Rattle.model_core.specs.Code.Views.{operator_of}
 use Rattle.model_core.specs.Rules.BoundsTable.{operator_bounds}
 use Rattle.model_core.specs.Rules.BoundsOf.{ranged_at, beside, bounds_under}
 use Rattle.model_core.specs.Rules.Exclusive.{number_literal, literal_number}
-use Rattle.model_core.specs.Ranges.Refined.{opposite_comparison, where_holds, refined_by, tells_of_both, refined}
+use Rattle.model_core.specs.Ranges.Refined.{opposite_comparison, where_holds, ranges_refined_by, refines_both, refined}
 use Rattle.range_infer.specs.declared.postfix.PostfixItem.{PostfixItem}
 use Rattle.range_infer.specs.declared.postfix.PostfixItem.TheVariants as items
 use Rattle.range_infer.specs.Inner.Postfix.{op_of, number_items, literal_items, compared_items, left_items, tells_both, left_by, with_right, guard_of, with_operands, postfix_of, Walk, signed_number, is_of_ranges, after_item, walked}
@@ -54,7 +54,7 @@ module _ (kept : List (List Variable)) (found : List Bounds) where
   literal_left op v (Negative a) rs = number_left op v true (number_literal a) rs
   literal_left op v e rs = number_left op v false (number_literal e) rs
 
-  compared_left : (op : Operator) (a c : Expression) (b : Bool) (rs : List Variable) → walk (ranges_at rs) (compared_items op a c b) ≡ ranges_at (refined_by op a c b rs)
+  compared_left : (op : Operator) (a c : Expression) (b : Bool) (rs : List Variable) → walk (ranges_at rs) (compared_items op a c b) ≡ ranges_at (ranges_refined_by op a c b rs)
   compared_left op (Scalar v) c b rs =
       let o = cond b op (opposite_comparison op) in
       literal_left (op_of o) v c rs ∙ ap (λ (o : Operator). ranges_at (slice_set rs v (where_holds o (literal_number c) (ranged_at rs v)))) (same_operator o)
@@ -67,45 +67,45 @@ module _ (kept : List (List Variable)) (found : List Bounds) where
   known_left : (e : Expression) (b : Bool) (rs : List Variable) → walk (ranges_at rs) (left_items e b) ≡ ranges_at (refined e b rs)
   known_left (Not a) b rs = known_left a (not b) rs
   known_left (Binary op a c) b rs =
-      either_left (tells_of_both op b) (ranges_at rs) (left_items a b ++ left_items c b) (compared_items op a c b) (refined c b (refined a b rs)) (refined_by op a c b rs)
+      either_left (refines_both op b) (ranges_at rs) (left_items a b ++ left_items c b) (compared_items op a c b) (refined c b (refined a b rs)) (ranges_refined_by op a c b rs)
       (both (ranges_at rs) (left_items a b) (left_items c b) (ranges_at (refined a b rs)) (ranges_at (refined c b (refined a b rs))) (known_left a b rs) (known_left c b (refined a b rs)))
       (compared_left op a c b rs)
   known_left e b rs = refl
 
 -- ---- what is left after an expression
 
-abbrev left_behind : Expression → Option Bool → List Variable → List Variable
-left_behind e None rs = rs
-left_behind e (Some b) rs = refined e b rs
+abbrev ranges_left_after : Expression → Option Bool → List Variable → List Variable
+ranges_left_after e None rs = rs
+ranges_left_after e (Some b) rs = refined e b rs
 
 -- the expression says nothing of the ranges
-untold : (e : Expression) (m : Option Bool) (rs : List Variable) → ((b : Bool) → refined e b rs ≡ rs) → rs ≡ left_behind e m rs
+untold : (e : Expression) (m : Option Bool) (rs : List Variable) → ((b : Bool) → refined e b rs ≡ rs) → rs ≡ ranges_left_after e m rs
 untold e None rs stays = refl
 untold e (Some b) rs stays = sym (stays b)
 
-negated_behind : (a : Expression) (m : Option Bool) (rs : List Variable) → left_behind a (option_map not m) rs ≡ left_behind (Not a) m rs
+negated_behind : (a : Expression) (m : Option Bool) (rs : List Variable) → ranges_left_after a (option_map not m) rs ≡ ranges_left_after (Not a) m rs
 negated_behind a None rs = refl
 negated_behind a (Some b) rs = refl
 
 -- if the value of the operator gives the values of both operands, the right one is evaluated where the left one has its value
-told_beside : (op : Operator) (a : Expression) (b : Bool) (rs : List Variable) → tells_of_both op b ≡ true → refined a b rs ≡ beside refined op a rs
-told_beside And a true rs told = refl
-told_beside And a false rs told = cc
-told_beside Or a true rs told = cc
-told_beside Or a false rs told = refl
-told_beside op a b rs told = cc
+both_known-beside : (op : Operator) (a : Expression) (b : Bool) (rs : List Variable) → refines_both op b ≡ true → refined a b rs ≡ beside refined op a rs
+both_known-beside And a true rs told = refl
+both_known-beside And a false rs told = cc
+both_known-beside Or a true rs told = cc
+both_known-beside Or a false rs told = refl
+both_known-beside op a b rs told = cc
 
-told_left : (op : Operator) (a c : Expression) (b : Bool) (rs : List Variable) → tells_of_both op b ≡ true → refined c b (refined a b rs) ≡ refined (Binary op a c) b rs
-told_left op a c b rs told = sym (ap (λ (t : Bool). cond t (refined c b (refined a b rs)) (refined_by op a c b rs)) told)
+told_left : (op : Operator) (a c : Expression) (b : Bool) (rs : List Variable) → refines_both op b ≡ true → refined c b (refined a b rs) ≡ refined (Binary op a c) b rs
+told_left op a c b rs told = sym (ap (λ (t : Bool). cond t (refined c b (refined a b rs)) (ranges_refined_by op a c b rs)) told)
 
-untold_left : (op : Operator) (a c : Expression) (b : Bool) (rs : List Variable) → tells_of_both op b ≡ false → refined_by op a c b rs ≡ refined (Binary op a c) b rs
-untold_left op a c b rs none = sym (ap (λ (t : Bool). cond t (refined c b (refined a b rs)) (refined_by op a c b rs)) none)
+untold_left : (op : Operator) (a c : Expression) (b : Bool) (rs : List Variable) → refines_both op b ≡ false → ranges_refined_by op a c b rs ≡ refined (Binary op a c) b rs
+untold_left op a c b rs none = sym (ap (λ (t : Bool). cond t (refined c b (refined a b rs)) (ranges_refined_by op a c b rs)) none)
 
 -- ---- operands and their operator
 
 -- a walk over the items of the expression finds its bounds, under any ranges
 abbrev IsFound : Expression → Type 0
-IsFound e = (m : Option Bool) (rs : List Variable) (kept : List (List Variable)) (found : List Bounds) → walk (standing rs kept found) (postfix_of e m) ≡ standing (left_behind e m rs) kept (bounds rs e ∷ found)
+IsFound e = (m : Option Bool) (rs : List Variable) (kept : List (List Variable)) (found : List Bounds) → walk (standing rs kept found) (postfix_of e m) ≡ standing (ranges_left_after e m rs) kept (bounds rs e ∷ found)
 
 module _ (kept : List (List Variable)) (found : List Bounds) where
   by_items : (op : Operator) (c : Expression) (a : Bounds) (rs : List Variable) → IsFound c → walk (standing rs kept (a ∷ found)) (postfix_of c None ++ items.Operator (op_of op) ∷ []) ≡ standing rs kept (operator_bounds op a (bounds rs c) ∷ found)
@@ -140,21 +140,21 @@ module _ (kept : List (List Variable)) (found : List Bounds) where
     operands_found op = plain_found op
 
     -- the values of both operands are known
-    told_found : (op : Operator) (b : Bool) → tells_of_both op b ≡ true → walk (standing rs kept found) (postfix_of a (Some b) ++ (postfix_of c (Some b) ++ items.Operator (op_of op) ∷ [])) ≡ standing (refined (Binary op a c) b rs) kept (operator_bounds op (bounds rs a) (bounds (beside refined op a rs) c) ∷ found)
-    told_found op b told =
+    both_known-found : (op : Operator) (b : Bool) → refines_both op b ≡ true → walk (standing rs kept found) (postfix_of a (Some b) ++ (postfix_of c (Some b) ++ items.Operator (op_of op) ∷ [])) ≡ standing (refined (Binary op a c) b rs) kept (operator_bounds op (bounds rs a) (bounds (beside refined op a rs) c) ∷ found)
+    both_known-found op b told =
         let holds = refined a b rs in
         let end : Walk = standing (refined (Binary op a c) b rs) kept (operator_bounds op (bounds rs a) (bounds (beside refined op a rs) c) ∷ found) in
         both (standing rs kept found) (postfix_of a (Some b)) (postfix_of c (Some b) ++ items.Operator (op_of op) ∷ []) (standing holds kept (bounds rs a ∷ found)) end (left (Some b) rs kept found)
         (both (standing holds kept (bounds rs a ∷ found)) (postfix_of c (Some b)) (items.Operator (op_of op) ∷ []) (standing (refined c b holds) kept (bounds holds c ∷ bounds rs a ∷ found)) end (right (Some b) holds kept (bounds rs a ∷ found))
         (ap (λ (o : Operator). standing (refined c b holds) kept (operator_bounds o (bounds rs a) (bounds holds c) ∷ found)) (same_operator op)
-        ∙ ap₂ (λ (vs ws : List Variable). standing vs kept (operator_bounds op (bounds rs a) (bounds ws c) ∷ found)) (told_left op a c b rs told) (told_beside op a b rs told)))
+        ∙ ap₂ (λ (vs ws : List Variable). standing vs kept (operator_bounds op (bounds rs a) (bounds ws c) ∷ found)) (told_left op a c b rs told) (both_known-beside op a b rs told)))
 
     -- and if they aren't, the comparison itself says what is left
-    left_found : (op : Operator) (m : Option Bool) (fs : List Bounds) → tells_both op m ≡ false → walk (standing rs kept fs) (left_by op a c m) ≡ standing (left_behind (Binary op a c) m rs) kept fs
+    left_found : (op : Operator) (m : Option Bool) (fs : List Bounds) → tells_both op m ≡ false → walk (standing rs kept fs) (left_by op a c m) ≡ standing (ranges_left_after (Binary op a c) m rs) kept fs
     left_found op None fs none = refl
     left_found op (Some b) fs none = compared_left kept fs op a c b rs ∙ ap (λ (vs : List Variable). standing vs kept fs) (untold_left op a c b rs none)
 
-    binary_found : (op : Operator) (m : Option Bool) → walk (standing rs kept found) (postfix_of (Binary op a c) m) ≡ standing (left_behind (Binary op a c) m rs) kept (operator_bounds op (bounds rs a) (bounds (beside refined op a rs) c) ∷ found)
+    binary_found : (op : Operator) (m : Option Bool) → walk (standing rs kept found) (postfix_of (Binary op a c) m) ≡ standing (ranges_left_after (Binary op a c) m rs) kept (operator_bounds op (bounds rs a) (bounds (beside refined op a rs) c) ∷ found)
     binary_found op m = by m (tells_both op m) refl where
       both_items : Option Bool → List PostfixItem
       both_items m = postfix_of a m ++ (postfix_of c m ++ items.Operator (op_of op) ∷ [])
@@ -163,11 +163,11 @@ module _ (kept : List (List Variable)) (found : List Bounds) where
       one_items m = with_operands (guard_of op) op c (postfix_of a) (postfix_of c) ++ left_by op a c m
 
       end : Option Bool → Walk
-      end m = standing (left_behind (Binary op a c) m rs) kept (operator_bounds op (bounds rs a) (bounds (beside refined op a rs) c) ∷ found)
+      end m = standing (ranges_left_after (Binary op a c) m rs) kept (operator_bounds op (bounds rs a) (bounds (beside refined op a rs) c) ∷ found)
 
       by : (m : Option Bool) (t : Bool) → tells_both op m ≡ t → walk (standing rs kept found) (cond t (both_items m) (one_items m)) ≡ end m
       by None true is = cc
-      by (Some b) true is = told_found op b is
+      by (Some b) true is = both_known-found op b is
       by m false is =
           both (standing rs kept found) (with_operands (guard_of op) op c (postfix_of a) (postfix_of c)) (left_by op a c m) (operated_to op) (end m) (operands_found op)
           (left_found op m (operator_bounds op (bounds rs a) (bounds (beside refined op a rs) c) ∷ found) is)
@@ -193,19 +193,19 @@ module _ (c a b : Expression) (test : IsFound c) (first : IsFound a) (second : I
 -- ---- all forms
 
 -- an expression that says nothing of the ranges, and whose bounds were found under the same ranges
-nothing_told : (e : Expression) (m : Option Bool) (rs : List Variable) (kept : List (List Variable)) (found : List Bounds) → ((b : Bool) → refined e b rs ≡ rs) → standing rs kept found ≡ standing (left_behind e m rs) kept found
+nothing_told : (e : Expression) (m : Option Bool) (rs : List Variable) (kept : List (List Variable)) (found : List Bounds) → ((b : Bool) → refined e b rs ≡ rs) → standing rs kept found ≡ standing (ranges_left_after e m rs) kept found
 nothing_told e m rs kept found stays = ap (λ (vs : List Variable). standing vs kept found) (untold e m rs stays)
 
 pub is_found : (e : Expression) → IsFound e
 is_found (Cell v e) m rs kept found =
-    both (standing rs kept found) (postfix_of e None) (items.CellOf v ∷ []) (standing rs kept (bounds rs e ∷ found)) (standing (left_behind (Cell v e) m rs) kept (bounds rs (Cell v e) ∷ found)) (is_found e None rs kept found)
+    both (standing rs kept found) (postfix_of e None) (items.CellOf v ∷ []) (standing rs kept (bounds rs e ∷ found)) (standing (ranges_left_after (Cell v e) m rs) kept (bounds rs (Cell v e) ∷ found)) (is_found e None rs kept found)
     (nothing_told (Cell v e) m rs kept (bounds rs (Cell v e) ∷ found) (λ b. refl))
 is_found (Negative a) m rs kept found =
-    both (standing rs kept found) (postfix_of a None) (items.Negated ∷ []) (standing rs kept (bounds rs a ∷ found)) (standing (left_behind (Negative a) m rs) kept (bounds rs (Negative a) ∷ found)) (is_found a None rs kept found)
+    both (standing rs kept found) (postfix_of a None) (items.Negated ∷ []) (standing rs kept (bounds rs a ∷ found)) (standing (ranges_left_after (Negative a) m rs) kept (bounds rs (Negative a) ∷ found)) (is_found a None rs kept found)
     (nothing_told (Negative a) m rs kept (bounds rs (Negative a) ∷ found) (λ b. refl))
 is_found (Not a) m rs kept found =
-    let behind = left_behind a (option_map not m) rs in
-    both (standing rs kept found) (postfix_of a (option_map not m)) (items.Opposite ∷ []) (standing behind kept (bounds rs a ∷ found)) (standing (left_behind (Not a) m rs) kept (bounds rs (Not a) ∷ found)) (is_found a (option_map not m) rs kept found)
+    let behind = ranges_left_after a (option_map not m) rs in
+    both (standing rs kept found) (postfix_of a (option_map not m)) (items.Opposite ∷ []) (standing behind kept (bounds rs a ∷ found)) (standing (ranges_left_after (Not a) m rs) kept (bounds rs (Not a) ∷ found)) (is_found a (option_map not m) rs kept found)
     (ap (λ (vs : List Variable). standing vs kept (bounds rs (Not a) ∷ found)) (negated_behind a m rs))
 is_found (Binary op a c) m rs kept found = binary_found kept found a c (is_found a) (is_found c) rs op m
 is_found (If c a b) m rs kept found = if_found c a b (is_found c) (is_found a) (is_found b) rs kept found ∙ nothing_told (If c a b) m rs kept (bounds rs (If c a b) ∷ found) (λ t. refl)

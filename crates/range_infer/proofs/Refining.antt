@@ -18,7 +18,7 @@ use Rattle.model_core.proofs.BothTrue.{and_first, and_second}
 use Rattle.model_core.specs.Rules.RangesHold.{LikeDeclared, ZeroToOne, LiesWithin, GuardHolds}
 use Rattle.model_core.specs.declared.var_range.VarRange.{VarRange}
 use Rattle.model_core.specs.Ranges.OtherRanges.{LiesIn, declared_range, with_range}
-use Rattle.model_core.specs.Ranges.Refined.{numbers_left, opposite_comparison, is_number_scalar, unless_empty, where_holds, refined_by, tells_of_both, refined}
+use Rattle.model_core.specs.Ranges.Refined.{numbers_left, opposite_comparison, is_number_scalar, unless_empty, where_holds, ranges_refined_by, refines_both, refined}
 use Rattle.range_infer.proofs.NumbersLeft.{by_test, literal-value}
 
 -- ---- one variable is replaced
@@ -51,13 +51,13 @@ where_holds-shape op (Some n) v = chosen (is_number_scalar v) where
   chosen false = record { kind = refl; size = refl }
 
 module _ (g : EventGraph) where
-  refined_by-alike : (op : Operator) (left right : Expression) (b : Bool) (ranges : List Variable) → LikeDeclared g ranges → LikeDeclared g (refined_by op left right b ranges)
-  refined_by-alike op (Scalar v) right b ranges alike =
+  ranges_refined_by-alike : (op : Operator) (left right : Expression) (b : Bool) (ranges : List Variable) → LikeDeclared g ranges → LikeDeclared g (ranges_refined_by op left right b ranges)
+  ranges_refined_by-alike op (Scalar v) right b ranges alike =
       let shape = where_holds-shape (cond b op (opposite_comparison op)) (literal_number right) (ranged_at ranges v) in
       let Q : ℕ → Variable → Type 0 = λ k w. (w.kind ≡ (variable_at g k).kind) × (w.size ≡ (variable_at g k).size) in
       let each = each-after_set Q ranges v (where_holds (cond b op (opposite_comparison op)) (literal_number right) (ranged_at ranges v)) (λ k. (alike.kinds k, alike.sizes k)) (shape.kind ∙ alike.kinds v, shape.size ∙ alike.sizes v) in
       record { kinds = λ k. (each k).0; sizes = λ k. (each k).1 }
-  refined_by-alike op left right b ranges alike = alike
+  ranges_refined_by-alike op left right b ranges alike = alike
 
   chosen-alike : (t : Bool) (a c : List Variable) → LikeDeclared g a → LikeDeclared g c → LikeDeclared g (cond t a c)
   chosen-alike true a c i j = i
@@ -66,7 +66,7 @@ module _ (g : EventGraph) where
   pub refined-alike : (e : Expression) (b : Bool) (ranges : List Variable) → LikeDeclared g ranges → LikeDeclared g (refined e b ranges)
   refined-alike (Not a) b ranges alike = refined-alike a (not b) ranges alike
   refined-alike (Binary op left right) b ranges alike =
-      chosen-alike (tells_of_both op b) (refined right b (refined left b ranges)) (refined_by op left right b ranges) (refined-alike right b (refined left b ranges) (refined-alike left b ranges alike)) (refined_by-alike op left right b ranges alike)
+      chosen-alike (refines_both op b) (refined right b (refined left b ranges)) (ranges_refined_by op left right b ranges) (refined-alike right b (refined left b ranges) (refined-alike left b ranges alike)) (ranges_refined_by-alike op left right b ranges alike)
   refined-alike e b ranges alike = alike
 
 -- ---- a state stays within the ranges
@@ -123,7 +123,7 @@ same_one (Err k) y e = cc
 abbrev Gives : OrFault ℤ → ℤ → Type 0
 Gives r x = r ≡ Ok x
 
-both_are : (op : Operator) (b : Bool) (a : ℤ) (r : OrFault ℤ) → tells_of_both op b ≡ true → (t : Bool) × (a ≡ number_of t) → cond (decided op a) (Ok a) (r >>= operate op a) ≡ Ok (number_of b) → (a ≡ number_of b) × (r ≡ Ok (number_of b))
+both_are : (op : Operator) (b : Bool) (a : ℤ) (r : OrFault ℤ) → refines_both op b ≡ true → (t : Bool) × (a ≡ number_of t) → cond (decided op a) (Ok a) (r >>= operate op a) ≡ Ok (number_of b) → (a ≡ number_of b) × (r ≡ Ok (number_of b))
 both_are And true a r both (true, is) e = (is, same_one r (number_of true) (subst (λ (a : ℤ). cond (decided And a) (Ok a) (r >>= operate And a) ≡ Ok (number_of true)) is e))
 both_are And true a r both (false, is) e =
     let stays : Gives (Ok (number_of false)) (number_of true) = subst (λ (a : ℤ). cond (decided And a) (Ok a) (r >>= operate And a) ≡ Ok (number_of true)) is e in
@@ -150,14 +150,14 @@ opposite_value : (b : Bool) (x : ℤ) → Gives (Ok (pos 1 -ℤ x)) (number_of b
 opposite_value true x e = let same : pos 1 -ℤ x ≡ pos 1 = cc in omega (arith, ints, same)
 opposite_value false x e = let same : pos 1 -ℤ x ≡ pos 0 = cc in omega (arith, ints, same)
 
-both_truths : (op : Operator) (b : Bool) (A C : Kind → Type 0) → tells_of_both op b ≡ true → FitOperands (operand_kind op) A C → A kinds.Truth × C kinds.Truth
+both_truths : (op : Operator) (b : Bool) (A C : Kind → Type 0) → refines_both op b ≡ true → FitOperands (operand_kind op) A C → A kinds.Truth × C kinds.Truth
 both_truths And b A C e fit = fit
 both_truths Or b A C e fit = fit
 both_truths op b A C e fit = cc
 
 module _ (g : EventGraph) (s : State) (clk : ℕ) (truths : (e : Expression) (x : ℤ) → HasKind g.variables e kinds.Truth → value_of g s clk e ≡ Ok x → (t : Bool) × (x ≡ number_of t)) where
-  refined_by-holds : (op : Operator) (left right : Expression) (b : Bool) (ranges : List Variable) → LiesWithin s ranges → value_of g s clk (Binary op left right) ≡ Ok (number_of b) → LiesWithin s (refined_by op left right b ranges)
-  refined_by-holds op (Scalar v) right b ranges within e =
+  ranges_refined_by-holds : (op : Operator) (left right : Expression) (b : Bool) (ranges : List Variable) → LiesWithin s ranges → value_of g s clk (Binary op left right) ≡ Ok (number_of b) → LiesWithin s (ranges_refined_by op left right b ranges)
+  ranges_refined_by-holds op (Scalar v) right b ranges within e =
       within_holds s _ (each-after_set (HoldsCells s) ranges v (where_holds (cond b op (opposite_comparison op)) (literal_number right) (ranged_at ranges v)) (holds_within s ranges within) (told (literal_number right) refl))
     where
       told : (o : Option ℤ) → literal_number right ≡ o → HoldsCells s v (where_holds (cond b op (opposite_comparison op)) o (ranged_at ranges v))
@@ -165,7 +165,7 @@ module _ (g : EventGraph) (s : State) (clk : ℕ) (truths : (e : Expression) (x 
       told (Some n) is =
           where_holds-holds s v (ranged_at ranges v) (cond b op (opposite_comparison op)) n (holds_within s ranges within v)
           (compared op b (cell_at s (scalar v)) n (value_of g s clk right) (declared_range (ranged_at ranges v)) (λ x done. literal-value g s clk right n x is done) e)
-  refined_by-holds op left right b ranges within e = within
+  ranges_refined_by-holds op left right b ranges within e = within
 
   chosen-holds : (t : Bool) (a c : List Variable) → (t ≡ true → LiesWithin s a) → (t ≡ false → LiesWithin s c) → LiesWithin s (cond t a c)
   chosen-holds true a c i j = i refl
@@ -177,12 +177,12 @@ module _ (g : EventGraph) (s : State) (clk : ℕ) (truths : (e : Expression) (x 
       refined-holds a (not b) ranges is.1 within (done ∙ ap (λ (x : ℤ). Ok x) (opposite_value b x at))
   refined-holds (Binary op left right) b ranges is within e =
       let (x, at_left, later) = bind_ok (value_of g s clk left) _ (number_of b) e in
-      chosen-holds (tells_of_both op b) (refined right b (refined left b ranges)) (refined_by op left right b ranges)
+      chosen-holds (refines_both op b) (refined right b (refined left b ranges)) (ranges_refined_by op left right b ranges)
       (λ both.
       let kinds_are = both_truths op b (HasKind g.variables left) (HasKind g.variables right) both is.1 in
       let told = both_are op b x (value_of g s clk right) both (truths left x kinds_are.0 at_left) later in
       refined-holds right b (refined left b ranges) kinds_are.1 (refined-holds left b ranges kinds_are.0 within (at_left ∙ ap (λ (x : ℤ). Ok x) told.0)) told.1)
-      (λ not_both. refined_by-holds op left right b ranges within e)
+      (λ not_both. ranges_refined_by-holds op left right b ranges within e)
   refined-holds e b ranges is within done = within
 
   pub refined-guard : GuardHolds g s clk refined

@@ -8,7 +8,7 @@ use Rattle.model_core.specs.EventGraph.{EventGraph, EventEdge, Uniform, ByTable,
 use Rattle.model_core.specs.Run.State.{State, Place, scalar, in_range}
 use Rattle.model_core.specs.Run.Value.{OrFault, ◌>>=◌, number_of, is_one, each, value_of}
 use Rattle.model_core.specs.Run.Pending.{Entry, is_of, is_with, without_next, without_all}
-use Rattle.model_core.specs.Run.Edges.{Planned, Waiting, delay_ticks, delay_of, scheduled, carried_values, act, treat}
+use Rattle.model_core.specs.Run.Edges.{EdgeState, Waiting, delay_ticks, delay_of, scheduled, carried_values, act, treat_edge}
 use Rattle.model_core.specs.Run.Step.{vertex_at}
 use Rattle.model_core.specs.Static.HasKind.{HasKind}
 use Rattle.model_core.specs.Static.OwnRules.{CarriesValues, TakeCarried, KeepsParts, parameters_of}
@@ -39,7 +39,7 @@ module _ (g : EventGraph) (ranges : List VarRange) (fitting : Fitting g ranges) 
   abbrev pub EntryFits : Entry → Type 0
   EntryFits e = CarriedFits e.vertex e.values
 
-  abbrev pub PlannedFits : Planned → Type 0
+  abbrev pub PlannedFits : EdgeState → Type 0
   PlannedFits p = AllByRecursion EntryFits p.pending
 
   -- ---- the same
@@ -50,7 +50,7 @@ module _ (g : EventGraph) (ranges : List VarRange) (fitting : Fitting g ranges) 
   same_wait seed s clk (Drawn stream (Uniform lo hi)) taken = refl
   same_wait seed s clk (Drawn stream (ByTable t)) taken = refl
 
-  same_act : (seed : ℕ) (s : State) (clk : ℕ) (e : EventEdge) (kind : EdgeKind) (p : Planned) → act g seed s clk e kind p ≡ act h seed s clk e kind p
+  same_act : (seed : ℕ) (s : State) (clk : ℕ) (e : EventEdge) (kind : EdgeKind) (p : EdgeState) → act g seed s clk e kind p ≡ act h seed s clk e kind p
   same_act seed s clk e (Schedule delay priority) p =
       ap₂ (λ (wait : OrFault Waiting) (value : Expression → OrFault ℤ). wait >>= λ wait. each value e.values >>= λ values. Ok (record { pending = scheduled (clk + wait.ticks) priority e.target p.pending values; taken = wait.taken })) (same_wait seed s clk delay p.taken) (λ i x. same_value g ranges s clk x i)
   same_act seed s clk e Urgent p =
@@ -60,9 +60,9 @@ module _ (g : EventGraph) (ranges : List VarRange) (fitting : Fitting g ranges) 
       ap (λ (value : Expression → OrFault ℤ). each value e.values >>= λ values. Ok (record p { pending = without_next (is_with e.target values) p.pending })) (λ i x. same_value g ranges s clk x i)
   same_act seed s clk e CancelAll p = refl
 
-  pub same_edge : (seed : ℕ) (s : State) (clk : ℕ) (e : EventEdge) (p : Planned) → treat g seed s clk e p ≡ treat h seed s clk e p
+  pub same_edge : (seed : ℕ) (s : State) (clk : ℕ) (e : EventEdge) (p : EdgeState) → treat_edge g seed s clk e p ≡ treat_edge h seed s clk e p
   same_edge seed s clk e p =
-      ap₂ (λ (r : OrFault ℤ) (q : OrFault Planned). r >>= λ c. cond (is_one c) q (Ok p)) (same_value g ranges s clk e.condition) (same_act seed s clk e e.kind p)
+      ap₂ (λ (r : OrFault ℤ) (q : OrFault EdgeState). r >>= λ c. cond (is_one c) q (Ok p)) (same_value g ranges s clk e.condition) (same_act seed s clk e e.kind p)
 
   -- ---- what is scheduled fits
 
@@ -99,7 +99,7 @@ module _ (g : EventGraph) (ranges : List VarRange) (fitting : Fitting g ranges) 
           let named = subst (λ (vs : List ℕ). AllByRecursion (HoldsIncoming g ranges) (assigned (refined e.condition true h.variables) vs e.values)) (scalars_named (vertex_at g e.target).parameters) takes in
           values_fit g ranges fitting s clk (refined e.condition true h.variables) values_between (map scalar (vertex_at g e.target).parameters) e.values carries.kinds values carries.given done named
 
-      act_fits : (seed : ℕ) (kind : EdgeKind) (p q : Planned) → e.kind ≡ kind → PlannedFits p → act g seed s clk e kind p ≡ Ok q → PlannedFits q
+      act_fits : (seed : ℕ) (kind : EdgeKind) (p q : EdgeState) → e.kind ≡ kind → PlannedFits p → act g seed s clk e kind p ≡ Ok q → PlannedFits q
       act_fits seed (Schedule delay priority) p q is fits done =
           let (wait, at_delay, later) = bind_ok (delay_of g seed s clk delay p.taken) _ q done in
           let (values, at_values, end) = bind_ok (carried_values g s clk e) _ q later in
@@ -124,7 +124,7 @@ module _ (g : EventGraph) (ranges : List VarRange) (fitting : Fitting g ranges) 
           let same : without_all (is_of e.target) p.pending ≡ q.pending = cc in
           subst (AllByRecursion EntryFits) same (without_all-every EntryFits (is_of e.target) p.pending fits)
 
-    pub edge_fits : (seed : ℕ) (e : EventEdge) → EdgeKnown g ranges e → (p q : Planned) → PlannedFits p → treat g seed s clk e p ≡ Ok q → PlannedFits q
+    pub edge_fits : (seed : ℕ) (e : EventEdge) → EdgeKnown g ranges e → (p q : EdgeState) → PlannedFits p → treat_edge g seed s clk e p ≡ Ok q → PlannedFits q
     edge_fits seed e known p q fits done =
         let (c, at_condition, later) = bind_ok (value_of g s clk e.condition) _ q done in
         tested c at_condition (is_one c) refl later

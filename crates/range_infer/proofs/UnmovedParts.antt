@@ -10,8 +10,8 @@ use Rattle.model_core.specs.Rules.BoundsTable.{variable_bounds, quiet_index, neg
 use Rattle.model_core.specs.Rules.BoundsOf.{ranged_at, beside, bounds_under}
 use Rattle.model_core.specs.Rules.Exclusive.{literal_number}
 use Rattle.model_core.specs.Rules.Uses.{variables_in}
-use Rattle.model_core.specs.Ranges.Refined.{opposite_comparison, where_holds, refined_by, tells_of_both, refined}
-use Rattle.model_core.proofs.EachOne.{every-front, every-behind}
+use Rattle.model_core.specs.Ranges.Refined.{opposite_comparison, where_holds, ranges_refined_by, refines_both, refined}
+use Rattle.model_core.proofs.EachOne.{every-front, every-after}
 use Rattle.range_infer.specs.Inner.Moved.{is_moved}
 
 module _ (moved : List Bool) where
@@ -45,7 +45,7 @@ module _ (moved : List Bool) where
 
   -- ---- what is known of an expression
 
-  compared : (op : Operator) (left right : Expression) (b : Bool) (old new : List Variable) → StayElsewhere old new → Unmoved (variables_in left) → StayElsewhere (refined_by op left right b old) (refined_by op left right b new)
+  compared : (op : Operator) (left right : Expression) (b : Bool) (old new : List Variable) → StayElsewhere old new → Unmoved (variables_in left) → StayElsewhere (ranges_refined_by op left right b old) (ranges_refined_by op left right b new)
   compared op (Scalar v) right b old new stay still =
       let f : Variable → Variable = where_holds (cond b op (opposite_comparison op)) (literal_number right) in
       put old new v (f (ranged_at old v)) (f (ranged_at new v)) (ap f (stay.each v still.0)) stay
@@ -66,8 +66,8 @@ module _ (moved : List Bool) where
   known (Not a) b old new stay still = known a (not b) old new stay still
   known (Binary op left right) b old new stay still =
       let first = every-front (λ v. is_moved moved v ≡ false) (variables_in left) (variables_in right) still in
-      let second = every-behind (λ v. is_moved moved v ≡ false) (variables_in left) (variables_in right) still in
-      either (tells_of_both op b) (refined right b (refined left b old)) (refined_by op left right b old) (refined right b (refined left b new)) (refined_by op left right b new)
+      let second = every-after (λ v. is_moved moved v ≡ false) (variables_in left) (variables_in right) still in
+      either (refines_both op b) (refined right b (refined left b old)) (ranges_refined_by op left right b old) (refined right b (refined left b new)) (ranges_refined_by op left right b new)
       (known right b (refined left b old) (refined left b new) (known left b old new stay first) second) (compared op left right b old new stay first)
   known (Number n) b old new stay still = stay
   known (Truth t) b old new stay still = stay
@@ -94,12 +94,12 @@ module _ (moved : List Bool) where
   bounds_stay (Not a) old new stay still = ap opposite (bounds_stay a old new stay still)
   bounds_stay (Binary op a b) old new stay still =
       let first = every-front (λ v. is_moved moved v ≡ false) (variables_in a) (variables_in b) still in
-      let second = every-behind (λ v. is_moved moved v ≡ false) (variables_in a) (variables_in b) still in
+      let second = every-after (λ v. is_moved moved v ≡ false) (variables_in a) (variables_in b) still in
       ap₂ (operator_bounds op) (bounds_stay a old new stay first) (bounds_stay b (beside refined op a old) (beside refined op a new) (known_beside op a old new stay first) second)
   bounds_stay (If c a b) old new stay still =
       let both = every-front (λ v. is_moved moved v ≡ false) (variables_in c ++ variables_in a) (variables_in b) still in
       let test = every-front (λ v. is_moved moved v ≡ false) (variables_in c) (variables_in a) both in
-      let yes = bounds_stay a (refined c true old) (refined c true new) (known c true old new stay test) (every-behind (λ v. is_moved moved v ≡ false) (variables_in c) (variables_in a) both) in
-      let no = bounds_stay b (refined c false old) (refined c false new) (known c false old new stay test) (every-behind (λ v. is_moved moved v ≡ false) (variables_in c ++ variables_in a) (variables_in b) still) in
+      let yes = bounds_stay a (refined c true old) (refined c true new) (known c true old new stay test) (every-after (λ v. is_moved moved v ≡ false) (variables_in c) (variables_in a) both) in
+      let no = bounds_stay b (refined c false old) (refined c false new) (known c false old new stay test) (every-after (λ v. is_moved moved v ≡ false) (variables_in c ++ variables_in a) (variables_in b) still) in
       ap₂ (λ (x y : Bounds). chosen_bounds x y (bounds_under refined (refined c false old) b)) (bounds_stay c old new stay test) yes
       ∙ ap (chosen_bounds (bounds_under refined new c) (bounds_under refined (refined c true new) a)) no

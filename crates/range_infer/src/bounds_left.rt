@@ -1,5 +1,5 @@
 //! The bounds of an expression under the ranges that are left where it is evaluated.
-#![tactic(auto, using(crate::proofs::LedBack::leading_back))]
+#![tactic(auto, using(crate::proofs::RestoredRanges::restores_through))]
 
 ghost use Rattle.std.specs.Prelude.{◌≡◌, List, length, pos, int_le, int_lt, ◌&&◌, true, false, IfOk, OnOk};
 ghost use Rattle.model_core.specs.EventGraph.{Variable, Expression};
@@ -10,10 +10,10 @@ ghost use Rattle.model_core.specs.Code.Views.{graph_of, expression_of, operator_
 ghost use Rattle.model_core.specs.Ranges.OtherRanges.{with_ranges};
 ghost use Rattle.model_core.specs.Ranges.Refined.{refined};
 ghost use Rattle.range_infer.specs.declared.ranges_left.RangesLeft.{RangesLeft};
-ghost use Rattle.range_infer.specs.Inner.RangesLeft.{variables_left, StaysLeft, LeadsBack};
+ghost use Rattle.range_infer.specs.Inner.RangesLeft.{variables_left, StaysLeft, RestoresTo};
 
 use crate::ranges_left::RangesLeft;
-use crate::refinement::{forget, guard_of, refine, tells_of_both};
+use crate::refinement::{guard_of, refine, refines_both, restore_ranges};
 use model_core::{Bounds, Expr, Kind, Model, Op, VarRange};
 use range_bounds::{
     chosen_bounds, negative_bounds, number_bounds, operator_bounds, opposite, truth_bounds,
@@ -89,7 +89,7 @@ fn operand_left(left: &mut RangesLeft, expr: &Expr) -> Result<Bounds, NoMemory>
 fn bounds_beside(left: &mut RangesLeft, op: Op, first: &Expr) -> Result<Bounds, NoMemory>
     ensures bounds { IfOk result (λ b. b ≡ bounds_under refined (variables_left left.old) (expression_of first.now)) }
     ensures left { OnOk result (variables_left left.new ≡ beside refined (operator_of op) (expression_of first.now) (variables_left left.old)) }
-    ensures back { OnOk result (LeadsBack left.old left.new) }
+    ensures back { OnOk result (RestoresTo left.old left.new) }
 {
     match guard_of(op) {
         None => operand_left(left, first),
@@ -102,10 +102,10 @@ fn bounds_beside(left: &mut RangesLeft, op: Op, first: &Expr) -> Result<Bounds, 
 #[inline(always)]
 fn last_bounds(left: &mut RangesLeft, expr: &Expr, replaced: usize) -> Result<Bounds, NoMemory>
     ensures bounds { IfOk result (λ b. b ≡ bounds_under refined (variables_left left.old) (expression_of expr.now)) }
-    ensures left { OnOk result ((old : RangesLeft) → replaced ≡ length old.replaced.items → LeadsBack old left.old → StaysLeft old left.new) }
+    ensures left { OnOk result ((old : RangesLeft) → replaced ≡ length old.replaced.items → RestoresTo old left.old → StaysLeft old left.new) }
 {
     let bounds = operand_left(left, expr)?;
-    forget(left, replaced);
+    restore_ranges(left, replaced);
     Ok(bounds)
 }
 
@@ -180,10 +180,10 @@ pub(crate) fn bounds_where(
 ) -> Result<Bounds, NoMemory>
     ensures bounds { IfOk result (λ b. b ≡ bounds_under refined (variables_left left.old) (expression_of expr.now)) }
     ensures left { OnOk result (variables_left left.new ≡ refined (expression_of expr.now) value (variables_left left.old)) }
-    ensures back { OnOk result (LeadsBack left.old left.new) }
+    ensures back { OnOk result (RestoresTo left.old left.new) }
 {
     if let Expr::Binary(op, first, second) = expr {
-        if tells_of_both(*op, value) {
+        if refines_both(*op, value) {
             let a = bounds_where(left, first, value)?;
             let b = bounds_where(left, second, value)?;
             return Ok(operator_bounds(*op, &a, &b));

@@ -1,5 +1,5 @@
 //! What a model's variables take under given ranges, collected from those of its changes and edges that are looked at.
-#![tactic(auto, using(crate::proofs::LedBack::leading_back))]
+#![tactic(auto, using(crate::proofs::RestoredRanges::restores_through))]
 
 ghost use Rattle.std.specs.Prelude.{◌≡◌, length, cond, true, [], ◌∷◌, ◌++◌, map, drop, OnOk, IfOk};
 ghost use Rattle.std.specs.List.{flat_map};
@@ -22,7 +22,7 @@ use crate::part_reads::{EdgeReads, ValueReads, VertexReads, part_count};
 use crate::postfix_bounds::value_bounds;
 use crate::ranges_left::RangesLeft;
 use crate::readers::{PartPlace, are_few, readers_of_moved};
-use crate::refinement::forget;
+use crate::refinement::restore_ranges;
 use crate::rounds::copied;
 use model_core::{Change, Edge, Expr, Incoming, Model, Target, VarRange, Vertex};
 use range_bounds::choice_bounds;
@@ -147,7 +147,7 @@ fn add_carried(
         let params = left.model.parameters_at(edge.target);
         add_parameters(out, left, look, params, edge.values.as_slice(), reads)?;
     }
-    forget(left, replaced);
+    restore_ranges(left, replaced);
     Ok(())
 }
 
@@ -417,7 +417,7 @@ pub(crate) fn incoming(
 
 /// What a model's variables take, where their ranges were these and are those now, by the parts that read one that moved.
 // Mostly these are few, and the lists of the variables that moved have them. Else all parts are gone through.
-pub(crate) fn taken_again(
+pub(crate) fn taken_by_moved_readers(
     alloc: Global,
     model: &Model,
     reads: &[VertexReads],

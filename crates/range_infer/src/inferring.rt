@@ -8,7 +8,7 @@ ghost use Rattle.model_core.specs.Ranges.Inference.{IsInferred};
 ghost use Rattle.range_infer.specs.Inner.PartReads.{parts_read};
 ghost use Rattle.range_infer.specs.Inner.Readers.{readers_in};
 
-use crate::collecting::{incoming, taken_again};
+use crate::collecting::{incoming, taken_by_moved_readers};
 use crate::law::rounds_end_with_inductive_ranges;
 use crate::moves::same_ranges;
 use crate::part_reads::{VertexReads, all_parts_read};
@@ -47,7 +47,7 @@ fn make_rounds(
         if same_ranges(after, before) {
             return Ok(List::from_vec(ranges));
         }
-        takes = taken_again(alloc, model, reads, readers, before, after)?;
+        takes = taken_by_moved_readers(alloc, model, reads, readers, before, after)?;
         ranges = next;
         rounds += 1;
     }

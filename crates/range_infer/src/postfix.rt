@@ -8,7 +8,7 @@ ghost use Rattle.model_core.specs.Code.Views.{expression_of, operator_of};
 ghost use Rattle.model_core.specs.Rules.Exclusive.{number_literal};
 ghost use Rattle.range_infer.specs.Inner.Postfix.{number_items, literal_items, compared_items, left_items, tells_both, left_by, with_right, postfix_of, is_of_ranges};
 
-use crate::refinement::{comparison_where, guard_of, tells_of_both};
+use crate::refinement::{comparison_where, guard_of, refines_both};
 use model_core::{Expr, Op};
 use sig_base::{List, NoMemory};
 use std::alloc::Global;
@@ -124,7 +124,7 @@ fn add_left(items: &mut Vec<PostfixItem>, expr: &Expr, value: bool) -> Result<()
     match expr {
         Expr::Not(a) => add_left(items, a, !value),
         Expr::Binary(op, first, second) => {
-            if tells_of_both(*op, value) {
+            if refines_both(*op, value) {
                 add_left(items, first, value)?;
                 add_left(items, second, value)
             } else {
@@ -158,7 +158,7 @@ fn tells_both(op: Op, value: Option<bool>) -> bool
 {
     match value {
         None => false,
-        Some(value) => tells_of_both(op, value),
+        Some(value) => refines_both(op, value),
     }
 }
 

@@ -7,7 +7,7 @@ ghost use Rattle.model_core.specs.Rules.BoundsOf.{bounds_under};
 ghost use Rattle.model_core.specs.Ranges.Refined.{refined};
 ghost use Rattle.model_core.specs.Code.Views.{expression_of};
 ghost use Rattle.range_infer.specs.declared.ranges_left.RangesLeft.{RangesLeft};
-ghost use Rattle.range_infer.specs.Inner.RangesLeft.{variables_left, StaysLeft, LeadsBack};
+ghost use Rattle.range_infer.specs.Inner.RangesLeft.{variables_left, StaysLeft, RestoresTo};
 ghost use Rattle.range_infer.specs.Inner.KeptRanges.{LeftOnWalk};
 ghost use Rattle.range_infer.specs.Inner.PartReads.{long_postfix};
 ghost use Rattle.range_infer.specs.Inner.Postfix.{Walk, signed_number, postfix_of, operated, chosen, is_of_ranges, after_item, walked};
@@ -15,7 +15,7 @@ ghost use Rattle.range_infer.specs.Inner.Postfix.{Walk, signed_number, postfix_o
 use crate::bounds_left::{bounds_left, quiet_index, variable_bounds};
 use crate::postfix::{PostfixItem, is_of_ranges};
 use crate::ranges_left::RangesLeft;
-use crate::refinement::{forget, refine_scalar};
+use crate::refinement::{refine_scalar, restore_ranges};
 use model_core::{Bounds, Expr, Op};
 use range_bounds::{
     chosen_bounds, negative_bounds, number_bounds, operator_bounds, opposite, truth_bounds,
@@ -100,7 +100,7 @@ fn put_back(left: &mut RangesLeft, kept: &mut Vec<usize>)
     ensures { (first : RangesLeft) (w : Walk) → LeftOnWalk first left.old (reverse kept.old.items) w → LeftOnWalk first left.new (reverse kept.new.items) (walked w PostfixItem.PutBack) }
 {
     if let Some(count) = kept.pop() {
-        forget(left, count);
+        restore_ranges(left, count);
     }
 }
 
@@ -138,7 +138,7 @@ fn walk_over(
 ) -> Result<Bounds, NoMemory>
     requires { kept.old.items ≡ [] }
     ensures found { IfOk result (λ b. (e : Expression) → items.now ≡ postfix_of e None → b ≡ bounds_under refined (variables_left left.old) e) }
-    ensures back { OnOk result (LeadsBack left.old left.new) }
+    ensures back { OnOk result (RestoresTo left.old left.new) }
 {
     let mut last = number_bounds(0, 0, true);
     for item in items {
@@ -160,7 +160,7 @@ fn bounds_of_items(left: &mut RangesLeft, items: &[PostfixItem]) -> Result<Bound
     let mut before = Vec::new(*left.ranges.allocator());
     let mut kept = Vec::new(*left.ranges.allocator());
     let last = walk_over(left, &mut before, &mut kept, items)?;
-    forget(left, replaced);
+    restore_ranges(left, replaced);
     Ok(last)
 }
 

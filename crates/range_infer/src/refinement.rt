@@ -1,13 +1,13 @@
 //! The ranges that are left where an expression is known to be true, or to be false.
-#![tactic(auto, using(crate::proofs::LedBack::leading_back))]
+#![tactic(auto, using(crate::proofs::RestoredRanges::restores_through))]
 
 ghost use Rattle.std.specs.Prelude.{◌≡◌, ◌≤◌, Some, length, slice_set, cond, OnOk};
 ghost use Rattle.range_bounds.specs.Near.{IsNear};
 ghost use Rattle.model_core.specs.Rules.BoundsOf.{ranged_at};
 ghost use Rattle.model_core.specs.Code.Views.{expression_of, operator_of};
-ghost use Rattle.model_core.specs.Ranges.Refined.{opposite_comparison, where_holds, refined_by, tells_of_both, refined};
+ghost use Rattle.model_core.specs.Ranges.Refined.{opposite_comparison, where_holds, ranges_refined_by, refines_both, refined};
 ghost use Rattle.range_infer.specs.declared.ranges_left.RangesLeft.{RangesLeft};
-ghost use Rattle.range_infer.specs.Inner.RangesLeft.{variables_left, StaysLeft, LeadsBack};
+ghost use Rattle.range_infer.specs.Inner.RangesLeft.{variables_left, StaysLeft, RestoresTo};
 ghost use Rattle.range_infer.specs.Inner.Postfix.{guard_of};
 
 use crate::numbers_left::where_holds;
@@ -39,8 +39,8 @@ pub(crate) fn comparison_where(op: Op, value: bool) -> Op
     if value { op } else { opposite_comparison(op) }
 }
 
-pub(crate) fn tells_of_both(op: Op, value: bool) -> bool
-    ensures { result ≡ tells_of_both (operator_of op) value }
+pub(crate) fn refines_both(op: Op, value: bool) -> bool
+    ensures { result ≡ refines_both (operator_of op) value }
 {
     match op {
         Op::And => value,
@@ -72,8 +72,8 @@ fn put_range(ranges: &mut Vec<VarRange>, var: usize, range: VarRange)
 }
 
 /// Puts back what was replaced since there were so many replaced ranges: what then is left was left before that.
-pub(crate) fn forget(left: &mut RangesLeft, replaced: usize)
-    ensures { (old : RangesLeft) → replaced ≡ length old.replaced.items → LeadsBack old left.old → StaysLeft old left.new }
+pub(crate) fn restore_ranges(left: &mut RangesLeft, replaced: usize)
+    ensures { (old : RangesLeft) → replaced ≡ length old.replaced.items → RestoresTo old left.old → StaysLeft old left.new }
 {
     while replaced < left.replaced.len() {
         if let Some(last) = left.replaced.pop() {
@@ -93,7 +93,7 @@ pub(crate) fn refine_scalar(
     requires near { IsNear n }
     ensures left { OnOk result (variables_left left.new
         ≡ slice_set (variables_left left.old) var (where_holds (operator_of op) (Some n) (ranged_at (variables_left left.old) var))) }
-    ensures back { OnOk result (LeadsBack left.old left.new) }
+    ensures back { OnOk result (RestoresTo left.old left.new) }
 {
     if let Some(found) = left.model.vars.as_slice().get(var) {
         let range = left.ranges[var];
@@ -112,8 +112,8 @@ fn refine_by(
     value: bool,
 ) -> Result<(), NoMemory>
     ensures left { OnOk result (variables_left left.new
-        ≡ refined_by (operator_of op) (expression_of first.now) (expression_of second.now) value (variables_left left.old)) }
-    ensures back { OnOk result (LeadsBack left.old left.new) }
+        ≡ ranges_refined_by (operator_of op) (expression_of first.now) (expression_of second.now) value (variables_left left.old)) }
+    ensures back { OnOk result (RestoresTo left.old left.new) }
 {
     let Expr::Scalar(var) = first else {
         return Ok(());
@@ -127,12 +127,12 @@ fn refine_by(
 /// Refines the ranges to those that are left where an expression has this value.
 pub(crate) fn refine(left: &mut RangesLeft, expr: &Expr, value: bool) -> Result<(), NoMemory>
     ensures left { OnOk result (variables_left left.new ≡ refined (expression_of expr.now) value (variables_left left.old)) }
-    ensures back { OnOk result (LeadsBack left.old left.new) }
+    ensures back { OnOk result (RestoresTo left.old left.new) }
 {
     match expr {
         Expr::Not(a) => refine(left, a, !value),
         Expr::Binary(op, first, second) => {
-            if tells_of_both(*op, value) {
+            if refines_both(*op, value) {
                 refine(left, first, value)?;
                 refine(left, second, value)
             } else {

@@ -14,7 +14,7 @@ use Rattle.model_core.specs.Rules.Conditions.{first_failed}
 use Rattle.model_core.specs.Rules.MarkedPlaces.{unmarked_places, is_marked}
 use Rattle.model_core.specs.Rules.Settle.{first_settle}
 use Rattle.model_core.specs.Rules.Reached.{reached_marks, unreached}
-use Rattle.model_core.specs.Rules.Drop.{lists_some, lists_exactly, drop_conditions, dropped}
+use Rattle.model_core.specs.Rules.Drop.{is_nonempty_list, lists_exactly, drop_conditions, dropped}
 use Rattle.model_core.specs.Rules.UrgentEdges.{plain_urgent_edge}
 use Rattle.model_core.specs.Rules.Merge.{merge_conditions, merged, merge_at, first_merge}
 use Rattle.model_core.specs.Rules.Needed.{needed_at_once, needed_beside, needed_marks, unneeded}
@@ -24,7 +24,7 @@ use Rattle.mark_laws.proofs.EntailedMarks.{entailed_marks-long}
 use Rattle.mark_laws.proofs.ReachedLong.{reached_marks-long}
 use Rattle.model_core.proofs.AllHold.{every-holds}
 use Rattle.model_core.proofs.BothTrue.{and_first, and_second}
-use Rattle.reducer.specs.Inner.LaterRules.{NoEdgeRule, Made, nothing_more, MadeOn}
+use Rattle.reducer.specs.Inner.LaterRules.{NoEdgeRule, MadeAndNoted, nothing_more, MadeThenDrop}
 use Rattle.reducer.proofs.PlacesByName.{variables_distinct, vertices_distinct, place_of_its_name, places_of_their_names}
 
 -- ---- the first rule where no rule of edges is applicable
@@ -38,11 +38,11 @@ later_is_first g none =
     ∙ ap (λ (o : Option (ℕ × ℕ)). option_or (at_edge g Settle o) (later_rule g)) none.settled
 
 -- what is made where the first rule is to be made
-later_made : (g h : EventGraph) (before after : List RuleApplication) (made : Bool) → NoEdgeRule g → Made (later_rule g) made g h before after → Made (first_rule g) made g h before after
-later_made g h before after made none m = subst (λ (o : Option RuleApplication). Made o made g h before after) (sym (later_is_first g none)) m
+later_made : (g h : EventGraph) (before after : List RuleApplication) (made : Bool) → NoEdgeRule g → MadeAndNoted (later_rule g) made g h before after → MadeAndNoted (first_rule g) made g h before after
+later_made g h before after made none m = subst (λ (o : Option RuleApplication). MadeAndNoted o made g h before after) (sym (later_is_first g none)) m
 
 -- a drop
-pub drop_is_made : (g h : EventGraph) (before after : List RuleApplication) → NoEdgeRule g → (made : Bool) → made ≡ true → Made (drop_of g (unreached g)) made g h before after → Made (first_rule g) true g h before after
+pub drop_is_made : (g h : EventGraph) (before after : List RuleApplication) → NoEdgeRule g → (made : Bool) → made ≡ true → MadeAndNoted (drop_of g (unreached g)) made g h before after → MadeAndNoted (first_rule g) true g h before after
 drop_is_made g h before after none true e (a, is, made, noted) = later_made g h before after true none (a, ap (λ (o : Option RuleApplication). option_or o (first_given (merge_of g (first_merge g) ∷ slice_of g (unneeded g) ∷ []))) is, made, noted)
 drop_is_made g h before after none false e made = cc
 
@@ -51,7 +51,7 @@ or_none None = refl
 or_none (Some a) = refl
 
 -- nothing to drop, and a merge
-pub merge_is_made : (g k h : EventGraph) (before between after : List RuleApplication) → NoEdgeRule g → (dropped merged : Bool) → dropped ≡ false → merged ≡ true → Made (drop_of g (unreached g)) dropped g k before between → Made (merge_of k (first_merge k)) merged k h between after → Made (first_rule g) true g h before after
+pub merge_is_made : (g k h : EventGraph) (before between after : List RuleApplication) → NoEdgeRule g → (dropped merged : Bool) → dropped ≡ false → merged ≡ true → MadeAndNoted (drop_of g (unreached g)) dropped g k before between → MadeAndNoted (merge_of k (first_merge k)) merged k h between after → MadeAndNoted (first_rule g) true g h before after
 merge_is_made g k h before between after none true merged d m drop merge = cc
 merge_is_made g k h before between after none false false d m drop merge = cc
 merge_is_made g k h before between after none false true d m (no_drop, same, unnoted) (a, is, made, noted) =
@@ -64,21 +64,21 @@ merge_is_made g k h before between after none false true d m (no_drop, same, unn
     )
 
 -- the same where the drop after the merge may be made as well
-pub merge_on_is_made : (g k h : EventGraph) (before between after : List RuleApplication) → NoEdgeRule g → (dropped merged : Bool) → dropped ≡ false → merged ≡ true → Made (drop_of g (unreached g)) dropped g k before between → MadeOn (λ g. merge_of g (first_merge g)) merged k h between after → MadeOn first_rule true g h before after
+pub merge_on_is_made : (g k h : EventGraph) (before between after : List RuleApplication) → NoEdgeRule g → (dropped merged : Bool) → dropped ≡ false → merged ≡ true → MadeAndNoted (drop_of g (unreached g)) dropped g k before between → MadeThenDrop (λ g. merge_of g (first_merge g)) merged k h between after → MadeThenDrop first_rule true g h before after
 merge_on_is_made g k h before between after none dropped true d m drop (next, middle, merge, more) = (next, middle, merge_is_made g k next before between middle none dropped true d refl drop merge, more)
 merge_on_is_made g k h before between after none dropped false d m drop merge = cc
 
 -- an application alone, or none
-pub one_made : (rule : EventGraph → Option RuleApplication) (g h : EventGraph) (before after : List RuleApplication) (made : Bool) → Made (rule g) made g h before after → MadeOn rule made g h before after
+pub one_made : (rule : EventGraph → Option RuleApplication) (g h : EventGraph) (before after : List RuleApplication) (made : Bool) → MadeAndNoted (rule g) made g h before after → MadeThenDrop rule made g h before after
 one_made rule g h before after true made = (h, after, made, nothing_more refl refl)
 one_made rule g h before after false none = none
 
-pub none_made : (rule : EventGraph → Option RuleApplication) (g h : EventGraph) (before after : List RuleApplication) (made : Bool) → made ≡ false → MadeOn rule made g h before after → Made (rule g) made g h before after
+pub none_made : (rule : EventGraph → Option RuleApplication) (g h : EventGraph) (before after : List RuleApplication) (made : Bool) → made ≡ false → MadeThenDrop rule made g h before after → MadeAndNoted (rule g) made g h before after
 none_made rule g h before after true e made = cc
 none_made rule g h before after false e none = none
 
 -- nothing to drop nor to merge, and a slice or none
-pub slice_is_made : (g k l h : EventGraph) (before between later after : List RuleApplication) → NoEdgeRule g → (dropped merged : Bool) → dropped ≡ false → merged ≡ false → Made (drop_of g (unreached g)) dropped g k before between → Made (merge_of k (first_merge k)) merged k l between later → (made : Bool) → Made (slice_of l (unneeded l)) made l h later after → Made (first_rule g) made g h before after
+pub slice_is_made : (g k l h : EventGraph) (before between later after : List RuleApplication) → NoEdgeRule g → (dropped merged : Bool) → dropped ≡ false → merged ≡ false → MadeAndNoted (drop_of g (unreached g)) dropped g k before between → MadeAndNoted (merge_of k (first_merge k)) merged k l between later → (made : Bool) → MadeAndNoted (slice_of l (unneeded l)) made l h later after → MadeAndNoted (first_rule g) made g h before after
 slice_is_made g k l h before between later after none true merged d m drop merge made last = cc
 slice_is_made g k l h before between later after none false true d m drop merge made last = cc
 slice_is_made g k l h before between later after none false false d m (no_drop, same, unnoted) (no_merge, same_too, unnoted_too) made last =
@@ -90,9 +90,9 @@ slice_is_made g k l h before between later after none false false d m (no_drop, 
     ∙ ap (λ (o : Option RuleApplication). option_or o (first_given (slice_of g (unneeded g) ∷ []))) no_merge_at_g
     ∙ or_none (slice_of g (unneeded g)) in
     later_made g h before after made none
-    (subst (λ (o : Option RuleApplication). Made o made g h before after) (sym slices)
-    (subst (λ (before : List RuleApplication). Made (slice_of g (unneeded g)) made g h before after) all_unnoted
-    (subst (λ (l : EventGraph). Made (slice_of l (unneeded l)) made l h later after) all_same last)))
+    (subst (λ (o : Option RuleApplication). MadeAndNoted o made g h before after) (sym slices)
+    (subst (λ (before : List RuleApplication). MadeAndNoted (slice_of g (unneeded g)) made g h before after) all_unnoted
+    (subst (λ (l : EventGraph). MadeAndNoted (slice_of l (unneeded l)) made l h later after) all_same last)))
 
 -- ---- lists of places
 
@@ -115,13 +115,13 @@ exactly_itself [] = refl
 exactly_itself (k ∷ ks) = ap (λ b. b && pointwise nat_eq ks ks) (eq-eqb k k refl) ∙ exactly_itself ks
 
 -- the conditions of drop and slice hold of exactly those that are wanted
-pub exactly_hold : (ks wanted : List ℕ) → (length ks ≡ 0 → ⊥) → ks ≡ wanted → first_failed (lists_some ks ∷ lists_exactly ks wanted ∷ []) ≡ None
+pub exactly_hold : (ks wanted : List ℕ) → (length ks ≡ 0 → ⊥) → ks ≡ wanted → first_failed (is_nonempty_list ks ∷ lists_exactly ks wanted ∷ []) ≡ None
 exactly_hold [] wanted some is = absurd (some refl)
 exactly_hold (v ∷ vs) wanted some is = ap (λ b. first_failed (true ∷ b ∷ [])) (ap (lists_exactly (v ∷ vs)) (sym is) ∙ exactly_itself (v ∷ vs))
 
 -- ---- drop
 
-pub drop_made : (g h : EventGraph) (ks : List ℕ) (before after : List RuleApplication) → IsValid g → (length ks ≡ 0 → ⊥) → ks ≡ unreached g → h ≡ dropped g ks → after ≡ before ++ Drop (map (vertex_name g) ks) ∷ [] → Made (drop_of g (unreached g)) true g h before after
+pub drop_made : (g h : EventGraph) (ks : List ℕ) (before after : List RuleApplication) → IsValid g → (length ks ≡ 0 → ⊥) → ks ≡ unreached g → h ≡ dropped g ks → after ≡ before ++ Drop (map (vertex_name g) ks) ∷ [] → MadeAndNoted (drop_of g (unreached g)) true g h before after
 drop_made g h [] before after valid some is left noted = absurd (some refl)
 drop_made g h (v ∷ vs) before after valid some is left noted =
     let ks = v ∷ vs in
@@ -134,13 +134,13 @@ drop_made g h (v ∷ vs) before after valid some is left noted =
       noted,
     )
 
-pub drop_not_made : (g h : EventGraph) (ks : List ℕ) (before after : List RuleApplication) → length ks ≡ 0 → ks ≡ unreached g → h ≡ g → after ≡ before → Made (drop_of g (unreached g)) false g h before after
+pub drop_not_made : (g h : EventGraph) (ks : List ℕ) (before after : List RuleApplication) → length ks ≡ 0 → ks ≡ unreached g → h ≡ g → after ≡ before → MadeAndNoted (drop_of g (unreached g)) false g h before after
 drop_not_made g h [] before after none is left noted = (ap (drop_of g) (sym is), left, noted)
 drop_not_made g h (k ∷ ks) before after none is left noted = cc
 
 -- ---- slice
 
-pub slice_made : (g h : EventGraph) (ks : List ℕ) (before after : List RuleApplication) → IsValid g → (length ks ≡ 0 → ⊥) → ks ≡ unneeded g → h ≡ sliced g ks → after ≡ before ++ Slice (map (variable_name g) ks) ∷ [] → Made (slice_of g (unneeded g)) true g h before after
+pub slice_made : (g h : EventGraph) (ks : List ℕ) (before after : List RuleApplication) → IsValid g → (length ks ≡ 0 → ⊥) → ks ≡ unneeded g → h ≡ sliced g ks → after ≡ before ++ Slice (map (variable_name g) ks) ∷ [] → MadeAndNoted (slice_of g (unneeded g)) true g h before after
 slice_made g h [] before after valid some is left noted = absurd (some refl)
 slice_made g h (v ∷ vs) before after valid some is left noted =
     let ks = v ∷ vs in
@@ -153,7 +153,7 @@ slice_made g h (v ∷ vs) before after valid some is left noted =
       noted,
     )
 
-pub slice_not_made : (g h : EventGraph) (ks : List ℕ) (before after : List RuleApplication) → length ks ≡ 0 → ks ≡ unneeded g → h ≡ g → after ≡ before → Made (slice_of g (unneeded g)) false g h before after
+pub slice_not_made : (g h : EventGraph) (ks : List ℕ) (before after : List RuleApplication) → length ks ≡ 0 → ks ≡ unneeded g → h ≡ g → after ≡ before → MadeAndNoted (slice_of g (unneeded g)) false g h before after
 slice_not_made g h [] before after none is left noted = (ap (slice_of g) (sym is), left, noted)
 slice_not_made g h (k ∷ ks) before after none is left noted = cc
 
@@ -184,7 +184,7 @@ both_exist g first second holds =
     let both = and_first (nat_lt first (length g.vertices) && nat_lt second (length g.vertices)) _ apart in
     (and_first (nat_lt first (length g.vertices)) _ both, and_second (nat_lt first (length g.vertices)) _ both)
 
-pub merge_made : (g h : EventGraph) (first second : ℕ) (before after : List RuleApplication) → IsValid g → first_merge g ≡ Some (first, second) → h ≡ merged g first second → after ≡ before ++ Merge (vertex_name g first) (vertex_name g second) ∷ [] → Made (merge_of g (first_merge g)) true g h before after
+pub merge_made : (g h : EventGraph) (first second : ℕ) (before after : List RuleApplication) → IsValid g → first_merge g ≡ Some (first, second) → h ≡ merged g first second → after ≡ before ++ Merge (vertex_name g first) (vertex_name g second) ∷ [] → MadeAndNoted (merge_of g (first_merge g)) true g h before after
 merge_made g h first second before after valid is left noted =
     let holds = merge_holds g first second is in
     let (exist, targets) = both_exist g first second holds in
@@ -200,5 +200,5 @@ merge_made g h first second before after valid is left noted =
       noted,
     )
 
-pub merge_not_made : (g h : EventGraph) (before after : List RuleApplication) → first_merge g ≡ None → h ≡ g → after ≡ before → Made (merge_of g (first_merge g)) false g h before after
+pub merge_not_made : (g h : EventGraph) (before after : List RuleApplication) → first_merge g ≡ None → h ≡ g → after ≡ before → MadeAndNoted (merge_of g (first_merge g)) false g h before after
 merge_not_made g h before after none left noted = (ap (merge_of g) none, left, noted)

@@ -5,17 +5,17 @@ use Rattle.model_core.specs.Text.Canonical.{vertex_name}
 use Rattle.model_core.specs.Rules.Reached.{unreached}
 use Rattle.model_core.proofs.PlacesChanged.{shown_placed}
 use Rattle.use_analysis.specs.UseNumbers.{UseNumbers}
-use Rattle.merge_rules.specs.Known.{IsKnown}
+use Rattle.merge_rules.specs.FactsOfModel.{FactsAreRight}
 use Rattle.merge_rules.specs.Hollowed.{hollow, hollowed}
 use Rattle.merge_rules.specs.NothingCounted.{NothingCounted}
-use Rattle.merge_rules.specs.declared.known.Known.{Known}
-use Rattle.merge_rules.specs.KeptPairs.{has_incoming, ArePairs}
+use Rattle.merge_rules.specs.declared.known.FactsOfModel.{FactsOfModel}
+use Rattle.merge_rules.specs.KeptPairs.{has_incoming, PairsAreRight}
 use Rattle.merge_rules.specs.declared.kept_pairs.KeptPair.{KeptPair}
-use Rattle.reducer.specs.Inner.Progress.{TellsAlone, IsProgress}
+use Rattle.reducer.specs.Inner.Progress.{AloneIsRight, IsProgress}
 use Rattle.reducer.specs.declared.progress.Progress.{Progress}
 
 -- where no edge leads to a vertex it alone can't be reached, and else all can be
-pub told_alone : (g : EventGraph) (k : ℕ) (led : Bool) → led ≡ has_incoming g k → (led ≡ true → unreached g ≡ []) → (led ≡ false → unreached g ≡ k ∷ []) → TellsAlone g k (not led)
+pub told_alone : (g : EventGraph) (k : ℕ) (led : Bool) → led ≡ has_incoming g k → (led ≡ true → unreached g ≡ []) → (led ≡ false → unreached g ≡ k ∷ []) → AloneIsRight g k (not led)
 told_alone g k true is if_led if_unled = if_led refl
 told_alone g k false is if_led if_unled = record { alone = if_unled refl; unled = sym is }
 
@@ -24,12 +24,12 @@ pub hollow_named : (g : EventGraph) (place k : ℕ) → vertex_name (hollowed g 
 hollow_named g place k = sym (shown_placed (λ (v : EventVertex). v.name) hollow [] (λ v. refl) place g.vertices k)
 
 -- what is known of a graph, all of whose vertices can be reached
-pub all_known : (g h : EventGraph) (known : Known) (counts : UseNumbers) (pairs : List KeptPair)
-    → IsKnown g known → NothingCounted (length g.variables) counts → ArePairs g pairs → unreached g ≡ [] → h ≡ g
+pub all_known : (g h : EventGraph) (known : FactsOfModel) (counts : UseNumbers) (pairs : List KeptPair)
+    → FactsAreRight g known → NothingCounted (length g.variables) counts → PairsAreRight g pairs → unreached g ≡ [] → h ≡ g
     → (let p : Progress = record { known = known; counts = counts; all_reached = true; pairs = pairs } in IsProgress h p)
 all_known g h known counts pairs is_known none are all is = record {
-  known = subst (λ (h : EventGraph). IsKnown h known) (sym is) is_known;
+  known = subst (λ (h : EventGraph). FactsAreRight h known) (sym is) is_known;
   counts = subst (λ (h : EventGraph). NothingCounted (length h.variables) counts) (sym is) none;
   reached = λ told. subst (λ (h : EventGraph). unreached h ≡ []) (sym is) all;
-  pairs = subst (λ (h : EventGraph). ArePairs h pairs) (sym is) are;
+  pairs = subst (λ (h : EventGraph). PairsAreRight h pairs) (sym is) are;
 }

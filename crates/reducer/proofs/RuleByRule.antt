@@ -7,9 +7,9 @@ use Rattle.model_core.specs.declared.rule_error.RuleError.TheVariants as errors
 use Rattle.model_core.specs.Code.Views.{application_of}
 use Rattle.model_core.specs.EventGraph.{EventGraph}
 use Rattle.model_core.specs.Static.Reading.{IsValid}
-use Rattle.model_core.specs.Rules.ConditionTold.{TellsCondition}
+use Rattle.model_core.specs.Rules.ConditionTold.{NamesCondition}
 use Rattle.model_core.specs.Rules.Reduction.{RuleApplication, applied, first_rule, Strategy}
-use Rattle.reducer.specs.Inner.LaterRules.{NoEdgeRule, Made, MaybeDropped, nothing_more, dropped_too, MadeOn, Finished, LeavesEdges}
+use Rattle.reducer.specs.Inner.LaterRules.{NoEdgeRule, MadeAndNoted, DropMayFollow, nothing_more, dropped_too, MadeThenDrop, IsStrategyNoted, LeavesEdges}
 use Rattle.reducer.proofs.FirstLaterRule.{drop_is_made}
 use Rattle.reducer.proofs.FirstRules.{AreFirst, are_first-append, are_first-strategy}
 use Rattle.reducer.proofs.NoEdgeRuleAnew.{none-applied}
@@ -30,7 +30,7 @@ append_nothing (x ∷ xs) = ap (λ xs. x ∷ xs) (append_nothing xs)
 pub led_begins : {g : EventGraph} {before : List RuleApplication} → IsValid g → NoEdgeRule g → Led g g before before
 led_begins {g} {before} valid none = record { later = []; noted = append_nothing before; first = refl; valid = valid; none = none }
 
-led_on : LeavesEdges → ((g h : EventGraph) (a : RuleApplication) → IsValid g → applied g a ≡ Some h → IsValid h) → (g h k : EventGraph) (before between after : List RuleApplication) (made : Bool) → made ≡ true → Led g h before between → Made (first_rule h) made h k between after → Led g k before after
+led_on : LeavesEdges → ((g h : EventGraph) (a : RuleApplication) → IsValid g → applied g a ≡ Some h → IsValid h) → (g h k : EventGraph) (before between after : List RuleApplication) (made : Bool) → made ≡ true → Led g h before between → MadeAndNoted (first_rule h) made h k between after → Led g k before after
 led_on leaves one_valid g h k before between after true e led (a, is, made, noted) = record {
   later = led.later ++ a ∷ [];
   noted = noted ∙ ap (λ (xs : List RuleApplication). xs ++ a ∷ []) led.noted ∙ append_assoc before led.later (a ∷ []);
@@ -42,30 +42,30 @@ led_on leaves one_valid g h k before between after false e led made = cc
 
 -- where the drop after the application may be made as well
 module _ (leaves : LeavesEdges) (one_valid : (g h : EventGraph) (a : RuleApplication) → IsValid g → applied g a ≡ Some h → IsValid h) where
-  pub led_further : (g h k : EventGraph) (before between after : List RuleApplication) (made : Bool) → made ≡ true → Led g h before between → MadeOn first_rule made h k between after → Led g k before after
+  pub led_further : (g h k : EventGraph) (before between after : List RuleApplication) (made : Bool) → made ≡ true → Led g h before between → MadeThenDrop first_rule made h k between after → Led g k before after
   led_further g h k before between after false e led made = cc
   led_further g h k before between after true e led (next, middle, first, more) = behind more (led_on leaves one_valid g h next before between middle true refl led first) where
-    behind : MaybeDropped next k middle after → Led g next before middle → Led g k before after
+    behind : DropMayFollow next k middle after → Led g next before middle → Led g k before after
     behind (nothing_more same unnoted) led = subst (λ (k : EventGraph). Led g k before after) (sym same) (subst (λ (as_ : List RuleApplication). Led g next before as_) (sym unnoted) led)
     behind (dropped_too drop) led = led_on leaves one_valid g next k before middle after true refl led (drop_is_made next k middle after led.none true refl drop)
 
-  pub leaves_less : MergesTakeOne → (g h k : EventGraph) (before between after : List RuleApplication) (made : Bool) → made ≡ true → Led g h before between → MadeOn first_rule made h k between after → measure k < measure h
+  pub leaves_less : MergesTakeOne → (g h k : EventGraph) (before between after : List RuleApplication) (made : Bool) → made ≡ true → Led g h before between → MadeThenDrop first_rule made h k between after → measure k < measure h
   leaves_less takes g h k before between after false e led made = cc
   leaves_less takes g h k before between after true e led (next, middle, first, more) = behind more where
-    one_less : (h k : EventGraph) (between after : List RuleApplication) → NoEdgeRule h → Made (first_rule h) true h k between after → measure k < measure h
+    one_less : (h k : EventGraph) (between after : List RuleApplication) → NoEdgeRule h → MadeAndNoted (first_rule h) true h k between after → measure k < measure h
     one_less h k between after none (a, is, made, noted) = applied_leaves_less takes h k a none is made
 
     fewer : measure next < measure h
     fewer = one_less h next between middle led.none first
 
-    behind : MaybeDropped next k middle after → measure k < measure h
+    behind : DropMayFollow next k middle after → measure k < measure h
     behind (nothing_more same unnoted) = subst (λ (k : EventGraph). measure k < measure h) (sym same) fewer
     behind (dropped_too drop) =
         let none = (led_on leaves one_valid g h next before between middle true refl led first).none in
         let fewer_still = one_less next k middle after none (drop_is_made next k middle after none true refl drop) in
         omega (arith, fewer, fewer_still)
 
-pub led_to_the_end : (g h k : EventGraph) (before between after : List RuleApplication) (made : Bool) → made ≡ false → Led g h before between → MadeOn first_rule made h k between after → Finished g k before after
+pub led_to_the_end : (g h k : EventGraph) (before between after : List RuleApplication) (made : Bool) → made ≡ false → Led g h before between → MadeThenDrop first_rule made h k between after → IsStrategyNoted g k before after
 led_to_the_end g h k before between after true e led made = cc
 led_to_the_end g h k before between after false e led (no_rule, same, unnoted) = (
   led.later,
@@ -94,14 +94,14 @@ noted_more old new x is = ap (map application_of) is ∙ more old where
   more (y ∷ old) = ap (λ ys. application_of y ∷ ys) (more old)
 
 -- a rule whose conditions hold isn't refused
-pub not_refused : {A : Type 0} (given : Result A RuleError) (condition : ℕ) (failed : Option ℕ) → given ≡ Err (errors.Refused condition) → IfErr given (λ e. TellsCondition e failed) → failed ≡ None → ⊥
+pub not_refused : {A : Type 0} (given : Result A RuleError) (condition : ℕ) (failed : Option ℕ) → given ≡ Err (errors.Refused condition) → IfErr given (λ e. NamesCondition e failed) → failed ≡ None → ⊥
 not_refused given condition failed is tells holds =
-    let told : failed ≡ Some condition = subst (λ (r : Result _ RuleError). IfErr r (λ e. TellsCondition e failed)) is tells in cc
+    let told : failed ≡ Some condition = subst (λ (r : Result _ RuleError). IfErr r (λ e. NamesCondition e failed)) is tells in cc
 
 pub answer_made : (one : Option RuleApplication) (g h : EventGraph) (before after : List RuleApplication) {P : Type 0} {failed : Option ℕ} (answer : Result Bool NoMemory) (given : Result (Unit {0}) RuleError)
     → (answer ≡ Ok true → given ≡ Ok tt) → (answer ≡ Ok false → (condition : ℕ) × (given ≡ Err (errors.Refused condition)))
-    → OnOk given P → IfErr given (λ e. TellsCondition e failed) → failed ≡ None → (P → Made one true g h before after)
-    → IfOk answer (λ made. Made one made g h before after)
+    → OnOk given P → IfErr given (λ e. NamesCondition e failed) → failed ≡ None → (P → MadeAndNoted one true g h before after)
+    → IfOk answer (λ made. MadeAndNoted one made g h before after)
 answer_made one g h before after {P} (Ok true) given made refused done tells holds makes = makes (subst (λ (r : Result (Unit {0}) RuleError). OnOk r P) (made refl) done)
 answer_made one g h before after {failed} (Ok false) given made refused done tells holds makes =
     let (condition, is) = refused refl in absurd (not_refused given condition failed is tells holds)

@@ -12,10 +12,10 @@ use Rattle.model_core.specs.Rules.MarkedPlaces.{rank, marked_of, is_marked, unma
 use Rattle.model_core.specs.Rules.Settle.{is_literal_true}
 use Rattle.model_core.specs.Rules.UrgentEdges.{is_urgent, is_urgent_kind, is_plain}
 use Rattle.model_core.specs.Rules.Reached.{reached_marks, unreached}
-use Rattle.model_core.specs.Rules.Drop.{lists_some, lists_exactly, drop_conditions, staying_marks, edge_renumbered, vertex_renumbered, dropped}
+use Rattle.model_core.specs.Rules.Drop.{is_nonempty_list, lists_exactly, drop_conditions, staying_marks, edge_renumbered, vertex_renumbered, dropped}
 use Rattle.model_core.specs.Rules.Merge.{merge_conditions, merged, first_merge}
 use Rattle.model_core.specs.Rules.Needed.{needed_at_once, needed_beside, needed_marks, unneeded}
-use Rattle.model_core.specs.Rules.Slice.{slice_conditions, expression_renumbered, kind_left, edge_left, vertex_left, sliced}
+use Rattle.model_core.specs.Rules.Slice.{slice_conditions, expression_renumbered, sliced_kind, sliced_edge, sliced_vertex, sliced}
 use Rattle.model_core.specs.Rules.Reduction.{RuleApplication, applied, drop_of, merge_of, first_rule, Strategy}
 use Rattle.mark_laws.proofs.EntailedMarks.{entailed_marks-long}
 use Rattle.mark_laws.proofs.StayingMarks.{staying-unmarked, exactly-equal}
@@ -23,7 +23,7 @@ use Rattle.mark_laws.proofs.ReachedLong.{reached_marks-long}
 use Rattle.model_core.proofs.AllHold.{every-holds}
 use Rattle.model_core.proofs.SomeOfAList.{some-few, some-marked_of}
 use Rattle.merge_rules.specs.UrgentVertices.{has_plain, plain_count}
-use Rattle.reducer.specs.Inner.LaterRules.{NoEdgeRule, Made, LeavesEdges}
+use Rattle.reducer.specs.Inner.LaterRules.{NoEdgeRule, MadeAndNoted, LeavesEdges}
 use Rattle.reducer.proofs.FirstLaterRule.{unmarked-within, drop_made, drop_not_made, merge_holds, merge_made, merge_not_made, slice_made, slice_not_made, drop_is_made, merge_is_made, slice_is_made}
 use Rattle.reducer.proofs.NoEdgeRuleAnew.{later_kept, none-applied}
 
@@ -128,7 +128,7 @@ literally_same f (Not a) = refl
 literally_same f (Binary op a b) = refl
 literally_same f (If c a b) = refl
 
-urgently_same : (marks : List Bool) (k : EdgeKind) → is_urgent_kind (kind_left marks k) ≡ is_urgent_kind k
+urgently_same : (marks : List Bool) (k : EdgeKind) → is_urgent_kind (sliced_kind marks k) ≡ is_urgent_kind k
 urgently_same marks (Schedule delay priority) = refl
 urgently_same marks Urgent = refl
 urgently_same marks CancelNext = refl
@@ -139,8 +139,8 @@ slice_leaves_less : (g : EventGraph) (k : ℕ) (ks : List ℕ) → unneeded g �
 slice_leaves_less g k ks is =
     let marks = staying_marks (k ∷ ks) (length g.variables) in
     let fewer = taken_away (needed_marks g) g.variables k ks (entailed_marks-long (length g.variables) (needed_at_once g) (needed_beside g)) is in
-    let long = length-map g.vertices (vertex_left g marks) in
-    let same = count-map (vertex_left g marks) (λ v. plain_urgent-same (edge_left g marks) (λ e. urgently_same marks e.kind) (λ e. ap₂ (λ a b. a && b) (urgently_same marks e.kind) (literally_same (rank marks) e.condition)) v (vertex_left g marks v) refl) g.vertices in
+    let long = length-map g.vertices (sliced_vertex g marks) in
+    let same = count-map (sliced_vertex g marks) (λ v. plain_urgent-same (sliced_edge g marks) (λ e. urgently_same marks e.kind) (λ e. ap₂ (λ a b. a && b) (urgently_same marks e.kind) (literally_same (rank marks) e.condition)) v (sliced_vertex g marks v) refl) g.vertices in
     omega (arith, fewer, long, same)
 
 -- ---- merge
@@ -157,9 +157,9 @@ merge_leaves_less takes g first second holds =
 
 -- ---- any application after the rules of edges
 
-listed : (ks others : List ℕ) → first_failed (lists_some ks ∷ lists_exactly ks others ∷ []) ≡ None → (k : ℕ) × (rest : List ℕ) × (ks ≡ k ∷ rest) × (others ≡ k ∷ rest)
+listed : (ks others : List ℕ) → first_failed (is_nonempty_list ks ∷ lists_exactly ks others ∷ []) ≡ None → (k : ℕ) × (rest : List ℕ) × (ks ≡ k ∷ rest) × (others ≡ k ∷ rest)
 listed [] others holds = cc
-listed (k ∷ rest) others holds = (k, rest, refl, sym (exactly-equal (k ∷ rest) others (every-holds (lists_some (k ∷ rest) ∷ lists_exactly (k ∷ rest) others ∷ []) holds).1.0))
+listed (k ∷ rest) others holds = (k, rest, refl, sym (exactly-equal (k ∷ rest) others (every-holds (is_nonempty_list (k ∷ rest) ∷ lists_exactly (k ∷ rest) others ∷ []) holds).1.0))
 
 dropped_less : (g : EventGraph) (ks : List ℕ) → first_failed (drop_conditions g ks) ≡ None → measure (dropped g ks) < measure g
 dropped_less g ks holds =
@@ -183,15 +183,15 @@ Ended g = (later : List RuleApplication) × (h : EventGraph) × Strategy g later
 module _ (one_valid : (g h : EventGraph) (a : RuleApplication) → IsValid g → applied g a ≡ Some h → IsValid h) (leaves : LeavesEdges) (takes : MergesTakeOne) where
   -- one application, where there is one
   module _ (fuel : ℕ) (go : (h : EventGraph) → measure h < fuel → IsValid h → NoEdgeRule h → Ended h) (g : EventGraph) (below : measure g < suc fuel) (valid : IsValid g) (none : NoEdgeRule g) where
-    goes_on : (h : EventGraph) → measure h < measure g → (after : List RuleApplication) → Made (first_rule g) true g h [] after → Ended g
+    goes_on : (h : EventGraph) → measure h < measure g → (after : List RuleApplication) → MadeAndNoted (first_rule g) true g h [] after → Ended g
     goes_on h less after (a, is, made, noted) =
         let (later, k, rest) = go h (omega (arith, below, less)) (one_valid g h a valid made) (none-applied leaves g h a valid none is made) in (a ∷ later, k, (is, h, made, rest))
 
     abbrev NoDrop : Type 0
-    NoDrop = Made (drop_of g (unreached g)) false g g [] []
+    NoDrop = MadeAndNoted (drop_of g (unreached g)) false g g [] []
 
     abbrev NoMerge : Type 0
-    NoMerge = Made (merge_of g (first_merge g)) false g g [] []
+    NoMerge = MadeAndNoted (merge_of g (first_merge g)) false g g [] []
 
     slices : NoDrop → NoMerge → (ks : List ℕ) → unneeded g ≡ ks → Ended g
     slices no_drop no_merge [] is = ([], g, ((slice_is_made g g g g [] [] [] [] none false false refl refl no_drop no_merge false (slice_not_made g g [] [] [] refl (sym is) refl refl)).0, refl))

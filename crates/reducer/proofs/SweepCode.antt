@@ -9,42 +9,42 @@ use Rattle.model_core.specs.EventGraph.{EventEdge, EventGraph, Truth}
 use Rattle.model_core.specs.Rules.Reduction.{RuleApplication}
 use Rattle.edge_pruning.specs.declared.finding.EdgeRule.{EdgeRule}
 use Rattle.edge_pruning.specs.declared.finding.EdgeRule.TheVariants as rules
-use Rattle.edge_pruning.specs.EdgeRules.{test_of}
-use Rattle.reducer.specs.Inner.Sweep.{left_by_sweep, applied_or_not, applied_behind, settled_if_proved, application_here, next_before}
+use Rattle.edge_pruning.specs.EdgeRules.{edge_test}
+use Rattle.reducer.specs.Inner.Sweep.{left_by_sweep, applied_where, applied_after, settled_if_proved, application_here, next_before}
 
 -- the edges whose condition isn't refuted stay
-pub kept_edges : (g : EventGraph) (es : List EventEdge) → filter (λ e. not (test_of rules.Prune g e)) es ≡ flat_map (left_by_sweep rules.Prune g) es
+pub kept_edges : (g : EventGraph) (es : List EventEdge) → filter (λ e. not (edge_test rules.Prune g e)) es ≡ flat_map (left_by_sweep rules.Prune g) es
 kept_edges g [] = refl
-kept_edges g (e ∷ es) = one (test_of rules.Prune g e) (kept_edges g es) where
-  one : (b : Bool) → filter (λ e. not (test_of rules.Prune g e)) es ≡ flat_map (left_by_sweep rules.Prune g) es
-      → cond (not b) (e ∷ filter (λ e. not (test_of rules.Prune g e)) es) (filter (λ e. not (test_of rules.Prune g e)) es) ≡ cond b [] (e ∷ []) ++ flat_map (left_by_sweep rules.Prune g) es
+kept_edges g (e ∷ es) = one (edge_test rules.Prune g e) (kept_edges g es) where
+  one : (b : Bool) → filter (λ e. not (edge_test rules.Prune g e)) es ≡ flat_map (left_by_sweep rules.Prune g) es
+      → cond (not b) (e ∷ filter (λ e. not (edge_test rules.Prune g e)) es) (filter (λ e. not (edge_test rules.Prune g e)) es) ≡ cond b [] (e ∷ []) ++ flat_map (left_by_sweep rules.Prune g) es
   one true go = go
   one false go = ap (λ es. e ∷ es) go
 
 pub settled_edges : (g : EventGraph) (es : List EventEdge) → map (settled_if_proved g) es ≡ flat_map (left_by_sweep rules.Settle g) es
 settled_edges g [] = refl
-settled_edges g (e ∷ es) = one (test_of rules.Settle g e) (settled_edges g es) where
+settled_edges g (e ∷ es) = one (edge_test rules.Settle g e) (settled_edges g es) where
   one : (b : Bool) → map (settled_if_proved g) es ≡ flat_map (left_by_sweep rules.Settle g) es
       → cond b (record e { condition = Truth true }) e ∷ map (settled_if_proved g) es ≡ cond b (record e { condition = Truth true } ∷ []) (e ∷ []) ++ flat_map (left_by_sweep rules.Settle g) es
   one true go = ap (λ es. record e { condition = Truth true } ∷ es) go
   one false go = ap (λ es. e ∷ es) go
 
 -- the applications to the edges that are left are those to the next one, and then to those after it
-applied_next : (rule : EdgeRule) (g : EventGraph) (name : List ℕ) (before : ℕ) (b : Bool) (es : List EventEdge) → applied_or_not rule name before b (λ k. applied_behind rule g name k es) ≡ application_here rule name before b ++ applied_behind rule g name (next_before rule before b) es
+applied_next : (rule : EdgeRule) (g : EventGraph) (name : List ℕ) (before : ℕ) (b : Bool) (es : List EventEdge) → applied_where rule name before b (λ k. applied_after rule g name k es) ≡ application_here rule name before b ++ applied_after rule g name (next_before rule before b) es
 applied_next rule g name before true es = refl
 applied_next rule g name before false es = refl
 
-pub one_noted : (rule : EdgeRule) (g : EventGraph) (name : List ℕ) (before next i : ℕ) (edges : List Edge) (e : Edge) (b : Bool) (so_far now all : List RuleApplication) → i < length edges → e ≡ get_or edges i e → b ≡ test_of rule g (edge_of e) → next ≡ next_before rule before b
-    → now ≡ so_far ++ application_here rule name before b → so_far ++ applied_behind rule g name before (map edge_of (drop i edges)) ≡ all → now ++ applied_behind rule g name next (map edge_of (drop (i + 1) edges)) ≡ all
+pub one_noted : (rule : EdgeRule) (g : EventGraph) (name : List ℕ) (before next i : ℕ) (edges : List Edge) (e : Edge) (b : Bool) (so_far now all : List RuleApplication) → i < length edges → e ≡ get_or edges i e → b ≡ edge_test rule g (edge_of e) → next ≡ next_before rule before b
+    → now ≡ so_far ++ application_here rule name before b → so_far ++ applied_after rule g name before (map edge_of (drop i edges)) ≡ all → now ++ applied_after rule g name next (map edge_of (drop (i + 1) edges)) ≡ all
 one_noted rule g name before next i edges e b so_far now all below is test over noted before_it =
     let rest = map edge_of (drop (suc i) edges) in
-    ap (λ n. now ++ applied_behind rule g name next (map edge_of (drop n edges))) (add-one i)
-    ∙ ap (λ n. now ++ applied_behind rule g name n rest) over
-    ∙ ap (λ (xs : List RuleApplication). xs ++ applied_behind rule g name (next_before rule before b) rest) noted
-    ∙ append_assoc so_far (application_here rule name before b) (applied_behind rule g name (next_before rule before b) rest)
+    ap (λ n. now ++ applied_after rule g name next (map edge_of (drop n edges))) (add-one i)
+    ∙ ap (λ n. now ++ applied_after rule g name n rest) over
+    ∙ ap (λ (xs : List RuleApplication). xs ++ applied_after rule g name (next_before rule before b) rest) noted
+    ∙ append_assoc so_far (application_here rule name before b) (applied_after rule g name (next_before rule before b) rest)
     ∙ ap (λ (xs : List RuleApplication). so_far ++ xs) (sym (applied_next rule g name before b rest))
-    ∙ ap (λ b. so_far ++ applied_or_not rule name before b (λ k. applied_behind rule g name k rest)) test
-    ∙ ap (λ (es : List Edge). so_far ++ applied_behind rule g name before (map edge_of es)) (sym (drop-cons edges i e below ∙ ap (λ (x : Edge). x ∷ drop (suc i) edges) (sym is)))
+    ∙ ap (λ b. so_far ++ applied_where rule name before b (λ k. applied_after rule g name k rest)) test
+    ∙ ap (λ (es : List Edge). so_far ++ applied_after rule g name before (map edge_of es)) (sym (drop-cons edges i e below ∙ ap (λ (x : Edge). x ∷ drop (suc i) edges) (sym is)))
     ∙ before_it
 
 -- ---- the edge at a place

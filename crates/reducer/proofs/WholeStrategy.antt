@@ -10,7 +10,7 @@ use Rattle.run_laws.proofs.EdgesAlike.{with_vertices}
 use Rattle.model_core.proofs.NoEdgePasses.{first_edge-none}
 use Rattle.edge_pruning.specs.declared.finding.EdgeRule.TheVariants as rules
 use Rattle.reducer.specs.Inner.Sweep.{swept_vertex, applied_to_all}
-use Rattle.reducer.specs.Inner.LaterRules.{NoEdgeRule, Finished, LeavesEdges}
+use Rattle.reducer.specs.Inner.LaterRules.{NoEdgeRule, IsStrategyNoted, LeavesEdges}
 use Rattle.reducer.proofs.PlacesByName.{vertices_distinct}
 use Rattle.reducer.proofs.FirstRules.{AreFirst, are_first-chain, are_first-strategy}
 use Rattle.reducer.proofs.SweepRules.{IsReady, AreReady, swept-none, swept-ready, sweep_rules}
@@ -80,7 +80,7 @@ whole_strategy keep one_valid leaves takes g valid =
 -- the whole from what the parts are known to give: the graph after each, and the applications noted so far
 pub strategy_made : ChainsKeep → (g pruned settled left : EventGraph) (at_first after_prunes after_settles all : List RuleApplication) → IsValid g
     → pruned ≡ after_prune g → settled ≡ after_settle pruned
-    → at_first ≡ [] → after_prunes ≡ at_first ++ applied_to_all rules.Prune g g.vertices → after_settles ≡ after_prunes ++ applied_to_all rules.Settle pruned pruned.vertices → Finished settled left after_settles all
+    → at_first ≡ [] → after_prunes ≡ at_first ++ applied_to_all rules.Prune g g.vertices → after_settles ≡ after_prunes ++ applied_to_all rules.Settle pruned pruned.vertices → IsStrategyNoted settled left after_settles all
     → Strategy g all left
 strategy_made keep g pruned settled left at_first after_prunes after_settles all valid is_pruned is_settled none prunes_noted settles_noted (later, later_noted, strategy) =
     let prunes = applied_to_all rules.Prune g g.vertices in

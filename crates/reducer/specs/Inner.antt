@@ -2,4 +2,4 @@
 pub mod Sweep
 pub mod LaterRules
 pub mod Progress
-pub mod Underway
+pub mod UnfinishedReduction

@@ -10,9 +10,9 @@ ghost use Rattle.model_core.specs.Text.Canonical.{vertex_name};
 ghost use Rattle.model_core.specs.Rules.Drop.{dropped};
 ghost use Rattle.model_core.specs.Rules.Merge.{merged};
 ghost use Rattle.model_core.specs.Rules.Reduction.{Drop, first_rule};
-ghost use Rattle.reducer.specs.Inner.LaterRules.{NoEdgeRule, Finished};
-ghost use Rattle.reducer.specs.Inner.Progress.{OneAlone, IsMerging};
-ghost use Rattle.reducer.specs.Inner.Underway.{drop_rule, merge_rule, slice_rule, IsUnderway, ByRule, ByRuleOn, IsMerged, MadeUnderway};
+ghost use Rattle.reducer.specs.Inner.LaterRules.{NoEdgeRule, IsStrategyNoted};
+ghost use Rattle.reducer.specs.Inner.Progress.{OnlyUnreached, IsMerging};
+ghost use Rattle.reducer.specs.Inner.UnfinishedReduction.{drop_rule, merge_rule, slice_rule, IsUnfinishedReduction, ByRule, ByRuleThenDrop, IsMerged, MadeByRule};
 
 use crate::naming::{Declared, name_at, names_at};
 use crate::progress::{Progress, is_left_alone};
@@ -25,14 +25,14 @@ use merge_rules::{
     KeptPairs, SecondVertex, merge_holding, merging_keeps_the_meaning, merging_takes_an_urgent_edge,
 };
 use model_core::{Application, Model, was_made};
-use reduction_cert::{chains_keep_the_meaning, know_without};
+use reduction_cert::{chains_keep_the_meaning, keep_after_drop};
 use sig_base::{List, NoMemory};
 use std::alloc::Global;
 use var_slicing::{slice, unneeded};
 
 /// A model while rules are applied to it, the applications that were noted, and what is known of it.
 #[derive(Drop)]
-pub(crate) struct Underway {
+pub(crate) struct UnfinishedReduction {
     model: Model,
     applications: Vec<Application>,
     progress: Progress,
@@ -47,19 +47,19 @@ pub(crate) fn apply_later_rules(
 ) -> Result<Reduced, NoMemory>
     requires valid { IsValid (graph_of model) }
     requires no_edge_rule { NoEdgeRule (graph_of model) }
-    ensures { IfOk result (λ r. Finished (graph_of model) (graph_of r.model) (map application_of applications.items) (map application_of r.applications)) }
+    ensures { IfOk result (λ r. IsStrategyNoted (graph_of model) (graph_of r.model) (map application_of applications.items) (map application_of r.applications)) }
 {
     chains_keep_the_meaning();
     later_rules_leave_edges();
     merging_takes_an_urgent_edge();
     let progress = Progress::begin(alloc, &model)?;
-    let mut underway = Underway {
+    let mut underway = UnfinishedReduction {
         model,
         applications,
         progress,
     };
     while underway.apply_one(alloc)? {}
-    let Underway {
+    let UnfinishedReduction {
         model,
         applications,
         progress: _,
@@ -87,13 +87,13 @@ fn note_drop(
     Ok(())
 }
 
-impl Underway {
+impl UnfinishedReduction {
     /// Applies the first rule, where no rule of edges is applicable, and notes that, or says that there is none. After a merge
     /// that leaves a vertex which can't be reached it drops that vertex as well.
     fn apply_one(&mut self, alloc: Global) -> Result<bool, NoMemory>
-        requires underway { IsUnderway self.old }
+        requires underway { IsUnfinishedReduction self.old }
         requires no_edge_rule { NoEdgeRule (graph_of self.old.model) }
-        ensures { IfOk result (λ made. ByRuleOn first_rule made self.old self.new) }
+        ensures { IfOk result (λ made. ByRuleThenDrop first_rule made self.old self.new) }
     {
         if self.drop_first(alloc)? {
             return Ok(true);
@@ -106,19 +106,19 @@ impl Underway {
 
     /// Drops the vertices that can't be reached, and notes that, or says that there are none.
     fn drop_first(&mut self, alloc: Global) -> Result<bool, NoMemory>
-        requires { IsUnderway self.old }
+        requires { IsUnfinishedReduction self.old }
         ensures by_rule { IfOk result (λ made. ByRule drop_rule made self.old self.new) }
         ensures all { OnOk result (unreached (graph_of self.new.model) ≡ []) }
     {
         if self.progress.all_reached {
             return Ok(false);
         }
-        self.drop_sought(alloc)
+        self.find_and_drop(alloc)
     }
 
     /// Seeks the vertices that can't be reached, drops them and notes that, or says that there are none.
-    fn drop_sought(&mut self, alloc: Global) -> Result<bool, NoMemory>
-        requires { IsUnderway self.old }
+    fn find_and_drop(&mut self, alloc: Global) -> Result<bool, NoMemory>
+        requires { IsUnfinishedReduction self.old }
         ensures by_rule { IfOk result (λ made. ByRule drop_rule made self.old self.new) }
         ensures all { OnOk result (unreached (graph_of self.new.model) ≡ []) }
     {
@@ -127,18 +127,18 @@ impl Underway {
         if vertices.len() == 0 {
             return Ok(false);
         }
-        self.drop_these(alloc, &vertices)?;
-        self.progress.known.behind_drop();
+        self.drop_listed(alloc, &vertices)?;
+        self.progress.known.keep_single_after_drop();
         self.progress.pairs = KeptPairs::begin(alloc, &self.model)?;
         Ok(true)
     }
 
     /// Drops these vertices, which can't be reached, and notes that. What is known stays as it is.
-    fn drop_these(&mut self, alloc: Global, vertices: &List<usize>) -> Result<(), NoMemory>
+    fn drop_listed(&mut self, alloc: Global, vertices: &List<usize>) -> Result<(), NoMemory>
         requires valid { IsValid (graph_of self.old.model) }
         requires some { length vertices.now ≡ 0 → ⊥ }
         requires unreached { vertices.now ≡ unreached (graph_of self.old.model) }
-        ensures made { OnOk result (MadeUnderway drop_rule true self.old self.new) }
+        ensures made { OnOk result (MadeByRule drop_rule true self.old self.new) }
         ensures left { OnOk result (graph_of self.new.model ≡ dropped (graph_of self.old.model) vertices.now) }
         ensures all { OnOk result (unreached (graph_of self.new.model) ≡ []) }
         ensures known { self.new.progress ≡ self.old.progress }
@@ -151,9 +151,9 @@ impl Underway {
     /// Merges the first vertex that can be merged, and notes that, or says that there is none, where all vertices can be
     /// reached. Where its second vertex can't be reached any more it is dropped, and that is noted as well.
     fn merge_first(&mut self, alloc: Global) -> Result<bool, NoMemory>
-        requires underway { IsUnderway self.old }
+        requires underway { IsUnfinishedReduction self.old }
         requires all { unreached (graph_of self.old.model) ≡ [] }
-        ensures { IfOk result (λ made. ByRuleOn merge_rule made self.old self.new) }
+        ensures { IfOk result (λ made. ByRuleThenDrop merge_rule made self.old self.new) }
     {
         let progress = &mut self.progress;
         let Some((first, second)) = progress
@@ -166,27 +166,27 @@ impl Underway {
         let target = name_at(alloc, &self.model, Declared::Vertices, second)?;
         self.applications
             .push(Application::Merge { vertex, target })?;
-        progress.pairs.tell_merge(&self.model, first, second)?;
-        self.merge_these(alloc, first, second)?;
+        progress.pairs.note_merge(&self.model, first, second)?;
+        self.merge_pair(alloc, first, second)?;
         Ok(true)
     }
 
     /// Merges these two, which is noted in the certificate and in what is kept.
-    fn merge_these(&mut self, alloc: Global, first: usize, second: usize) -> Result<(), NoMemory>
+    fn merge_pair(&mut self, alloc: Global, first: usize, second: usize) -> Result<(), NoMemory>
         requires valid { IsValid (graph_of self.old.model) }
         requires all { unreached (graph_of self.old.model) ≡ [] }
         requires merging { IsMerging (graph_of self.old.model) first second self.old.progress }
         ensures { OnOk result (IsMerged first second self.old self.new) }
     {
         if is_left_alone(&self.progress.pairs, second) {
-            self.merge_away(alloc, first, second)
+            self.merge_and_drop(alloc, first, second)
         } else {
-            self.merge_beside(alloc, first, second)
+            self.merge_alone(alloc, first, second)
         }
     }
 
     /// Merges these two, where all vertices can be reached then.
-    fn merge_beside(&mut self, alloc: Global, first: usize, second: usize) -> Result<(), NoMemory>
+    fn merge_alone(&mut self, alloc: Global, first: usize, second: usize) -> Result<(), NoMemory>
         requires merging { IsMerging (graph_of self.old.model) first second self.old.progress }
         requires all { unreached (merged (graph_of self.old.model) first second) ≡ [] }
         ensures { OnOk result (IsMerged first second self.old self.new) }
@@ -198,10 +198,10 @@ impl Underway {
     }
 
     /// Merges these two, where the second one alone can't be reached then: it gives away what it does, and is dropped.
-    fn merge_away(&mut self, alloc: Global, first: usize, second: usize) -> Result<(), NoMemory>
+    fn merge_and_drop(&mut self, alloc: Global, first: usize, second: usize) -> Result<(), NoMemory>
         requires valid { IsValid (graph_of self.old.model) }
         requires merging { IsMerging (graph_of self.old.model) first second self.old.progress }
-        requires alone { OneAlone (merged (graph_of self.old.model) first second) second }
+        requires alone { OnlyUnreached (merged (graph_of self.old.model) first second) second }
         ensures { OnOk result (IsMerged first second self.old self.new) }
     {
         merging_keeps_the_meaning();
@@ -209,19 +209,21 @@ impl Underway {
         dropping_takes_no_notice_of_the_vertex();
         let gone = List::from_vec(Vec::from_elem(alloc, second, 1)?);
         let progress = &mut self.progress;
-        progress.pairs.tell_drop_behind(&self.model, first, second);
+        progress
+            .pairs
+            .note_drop_after_merge(&self.model, first, second);
         let known = &mut progress.known;
         let left = SecondVertex::GivesAway;
         merge_holding(alloc, &mut self.model, known, first, second, left)?;
         note_drop(alloc, &self.model, &mut self.applications, &gone)?;
-        know_without(&self.model, &mut progress.known, gone.as_slice());
+        keep_after_drop(&self.model, &mut progress.known, gone.as_slice());
         progress.all_reached = true;
         drop_unreached(alloc, &mut self.model, &gone)
     }
 
     /// Slices the variables that aren't needed away, and notes that, or says that there are none.
     fn slice_unneeded(&mut self, alloc: Global) -> Result<bool, NoMemory>
-        requires { IsUnderway self.old }
+        requires { IsUnfinishedReduction self.old }
         ensures { IfOk result (λ made. ByRule slice_rule made self.old self.new) }
     {
         let vars = unneeded(alloc, &self.model)?;

@@ -6,11 +6,11 @@ ghost use Rattle.model_core.specs.Code.Views.{graph_of};
 ghost use Rattle.model_core.specs.Rules.Conditions.{first_failed};
 ghost use Rattle.model_core.specs.Rules.Reached.{unreached};
 ghost use Rattle.model_core.specs.Rules.Merge.{merge_conditions, merged};
-ghost use Rattle.merge_rules.specs.KeptPairs.{ArePairs};
-ghost use Rattle.reducer.specs.Inner.Progress.{TellsAlone, IsProgress};
+ghost use Rattle.merge_rules.specs.KeptPairs.{PairsAreRight};
+ghost use Rattle.reducer.specs.Inner.Progress.{AloneIsRight, IsProgress};
 
 use edge_pruning::merging_leaves_vertices_reached;
-use merge_rules::{KeptPairs, Known};
+use merge_rules::{FactsOfModel, KeptPairs};
 use model_core::Model;
 use sig_base::NoMemory;
 use std::alloc::Global;
@@ -19,7 +19,7 @@ use use_analysis::UseCounts;
 /// What is known of a model.
 #[derive(Drop)]
 pub(crate) struct Progress {
-    pub(crate) known: Known,
+    pub(crate) known: FactsOfModel,
     /// Nothing is counted here between two calls that use it.
     pub(crate) counts: UseCounts,
     /// Whether it is known that all vertices can be reached.
@@ -33,7 +33,7 @@ impl Progress {
         ensures { IfOk result (λ progress. IsProgress (graph_of model.now) progress) }
     {
         Ok(Progress {
-            known: Known::begin(alloc),
+            known: FactsOfModel::begin(alloc),
             counts: UseCounts::begin(alloc, model)?,
             all_reached: false,
             pairs: KeptPairs::begin(alloc, model)?,
@@ -45,11 +45,11 @@ impl Progress {
 pub(crate) fn is_left_alone(pairs: &KeptPairs, second: usize) -> bool
     requires there { second < length pairs.now }
     ensures { (g : EventGraph) (first : ℕ) → unreached g ≡ [] → first_failed (merge_conditions g first second) ≡ None
-        → ArePairs (merged g first second) pairs.now → TellsAlone (merged g first second) second result }
+        → PairsAreRight (merged g first second) pairs.now → AloneIsRight (merged g first second) second result }
 {
     merging_leaves_vertices_reached();
     if second == 0 {
         return false;
     }
-    !pairs.is_led_to(second)
+    !pairs.has_incoming_edge(second)
 }

@@ -4,11 +4,11 @@ ghost use Rattle.std.specs.Prelude.{◌≡◌, ◌++◌, ◌+◌, ◌<◌, ◌�
 ghost use Rattle.std.specs.List.{flat_map};
 ghost use Rattle.std.proofs.lemmas.List.Filters.{FiltersInPlace};
 ghost use Rattle.model_core.specs.declared.vertex.Edge.{Edge};
-ghost use Rattle.model_core.specs.Rules.Settle.{unconditional};
+ghost use Rattle.model_core.specs.Rules.Settle.{with_true_condition};
 ghost use Rattle.model_core.specs.Code.Views.{graph_of, vertex_of, edge_of, application_of};
 ghost use Rattle.edge_pruning.specs.declared.finding.EdgeRule.TheVariants as rules;
 ghost use Rattle.reduction_cert.specs.EdgeApplications.{application_by};
-ghost use Rattle.reducer.specs.Inner.Sweep.{left_by_sweep, swept_vertex, applied_behind, applied_to, applied_to_all, settled_if_proved, application_here};
+ghost use Rattle.reducer.specs.Inner.Sweep.{left_by_sweep, swept_vertex, applied_after, applied_to, applied_to_all, settled_if_proved, application_here};
 
 use edge_pruning::{EdgeRule, can_apply};
 use model_core::{Application, Edge, Expr, Model, Vertex, copy_name};
@@ -81,7 +81,7 @@ fn prune_edges(
 ) -> Result<(), NoMemory>
     ensures swept { OnOk result (map edge_of edges.new.items ≡ flat_map (left_by_sweep rules.Prune (graph_of model.now)) (map edge_of edges.old.items)) }
     ensures applied { OnOk result (map application_of applications.new.items
-        ≡ map application_of applications.old.items ++ applied_behind rules.Prune (graph_of model.now) vertex.now 0 (map edge_of edges.old.items)) }
+        ≡ map application_of applications.old.items ++ applied_after rules.Prune (graph_of model.now) vertex.now 0 (map edge_of edges.old.items)) }
 {
     let mut kept = 0;
     for place in 0..edges.len() {
@@ -122,7 +122,7 @@ fn settle_edges(
 ) -> Result<(), NoMemory>
     ensures swept { OnOk result (map edge_of edges.new.items ≡ map (settled_if_proved (graph_of model.now)) (map edge_of edges.old.items)) }
     ensures applied { OnOk result (map application_of applications.new.items
-        ≡ map application_of applications.old.items ++ applied_behind rules.Settle (graph_of model.now) vertex.now 0 (map edge_of edges.old.items)) }
+        ≡ map application_of applications.old.items ++ applied_after rules.Settle (graph_of model.now) vertex.now 0 (map edge_of edges.old.items)) }
 {
     let mut before = 0;
     for edge in edges.iter_mut() {
@@ -143,7 +143,7 @@ fn settle_edges(
 
 /// Makes an edge's condition the literal `true` where it always holds.
 fn settle_edge(edge: &mut Edge, proved: bool)
-    ensures { edge_of edge.new ≡ cond proved (unconditional (edge_of edge.old)) (edge_of edge.old) }
+    ensures { edge_of edge.new ≡ cond proved (with_true_condition (edge_of edge.old)) (edge_of edge.old) }
 {
     if proved {
         edge.condition = Expr::Truth(true);

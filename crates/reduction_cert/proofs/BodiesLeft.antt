@@ -4,8 +4,8 @@ use Rattle.std.specs.List.{remove}
 use Rattle.model_core.specs.EventGraph.{EventGraph, EventVertex}
 use Rattle.model_core.specs.Run.Step.{no_vertex, vertex_at}
 use Rattle.merge_rules.specs.Growth.{body_lines}
-use Rattle.merge_rules.specs.Known.{TellsLength, AreBodies}
-use Rattle.reduction_cert.specs.KnownWithout.{bodies_without}
+use Rattle.merge_rules.specs.FactsOfModel.{LengthIsRight, BodiesAreRight}
+use Rattle.reduction_cert.specs.KnownWithout.{bodies_after_drop}
 
 -- ---- places of lists that lose one
 
@@ -30,10 +30,10 @@ both-without P (v ∷ xs) (w ∷ ys) x y all (suc gone) (suc k) = both-without P
 -- ---- numbers of bytes
 
 pub bodies-left : (g h : EventGraph) (gone : ℕ) (bodies : List (Option ℕ)) → ((k : ℕ) → body_lines h (vertex_at h k) ≡ body_lines g (slice_index_or (remove g.vertices gone) k no_vertex))
-    → AreBodies g bodies → AreBodies h (remove bodies gone)
+    → BodiesAreRight g bodies → BodiesAreRight h (remove bodies gone)
 bodies-left g h gone bodies same are k =
-    subst (TellsLength (slice_index_or (remove bodies gone) k None)) (sym (same k))
-    (both-without (λ (n : Option ℕ) (v : EventVertex). TellsLength n (body_lines g v)) bodies g.vertices None no_vertex are gone k)
+    subst (LengthIsRight (slice_index_or (remove bodies gone) k None)) (sym (same k))
+    (both-without (λ (n : Option ℕ) (v : EventVertex). LengthIsRight n (body_lines g v)) bodies g.vertices None no_vertex are gone k)
 
 -- the only one of a list
 pub only : (ks : List ℕ) → length ks ≡ 1 → ks ≡ get_or ks 0 0 ∷ []
@@ -42,7 +42,7 @@ only (k ∷ []) one = refl
 only (k ∷ j ∷ ks) one = absurd (omega (arith, one))
 
 -- none is known where more or fewer than one go
-pub none-without : (bodies : List (Option ℕ)) (ks : List ℕ) → (length ks ≡ 1 → ⊥) → bodies_without bodies ks ≡ []
+pub none-without : (bodies : List (Option ℕ)) (ks : List ℕ) → (length ks ≡ 1 → ⊥) → bodies_after_drop bodies ks ≡ []
 none-without bodies [] one = refl
 none-without bodies (k ∷ []) one = absurd (one refl)
 none-without bodies (k ∷ j ∷ ks) one = refl

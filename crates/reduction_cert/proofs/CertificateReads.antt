@@ -5,7 +5,7 @@ use Rattle.std.proofs.lemmas.List.{map-id}
 use Rattle.model_core.specs.declared.application.Application.{Application}
 use Rattle.model_core.specs.Rules.Reduction.{RuleApplication}
 use Rattle.model_core.specs.Text.Lexing.{Lexeme}
-use Rattle.model_core.specs.Text.FirstWrong.{told_place}
+use Rattle.model_core.specs.Text.FirstWrong.{wrong_place}
 use Rattle.model_core.specs.Text.Format.{AName, Many}
 use Rattle.model_core.specs.Text.CertificateText.{plain_name_format, prune_format, settle_format, drop_format, merge_format, slice_format, application_format, certificate_format, IsCertificate, IsNoCertificateAt}
 use Rattle.model_core.specs.Code.Views.{application_of}
@@ -63,10 +63,10 @@ certificate-ok tokens left place (Ok applications) g = all-is_spelled certificat
 certificate-ok tokens left place (Err stops.Unexpected) g = tt
 certificate-ok tokens left place (Err stops.NoMemory) g = tt
 
-pub certificate-unexpected : (text : List ℕ) (tokens left : List Lexeme) (r : Result (List Application) Stop) (at : ℕ) → Returned (map application_of) r left (certificate_read tokens) → placed_at (told_place text left) r ≡ Err (errors.Unexpected at) → IsNoCertificateAt text tokens at
+pub certificate-unexpected : (text : List ℕ) (tokens left : List Lexeme) (r : Result (List Application) Stop) (at : ℕ) → Returned (map application_of) r left (certificate_read tokens) → placed_at (wrong_place text left) r ≡ Err (errors.Unexpected at) → IsNoCertificateAt text tokens at
 certificate-unexpected text tokens left (Ok applications) at g e = absurd cc
 certificate-unexpected text tokens left (Err stops.Unexpected) at g e =
-    let same : told_place text left ≡ at = cc in
+    let same : wrong_place text left ≡ at = cc in
     subst (λ (n : ℕ). IsNoCertificateAt text tokens n) same (all-is_wrong certificate_format certificate-fine text tokens left (g refl))
 certificate-unexpected text tokens left (Err stops.NoMemory) at g e = absurd cc
 

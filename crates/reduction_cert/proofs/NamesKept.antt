@@ -9,7 +9,7 @@ use Rattle.model_core.specs.Rules.Prune.{without_edge, pruned}
 use Rattle.model_core.specs.Rules.Settle.{with_settled, settled}
 use Rattle.model_core.specs.Rules.UrgentEdges.{plain_urgent}
 use Rattle.model_core.specs.Rules.Merge.{values_at_once, merged_vertex, merged_with, merged}
-use Rattle.model_core.specs.Rules.Slice.{vertex_left, sliced}
+use Rattle.model_core.specs.Rules.Slice.{sliced_vertex, sliced}
 use Rattle.model_core.specs.Rules.Reduction.{RuleApplication, Prune, Settle, Drop, Merge, Slice, edge_named, two_vertices_named, variables_named, result_of, applied}
 use Rattle.model_core.proofs.PlacesChanged.{map_placed}
 use Rattle.model_read.specs.NamesPlaced.{HasPlaces, names_of_vertices}
@@ -36,7 +36,7 @@ result_names g (Prune name number) e = kept_or g (edge_named g name number) (λ 
 result_names g (Settle name number) e = kept_or g (edge_named g name number) (λ (vertex, edge). settled g vertex edge) (λ (vertex, edge). placed_kept (with_settled edge) (λ v. refl) vertex g.vertices)
 result_names g (Drop dropped) e = cc
 result_names g (Merge name target) e = kept_or g (two_vertices_named g name target) (λ (first, second). merged g first second) (λ (first, second). placed_kept (merged_with (vertex_at g second)) (λ v. merged_name (vertex_at g second) v (plain_urgent v)) first g.vertices)
-result_names g (Slice variables) e = kept_or g (variables_named g variables) (λ vars. sliced g vars) (λ vars. map-map (λ (v : EventVertex). v.name) (vertex_left g _) g.vertices)
+result_names g (Slice variables) e = kept_or g (variables_named g variables) (λ vars. sliced g vars) (λ vars. map-map (λ (v : EventVertex). v.name) (sliced_vertex g _) g.vertices)
 
 pub table_kept : (g h : EventGraph) (a : RuleApplication) (table : List (List ℕ × ℕ)) → is_drop a ≡ false → applied g a ≡ Some h → HasPlaces (names_of_vertices g.vertices) table → HasPlaces (names_of_vertices h.vertices) table
 table_kept g h a table e made has = subst (λ ns. HasPlaces ns table) (sym (result_names g a e) ∙ ap names ((applied-is g h a).0 made).1) has

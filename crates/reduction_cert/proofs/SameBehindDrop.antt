@@ -8,7 +8,7 @@ use Rattle.model_core.specs.EventGraph.{EventGraph, EventVertex}
 use Rattle.model_core.specs.Run.Step.{vertex_at}
 use Rattle.model_core.specs.Text.Numbering.{declared_place}
 use Rattle.model_core.specs.Rules.Conditions.{first_failed}
-use Rattle.model_core.specs.Rules.ConditionTold.{TellsCondition}
+use Rattle.model_core.specs.Rules.ConditionTold.{NamesCondition}
 use Rattle.model_core.specs.Rules.UrgentEdges.{plain_urgent}
 use Rattle.model_core.specs.Rules.Drop.{drop_conditions, dropped}
 use Rattle.model_core.specs.Rules.Merge.{merge_conditions, merged_with, merged}
@@ -18,7 +18,7 @@ use Rattle.model_core.specs.Rules.PlacedEdges.{with_vertex}
 use Rattle.merge_rules.specs.Hollowed.{hollow, hollowed, merged_leaving}
 use Rattle.merge_rules.specs.declared.taking_over.SecondVertex.{SecondVertex}
 use Rattle.merge_rules.specs.declared.taking_over.SecondVertex.TheVariants as seconds
-use Rattle.reduction_cert.specs.Inner.MovedMerges.{Serves, MadeFor, MergedLeaving}
+use Rattle.reduction_cert.specs.Inner.MovedMerges.{HaveOneResult, MadeInEffect, MergeIsMade}
 use Rattle.reduction_cert.proofs.NamesKept.{placed_kept, merged_name}
 use Rattle.reduction_cert.proofs.ToldByRules.{told_holds, told_result, drop_named, merge_named}
 
@@ -35,7 +35,7 @@ alone_named g name place is = ap (option_and_then (λ (y : ℕ). option_and_then
 module _ (conditions : (g : EventGraph) (f : EventVertex → EventVertex) (gone : ℕ) → drop_conditions (with_vertex f gone g) (gone ∷ []) ≡ drop_conditions g (gone ∷ []))
     (left : (g : EventGraph) (f : EventVertex → EventVertex) (gone : ℕ) → dropped (with_vertex f gone g) (gone ∷ []) ≡ dropped g (gone ∷ [])) where
   given_serves : (g : EventGraph) (name target : List ℕ) (rest : List RuleApplication) (first second : ℕ) → two_vertices_named g name target ≡ Some (first, second)
-      → Serves (Drop (target ∷ []) ∷ rest) (merged g first second) (hollowed (merged g first second) second)
+      → HaveOneResult (Drop (target ∷ []) ∷ rest) (merged g first second) (hollowed (merged g first second) second)
   given_serves g name target rest first second named =
       let m = merged g first second in
       let h = hollowed m second in
@@ -55,33 +55,33 @@ module _ (conditions : (g : EventGraph) (f : EventVertex → EventVertex) (gone 
         variables = refl;
       }
 
-  pub made_for : (g : EventGraph) (name target : List ℕ) (later rest : List RuleApplication) (made : Bool) (h : EventGraph) → later ≡ Drop (target ∷ []) ∷ rest → MergedLeaving seconds.GivesAway g name target made h → MadeFor later g (Merge name target) made h
+  pub made_for : (g : EventGraph) (name target : List ℕ) (later rest : List RuleApplication) (made : Bool) (h : EventGraph) → later ≡ Drop (target ∷ []) ∷ rest → MergeIsMade seconds.GivesAway g name target made h → MadeInEffect later g (Merge name target) made h
   made_for g name target later rest true h is (first, second, named, holds, same) = (
     merged g first second,
     merge_named g name target first second named ∙ ap (λ o. unless_failed o (merged g first second)) holds,
-    subst (λ (as_ : List RuleApplication). Serves as_ (merged g first second) h) (sym is)
-        (subst (Serves (Drop (target ∷ []) ∷ rest) (merged g first second)) (sym same) (given_serves g name target rest first second named)),
+    subst (λ (as_ : List RuleApplication). HaveOneResult as_ (merged g first second) h) (sym is)
+        (subst (HaveOneResult (Drop (target ∷ []) ∷ rest) (merged g first second)) (sym same) (given_serves g name target rest first second named)),
   )
   made_for g name target later rest false h is refused = refused
 
 -- what the rule's answer says
 pub merge_told : (second : SecondVertex) (g : EventGraph) (name target : List ℕ) (first last : ℕ) (h : EventGraph) → two_vertices_named g name target ≡ Some (first, last) → (given : Result (Unit {0}) RuleError)
     → OnOk given ((first_failed (merge_conditions g first last) ≡ None) × (h ≡ merged_leaving second g first last))
-    → IfErr given (λ e. TellsCondition e (first_failed (merge_conditions g first last)))
+    → IfErr given (λ e. NamesCondition e (first_failed (merge_conditions g first last)))
     → (answer : Result Bool NoMemory) → (answer ≡ Ok true → given ≡ Ok tt) → (answer ≡ Ok false → (condition : ℕ) × (given ≡ Err (errors.Refused condition)))
-    → IfOk answer (λ made. MergedLeaving second g name target made h)
+    → IfOk answer (λ made. MergeIsMade second g name target made h)
 merge_told second g name target first last h named given done tells (Ok true) made refused =
     let result = merged_leaving second g first last in
     let failed = first_failed (merge_conditions g first last) in
     (first, last, named, told_holds result h failed given done tells (made refl), told_result result h failed given done tells (made refl))
 merge_told second g name target first last h named given done tells (Ok false) made refused =
     let (condition, is) = refused refl in
-    let told : first_failed (merge_conditions g first last) ≡ Some condition = subst (λ (r : Result (Unit {0}) RuleError). IfErr r (λ e. TellsCondition e (first_failed (merge_conditions g first last)))) is tells in
+    let told : first_failed (merge_conditions g first last) ≡ Some condition = subst (λ (r : Result (Unit {0}) RuleError). IfErr r (λ e. NamesCondition e (first_failed (merge_conditions g first last)))) is tells in
     merge_named g name target first last named ∙ ap (λ o. unless_failed o (merged g first last)) told
 merge_told second g name target first last h named given done tells (Err e) made refused = tt
 
 -- where the second one stays, that is the rule's application
-pub merge_applied : (g : EventGraph) (name target : List ℕ) (made : Bool) (h : EventGraph) → MergedLeaving seconds.Stays g name target made h → applied g (Merge name target) ≡ cond made (Some h) None
+pub merge_applied : (g : EventGraph) (name target : List ℕ) (made : Bool) (h : EventGraph) → MergeIsMade seconds.Stays g name target made h → applied g (Merge name target) ≡ cond made (Some h) None
 merge_applied g name target true h (first, last, named, holds, same) = merge_named g name target first last named ∙ ap (λ o. unless_failed o (merged g first last)) holds ∙ ap Some (sym same)
 merge_applied g name target false h refused = refused
 
@@ -94,10 +94,10 @@ only_one (y ∷ z ∷ xs) x one at = absurd (omega (arith, one))
 
 -- ---- whether an application was made
 
-pub was_made : (later : List RuleApplication) (g : EventGraph) (a : RuleApplication) (made : Bool) (h : EventGraph) → made ≡ true → MadeFor later g a made h → MadeFor later g a true h
+pub was_made : (later : List RuleApplication) (g : EventGraph) (a : RuleApplication) (made : Bool) (h : EventGraph) → made ≡ true → MadeInEffect later g a made h → MadeInEffect later g a true h
 was_made later g a true h e is = is
 was_made later g a false h e is = cc
 
-pub was_refused : (later : List RuleApplication) (g : EventGraph) (a : RuleApplication) (made : Bool) (h : EventGraph) → made ≡ false → MadeFor later g a made h → applied g a ≡ None
+pub was_refused : (later : List RuleApplication) (g : EventGraph) (a : RuleApplication) (made : Bool) (h : EventGraph) → made ≡ false → MadeInEffect later g a made h → applied g a ≡ None
 was_refused later g a true h e is = cc
 was_refused later g a false h e is = is

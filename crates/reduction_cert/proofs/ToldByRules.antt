@@ -6,7 +6,7 @@ use Rattle.model_core.specs.declared.rule_error.RuleError.{RuleError}
 use Rattle.model_core.specs.declared.rule_error.RuleError.TheVariants as errors
 use Rattle.model_core.specs.EventGraph.{EventGraph}
 use Rattle.model_core.specs.Rules.Conditions.{first_failed}
-use Rattle.model_core.specs.Rules.ConditionTold.{TellsCondition}
+use Rattle.model_core.specs.Rules.ConditionTold.{NamesCondition}
 use Rattle.model_core.specs.Rules.Drop.{drop_conditions, dropped}
 use Rattle.model_core.specs.Rules.Merge.{merge_conditions, merged}
 use Rattle.model_core.specs.Rules.Reduction.{Prune, Settle, Drop, Merge, edge_named, vertices_named, two_vertices_named, unless_failed, applied}
@@ -14,11 +14,11 @@ use Rattle.model_core.specs.Rules.Prune.{prune_conditions, pruned}
 use Rattle.model_core.specs.Rules.Settle.{settle_conditions, settled}
 use Rattle.edge_pruning.specs.declared.finding.EdgeRule.{EdgeRule}
 use Rattle.edge_pruning.specs.declared.finding.EdgeRule.TheVariants as rules
-use Rattle.merge_rules.specs.Known.{IsKnown}
+use Rattle.merge_rules.specs.FactsOfModel.{FactsAreRight}
 use Rattle.reduction_cert.specs.EdgeApplications.{application_by}
-use Rattle.merge_rules.specs.declared.known.Known.{Known}
+use Rattle.merge_rules.specs.declared.known.FactsOfModel.{FactsOfModel}
 
-module _ (result h : EventGraph) (failed : Option ℕ) (given : Result (Unit {0}) RuleError) (done : OnOk given ((failed ≡ None) × (h ≡ result))) (tells : IfErr given (λ e. TellsCondition e failed)) where
+module _ (result h : EventGraph) (failed : Option ℕ) (given : Result (Unit {0}) RuleError) (done : OnOk given ((failed ≡ None) × (h ≡ result))) (tells : IfErr given (λ e. NamesCondition e failed)) where
   pub told_made : given ≡ Ok tt → unless_failed failed result ≡ Some h
   told_made is =
       let (holds, same) = subst (λ (r : Result (Unit {0}) RuleError). OnOk r ((failed ≡ None) × (h ≡ result))) is done in
@@ -32,7 +32,7 @@ module _ (result h : EventGraph) (failed : Option ℕ) (given : Result (Unit {0}
 
   pub told_refused : (condition : ℕ) → given ≡ Err (errors.Refused condition) → unless_failed failed result ≡ None
   told_refused condition is =
-      let told : failed ≡ Some condition = subst (λ (r : Result (Unit {0}) RuleError). IfErr r (λ e. TellsCondition e failed)) is tells in
+      let told : failed ≡ Some condition = subst (λ (r : Result (Unit {0}) RuleError). IfErr r (λ e. NamesCondition e failed)) is tells in
       ap (λ o. unless_failed o result) told
 
   pub told_answer : (answer : Result Bool NoMemory) → (answer ≡ Ok true → given ≡ Ok tt) → (answer ≡ Ok false → (condition : ℕ) × (given ≡ Err (errors.Refused condition))) → IfOk answer (λ made. unless_failed failed result ≡ cond made (Some h) None)
@@ -50,12 +50,12 @@ told_ok (Ok done) made p = p
 told_ok (Err e) made p = cc
 
 -- what was found before a rule holds of the rule's result, and where there is none it is forgotten
-pub kept_known : (result h : EventGraph) (failed : Option ℕ) (made : Bool) (told known : Known) → (made ≡ true → (failed ≡ None) × (h ≡ result)) → (failed ≡ None → IsKnown result told)
-    → (made ≡ true → known ≡ told) → (made ≡ false → (g : EventGraph) → IsKnown g known) → IsKnown h known
-kept_known result h failed true told known done is kept forgotten =
+pub facts_kept : (result h : EventGraph) (failed : Option ℕ) (made : Bool) (told known : FactsOfModel) → (made ≡ true → (failed ≡ None) × (h ≡ result)) → (failed ≡ None → FactsAreRight result told)
+    → (made ≡ true → known ≡ told) → (made ≡ false → (g : EventGraph) → FactsAreRight g known) → FactsAreRight h known
+facts_kept result h failed true told known done is kept forgotten =
     let (holds, same) = done refl in
-    subst (λ (g : EventGraph). IsKnown g known) (sym same) (subst (IsKnown result) (sym (kept refl)) (is holds))
-kept_known result h failed false told known done is kept forgotten = forgotten refl h
+    subst (λ (g : EventGraph). FactsAreRight g known) (sym same) (subst (FactsAreRight result) (sym (kept refl)) (is holds))
+facts_kept result h failed false told known done is kept forgotten = forgotten refl h
 
 -- where the names of an application name vertices, it gives what the rule gives of these
 pub drop_named : (g : EventGraph) (names : List (List ℕ)) (vertices : List ℕ) → vertices_named g names ≡ Some vertices → applied g (Drop names) ≡ unless_failed (first_failed (drop_conditions g vertices)) (dropped g vertices)

@@ -10,6 +10,6 @@ abbrev pub version_without : EventGraph → Option Bool → List ℕ → Option 
 version_without g version_two vertices = cond (list_any (λ k. has_later_parts (vertex_at g k)) vertices) None version_two
 
 -- the lines of what each vertex does, where one vertex alone goes
-abbrev pub bodies_without : List (Option ℕ) → List ℕ → List (Option ℕ)
-bodies_without bodies (gone ∷ []) = remove bodies gone
-bodies_without bodies vertices = []
+abbrev pub bodies_after_drop : List (Option ℕ) → List ℕ → List (Option ℕ)
+bodies_after_drop bodies (gone ∷ []) = remove bodies gone
+bodies_after_drop bodies vertices = []

@@ -5,20 +5,24 @@ ghost use Rattle.model_core.specs.EventGraph.{EventGraph};
 ghost use Rattle.model_core.specs.Code.Views.{graph_of, application_of};
 ghost use Rattle.model_core.specs.Rules.Reduction.{Drop, Slice, applied, first_bad};
 ghost use Rattle.model_core.specs.Rules.Verdict.{graph_reached, verdict};
-ghost use Rattle.merge_rules.specs.Known.{IsKnown};
+ghost use Rattle.merge_rules.specs.FactsOfModel.{FactsAreRight};
 ghost use Rattle.merge_rules.specs.NothingCounted.{NothingCounted};
 ghost use Rattle.reduction_cert.specs.EdgeApplications.{application_by};
 ghost use Rattle.reduction_cert.specs.VerdictView.{verdict_of};
 ghost use Rattle.model_read.specs.NamesPlaced.{HasPlaces, names_of_vertices};
 ghost use Rattle.reduction_cert.specs.Inner.DroppingOnes.{is_drop};
-ghost use Rattle.reduction_cert.specs.Inner.MovedMerges.{MadeFor, MergedLeaving};
+ghost use Rattle.reduction_cert.specs.Inner.MovedMerges.{MadeInEffect, MergeIsMade};
 
 use crate::by_name::{all_named, edge_named, two_vertices_named};
 use crate::chain_law::applications_add_no_variables;
 use crate::looking_ahead::drops_alone;
-use crate::without_vertices::know_without;
-use edge_pruning::{EdgeRule, drop_vertices, dropping_takes_no_notice_of_the_vertex, prune, settle};
-use merge_rules::{Known, SecondVertex, know_pruned, know_settled, merge_measured};
+use crate::without_vertices::keep_after_drop;
+use edge_pruning::{
+    EdgeRule, drop_vertices, dropping_takes_no_notice_of_the_vertex, prune, settle,
+};
+use merge_rules::{
+    FactsOfModel, SecondVertex, keep_after_prune, keep_after_settle, merge_measured,
+};
 use model_core::{Application, Model, copy_model, same_model, was_made};
 use model_read::Places;
 use sig_base::{List, Name, NoMemory};
@@ -49,11 +53,11 @@ pub fn check_chain(
     ensures { IfOk result (λ v. verdict_of v ≡ verdict (graph_of original.now) (map application_of applications.now) (graph_of reduced.now)) }
 {
     let mut model = copy_model(alloc, original)?;
-    led_to(alloc, &mut model, applications, reduced)
+    verdict_after(alloc, &mut model, applications, reduced)
 }
 
 /// Makes the applications, in order, up to the first bad one, and says whether they lead to the reduced model.
-fn led_to(
+fn verdict_after(
     alloc: Global,
     model: &mut Model,
     applications: &List<Application>,
@@ -83,9 +87,9 @@ fn apply_all(
     applications_add_no_variables();
     let mut vertices = Places::of_vertices(alloc, model.vertices.as_slice())?;
     let mut counts = UseCounts::begin(alloc, model)?;
-    let mut known = Known::begin(alloc);
+    let mut known = FactsOfModel::begin(alloc);
     for (place, application) in applications.iter().enumerate() {
-        if !apply_before(
+        if !apply_with_next(
             alloc,
             model,
             &mut known,
@@ -97,7 +101,7 @@ fn apply_all(
         )? {
             return Ok(Some(place + 1));
         }
-        list_anew(alloc, application, model, &mut vertices)?;
+        find_places_anew(alloc, application, model, &mut vertices)?;
     }
     Ok(None)
 }
@@ -119,7 +123,7 @@ fn is_drop(application: &Application) -> bool
 }
 
 /// Finds the places of the vertices anew, where an application took vertices away: those of its result have the model's names.
-fn list_anew(
+fn find_places_anew(
     alloc: Global,
     application: &Application,
     model: &Model,
@@ -139,10 +143,10 @@ fn list_anew(
 /// Makes one application, which others follow from a place on, and says whether it names what the model has and meets the
 /// conditions of its rule. Where the next one drops the target of a merge, the target gives away what it does, so that this isn't
 /// copied.
-fn apply_before(
+fn apply_with_next(
     alloc: Global,
     model: &mut Model,
-    known: &mut Known,
+    known: &mut FactsOfModel,
     counts: &mut UseCounts,
     vertices: &Places,
     application: &Application,
@@ -150,10 +154,10 @@ fn apply_before(
     next: usize,
 ) -> Result<bool, NoMemory>
     requires listed { HasPlaces (names_of_vertices (graph_of model.old).vertices) vertices.now }
-    requires known { IsKnown (graph_of model.old) known.old }
+    requires known { FactsAreRight (graph_of model.old) known.old }
     requires counts { NothingCounted (length model.old.vars) counts.old }
-    ensures made { IfOk result (λ made. MadeFor (map application_of (drop next applications.now)) (graph_of model.old) (application_of application.now) made (graph_of model.new)) }
-    ensures known { OnOk result (IsKnown (graph_of model.new) known.new) }
+    ensures made { IfOk result (λ made. MadeInEffect (map application_of (drop next applications.now)) (graph_of model.old) (application_of application.now) made (graph_of model.new)) }
+    ensures known { OnOk result (FactsAreRight (graph_of model.new) known.new) }
     ensures counts { OnOk result (counts.new ≡ counts.old) }
 {
     dropping_takes_no_notice_of_the_vertex();
@@ -173,16 +177,16 @@ fn apply_before(
 fn apply(
     alloc: Global,
     model: &mut Model,
-    known: &mut Known,
+    known: &mut FactsOfModel,
     counts: &mut UseCounts,
     vertices: &Places,
     application: &Application,
 ) -> Result<bool, NoMemory>
     requires listed { HasPlaces (names_of_vertices (graph_of model.old).vertices) vertices.now }
-    requires known { IsKnown (graph_of model.old) known.old }
+    requires known { FactsAreRight (graph_of model.old) known.old }
     requires counts { NothingCounted (length model.old.vars) counts.old }
     ensures made { IfOk result (λ made. applied (graph_of model.old) (application_of application.now) ≡ cond made (Some (graph_of model.new)) None) }
-    ensures known { OnOk result (IsKnown (graph_of model.new) known.new) }
+    ensures known { OnOk result (FactsAreRight (graph_of model.new) known.new) }
     ensures counts { OnOk result (counts.new ≡ counts.old) }
 {
     match application {
@@ -202,20 +206,20 @@ fn apply(
             )
         }
         Application::Slice { vars } => {
-            *known = Known::begin(alloc);
+            *known = FactsOfModel::begin(alloc);
             apply_slice(alloc, model, vars.as_slice())
         }
     }
 }
 
 /// Keeps what is known of a rule's result, where the rule was made. Where it wasn't, nothing is known any more.
-fn keep_where_made(known: &mut Known, made: bool) -> bool
+fn keep_facts_if_made(known: &mut FactsOfModel, made: bool) -> bool
     ensures is { result ≡ made }
     ensures kept { made ≡ true → known.new ≡ known.old }
-    ensures forgotten { made ≡ false → (g : EventGraph) → IsKnown g known.new }
+    ensures forgotten { made ≡ false → (g : EventGraph) → FactsAreRight g known.new }
 {
     if !made {
-        *known = Known::nothing();
+        *known = FactsOfModel::nothing();
     }
     made
 }
@@ -223,30 +227,30 @@ fn keep_where_made(known: &mut Known, made: bool) -> bool
 /// Applies a rule of edges to an edge, and says whether it could be.
 fn apply_to_edge(
     model: &mut Model,
-    known: &mut Known,
+    known: &mut FactsOfModel,
     vertices: &Places,
     rule: EdgeRule,
     vertex: &Name,
     edge: u64,
 ) -> bool
     requires listed { HasPlaces (names_of_vertices (graph_of model.old).vertices) vertices.now }
-    requires known { IsKnown (graph_of model.old) known.old }
+    requires known { FactsAreRight (graph_of model.old) known.old }
     ensures made { applied (graph_of model.old) (application_by rule vertex.now edge) ≡ cond result (Some (graph_of model.new)) None }
-    ensures known { IsKnown (graph_of model.new) known.new }
+    ensures known { FactsAreRight (graph_of model.new) known.new }
 {
     let Some((vertex, edge)) = edge_named(vertices, vertex, edge) else {
         return false;
     };
     match rule {
         EdgeRule::Prune => {
-            know_pruned(model, known, vertex, edge);
+            keep_after_prune(model, known, vertex, edge);
             let pruned = prune(model, vertex, edge);
-            keep_where_made(known, pruned.is_ok())
+            keep_facts_if_made(known, pruned.is_ok())
         }
         EdgeRule::Settle => {
-            know_settled(model, known, vertex, edge);
+            keep_after_settle(model, known, vertex, edge);
             let settled = settle(model, vertex, edge);
-            keep_where_made(known, settled.is_ok())
+            keep_facts_if_made(known, settled.is_ok())
         }
     }
 }
@@ -255,28 +259,28 @@ fn apply_to_edge(
 fn apply_drop(
     alloc: Global,
     model: &mut Model,
-    known: &mut Known,
+    known: &mut FactsOfModel,
     vertices: &Places,
     names: &[Name],
 ) -> Result<bool, NoMemory>
     requires listed { HasPlaces (names_of_vertices (graph_of model.old).vertices) vertices.now }
-    requires known { IsKnown (graph_of model.old) known.old }
+    requires known { FactsAreRight (graph_of model.old) known.old }
     ensures made { IfOk result (λ made. applied (graph_of model.old) (Drop names.now) ≡ cond made (Some (graph_of model.new)) None) }
-    ensures known { OnOk result (IsKnown (graph_of model.new) known.new) }
+    ensures known { OnOk result (FactsAreRight (graph_of model.new) known.new) }
 {
     let Some(dropped) = all_named(alloc, vertices, names)? else {
         return Ok(false);
     };
-    know_without(model, known, dropped.as_slice());
+    keep_after_drop(model, known, dropped.as_slice());
     let made = was_made(drop_vertices(alloc, model, &dropped))?;
-    Ok(keep_where_made(known, made))
+    Ok(keep_facts_if_made(known, made))
 }
 
 /// Merges two vertices, leaving this of the second one, and says whether they could be.
 fn apply_merge(
     alloc: Global,
     model: &mut Model,
-    known: &mut Known,
+    known: &mut FactsOfModel,
     counts: &mut UseCounts,
     vertices: &Places,
     vertex: &Name,
@@ -284,10 +288,10 @@ fn apply_merge(
     second: SecondVertex,
 ) -> Result<bool, NoMemory>
     requires listed { HasPlaces (names_of_vertices (graph_of model.old).vertices) vertices.now }
-    requires known { IsKnown (graph_of model.old) known.old }
+    requires known { FactsAreRight (graph_of model.old) known.old }
     requires counts { NothingCounted (length model.old.vars) counts.old }
-    ensures made { IfOk result (λ made. MergedLeaving second (graph_of model.old) vertex.now target.now made (graph_of model.new)) }
-    ensures known { OnOk result (IsKnown (graph_of model.new) known.new) }
+    ensures made { IfOk result (λ made. MergeIsMade second (graph_of model.old) vertex.now target.now made (graph_of model.new)) }
+    ensures known { OnOk result (FactsAreRight (graph_of model.new) known.new) }
     ensures counts { OnOk result (counts.new ≡ counts.old) }
 {
     let Some((vertex, target)) = two_vertices_named(vertices, vertex, target) else {

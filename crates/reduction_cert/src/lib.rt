@@ -19,4 +19,4 @@ pub use chain_law::{
 pub use checking::{Verdict, check_chain};
 pub use reading::read_certificate_pieces;
 pub use token_calls::read_certificate;
-pub use without_vertices::know_without;
+pub use without_vertices::keep_after_drop;

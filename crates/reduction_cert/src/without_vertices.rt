@@ -11,12 +11,12 @@ ghost use Rattle.model_core.specs.Text.VersionNeeded.{has_later_parts};
 ghost use Rattle.model_core.specs.Rules.Conditions.{first_failed};
 ghost use Rattle.model_core.specs.Rules.Drop.{drop_conditions, dropped};
 ghost use Rattle.model_core.specs.Code.Views.{graph_of};
-ghost use Rattle.merge_rules.specs.Known.{TellsLines, TellsVersion, AreBodies, IsKnown};
+ghost use Rattle.merge_rules.specs.FactsOfModel.{LinesAreRight, VersionIsRight, BodiesAreRight, FactsAreRight};
 ghost use Rattle.merge_rules.specs.KnownLess.{still_single};
-ghost use Rattle.reduction_cert.specs.KnownWithout.{version_without, bodies_without};
+ghost use Rattle.reduction_cert.specs.KnownWithout.{version_without, bodies_after_drop};
 
 use edge_pruning::{dropping_one_leaves_lines, dropping_takes_lines};
-use merge_rules::{Bodies, Known};
+use merge_rules::{Bodies, FactsOfModel};
 use model_core::{Model, one_has_later_parts};
 use model_print::vertex_length;
 use std::slice::from_ref;
@@ -61,8 +61,8 @@ fn one_is_later(model: &Model, vertices: &[usize]) -> bool
 
 /// How many bytes are left of so many without these vertices' lines, or None where that isn't known.
 fn lines_without(model: &Model, lines: Option<u64>, vertices: &[usize]) -> Option<u64>
-    requires { TellsLines (graph_of model.now) lines }
-    ensures { first_failed (drop_conditions (graph_of model.now) vertices.now) ≡ None → TellsLines (dropped (graph_of model.now) vertices.now) result }
+    requires { LinesAreRight (graph_of model.now) lines }
+    ensures { first_failed (drop_conditions (graph_of model.now) vertices.now) ≡ None → LinesAreRight (dropped (graph_of model.now) vertices.now) result }
 {
     dropping_takes_lines();
     lines?.checked_sub(lines_length(model, vertices)?)
@@ -71,9 +71,9 @@ fn lines_without(model: &Model, lines: Option<u64>, vertices: &[usize]) -> Optio
 /// Whether only a text of version 2 can write the model without these vertices, or None where that isn't known: where one of them
 /// has parts that need one.
 fn version_without(model: &Model, version_two: Option<bool>, vertices: &[usize]) -> Option<bool>
-    requires { TellsVersion (graph_of model.now) version_two }
+    requires { VersionIsRight (graph_of model.now) version_two }
     ensures is { result ≡ version_without (graph_of model.now) version_two vertices.now }
-    ensures tells { first_failed (drop_conditions (graph_of model.now) vertices.now) ≡ None → TellsVersion (dropped (graph_of model.now) vertices.now) result }
+    ensures tells { first_failed (drop_conditions (graph_of model.now) vertices.now) ≡ None → VersionIsRight (dropped (graph_of model.now) vertices.now) result }
 {
     dropping_takes_lines();
     if one_is_later(model, vertices) {
@@ -84,8 +84,8 @@ fn version_without(model: &Model, version_two: Option<bool>, vertices: &[usize])
 
 /// Turns what is known of the lengths of lines of each vertex into what is known after a drop of these.
 fn keep_bodies_without(bodies: &mut Bodies, vertices: &[usize])
-    ensures is { bodies.new ≡ bodies_without bodies.old vertices.now }
-    ensures are { (g : EventGraph) → AreBodies g bodies.old → first_failed (drop_conditions g vertices.now) ≡ None → AreBodies (dropped g vertices.now) bodies.new }
+    ensures is { bodies.new ≡ bodies_after_drop bodies.old vertices.now }
+    ensures are { (g : EventGraph) → BodiesAreRight g bodies.old → first_failed (drop_conditions g vertices.now) ≡ None → BodiesAreRight (dropped g vertices.now) bodies.new }
 {
     dropping_one_leaves_lines();
     if vertices.len() == 1 {
@@ -96,12 +96,12 @@ fn keep_bodies_without(bodies: &mut Bodies, vertices: &[usize])
 }
 
 /// Turns what is known of a model into what is known after a drop of these vertices. It is called before the drop.
-pub fn know_without(model: &Model, known: &mut Known, vertices: &[usize])
-    requires known { IsKnown (graph_of model.now) known.old }
+pub fn keep_after_drop(model: &Model, known: &mut FactsOfModel, vertices: &[usize])
+    requires known { FactsAreRight (graph_of model.now) known.old }
     ensures single { known.new.single ≡ still_single known.old.single }
     ensures version { known.new.version_two ≡ version_without (graph_of model.now) known.old.version_two vertices.now }
-    ensures bodies { known.new.bodies ≡ bodies_without known.old.bodies vertices.now }
-    ensures known { first_failed (drop_conditions (graph_of model.now) vertices.now) ≡ None → IsKnown (dropped (graph_of model.now) vertices.now) known.new }
+    ensures bodies { known.new.bodies ≡ bodies_after_drop known.old.bodies vertices.now }
+    ensures known { first_failed (drop_conditions (graph_of model.now) vertices.now) ≡ None → FactsAreRight (dropped (graph_of model.now) vertices.now) known.new }
 {
     known.single = known.single_without_parts();
     known.lines = lines_without(model, known.lines, vertices);

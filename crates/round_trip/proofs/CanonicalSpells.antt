@@ -23,7 +23,7 @@ use Rattle.text_laws.specs.OpeningCount.{deep_from}
 use Rattle.text_laws.proofs.Formats.EndWord.{front-is_text}
 use Rattle.text_laws.proofs.OpeningLaws.{deep-is_counted, none-is_few}
 use Rattle.round_trip.proofs.TokenSteps.{Lexes, Lexes-nil, Lexes-text, tokens_from_Lexes}
-use Rattle.round_trip.proofs.Writing.{Writes, Any, Takes, takes, writes-then, writes-made, writes-before, blank_behind, feed_behind}
+use Rattle.round_trip.proofs.Writing.{Writes, Any, Takes, takes, writes-then, writes-made, writes-before, blank_after, feed_after}
 use Rattle.round_trip.proofs.OneToken.{a_word, writes-name, semicolon_text}
 use Rattle.round_trip.proofs.ExpressionText.{is_word}
 use Rattle.round_trip.proofs.ListText.{Pairs, each-is, pairs-into, lines-write, some_lines-write}
@@ -83,14 +83,14 @@ module _ (g : EventGraph) (h : IsSpellable g) (back : ReadsBack g) where
       writes-then (writes-then (writes-then (writes-then (writes-then (writes-before (writes-then (writes-then (writes-made text_written
       {J = Takes (λ at. Unit {0}) (Takes (λ n. n.name ≡ g.name) (Takes (Pairs IsVariable g.variables) (Takes (Pairs IsTable g.tables) (Takes (IsWatch g (names_of g) named g.watch) (Takes (Pairs (IsVertex g (names_of g) named) g.vertices) (Takes (λ at. Unit {0}) IsModel))))))}
       (version-writes (needs_version_two g)) (λ line says. takes (λ at u. takes (λ n called. takes (λ vs v. takes (λ ts t. takes (λ o w. takes (λ ws x. takes (λ e u. model_so line says at n vs ts o ws e called v t w x)))))))))
-      (λ rest i. tt) (blank_behind (λ rest. refl) (a_word 109 (codes "odel") words.Model (is_word refl refl refl) refl)))
+      (λ rest i. tt) (blank_after (λ rest. refl) (a_word 109 (codes "odel") words.Model (is_word refl refl refl) refl)))
       (λ rest i. tt) (writes-name g.name h.name))
-      (λ rest i. refl) (feed_behind {F = Any} (λ rest. tt) semicolon_text))
+      (λ rest i. refl) (feed_after {F = Any} (λ rest. tt) semicolon_text))
       (λ rest i. tt) (lines-write variable_line (λ v. SpellableVariable v × BeginsAsWritten v.kind v.initial) IsVariable variable-writes g.variables (both SpellableVariable (λ v. BeginsAsWritten v.kind v.initial) g.variables h.variables back.begins)))
       (λ rest i. tt) (lines-write table_line SpellableTable IsTable table-writes g.tables h.tables))
       (λ rest i. tt) (watch-writes g (names_of g) named g.watch h.watch))
       (λ rest i. tt) (some_lines-write (vertex_lines g) (SpellableVertex (extent g)) (IsVertex g (names_of g) named) (vertex-writes g (names_of g) named) g.vertices h.has_vertex h.vertices))
-      (λ rest i. tt) (feed_behind (λ rest. refl) (a_word 101 (codes "nd") words.End (is_word refl refl refl) refl))
+      (λ rest i. tt) (feed_after (λ rest. refl) (a_word 101 (codes "nd") words.End (is_word refl refl refl) refl))
 
   pub canonical-spells : (w : WrittenModel) × SpellsText (canonical g) w × (numbered w ≡ Some g) × VariablesByKind w × FitsVersion w.version g
   unfolding IsModel

@@ -10,7 +10,7 @@ use Rattle.model_core.specs.Text.VersionNeeded.{needs_version_two}
 use Rattle.model_core.specs.Text.Format.{maybe}
 use Rattle.model_core.specs.Text.Language.{VersionLine, version_format}
 use Rattle.static_laws.specs.FitsVersion.{FitsVersion}
-use Rattle.round_trip.proofs.Writing.{Writes, Any, Takes, takes, writes-then, writes-made, writes-before, writes-some, writes-nothing, blank_behind, feed_behind}
+use Rattle.round_trip.proofs.Writing.{Writes, Any, Takes, takes, writes-then, writes-made, writes-before, writes-some, writes-nothing, blank_after, feed_after}
 use Rattle.round_trip.proofs.OneToken.{a_word, two_text, semicolon_text}
 use Rattle.round_trip.proofs.ExpressionText.{is_word}
 
@@ -28,9 +28,9 @@ line-writes : Writes version_format (codes "version 2;\n") Any OPENINGS_MAX OPEN
 unfolding version_format SaysTwo
 line-writes =
     writes-before (writes-then (writes-made (λ at n. record { at = at; number = n }) {J = Takes (λ n. n.value ≡ Some (pos 2)) SaysTwo}
-    (blank_behind (λ rest. refl) (a_word 118 (codes "ersion") words.Version (is_word refl refl refl) refl)) (λ at u. takes (λ n two. two)))
+    (blank_after (λ rest. refl) (a_word 118 (codes "ersion") words.Version (is_word refl refl refl) refl)) (λ at u. takes (λ n two. two)))
     (λ rest i. tt) two_text)
-    (λ rest i. refl) (feed_behind {F = Any} (λ rest. tt) semicolon_text)
+    (λ rest i. refl) (feed_after {F = Any} (λ rest. tt) semicolon_text)
 
 pub version-writes : (needed : Bool) → Writes (maybe version_format) (version_line needed) Any OPENINGS_MAX OPENINGS_MAX (IsVersion needed)
 unfolding SaysTwo

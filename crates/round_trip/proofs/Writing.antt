@@ -150,8 +150,8 @@ behind {a = a} c passes allowed first = record {
       );
 }
 
-pub blank_behind : {A : Type 0} {f : LanguageFormat A} {a : List ℕ} {F : List ℕ → Type 0} {i j : ℕ} {G : A → Type 0} → ((rest : List ℕ) → F (32 ∷ rest)) → Writes f a F i j G → Writes f (a ++ 32 ∷ []) Any i j G
-blank_behind allowed first = behind 32 Lexes-space allowed first
+pub blank_after : {A : Type 0} {f : LanguageFormat A} {a : List ℕ} {F : List ℕ → Type 0} {i j : ℕ} {G : A → Type 0} → ((rest : List ℕ) → F (32 ∷ rest)) → Writes f a F i j G → Writes f (a ++ 32 ∷ []) Any i j G
+blank_after allowed first = behind 32 Lexes-space allowed first
 
-pub feed_behind : {A : Type 0} {f : LanguageFormat A} {a : List ℕ} {F : List ℕ → Type 0} {i j : ℕ} {G : A → Type 0} → ((rest : List ℕ) → F (10 ∷ rest)) → Writes f a F i j G → Writes f (a ++ 10 ∷ []) Any i j G
-feed_behind allowed first = behind 10 Lexes-feed allowed first
+pub feed_after : {A : Type 0} {f : LanguageFormat A} {a : List ℕ} {F : List ℕ → Type 0} {i j : ℕ} {G : A → Type 0} → ((rest : List ℕ) → F (10 ∷ rest)) → Writes f a F i j G → Writes f (a ++ 10 ∷ []) Any i j G
+feed_after allowed first = behind 10 Lexes-feed allowed first

@@ -75,12 +75,12 @@ fn vertex_at(model: &Graph, place: usize) -> &Vertex
 }
 
 impl<'m, P: Pending> Run<'m, P> {
-    ghost use Rattle.run_control.specs.Running.{told_next};
+    ghost use Rattle.run_control.specs.Running.{next_shown};
     ghost use Rattle.std.specs.Prelude.{ℕ};
     ghost use Rattle.run_control.specs.PossibleModel.{PossibleModel};
     ghost use Rattle.run_control.specs.SoundRun.{FewWords, FewScheduled, Known};
     ghost use Rattle.run_control.specs.Beginning.{BegunRun, RefusesStart};
-    ghost use Rattle.run_control.specs.Turns.{Turns, ComesNext, StepKeeps, HasRoom, FitsRoom, IsDue};
+    ghost use Rattle.run_control.specs.Turns.{Turns, IsNextTurn, StepKeeps, HasRoom, FitsRoom, IsDue};
 
     /// A run of a model as it begins: at clock 0 with the initial values, no words taken, and the first vertex's event,
     /// which carries the starting values. `pending` is given empty; room is made in it for `room` events, and for one at least.
@@ -195,7 +195,7 @@ impl<'m, P: Pending> Run<'m, P> {
 
     /// The next event: `None` where nothing is pending, or the run has faulted.
     pub fn next(&self) -> Option<First>
-        ensures { result ≡ told_next self.now self.now.faulted }
+        ensures { result ≡ next_shown self.now self.now.faulted }
     {
         match &self.fault {
             Some(_) => None,
@@ -276,10 +276,10 @@ impl<'m, P: Pending> Run<'m, P> {
         steps: &mut Steps<L>,
     ) -> Result<Turn, NoMemory>
         requires goes_on { self.old.faulted ≡ None }
-        requires told { next ≡ told_next self.old None }
+        requires told { next ≡ next_shown self.old None }
         requires soon { until ≤ 2 ^ 48 }
         requires budget { self.old.turns < 2 ^ 40 }
-        ensures ok { IfOk result (λ turn. ComesNext self.old until turn self.new (next_entry self.old.now.pending)) }
+        ensures ok { IfOk result (λ turn. IsNextTurn self.old until turn self.new (next_entry self.old.now.pending)) }
         ensures err { OnErr result (self.new ≡ self.old) }
         ensures enough { HasRoom self.old (next_entry self.old.now.pending) → IsOk result }
         ensures due { OnErr result (IsDue until (next_entry self.old.now.pending)) }

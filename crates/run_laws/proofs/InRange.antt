@@ -8,7 +8,7 @@ use Rattle.sig_base.specs.Stream.{word}
 use Rattle.model_core.specs.EventGraph.{EventGraph, Variable, StateChange, Set, Draw}
 use Rattle.model_core.specs.Run.State.{State, Place, no_variable, variable_at, cell_count, within, in_ranges, in_range, initial_state, cells_of, cell_at, with_cell}
 use Rattle.model_core.specs.Run.Value.{OrFault, each, value_of, place_of}
-use Rattle.model_core.specs.Run.Changes.{Changed, kept, store, set_all, taken_from, picked, one_more, make_change}
+use Rattle.model_core.specs.Run.Changes.{ChangeState, kept, store, set_all, taken_from, drawn_value, one_more, make_change}
 use Rattle.model_core.specs.Run.Machine.{Note, Goes}
 use Rattle.model_core.specs.Run.History.{Moment, next_move}
 use Rattle.model_core.proofs.Results.{bind_ok, in_turn-keeps}
@@ -71,7 +71,7 @@ store-in_range g (p, x) s t ok done =
     let same : with_cell s p y ≡ t = cc in
     subst (λ u. in_range g u ≡ true) same stays
 
-change-in_range : (g : EventGraph) (seed clk : ℕ) (c : StateChange) (d e : Changed) → in_range g d.state ≡ true → make_change g seed clk c d ≡ Ok e → in_range g e.state ≡ true
+change-in_range : (g : EventGraph) (seed clk : ℕ) (c : StateChange) (d e : ChangeState) → in_range g d.state ≡ true → make_change g seed clk c d ≡ Ok e → in_range g e.state ≡ true
 change-in_range g seed clk (Set targets rights) d e ok done =
     let (s, is_set, at_end) = bind_ok (set_all g clk targets rights d.state) (λ s. Ok (record d { state = s })) e done in
     let (values, at_values, after_values) = bind_ok (each (value_of g d.state clk) rights) _ s is_set in
@@ -81,9 +81,9 @@ change-in_range g seed clk (Set targets rights) d e ok done =
     subst (λ u. in_range g u ≡ true) same stays
 change-in_range g seed clk (Draw target stream choice) d e ok done =
     let (p, at_place, after_place) = bind_ok (place_of g d.state clk target) _ e done in
-    let (s, stored, at_end) = bind_ok (store g (p, picked g choice (word seed stream (taken_from d.taken stream))) d.state) (λ s. Ok (record { state = s; taken = one_more d.taken stream })) e after_place in
+    let (s, stored, at_end) = bind_ok (store g (p, drawn_value g choice (word seed stream (taken_from d.taken stream))) d.state) (λ s. Ok (record { state = s; taken = one_more d.taken stream })) e after_place in
     let same : s ≡ e.state = cc in
-    subst (λ u. in_range g u ≡ true) same (store-in_range g (p, picked g choice (word seed stream (taken_from d.taken stream))) d.state s ok stored)
+    subst (λ u. in_range g u ≡ true) same (store-in_range g (p, drawn_value g choice (word seed stream (taken_from d.taken stream))) d.state s ok stored)
 
 pub in_range-kept : (g : EventGraph) → Kept g (λ s. in_range g s ≡ true)
 in_range-kept g = record { by_store = store-in_range g; by_change = change-in_range g }

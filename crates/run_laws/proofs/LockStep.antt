@@ -5,10 +5,10 @@ use Rattle.std.proofs.lemmas.Bool.{ltb-false}
 use Rattle.model_core.specs.EventGraph.{EventGraph}
 use Rattle.model_core.specs.Run.State.{State}
 use Rattle.model_core.specs.Run.Value.{OrFault}
-use Rattle.model_core.specs.Run.Pending.{Entry, TakenOff, next_entry}
+use Rattle.model_core.specs.Run.Pending.{Entry, EntryAndRest, next_entry}
 use Rattle.model_core.specs.Run.Step.{Configuration, vertex_at, occur, faulted_at, step}
-use Rattle.model_core.specs.Run.Machine.{Note, On, Standing, Ended, Stopped, Rests, Goes}
-use Rattle.model_core.specs.Run.History.{Moment, Noting, leave, leave_for, at_note, watched_values, watches, completed, stepped, comes, next_move, start, look}
+use Rattle.model_core.specs.Run.Machine.{Note, On, RunStatus, Ended, Stopped, Rests, Goes}
+use Rattle.model_core.specs.Run.History.{Moment, Noting, leave, noting_before_event, at_note, watched_values, watches, completed, stepped, comes, next_move, start, look}
 use Rattle.model_core.specs.Run.Same.{SameLooks}
 use Rattle.run_laws.proofs.Simulation.{Answers, rests, fails, goes, lock_step_same}
 use Rattle.model_core.proofs.Alongside.{Alongside, both_go, both_fail}
@@ -32,8 +32,8 @@ module _ (g h : EventGraph) (states : State → State) (words : List ℕ → Lis
   -- each step is followed
   pub record Follows (seed : ℕ) : Type 0 where
     pub watched : (s : State) → watched_values g.watch s ≡ watched_values h.watch (states s)
-    pub places : (c : Configuration) (n : TakenOff) → Sound c → next_entry c.pending ≡ Some n → position (watches n.entry.vertex) g.watch ≡ position (watches (vertices n.entry.vertex)) h.watch
-    pub steps : (c : Configuration) (n : TakenOff) → Sound c → next_entry c.pending ≡ Some n → n.entry.time ≤ 2 ^ 48 → Alongside Mapped (occur g seed (vertex_at g n.entry.vertex) n c.state c.taken) (occur h seed (vertex_at h (vertices n.entry.vertex)) (taken_off_mapped entries n) (states c.state) (words c.taken))
+    pub places : (c : Configuration) (n : EntryAndRest) → Sound c → next_entry c.pending ≡ Some n → position (watches n.entry.vertex) g.watch ≡ position (watches (vertices n.entry.vertex)) h.watch
+    pub steps : (c : Configuration) (n : EntryAndRest) → Sound c → next_entry c.pending ≡ Some n → n.entry.time ≤ 2 ^ 48 → Alongside Mapped (occur g seed (vertex_at g n.entry.vertex) n c.state c.taken) (occur h seed (vertex_at h (vertices n.entry.vertex)) (taken_off_mapped entries n) (states c.state) (words c.taken))
 
   module _ (seed : ℕ) (ok : Follows seed) (until : ℕ) (early : until ≤ 2 ^ 48) where
     abbrev moment_mapped : Moment → Moment
@@ -55,25 +55,25 @@ module _ (g h : EventGraph) (states : State → State) (words : List ℕ → Lis
     leave-same : (m : Moment) → leave g m ≡ leave h (moment_mapped m)
     leave-same m = ap (λ (values : List (List ℤ)). let n : Noting = record { notes = at_note m.now.clock values m.noted; noted = Some values } in n) (ok.watched m.now.state)
 
-    rests-answers : (m : Moment) (end : Standing) → Answers Level (Rests (leave g m).notes end) (Rests (leave h (moment_mapped m)).notes end)
+    rests-answers : (m : Moment) (end : RunStatus) → Answers Level (Rests (leave g m).notes end) (Rests (leave h (moment_mapped m)).notes end)
     rests-answers m end = subst (λ (left : Noting). Answers Level (Rests (leave g m).notes end) (Rests left.notes end)) (leave-same m) (rests (leave g m).notes end)
 
-    occurs-answers : (m : Moment) (n : TakenOff) → Sound m.now → next_entry m.now.pending ≡ Some n → n.entry.time ≤ 2 ^ 48 → Answers Level (stepped g n.entry.vertex (leave_for g m n.entry.time) (step g seed m.now n)) (stepped h (vertices n.entry.vertex) (leave_for h (moment_mapped m) n.entry.time) (step h seed (moment_mapped m).now (taken_off_mapped entries n)))
+    occurs-answers : (m : Moment) (n : EntryAndRest) → Sound m.now → next_entry m.now.pending ≡ Some n → n.entry.time ≤ 2 ^ 48 → Answers Level (stepped g n.entry.vertex (noting_before_event g m n.entry.time) (step g seed m.now n)) (stepped h (vertices n.entry.vertex) (noting_before_event h (moment_mapped m) n.entry.time) (step h seed (moment_mapped m).now (taken_off_mapped entries n)))
     occurs-answers m n sound next due =
-        subst (λ (left : Noting). Answers Level (stepped g n.entry.vertex (leave_for g m n.entry.time) (step g seed m.now n)) (stepped h (vertices n.entry.vertex) left (step h seed (moment_mapped m).now (taken_off_mapped entries n)))) (ap (λ (left : Noting). cond (nat_lt m.now.clock n.entry.time) left (record { notes = []; noted = m.noted })) (leave-same m))
-        (stepped-answers n.entry.time n.entry.vertex (vertices n.entry.vertex) (ok.places m.now n sound next) (leave_for g m n.entry.time) (ok.steps m.now n sound next due))
+        subst (λ (left : Noting). Answers Level (stepped g n.entry.vertex (noting_before_event g m n.entry.time) (step g seed m.now n)) (stepped h (vertices n.entry.vertex) left (step h seed (moment_mapped m).now (taken_off_mapped entries n)))) (ap (λ (left : Noting). cond (nat_lt m.now.clock n.entry.time) left (record { notes = []; noted = m.noted })) (leave-same m))
+        (stepped-answers n.entry.time n.entry.vertex (vertices n.entry.vertex) (ok.places m.now n sound next) (noting_before_event g m n.entry.time) (ok.steps m.now n sound next due))
 
-    comes-answers : (m : Moment) → Sound m.now → (o : Option TakenOff) → next_entry m.now.pending ≡ o → Answers Level (comes g seed until m o) (comes h seed until (moment_mapped m) (option_map (taken_off_mapped entries) o))
+    comes-answers : (m : Moment) → Sound m.now → (o : Option EntryAndRest) → next_entry m.now.pending ≡ o → Answers Level (comes g seed until m o) (comes h seed until (moment_mapped m) (option_map (taken_off_mapped entries) o))
     comes-answers m sound None next = rests-answers m (Ended m.now.clock)
     comes-answers m sound (Some n) next = chosen (nat_lt until n.entry.time) refl where
-      chosen : (b : Bool) → nat_lt until n.entry.time ≡ b → Answers Level (cond b (Rests (leave g m).notes Stopped) (stepped g n.entry.vertex (leave_for g m n.entry.time) (step g seed m.now n))) (cond b (Rests (leave h (moment_mapped m)).notes Stopped) (stepped h (vertices n.entry.vertex) (leave_for h (moment_mapped m) n.entry.time) (step h seed (moment_mapped m).now (taken_off_mapped entries n))))
+      chosen : (b : Bool) → nat_lt until n.entry.time ≡ b → Answers Level (cond b (Rests (leave g m).notes Stopped) (stepped g n.entry.vertex (noting_before_event g m n.entry.time) (step g seed m.now n))) (cond b (Rests (leave h (moment_mapped m)).notes Stopped) (stepped h (vertices n.entry.vertex) (noting_before_event h (moment_mapped m) n.entry.time) (step h seed (moment_mapped m).now (taken_off_mapped entries n))))
       chosen true late = rests-answers m Stopped
       chosen false in_time = occurs-answers m n sound next (le_trans (ltb-false until n.entry.time in_time) early)
 
     level-step : (m k : Moment) → Level m k → Answers Level (next_move g seed until m) (next_move h seed until k)
     level-step m k (same, sound) =
         subst (λ (k : Moment). Answers Level (next_move g seed until m) (next_move h seed until k)) same
-        (subst (λ (o : Option TakenOff). Answers Level (next_move g seed until m) (comes h seed until (moment_mapped m) o)) (sym (next_among-mapped entries (record { times = λ e. refl; priorities = λ e. refl }) (λ e. true) (λ e. true) m.now.pending (every-always (λ (e : Entry). true ≡ true) (λ e. refl) m.now.pending)))
+        (subst (λ (o : Option EntryAndRest). Answers Level (next_move g seed until m) (comes h seed until (moment_mapped m) o)) (sym (next_among-mapped entries (record { times = λ e. refl; priorities = λ e. refl }) (λ e. true) (λ e. true) m.now.pending (every-always (λ (e : Entry). true ≡ true) (λ e. refl) m.now.pending)))
         (comes-answers m sound (next_entry m.now.pending) refl))
 
     -- so the runs look the same

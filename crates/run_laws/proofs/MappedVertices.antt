@@ -9,11 +9,11 @@ use Rattle.model_core.specs.EventGraph.{EventGraph, EventVertex, EventEdge, Edge
 use Rattle.model_core.specs.Run.State.{State, variable_at, cells_of, initial_state}
 use Rattle.model_core.specs.Run.Value.{in_turn, value_of, is_one}
 use Rattle.model_core.specs.Run.Changes.{make_change}
-use Rattle.model_core.specs.Run.Pending.{Entry, TakenOff, is_of, is_with, same_values}
-use Rattle.model_core.specs.Run.Edges.{Planned, delay_of, carried_values, scheduled, act, treat}
+use Rattle.model_core.specs.Run.Pending.{Entry, EntryAndRest, is_of, is_with, same_values}
+use Rattle.model_core.specs.Run.Edges.{EdgeState, delay_of, carried_values, scheduled, act, treat_edge}
 use Rattle.model_core.specs.Run.Step.{Configuration, no_vertex, vertex_at, receive, occur}
 use Rattle.model_core.specs.Run.History.{Moment, watched_values, watches, look}
-use Rattle.model_core.specs.Run.Same.{Same, SameLooks, thing, VertexNamed, parameter}
+use Rattle.model_core.specs.Run.Same.{Same, SameLooks, watched_name_of, VertexNamed, parameter}
 use Rattle.model_core.specs.Rules.Drop.{edge_renumbered, watched_renumbered}
 use Rattle.model_core.proofs.Alongside.{Alongside, both_go, bind-alongside, bind-alongside-same, in_turn-alongside}
 use Rattle.model_core.proofs.EachOne.{every-map, every-append}
@@ -25,31 +25,31 @@ abbrev pub with_mapped : EventGraph → (ℕ → ℕ) → List EventVertex → E
 with_mapped g f vertices = record g { watch = map (watched_renumbered f) g.watch; vertices = vertices }
 
 -- w does what v does, with the targets of its edges mapped
-pub record DoesAs (f : ℕ → ℕ) (v w : EventVertex) : Type 0 where
+pub record BehavesAs (f : ℕ → ℕ) (v w : EventVertex) : Type 0 where
   pub parameters : v.parameters ≡ w.parameters
   pub changes : v.changes ≡ w.changes
   pub edges : map (edge_renumbered f) v.edges ≡ w.edges
 
 -- a vertex that is watched is one of these
-abbrev pub WatchedTold : (ℕ → Type 0) → Watched → Type 0
-WatchedTold Told (WatchedVariable v) = Unit {0}
-WatchedTold Told (WatchedVertex v) = Told v
+abbrev pub WatchedAreApart : (ℕ → Type 0) → Watched → Type 0
+WatchedAreApart Told (WatchedVariable v) = Unit {0}
+WatchedAreApart Told (WatchedVertex v) = Told v
 
 -- an edge that schedules leads to a live vertex, and one that cancels to one that keeps apart
-abbrev pub MayLead : (Live Told : ℕ → Type 0) → EdgeKind → ℕ → Type 0
-MayLead Live Told (Schedule delay priority) t = Live t
-MayLead Live Told Urgent t = Live t
-MayLead Live Told kind t = Told t
+abbrev pub LeadsToMapped : (Live Told : ℕ → Type 0) → EdgeKind → ℕ → Type 0
+LeadsToMapped Live Told (Schedule delay priority) t = Live t
+LeadsToMapped Live Told Urgent t = Live t
+LeadsToMapped Live Told kind t = Told t
 
 -- f maps each live vertex to one that does the same, and keeps those that are watched or cancelled apart from live ones
 pub record Mapping (g : EventGraph) (f : ℕ → ℕ) (vertices : List EventVertex) (Live Told : ℕ → Type 0) : Type 0 where
   pub apart : (t : ℕ) → Told t → (k : ℕ) → Live k → (f k == f t) ≡ (k == t)
-  pub does : (k : ℕ) → Live k → DoesAs f (vertex_at g k) (slice_index_or vertices (f k) no_vertex)
+  pub does : (k : ℕ) → Live k → BehavesAs f (vertex_at g k) (slice_index_or vertices (f k) no_vertex)
   pub names : (k : ℕ) → Told k → (vertex_at g k).name ≡ (slice_index_or vertices (f k) no_vertex).name
-  pub closed : (k : ℕ) → Live k → AllByRecursion (λ (e : EventEdge). MayLead Live Told e.kind e.target) (vertex_at g k).edges
+  pub closed : (k : ℕ) → Live k → AllByRecursion (λ (e : EventEdge). LeadsToMapped Live Told e.kind e.target) (vertex_at g k).edges
   pub first : f 0 ≡ 0
   pub first_live : Live 0
-  pub watched : AllByRecursion (WatchedTold Told) g.watch
+  pub watched : AllByRecursion (WatchedAreApart Told) g.watch
 
 watched_values-mapped : (f : ℕ → ℕ) (watch : List Watched) (s : State) → watched_values (map (watched_renumbered f) watch) s ≡ watched_values watch s
 watched_values-mapped f [] s = refl
@@ -69,11 +69,11 @@ module _ (g : EventGraph) (f : ℕ → ℕ) (vertices : List EventVertex) (Live 
   abbrev LiveEntry : Entry → Type 0
   LiveEntry e = Live e.vertex
 
-  abbrev planned_mapped : Planned → Planned
+  abbrev planned_mapped : EdgeState → EdgeState
   planned_mapped p = record { pending = map r p.pending; taken = p.taken }
 
   -- the one plan is the other one, mapped, and all in it are live
-  abbrev Plans : Planned → Planned → Type 0
+  abbrev Plans : EdgeState → EdgeState → Type 0
   Plans p q = (planned_mapped p ≡ q) × AllByRecursion LiveEntry p.pending
 
   keeps_due : KeepsDue r
@@ -91,7 +91,7 @@ module _ (g : EventGraph) (f : ℕ → ℕ) (vertices : List EventVertex) (Live 
   scheduled-alongside time priority t values taken live p all =
       both_go (ap (λ (l : List Entry). record { pending = l; taken = taken }) (map-append r p _), every-append LiveEntry p _ all live)
 
-  act-alongside : (seed : ℕ) (s : State) (clk : ℕ) (e : EventEdge) (kind : EdgeKind) → MayLead Live Told kind e.target → (p : Planned) → AllByRecursion LiveEntry p.pending → Alongside Plans (act g seed s clk e kind p) (act h seed s clk (edge_renumbered f e) kind (planned_mapped p))
+  act-alongside : (seed : ℕ) (s : State) (clk : ℕ) (e : EventEdge) (kind : EdgeKind) → LeadsToMapped Live Told kind e.target → (p : EdgeState) → AllByRecursion LiveEntry p.pending → Alongside Plans (act g seed s clk e kind p) (act h seed s clk (edge_renumbered f e) kind (planned_mapped p))
   act-alongside seed s clk e (Schedule delay priority) may p all =
       bind-alongside-same Plans (delay_of g seed s clk delay p.taken) _ _ (λ wait a.
       bind-alongside-same Plans (carried_values g s clk e) _ _ (λ values c.
@@ -107,16 +107,16 @@ module _ (g : EventGraph) (f : ℕ → ℕ) (vertices : List EventVertex) (Live 
   act-alongside seed s clk e CancelAll may p all =
       both_go (ap (λ (l : List Entry). record p { pending = l }) (sym (without_all-mapped r (is_of e.target) (is_of (f e.target)) p.pending (of-same e.target may p.pending all))), without_all-every LiveEntry (is_of e.target) p.pending all)
 
-  treat-mapped : (seed : ℕ) (s : State) (clk : ℕ) (e : EventEdge) → MayLead Live Told e.kind e.target → (p : Planned) → AllByRecursion LiveEntry p.pending → Alongside Plans (treat g seed s clk e p) (treat h seed s clk (edge_renumbered f e) (planned_mapped p))
-  treat-mapped seed s clk e may p all =
+  treat_edge-mapped : (seed : ℕ) (s : State) (clk : ℕ) (e : EventEdge) → LeadsToMapped Live Told e.kind e.target → (p : EdgeState) → AllByRecursion LiveEntry p.pending → Alongside Plans (treat_edge g seed s clk e p) (treat_edge h seed s clk (edge_renumbered f e) (planned_mapped p))
+  treat_edge-mapped seed s clk e may p all =
       bind-alongside-same Plans (value_of g s clk e.condition) _ _ (λ c a. tested (is_one c)) where
         tested : (b : Bool) → Alongside Plans (cond b (act g seed s clk e e.kind p) (Ok p)) (cond b (act h seed s clk (edge_renumbered f e) e.kind (planned_mapped p)) (Ok (planned_mapped p)))
         tested true = act-alongside seed s clk e e.kind may p all
         tested false = both_go (refl, all)
 
-  treat-alongside : (seed : ℕ) (s : State) (clk : ℕ) (e : EventEdge) → MayLead Live Told e.kind e.target → (p q : Planned) → Plans p q → Alongside Plans (treat g seed s clk e p) (treat h seed s clk (edge_renumbered f e) q)
-  treat-alongside seed s clk e may p q (same, all) =
-      subst (λ (q : Planned). Alongside Plans (treat g seed s clk e p) (treat h seed s clk (edge_renumbered f e) q)) same (treat-mapped seed s clk e may p all)
+  treat_edge-alongside : (seed : ℕ) (s : State) (clk : ℕ) (e : EventEdge) → LeadsToMapped Live Told e.kind e.target → (p q : EdgeState) → Plans p q → Alongside Plans (treat_edge g seed s clk e p) (treat_edge h seed s clk (edge_renumbered f e) q)
+  treat_edge-alongside seed s clk e may p q (same, all) =
+      subst (λ (q : EdgeState). Alongside Plans (treat_edge g seed s clk e p) (treat_edge h seed s clk (edge_renumbered f e) q)) same (treat_edge-mapped seed s clk e may p all)
 
   -- ---- events
 
@@ -126,31 +126,31 @@ module _ (g : EventGraph) (f : ℕ → ℕ) (vertices : List EventVertex) (Live 
   abbrev mapped : EventVertex → EventVertex
   mapped v = record v { edges = map (edge_renumbered f) v.edges }
 
-  mapped-alongside : (seed : ℕ) (v : EventVertex) → AllByRecursion (λ (e : EventEdge). MayLead Live Told e.kind e.target) v.edges → (n : TakenOff) → AllByRecursion LiveEntry n.others → (s : State) (taken : List ℕ) → Alongside Configurations (occur g seed v n s taken) (occur h seed (mapped v) (taken_off_mapped r n) s taken)
+  mapped-alongside : (seed : ℕ) (v : EventVertex) → AllByRecursion (λ (e : EventEdge). LeadsToMapped Live Told e.kind e.target) v.edges → (n : EntryAndRest) → AllByRecursion LiveEntry n.others → (s : State) (taken : List ℕ) → Alongside Configurations (occur g seed v n s taken) (occur h seed (mapped v) (taken_off_mapped r n) s taken)
   mapped-alongside seed v closed n live s taken =
       bind-alongside-same Configurations (receive g v.parameters n.entry.values s) _ _ (λ t a.
       bind-alongside-same Configurations (in_turn (make_change g seed n.entry.time) v.changes (record { state = t; taken = taken })) _ _ (λ d b.
-      bind-alongside Plans Configurations (in_turn-alongside (λ (e : EventEdge). MayLead Live Told e.kind e.target) (edge_renumbered f) Plans (treat g seed d.state n.entry.time) (treat h seed d.state n.entry.time) (λ e may p q plans. treat-alongside seed d.state n.entry.time e may p q plans) v.edges closed (record { pending = n.others; taken = d.taken }) (record { pending = map r n.others; taken = d.taken }) (refl, live)) _ _ (λ p q (same, all).
-      both_go (ap (λ (q : Planned). record { clock = n.entry.time; state = d.state; taken = q.taken; pending = q.pending }) same, all))))
+      bind-alongside Plans Configurations (in_turn-alongside (λ (e : EventEdge). LeadsToMapped Live Told e.kind e.target) (edge_renumbered f) Plans (treat_edge g seed d.state n.entry.time) (treat_edge h seed d.state n.entry.time) (λ e may p q plans. treat_edge-alongside seed d.state n.entry.time e may p q plans) v.edges closed (record { pending = n.others; taken = d.taken }) (record { pending = map r n.others; taken = d.taken }) (refl, live)) _ _ (λ p q (same, all).
+      both_go (ap (λ (q : EdgeState). record { clock = n.entry.time; state = d.state; taken = q.taken; pending = q.pending }) same, all))))
 
   -- an event reads no name
-  occur-as : (seed : ℕ) (v w : EventVertex) → DoesAs f v w → (n : TakenOff) (s : State) (taken : List ℕ) → occur h seed (mapped v) n s taken ≡ occur h seed w n s taken
+  occur-as : (seed : ℕ) (v w : EventVertex) → BehavesAs f v w → (n : EntryAndRest) (s : State) (taken : List ℕ) → occur h seed (mapped v) n s taken ≡ occur h seed w n s taken
   occur-as seed v w as_ n s taken = λ i. occur h seed (record { name = v.name; parameters = as_.parameters i; changes = as_.changes i; edges = as_.edges i }) n s taken
 
   -- ---- what is watched
 
-  prefix-same : (v : ℕ) → Live v → (watch : List Watched) → AllByRecursion (WatchedTold Told) watch → prefix_len (λ w. not (watches (f v) w)) (map (watched_renumbered f) watch) ≡ prefix_len (λ w. not (watches v w)) watch
+  prefix-same : (v : ℕ) → Live v → (watch : List Watched) → AllByRecursion (WatchedAreApart Told) watch → prefix_len (λ w. not (watches (f v) w)) (map (watched_renumbered f) watch) ≡ prefix_len (λ w. not (watches v w)) watch
   prefix-same v live [] all = refl
   prefix-same v live (WatchedVariable w ∷ watch) (here, all) = ap (λ n. 1 + n) (prefix-same v live watch all)
   prefix-same v live (WatchedVertex w ∷ watch) (here, all) = ap₂ (λ (b : Bool) (n : ℕ). cond (not b) (1 + n) 0) (turned (f w) (f v) ∙ (ok.apart w here v live ∙ turned v w)) (prefix-same v live watch all)
 
-  position-same : (v : ℕ) → Live v → (watch : List Watched) → AllByRecursion (WatchedTold Told) watch → position (watches (f v)) (map (watched_renumbered f) watch) ≡ position (watches v) watch
+  position-same : (v : ℕ) → Live v → (watch : List Watched) → AllByRecursion (WatchedAreApart Told) watch → position (watches (f v)) (map (watched_renumbered f) watch) ≡ position (watches v) watch
   position-same v live watch all =
       ap₂ (λ (n len : ℕ). cond (nat_lt n len) (Some n) None) (prefix-same v live watch all) (length-map watch (watched_renumbered f))
 
-  things-same : (watch : List Watched) → AllByRecursion (WatchedTold Told) watch → map (thing g) watch ≡ map (thing h) (map (watched_renumbered f) watch)
+  things-same : (watch : List Watched) → AllByRecursion (WatchedAreApart Told) watch → map (watched_name_of g) watch ≡ map (watched_name_of h) (map (watched_renumbered f) watch)
   things-same [] all = refl
-  things-same (WatchedVariable v ∷ watch) (here, all) = ap (λ ts. thing g (WatchedVariable v) ∷ ts) (things-same watch all)
+  things-same (WatchedVariable v ∷ watch) (here, all) = ap (λ ts. watched_name_of g (WatchedVariable v) ∷ ts) (things-same watch all)
   things-same (WatchedVertex v ∷ watch) (here, all) = ap₂ (λ t ts. t ∷ ts) (ap VertexNamed (ok.names v here)) (things-same watch all)
 
   -- ---- runs

@@ -2,10 +2,10 @@
 use Rattle.std.proofs.Common.{◌≡◌, ℕ, ℤ, Bool, true, false, cond, nat_lt, List, ◌∷◌, ◌++◌, Option, Some, None, refl, sym, ap₂, ◌∙◌, subst}
 use Rattle.model_core.specs.EventGraph.{EventGraph}
 use Rattle.model_core.specs.Run.Value.{OrFault}
-use Rattle.model_core.specs.Run.Pending.{Entry, TakenOff, next_entry}
+use Rattle.model_core.specs.Run.Pending.{Entry, EntryAndRest, next_entry}
 use Rattle.model_core.specs.Run.Step.{Configuration, vertex_at, faulted_at, step}
 use Rattle.model_core.specs.Run.Machine.{Note, Ended, Stopped, Rests, Goes}
-use Rattle.model_core.specs.Run.History.{Moment, Noting, leave, leave_for, completed, stepped, comes, next_move, look_from}
+use Rattle.model_core.specs.Run.History.{Moment, Noting, leave, noting_before_event, completed, stepped, comes, next_move, look_from}
 use Rattle.model_core.proofs.Alongside.{Alongside, both_go, both_fail}
 use Rattle.run_laws.proofs.Simulation.{Answers, rests, fails, goes, lock_step}
 use Rattle.model_core.specs.Saved.GoingOn.{Alike}
@@ -19,7 +19,7 @@ record AlikeMoments (m k : Moment) : Type 0 where
   noted : m.noted ≡ k.noted
 
 -- the next events are the same, and the others are the same once they are sorted
-abbrev NextAlike : Option TakenOff → Option TakenOff → Type 0
+abbrev NextAlike : Option EntryAndRest → Option EntryAndRest → Type 0
 NextAlike None None = Unit {0}
 NextAlike None (Some k) = ⊥
 NextAlike (Some n) None = ⊥
@@ -27,7 +27,7 @@ NextAlike (Some n) (Some k) = (n.entry ≡ k.entry) × (sorted n.others ≡ sort
 
 next-alike : (a b : List Entry) → sorted a ≡ sorted b → NextAlike (next_entry a) (next_entry b)
 next-alike a b due = chosen (next_entry a) (next_entry b) refl refl where
-  chosen : (o q : Option TakenOff) → next_entry a ≡ o → next_entry b ≡ q → NextAlike o q
+  chosen : (o q : Option EntryAndRest) → next_entry a ≡ o → next_entry b ≡ q → NextAlike o q
   chosen None None e h = tt
   chosen None (Some k) e h = let no = sym (sorted-none a e) ∙ due ∙ sorted-front b k h in cc
   chosen (Some n) None e h = let no = sym (sorted-front a n e) ∙ due ∙ sorted-none b h in cc
@@ -52,13 +52,13 @@ module _ (g : EventGraph) (seed until : ℕ) where
     abbrev second : Moment
     second = record { now = record c { pending = b }; noted = noted }
 
-    comes-so : (n : TakenOff) (others : List Entry) → sorted n.others ≡ sorted others → Answers AlikeMoments (comes g seed until first (Some n)) (comes g seed until second (Some (record n { others = others })))
+    comes-so : (n : EntryAndRest) (others : List Entry) → sorted n.others ≡ sorted others → Answers AlikeMoments (comes g seed until first (Some n)) (comes g seed until second (Some (record n { others = others })))
     comes-so n others due = chosen (nat_lt until n.entry.time) where
-      chosen : (late : Bool) → Answers AlikeMoments (cond late (Rests (leave g first).notes Stopped) (stepped g n.entry.vertex (leave_for g first n.entry.time) (step g seed c n))) (cond late (Rests (leave g second).notes Stopped) (stepped g n.entry.vertex (leave_for g second n.entry.time) (step g seed (record c { pending = b }) (record n { others = others }))))
+      chosen : (late : Bool) → Answers AlikeMoments (cond late (Rests (leave g first).notes Stopped) (stepped g n.entry.vertex (noting_before_event g first n.entry.time) (step g seed c n))) (cond late (Rests (leave g second).notes Stopped) (stepped g n.entry.vertex (noting_before_event g second n.entry.time) (step g seed (record c { pending = b }) (record n { others = others }))))
       chosen true = rests (leave g first).notes Stopped
-      chosen false = stepped-alike n.entry.time n.entry.vertex (leave_for g first n.entry.time) (occur-alike g seed (vertex_at g n.entry.vertex) n.entry n.others others c.state c.taken due)
+      chosen false = stepped-alike n.entry.time n.entry.vertex (noting_before_event g first n.entry.time) (occur-alike g seed (vertex_at g n.entry.vertex) n.entry n.others others c.state c.taken due)
 
-    comes-alike : (o q : Option TakenOff) → NextAlike o q → Answers AlikeMoments (comes g seed until first o) (comes g seed until second q)
+    comes-alike : (o q : Option EntryAndRest) → NextAlike o q → Answers AlikeMoments (comes g seed until first o) (comes g seed until second q)
     comes-alike None None alike = rests (leave g first).notes (Ended c.clock)
     comes-alike None (Some k) alike = absurd alike
     comes-alike (Some n) None alike = absurd alike

@@ -9,7 +9,7 @@ use Rattle.model_core.specs.declared.model.Kind.TheVariants as kinds
 use Rattle.model_core.specs.EventGraph.{EventGraph, Variable, EventVertex, EventEdge, Delay, Fixed, Drawn, EdgeKind, Schedule, Urgent, CancelNext, CancelEqual, CancelAll, Choice, Uniform, ByTable, Expression, Weighted, WeightTable}
 use Rattle.model_core.specs.Run.State.{State, variable_at, in_range}
 use Rattle.model_core.specs.Run.Value.{each, value_of, number_of}
-use Rattle.model_core.specs.Run.Changes.{no_table, taken_from, one_more, picked}
+use Rattle.model_core.specs.Run.Changes.{no_table, taken_from, one_more, drawn_value}
 use Rattle.model_core.specs.Run.Edges.{Waiting, delay_ticks, delay_of, carried_values}
 use Rattle.model_core.specs.Run.Step.{no_vertex, vertex_at}
 use Rattle.model_core.specs.Text.Spellable.{IsSigned, extent, SpellableExpression, SpellableDelay, SpellableKind, SpellableEdge, SpellableVertex, SpellableVariable, IsSpellable, HasWrittenRange}
@@ -69,11 +69,11 @@ rows-wide [] kept = tt
 rows-wide (r ∷ rows) (here, kept) = (literal-wide r.value here.value, rows-wide rows kept)
 
 -- the value that a choice picks by a word of 32 bits
-picked-wide : (g : EventGraph) (choice : Choice) (w : ℕ) → AllByRecursion KeepsTable g.tables → KeepsChoice g.variables (length g.tables) (parameters_of g) choice → w < 2 ^ 32 → IsWide (picked g choice w)
-picked-wide g (Uniform lo hi) w tables kept small =
+drawn_value-wide : (g : EventGraph) (choice : Choice) (w : ℕ) → AllByRecursion KeepsTable g.tables → KeepsChoice g.variables (length g.tables) (parameters_of g) choice → w < 2 ^ 32 → IsWide (drawn_value g choice w)
+drawn_value-wide g (Uniform lo hi) w tables kept small =
     let within = choice_in g (Uniform lo hi) (length g.tables) (parameters_of g) w tables kept small in
     record { least = omega (arith, ints, kept.0.least, within.low); greatest = omega (arith, ints, kept.1.greatest, within.high) }
-picked-wide g (ByTable t) w tables kept small =
+drawn_value-wide g (ByTable t) w tables kept small =
     every-place IsWide (map (λ (r : Weighted). r.value) (slice_index_or g.tables t no_table).rows) (pos 0) _
     (every-place (λ (table : WeightTable). AllByRecursion IsWide (map (λ (r : Weighted). r.value) table.rows)) g.tables no_table t (every-map KeepsTable _ (λ table kept. rows-wide table.rows kept.rows) g.tables tables) tt)
     (signed-wide (pos 0) (omega arith))
@@ -116,9 +116,9 @@ module _ (g : EventGraph) (parts : KeepsParts g) (spelled : IsSpellable g) (seed
       subst (λ (n : ℕ). n ≤ 2 ^ 63 - 1) same (ticks-near x ticks (of-kind-wide kinds.Range (length g.variables) e x is fits at_value) at_ticks)
   delay-near (Drawn stream choice) taken wait is fits done =
       let w = word seed stream (taken_from taken stream) in
-      let (ticks, at_ticks, at_end) = bind_ok (delay_ticks (picked g choice w)) (λ n. Ok (record { ticks = n; taken = one_more taken stream })) wait done in
+      let (ticks, at_ticks, at_end) = bind_ok (delay_ticks (drawn_value g choice w)) (λ n. Ok (record { ticks = n; taken = one_more taken stream })) wait done in
       let same : ticks ≡ wait.ticks = cc in
-      subst (λ (n : ℕ). n ≤ 2 ^ 63 - 1) same (ticks-near (picked g choice w) ticks (picked-wide g choice w parts.tables is.1 (word_small seed stream (taken_from taken stream))) at_ticks)
+      subst (λ (n : ℕ). n ≤ 2 ^ 63 - 1) same (ticks-near (drawn_value g choice w) ticks (drawn_value-wide g choice w parts.tables is.1 (word_small seed stream (taken_from taken stream))) at_ticks)
 
   -- an event of this vertex, scheduled now or soon
   made-good : (e : EventEdge) (parameters : List ℕ) (ticks priority : ℕ) (values : List ℤ) → slice_get (parameters_of g) e.target ≡ Some parameters → ticks ≤ 2 ^ 63 - 1 → priority ≤ 255 → TakeCarried g.variables (length g.tables) (parameters_of g) parameters e.values → AllByRecursion (SpellableExpression (length g.variables)) e.values → carried_values g s clk e ≡ Ok values

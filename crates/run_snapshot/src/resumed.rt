@@ -7,7 +7,7 @@ ghost use Rattle.model_core.specs.Static.OwnRules.{IsWatchable};
 ghost use Rattle.run_control.specs.PossibleModel.{PossibleModel};
 ghost use Rattle.model_core.specs.Saved.SavedRun.{IsGood};
 ghost use Rattle.run_snapshot.specs.ResumedRun.{ResumedRun};
-ghost use Rattle.run_snapshot.specs.Inner.NotedValues.{FitWatched, noted_so};
+ghost use Rattle.run_snapshot.specs.Inner.NotedValues.{FitWatched, noted_as_cells};
 
 use crate::resuming::{schedule_all, state_of, streams_after};
 use event_list::Pending;
@@ -34,7 +34,7 @@ fn tracer_of<'m>(
     noted: &Option<List<i64>>,
 ) -> Result<Tracer<'m>, NoMemory>
     requires { FitWatched (graph_of model.now) noted.now }
-    ensures { IfOk result (λ tracer. tracer ≡ record { model = model.now; noted = noted_so (graph_of model.now) noted.now }) }
+    ensures { IfOk result (λ tracer. tracer ≡ record { model = model.now; noted = noted_as_cells (graph_of model.now) noted.now }) }
 {
     let mut tracer = Tracer::begin(alloc, model)?;
     if let Some(values) = noted {

@@ -16,13 +16,13 @@ map-filter f keeps (x ∷ xs) = filter-cons f (keeps (f x)) x (filter (λ y. kee
 
 -- ---- the element after a front
 
-pub get-behind : {A : Type 0} (front : List A) (x : A) (later : List A) → slice_get (front ++ x ∷ later) (length front) ≡ Some x
-get-behind [] x later = refl
-get-behind (y ∷ front) x later = get-behind front x later
+pub get-after : {A : Type 0} (front : List A) (x : A) (later : List A) → slice_get (front ++ x ∷ later) (length front) ≡ Some x
+get-after [] x later = refl
+get-after (y ∷ front) x later = get-after front x later
 
-pub remove-behind : {A : Type 0} (front : List A) (x : A) (later : List A) → remove (front ++ x ∷ later) (length front) ≡ front ++ later
-remove-behind [] x later = refl
-remove-behind (y ∷ front) x later = ap (λ zs. y ∷ zs) (remove-behind front x later)
+pub remove-after : {A : Type 0} (front : List A) (x : A) (later : List A) → remove (front ++ x ∷ later) (length front) ≡ front ++ later
+remove-after [] x later = refl
+remove-after (y ∷ front) x later = ap (λ zs. y ∷ zs) (remove-after front x later)
 
 -- ---- a loop that changes each element in its place
 

@@ -5,36 +5,36 @@ ghost use Rattle.std.specs.Prelude.{◌≡◌};
 use std::marker::Model;
 
 /// A value that is dropped by one call, so that a function which may return early has few values to drop.
-pub struct Held<T> {
+pub struct HeldValue<T> {
     value: T,
 }
 
-impl<T> Model for Held<T> {
+impl<T> Model for HeldValue<T> {
     ghost Value = { T };
 
     ghost view = { λ h. h.value };
 }
 
-impl<T: Drop> Drop for Held<T> {
+impl<T: Drop> Drop for HeldValue<T> {
     fn drop(self) {
-        let Held { value } = self;
+        let HeldValue { value } = self;
         drop(value);
     }
 }
 
-impl<T> Held<T> {
+impl<T> HeldValue<T> {
     /// Holds the value.
-    pub fn of(value: T) -> Held<T>
+    pub fn of(value: T) -> HeldValue<T>
         ensures { result ≡ value }
     {
-        Held { value }
+        HeldValue { value }
     }
 
     /// Gives the value back.
     pub fn free(self) -> T
         ensures { result ≡ self }
     {
-        let Held { value } = self;
+        let HeldValue { value } = self;
         value
     }
 }

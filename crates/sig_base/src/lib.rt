@@ -26,7 +26,7 @@ mod taking;
 mod text;
 
 pub use fault::FaultKind;
-pub use held::Held;
+pub use held::HeldValue;
 pub use limits::{
     ARRAY_CELLS_MAX, ARRAY_CELLS_MAX_VERSION_1, CELLS_MAX, CHANGES_MAX, DOCUMENT_MAX, EDGES_MAX,
     EVENTS_MAX, LITERAL_MAX, NAME_MAX, OPENINGS_MAX, PARAMETERS_MAX, PARAMETERS_MAX_VERSION_1,

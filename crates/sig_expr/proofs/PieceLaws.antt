@@ -26,8 +26,8 @@ pub ends_inside : (spans : List Span) (end v : ℕ) (p d : Span) → Laid 0 span
 ends_inside spans end v p d h below is = rw is (lies spans 0 end v d h below).high
 
 -- a piece after a place does not see what is written before it
-pub piece_behind : {A : Type 0} (xs : List A) (p : Span) (k : ℕ) (x : A) → k < p.from → piece (set xs k x) p ≡ piece xs p
-piece_behind xs p k x l = ap (take p.size) (drop-set-lt p.from xs k x l)
+pub piece_after : {A : Type 0} (xs : List A) (p : Span) (k : ℕ) (x : A) → k < p.from → piece (set xs k x) p ≡ piece xs p
+piece_after xs p k x l = ap (take p.size) (drop-set-lt p.from xs k x l)
 
 pub piece_before : {A : Type 0} (xs : List A) (p : Span) (i : ℕ) (x : A) → p.size ≤ i → piece (set xs (p.from + i) x) p ≡ piece xs p
 piece_before xs p i x l = ap (take p.size) (drop-set-add p.from xs i x) ∙ take-set-le p.size (drop p.from xs) i x l
@@ -35,11 +35,11 @@ piece_before xs p i x l = ap (take p.size) (drop-set-add p.from xs i x) ∙ take
 pub piece_at : {A : Type 0} (xs : List A) (p : Span) (i : ℕ) (x : A) → i < p.size → piece (set xs (p.from + i) x) p ≡ set (piece xs p) i x
 piece_at xs p i x l = ap (take p.size) (drop-set-add p.from xs i x) ∙ take-set-lt p.size (drop p.from xs) i x l
 
-pub pieces_behind : {A : Type 0} (xs : List A) (spans : List Span) (from end k : ℕ) (x : A) → Laid from spans end → k < from → pieces (set xs k x) spans ≡ pieces xs spans
-pieces_behind xs [] from end k x h l = refl
-pieces_behind xs (p ∷ ps) from end k x h l =
-    let e = piece_behind xs p k x (omega (arith, h.0)) in
-    let es = pieces_behind xs ps (from + p.size) end k x h.1 (omega arith) in
+pub pieces_after : {A : Type 0} (xs : List A) (spans : List Span) (from end k : ℕ) (x : A) → Laid from spans end → k < from → pieces (set xs k x) spans ≡ pieces xs spans
+pieces_after xs [] from end k x h l = refl
+pieces_after xs (p ∷ ps) from end k x h l =
+    let e = piece_after xs p k x (omega (arith, h.0)) in
+    let es = pieces_after xs ps (from + p.size) end k x h.1 (omega arith) in
     cc
 
 pub pieces_set : {A : Type 0} (xs : List A) (spans : List Span) (from end v i : ℕ) (x : A) (d : Span) → Laid from spans end → v < length spans → i < (get_or spans v d).size
@@ -47,7 +47,7 @@ pub pieces_set : {A : Type 0} (xs : List A) (spans : List Span) (from end v i : 
 pieces_set xs [] from end v i x d h l m = absurd (omega (arith, l))
 pieces_set xs (p ∷ ps) from end zero i x d h l m =
     let e = piece_at xs p i x m in
-    let es = pieces_behind xs ps (from + p.size) end (p.from + i) x h.1 (omega (arith, h.0)) in
+    let es = pieces_after xs ps (from + p.size) end (p.from + i) x h.1 (omega (arith, h.0)) in
     cc
 pieces_set xs (p ∷ ps) from end (suc v) i x d h l m =
     let q = get_or ps v d in

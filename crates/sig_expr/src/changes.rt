@@ -6,7 +6,7 @@ ghost use Rattle.sig_base.specs.Stream.{word};
 ghost use Rattle.model_core.specs.EventGraph.{Set, Draw};
 ghost use Rattle.model_core.specs.Run.State.{in_range};
 ghost use Rattle.model_core.specs.Run.Value.{in_turn};
-ghost use Rattle.model_core.specs.Run.Changes.{set_all, picked, make_change, taken_from, one_more};
+ghost use Rattle.model_core.specs.Run.Changes.{set_all, drawn_value, make_change, taken_from, one_more};
 ghost use Rattle.model_core.specs.Run.LeftByFaults.{left_by_set, left_by_draw, left_by_change, left_by_changes};
 ghost use Rattle.model_core.specs.Code.Views.{graph_of, expression_of, location_of, choice_of, change_of};
 ghost use Rattle.sig_expr.specs.Outcomes.{with_ok};
@@ -125,7 +125,7 @@ fn set(
 pub fn pick(model: &Model, stream: u8, choice: Choice, streams: &mut Streams) -> i64
     requires possible { PossibleSource (graph_of model.now) stream (choice_of choice) }
     requires countable { taken_from streams.old.taken stream < 2 ^ 62 }
-    ensures value { result ≡ picked (graph_of model.now) (choice_of choice) (word streams.old.seed stream (taken_from streams.old.taken stream)) }
+    ensures value { result ≡ drawn_value (graph_of model.now) (choice_of choice) (word streams.old.seed stream (taken_from streams.old.taken stream)) }
     ensures seed { streams.new.seed ≡ streams.old.seed }
     ensures taken { streams.new.taken ≡ one_more streams.old.taken stream }
 {

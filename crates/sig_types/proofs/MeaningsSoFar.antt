@@ -93,9 +93,9 @@ module _ {W : Type 0} (f : ℕ → W → Declaration) where
         meaning_of-added added now next name meaning new put ∙ meaning_of-same now (start ++ ds) (declaration_of name meaning ∷ []) (f i (w x) ∷ []) means one
         ∙ ap meaning_of (append_assoc start ds (f i (w x) ∷ []) ∙ ap (λ es. start ++ es) (sym (declarations_turn w raws i x lt is)))
 
-    pub told_turn : (at : ℕ) → (f i (w x)).name.at ≡ at → t1 ≡ earliest_fault t0 (redeclared start (declarations_from f 0 (map w (take i raws)))) → t2 ≡ earliest_fault t1 (fault_where (not added) rules.DuplicateName at)
+    pub report_turn : (at : ℕ) → (f i (w x)).name.at ≡ at → t1 ≡ earliest_fault t0 (redeclared start (declarations_from f 0 (map w (take i raws)))) → t2 ≡ earliest_fault t1 (fault_where (not added) rules.DuplicateName at)
         → t2 ≡ earliest_fault t0 (redeclared start (declarations_from f 0 (map w (take (i + 1) raws))))
-    told_turn at placed told later =
+    report_turn at placed told later =
         let ds = declarations_from f 0 (map w (take i raws)) in
         let d = f i (w x) in
         let known : not added ≡ is_some (meaning_of (start ++ ds) d.name.name) = not_none Meaning (meaning_of now name) added new ∙ ap (λ (m : List ℕ → Option Meaning). is_some (m name)) means ∙ ap (λ n. is_some (meaning_of (start ++ ds) n)) (sym named) in

@@ -2,14 +2,14 @@
 use Rattle.std.proofs.Common.{◌≡◌, ℕ, Some, Result, Err}
 use Rattle.model_core.specs.declared.static_kind.StaticKind.{StaticKind}
 use Rattle.model_core.specs.Text.Written.{WrittenModel}
-use Rattle.model_core.specs.Static.ModelFaults.{told_fault, IsTold}
-use Rattle.static_laws.proofs.OneFaultTold.{told_is_told}
+use Rattle.model_core.specs.Static.ModelFaults.{first_fault, IsFirstFault}
+use Rattle.static_laws.proofs.OneFaultTold.{found_is_first_fault}
 use Rattle.sig_types.specs.declared.error.StaticError.{StaticError}
 use Rattle.sig_types.specs.declared.error.StaticError.TheVariants as errors
 use Rattle.sig_types.specs.declared.told.Fault.{Fault}
 
-pub is_told : {A : Type 0} (m : WrittenModel) (f : Fault) (kind : StaticKind) (at : ℕ) → told_fault m ≡ Some (record { at = f.at; kind = f.kind }) → ◌≡◌ {A = Result A StaticError} (Err (errors.Fault f.kind f.at)) (Err (errors.Fault kind at)) → IsTold m kind at
+pub is_told : {A : Type 0} (m : WrittenModel) (f : Fault) (kind : StaticKind) (at : ℕ) → first_fault m ≡ Some (record { at = f.at; kind = f.kind }) → ◌≡◌ {A = Result A StaticError} (Err (errors.Fault f.kind f.at)) (Err (errors.Fault kind at)) → IsFirstFault m kind at
 is_told m f kind at told is =
     let one : f.kind ≡ kind = cc in
     let place : f.at ≡ at = cc in
-    rw (← one, ← place) ((told_is_told m (record { at = f.at; kind = f.kind })).0 told)
+    rw (← one, ← place) ((found_is_first_fault m (record { at = f.at; kind = f.kind })).0 told)

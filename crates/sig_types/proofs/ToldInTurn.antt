@@ -7,7 +7,7 @@ use Rattle.model_core.specs.Static.FaultOrder.{StaticFault, earliest_fault}
 use Rattle.static_laws.proofs.Checks.{told_both}
 
 -- a turn of a loop that reports the faults of parts
-pub told_turn : {X W : Type 0} (w : X → W) (F : W → List StaticFault) (t0 t1 t2 : Option StaticFault) (raws : List X) (i : ℕ) (x : X) → i < length raws → x ≡ get_or raws i x
+pub report_turn : {X W : Type 0} (w : X → W) (F : W → List StaticFault) (t0 t1 t2 : Option StaticFault) (raws : List X) (i : ℕ) (x : X) → i < length raws → x ≡ get_or raws i x
     → t1 ≡ earliest_fault t0 (flat_map F (map w (take i raws))) → t2 ≡ earliest_fault t1 (F (w x)) → t2 ≡ earliest_fault t0 (flat_map F (map w (take (i + 1) raws)))
-told_turn w F t0 t1 t2 raws i x lt is e f =
+report_turn w F t0 t1 t2 raws i x lt is e f =
     rw (seen_more w raws i x lt is, ← flat_map_more F [] (map w (take i raws)) (w x)) (told_both t0 t1 t2 (flat_map F (map w (take i raws))) (F (w x)) e f)

@@ -18,9 +18,9 @@ ghost use Rattle.sig_types.specs.Inner.Stored.{stored_faults};
 use crate::expressions::operand;
 use crate::kinds::{Typed, kinds_differ};
 use crate::names::Names;
-use crate::numbers::{bounded, literal, tell_empty, tell_wide};
-use crate::placed::tell_too_many;
-use crate::told::Told;
+use crate::numbers::{bounded, literal, report_empty_range, report_wide_range};
+use crate::placed::report_too_many;
+use crate::told::FirstFault;
 use crate::uses::{table, variable};
 use model_core::{
     Change, Choice, Expr, Kind, RawChange, RawChoice, RawExpr, RawNumber, RawTarget, StaticKind,
@@ -34,7 +34,7 @@ fn index(
     alloc: Global,
     names: &Names,
     raw: &Option<RawExpr>,
-    told: &mut Told,
+    told: &mut FirstFault,
 ) -> Result<Option<Expr>, NoMemory>
     ensures { IfOk result (λ i. CheckedPart (meaning_of names.now) told.old told.new (if_written (operand_faults (meaning_of names.now) (Some kinds.Range)) (option_map written_expression raw.now)) (λ d. written_or (λ e. option_map (λ x. Some x) (numbering.expression d e)) None (option_map written_expression raw.now)) (option_map expression_of i)) }
 {
@@ -50,7 +50,7 @@ fn target(
     alloc: Global,
     names: &Names,
     raw: &RawTarget,
-    told: &mut Told,
+    told: &mut FirstFault,
 ) -> Result<Typed<Target>, NoMemory>
     ensures checked { IfOk result (λ t. CheckedPart (meaning_of names.now) told.old told.new (target_faults (meaning_of names.now) (written_target raw.now)) (λ d. numbering.location d (written_target raw.now)) (location_of t.part)) }
     ensures kind { IfOk result (λ t. t.kind ≡ target_kind (meaning_of names.now) (written_target raw.now)) }
@@ -78,7 +78,7 @@ fn all_targets(
     alloc: Global,
     names: &Names,
     raws: &[RawTarget],
-    told: &mut Told,
+    told: &mut FirstFault,
 ) -> Result<TypedTargets, NoMemory>
     ensures checked { IfOk result (λ t. CheckedPart (meaning_of names.now) told.old told.new (flat_map (target_faults (meaning_of names.now)) (map written_target raws.now)) (λ d. each_numbered (numbering.location d) (map written_target raws.now)) (map location_of t.targets)) }
     ensures kinds { IfOk result (λ t. t.kinds.items ≡ map (target_kind (meaning_of names.now)) (map written_target raws.now)) }
@@ -110,7 +110,7 @@ pub(crate) fn values(
     names: &Names,
     kinds: &[Option<Kind>],
     raws: &[RawExpr],
-    told: &mut Told,
+    told: &mut FirstFault,
 ) -> Result<List<Expr>, NoMemory>
     ensures { IfOk result (λ es. CheckedPart (meaning_of names.now) told.old told.new (values_faults (meaning_of names.now) kinds.now (map written_expression raws.now)) (λ d. each_numbered (numbering.expression d) (map written_expression raws.now)) (map expression_of es)) }
 {
@@ -128,7 +128,7 @@ fn set_one(
     names: &Names,
     raw: &RawTarget,
     raws: &[RawExpr],
-    told: &mut Told,
+    told: &mut FirstFault,
 ) -> Result<Change, NoMemory>
     ensures { IfOk result (λ c. CheckedPart (meaning_of names.now) told.old told.new (stored_faults (meaning_of names.now) (written_target raw.now ∷ []) (map written_expression raws.now)) (λ d. numbering.change d (written.Set 0 (written_target raw.now ∷ []) (map written_expression raws.now))) (change_of c)) }
 {
@@ -144,7 +144,7 @@ fn set_all(
     names: &Names,
     targets: &[RawTarget],
     raws: &[RawExpr],
-    told: &mut Told,
+    told: &mut FirstFault,
 ) -> Result<Change, NoMemory>
     ensures { IfOk result (λ c. CheckedPart (meaning_of names.now) told.old told.new (stored_faults (meaning_of names.now) (map written_target targets.now) (map written_expression raws.now)) (λ d. numbering.change d (written.Set 0 (map written_target targets.now) (map written_expression raws.now))) (change_of c)) }
 {
@@ -160,7 +160,7 @@ fn stored(
     names: &Names,
     targets: &[RawTarget],
     raws: &[RawExpr],
-    told: &mut Told,
+    told: &mut FirstFault,
 ) -> Result<Change, NoMemory>
     ensures { IfOk result (λ c. CheckedPart (meaning_of names.now) told.old told.new (stored_faults (meaning_of names.now) (map written_target targets.now) (map written_expression raws.now)) (λ d. numbering.change d (written.Set 0 (map written_target targets.now) (map written_expression raws.now))) (change_of c)) }
 {
@@ -178,27 +178,27 @@ fn set(
     at: usize,
     targets: &[RawTarget],
     raws: &[RawExpr],
-    told: &mut Told,
+    told: &mut FirstFault,
 ) -> Result<Change, NoMemory>
     ensures { IfOk result (λ c. CheckedPart (meaning_of names.now) told.old told.new (change_faults (meaning_of names.now) (written.Set at (map written_target targets.now) (map written_expression raws.now))) (λ d. numbering.change d (written.Set at (map written_target targets.now) (map written_expression raws.now))) (change_of c)) }
 {
     let differs = targets.len() != raws.len();
     told.note(differs, StaticKind::ValueCount, at);
-    tell_too_many(TARGETS_MAX, targets, told);
+    report_too_many(TARGETS_MAX, targets, told);
     let change = stored(alloc, names, targets, raws, told)?;
     Ok(change)
 }
 
 /// What a draw takes its value from.
-fn choice(names: &Names, raw: &RawChoice, told: &mut Told) -> Choice
+fn choice(names: &Names, raw: &RawChoice, told: &mut FirstFault) -> Choice
     ensures { CheckedPart (meaning_of names.now) told.old told.new (choice_faults (meaning_of names.now) (written_choice raw.now)) (λ d. numbering.choice d (written_choice raw.now)) (choice_of result) }
 {
     match raw {
         RawChoice::Uniform { lo, hi } => {
             let least = literal(lo, told);
             let most = literal(hi, told);
-            tell_empty(lo, hi, told);
-            tell_wide(lo, hi, told);
+            report_empty_range(lo, hi, told);
+            report_wide_range(lo, hi, told);
             Choice::Uniform {
                 lo: least,
                 hi: most,
@@ -211,7 +211,12 @@ fn choice(names: &Names, raw: &RawChoice, told: &mut Told) -> Choice
 }
 
 /// The source of a draw: the number of a random stream, 0 to 63, and what is drawn from it.
-pub fn source(names: &Names, stream: &RawNumber, from: &RawChoice, told: &mut Told) -> (u8, Choice)
+pub fn source(
+    names: &Names,
+    stream: &RawNumber,
+    from: &RawChoice,
+    told: &mut FirstFault,
+) -> (u8, Choice)
     ensures { Checked told.old told.new (source_faults (meaning_of names.now) (written_number stream.now) (written_choice from.now)) ((natural (written_number stream.now) ≡ Some result.0) × NumberedAs (meaning_of names.now) (λ d. numbering.choice d (written_choice from.now)) (choice_of result.1)) }
 {
     let stream = bounded(stream, 0, 63, StaticKind::StreamOutside, told);
@@ -226,7 +231,7 @@ fn draw(
     raw: &RawTarget,
     stream: &RawNumber,
     from: &RawChoice,
-    told: &mut Told,
+    told: &mut FirstFault,
 ) -> Result<Change, NoMemory>
     ensures { IfOk result (λ c. CheckedPart (meaning_of names.now) told.old told.new (change_faults (meaning_of names.now) (written.Draw 0 (written_target raw.now) (written_number stream.now) (written_choice from.now))) (λ d. numbering.change d (written.Draw 0 (written_target raw.now) (written_number stream.now) (written_choice from.now))) (change_of c)) }
 {
@@ -246,7 +251,7 @@ fn change(
     alloc: Global,
     names: &Names,
     raw: &RawChange,
-    told: &mut Told,
+    told: &mut FirstFault,
 ) -> Result<Change, NoMemory>
     ensures { IfOk result (λ c. CheckedPart (meaning_of names.now) told.old told.new (change_faults (meaning_of names.now) (written_change raw.now)) (λ d. numbering.change d (written_change raw.now)) (change_of c)) }
 {
@@ -277,7 +282,7 @@ pub fn changes(
     alloc: Global,
     names: &Names,
     raws: &[RawChange],
-    told: &mut Told,
+    told: &mut FirstFault,
 ) -> Result<List<Change>, NoMemory>
     ensures { IfOk result (λ cs. CheckedPart (meaning_of names.now) told.old told.new (flat_map (change_faults (meaning_of names.now)) (map written_change raws.now)) (λ d. each_numbered (numbering.change d) (map written_change raws.now)) (map change_of cs)) }
 {

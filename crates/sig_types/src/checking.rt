@@ -13,20 +13,20 @@ ghost use Rattle.model_core.specs.Static.FaultOrder.{StaticFault, earliest_fault
 ghost use Rattle.model_core.specs.Static.Meanings.{AsWatched, declarations, declared_name, meaning_of};
 ghost use Rattle.model_core.specs.Static.RuleTable.{model_too_long};
 ghost use Rattle.model_core.specs.Static.PartFaults.{use_faults, repeated_names, variable_faults, table_faults};
-ghost use Rattle.model_core.specs.Static.ModelFaults.{model_meaning, model_takes, faults_of_counts, faults_of_parts, told_fault, Accepted, IsTold};
+ghost use Rattle.model_core.specs.Static.ModelFaults.{model_meaning, model_takes, faults_of_counts, faults_of_parts, first_fault, Accepted, IsFirstFault};
 ghost use Rattle.sig_types.specs.declared.error.StaticError.TheVariants as errors;
 ghost use Rattle.static_laws.specs.Checked.{Checked, CheckedPart, CheckedPlain};
 ghost use Rattle.static_laws.specs.DeclaredFaults.{faults_of_declared};
 
-use crate::declaring::{declare_all, tell_long_name};
+use crate::declaring::{declare_all, report_long_name};
 use crate::edges::items;
 use crate::error::StaticError;
 use crate::names::Names;
-use crate::placed::tell_too_many;
+use crate::placed::report_too_many;
 use crate::tables::check_tables;
-use crate::told::Told;
+use crate::told::FirstFault;
 use crate::variables::check_variables;
-use crate::versions::tell_version;
+use crate::versions::report_version;
 use crate::vertices::{taken, vertices};
 use crate::watch::watch_list;
 use model_core::{Kind, Model, RawModel, RawName, RawTable, RawVar, StaticKind, Var, Watch};
@@ -35,7 +35,7 @@ use sig_base::{List, NoMemory, TABLES_MAX, TEXT_MAX, Table, VARIABLES_MAX, VERTI
 use std::alloc::Global;
 
 /// The names that a model declares. Those that are declared again are reported.
-fn names_of(alloc: Global, raw: &RawModel, told: &mut Told) -> Result<Names, NoMemory>
+fn names_of(alloc: Global, raw: &RawModel, told: &mut FirstFault) -> Result<Names, NoMemory>
     ensures means { IfOk result (λ names. meaning_of names ≡ model_meaning (written_model raw.now)) }
     ensures told { OnOk result (told.new ≡ earliest_fault told.old (repeated_names [] (map declared_name (declarations (written_model raw.now))))) }
 {
@@ -48,22 +48,22 @@ fn names_of(alloc: Global, raw: &RawModel, told: &mut Told) -> Result<Names, NoM
 }
 
 /// Reports the declarations that are too many.
-fn tell_counts(raw: &RawModel, told: &mut Told)
+fn report_counts(raw: &RawModel, told: &mut FirstFault)
     ensures { told.new ≡ earliest_fault told.old (faults_of_counts (written_model raw.now)) }
 {
-    tell_too_many(VARIABLES_MAX, raw.vars.as_slice(), told);
-    tell_too_many(TABLES_MAX, raw.tables.as_slice(), told);
-    tell_too_many(VERTICES_MAX, raw.vertices.as_slice(), told);
+    report_too_many(VARIABLES_MAX, raw.vars.as_slice(), told);
+    report_too_many(TABLES_MAX, raw.tables.as_slice(), told);
+    report_too_many(VERTICES_MAX, raw.vertices.as_slice(), told);
 }
 
 /// The names that a model declares. Faults of its own name are reported, and names declared again, and declarations too many.
-pub fn declared(alloc: Global, raw: &RawModel, told: &mut Told) -> Result<Names, NoMemory>
+pub fn declared(alloc: Global, raw: &RawModel, told: &mut FirstFault) -> Result<Names, NoMemory>
     ensures means { IfOk result (λ names. meaning_of names ≡ model_meaning (written_model raw.now)) }
     ensures told { OnOk result (told.new ≡ earliest_fault told.old (faults_of_declared (written_model raw.now))) }
 {
-    tell_long_name(&raw.name, told);
+    report_long_name(&raw.name, told);
     let names = names_of(alloc, raw, told)?;
-    tell_counts(raw, told);
+    report_counts(raw, told);
     Ok(names)
 }
 
@@ -82,7 +82,7 @@ pub fn check_lists(
     vars: List<RawVar>,
     tables: List<RawTable>,
     watch: &[RawName],
-    told: &mut Told,
+    told: &mut FirstFault,
 ) -> Result<CheckedLists, NoMemory>
     ensures { IfOk result (λ lists. (first : Option StaticFault) × (second : Option StaticFault)
         × CheckedPlain told.old first (flat_map variable_faults (map written_variable vars)) (each_numbered numbering.variable (map written_variable vars)) (map variable_of lists.vars)
@@ -106,7 +106,7 @@ fn numbered_among(
     names: &Names,
     taken: &[List<Option<Kind>>],
     raw: RawModel,
-    told: &mut Told,
+    told: &mut FirstFault,
 ) -> Result<Model, NoMemory>
     ensures { IfOk result (λ model. meaning_of names.now ≡ model_meaning (written_model raw) → taken.now ≡ model_takes (written_model raw)
         → (start : Option StaticFault) → told.old ≡ earliest_fault start (faults_of_declared (written_model raw))
@@ -125,27 +125,31 @@ fn numbered_among(
 
 /// The names that a model declares, and the kinds of the parameters of each vertex.
 #[derive(Drop)]
-struct Known {
+struct NamesAndKinds {
     names: Names,
     taken: List<List<Option<Kind>>>,
 }
 
 /// The names and the kinds of parameters, which the checks of parts need. It reports what `declared` reports.
-fn known_of(alloc: Global, raw: &RawModel, told: &mut Told) -> Result<Known, NoMemory>
+fn names_and_kinds(
+    alloc: Global,
+    raw: &RawModel,
+    told: &mut FirstFault,
+) -> Result<NamesAndKinds, NoMemory>
     ensures means { IfOk result (λ known. meaning_of known.names ≡ model_meaning (written_model raw.now)) }
     ensures takes { IfOk result (λ known. known.taken ≡ model_takes (written_model raw.now)) }
     ensures told { OnOk result (told.new ≡ earliest_fault told.old (faults_of_declared (written_model raw.now))) }
 {
     let names = declared(alloc, raw, told)?;
     let taken = taken(alloc, &names, raw.vertices.as_slice())?;
-    Ok(Known { names, taken })
+    Ok(NamesAndKinds { names, taken })
 }
 
 /// The model with numbers in place of names. Where it has a fault, nothing is said of what is given.
-fn numbered(alloc: Global, raw: RawModel, told: &mut Told) -> Result<Model, NoMemory>
+fn numbered(alloc: Global, raw: RawModel, told: &mut FirstFault) -> Result<Model, NoMemory>
     ensures { IfOk result (λ model. Checked told.old told.new (faults_of_parts (written_model raw)) (numbering.numbered (written_model raw) ≡ Some (graph_of model))) }
 {
-    let known = known_of(alloc, &raw, told)?;
+    let known = names_and_kinds(alloc, &raw, told)?;
     numbered_among(alloc, &known.names, known.taken.as_slice(), raw, told)
 }
 
@@ -157,7 +161,7 @@ fn is_too_long(model: &Model) -> bool
 }
 
 /// Where no other fault was found, reports that the canonical text of a model has too many bytes.
-pub fn tell_too_long(model: &Model, end_at: usize, told: &mut Told)
+pub fn report_long_text(model: &Model, end_at: usize, told: &mut FirstFault)
     ensures none { told.old ≡ None → told.new ≡ earliest_fault None (model_too_long TEXT_MAX (canonical (graph_of model.now)) end_at) }
     ensures some { (f : StaticFault) → told.old ≡ Some f → told.new ≡ told.old }
 {
@@ -167,15 +171,15 @@ pub fn tell_too_long(model: &Model, end_at: usize, told: &mut Told)
 }
 
 /// The model with numbers in place of names. `told` keeps the first of all its faults.
-fn told_model(alloc: Global, raw: RawModel, told: &mut Told) -> Result<Model, NoMemory>
+fn model_with_faults(alloc: Global, raw: RawModel, told: &mut FirstFault) -> Result<Model, NoMemory>
     requires { told.old ≡ None }
-    ensures told { OnOk result (told.new ≡ told_fault (written_model raw)) }
+    ensures told { OnOk result (told.new ≡ first_fault (written_model raw)) }
     ensures numbered { IfOk result (λ model. faults_of_parts (written_model raw) ≡ [] → numbering.numbered (written_model raw) ≡ Some (graph_of model)) }
 {
     let end_at = raw.end_at;
-    tell_version(&raw, told);
+    report_version(&raw, told);
     let model = numbered(alloc, raw, told)?;
-    tell_too_long(&model, end_at, told);
+    report_long_text(&model, end_at, told);
     Ok(model)
 }
 
@@ -185,10 +189,10 @@ pub fn check(alloc: Global, raw: RawModel) -> Result<Model, StaticError>
     // What is accepted is numbered as it is written, and breaks no rule.
     ensures accepted { IfOk result (λ model. Accepted (written_model raw) (graph_of model)) }
     // The rule is broken, at the least place, and there no rule before it in the table is.
-    ensures told { (kind : Rule) (at : ℕ) → result ≡ Err (errors.Fault kind at) → IsTold (written_model raw) kind at }
+    ensures told { (kind : Rule) (at : ℕ) → result ≡ Err (errors.Fault kind at) → IsFirstFault (written_model raw) kind at }
 {
-    let mut told = Told::new();
-    let model = told_model(alloc, raw, &mut told)?;
+    let mut told = FirstFault::new();
+    let model = model_with_faults(alloc, raw, &mut told)?;
     match told.fault() {
         None => Ok(model),
         Some(fault) => Err(StaticError::Fault {

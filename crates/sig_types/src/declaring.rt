@@ -10,7 +10,7 @@ ghost use Rattle.sig_types.specs.Inner.Redeclared.{redeclared};
 ghost use Rattle.sig_types.specs.Seen.{meaning_seen};
 
 use crate::names::{Meaning, Names};
-use crate::told::Told;
+use crate::told::FirstFault;
 use model_core::{Kind, RawKind, RawName, RawTable, RawVar, RawVertex, StaticKind};
 use sig_base::{NAME_MAX, NoMemory};
 use std::alloc::Global;
@@ -40,7 +40,7 @@ pub(crate) fn declare_all<T: Declares>(
     alloc: Global,
     names: &mut Names,
     parts: &[T],
-    told: &mut Told,
+    told: &mut FirstFault,
 ) -> Result<(), NoMemory>
     ensures means { OnOk result (meaning_of names.new ≡ meaning_of (names.old ++ declarations_from T.declaration 0 (map T.written parts.now))) }
     ensures told { OnOk result (told.new ≡ earliest_fault told.old (redeclared names.old (declarations_from T.declaration 0 (map T.written parts.now)))) }
@@ -55,7 +55,7 @@ pub(crate) fn declare_all<T: Declares>(
 }
 
 /// Reports a name that is declared and too long.
-pub fn tell_long_name(raw: &RawName, told: &mut Told)
+pub fn report_long_name(raw: &RawName, told: &mut FirstFault)
     ensures { told.new ≡ earliest_fault told.old (name_too_long (written_name raw.now)) }
 {
     let long = raw.name.as_slice().len() > NAME_MAX;

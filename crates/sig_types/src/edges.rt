@@ -20,7 +20,7 @@ use crate::changes::{source, values};
 use crate::expressions::operand;
 use crate::names::Names;
 use crate::numbers::bounded;
-use crate::told::Told;
+use crate::told::FirstFault;
 use crate::uses::vertex;
 use model_core::{
     Delay, Edge, EdgeForm, Expr, Kind, RawDelay, RawEdge, RawEdgeForm, RawExpr, RawNumber,
@@ -44,7 +44,7 @@ fn condition(
     alloc: Global,
     names: &Names,
     raw: &Option<RawExpr>,
-    told: &mut Told,
+    told: &mut FirstFault,
 ) -> Result<Expr, NoMemory>
     ensures { IfOk result (λ e. CheckedPart (meaning_of names.now) told.old told.new (if_written (operand_faults (meaning_of names.now) (Some kinds.Truth)) (option_map written_expression raw.now)) (λ d. written_or (numbering.expression d) (Truth true) (option_map written_expression raw.now)) (expression_of e)) }
 {
@@ -57,7 +57,12 @@ fn condition(
 
 /// A delay.
 #[tactic(auto, using(crate::proofs::EdgeParts::fixed_checked, crate::proofs::EdgeParts::drawn_checked))]
-fn delay(alloc: Global, names: &Names, raw: &RawDelay, told: &mut Told) -> Result<Delay, NoMemory>
+fn delay(
+    alloc: Global,
+    names: &Names,
+    raw: &RawDelay,
+    told: &mut FirstFault,
+) -> Result<Delay, NoMemory>
     ensures { IfOk result (λ w. (taken : List (List (Option KnownKind))) → CheckedPart (meaning_of names.now) told.old told.new (delay_faults (meaning_of names.now) taken (written_delay raw.now)) (λ d. numbering.delay d (written_delay raw.now)) (edge_delay_of w)) }
 {
     match raw {
@@ -77,7 +82,7 @@ fn after(
     alloc: Global,
     names: &Names,
     raw: &Option<RawDelay>,
-    told: &mut Told,
+    told: &mut FirstFault,
 ) -> Result<Delay, NoMemory>
     ensures { IfOk result (λ w. (taken : List (List (Option KnownKind))) → CheckedPart (meaning_of names.now) told.old told.new (if_written (delay_faults (meaning_of names.now) taken) (option_map written_delay raw.now)) (λ d. written_or (numbering.delay d) (Fixed (Number (pos 0))) (option_map written_delay raw.now)) (edge_delay_of w)) }
 {
@@ -88,7 +93,7 @@ fn after(
 }
 
 /// A priority: 5 where none is written.
-fn priority_of(raw: &Option<RawNumber>, told: &mut Told) -> u8
+fn priority_of(raw: &Option<RawNumber>, told: &mut FirstFault) -> u8
     ensures { CheckedPlain told.old told.new (if_written priority_faults (option_map written_number raw.now)) (written_or natural 5 (option_map written_number raw.now)) result }
 {
     match raw {
@@ -102,7 +107,7 @@ fn form(
     alloc: Global,
     names: &Names,
     raw: &RawEdgeForm,
-    told: &mut Told,
+    told: &mut FirstFault,
 ) -> Result<EdgeForm, NoMemory>
     ensures { IfOk result (λ f. (taken : List (List (Option KnownKind))) → CheckedPart (meaning_of names.now) told.old told.new (schedule_faults (meaning_of names.now) taken (written_edge_kind raw.now)) (λ d. numbering.edge_kind d (written_edge_kind raw.now)) (edge_kind_of f)) }
 {
@@ -120,7 +125,13 @@ fn form(
 }
 
 /// Reports that an edge carries another number of values than its target takes, or where it can carry none, any at all.
-fn tell_count(form: &RawEdgeForm, wanted: usize, given: usize, at: usize, told: &mut Told)
+fn report_value_count(
+    form: &RawEdgeForm,
+    wanted: usize,
+    given: usize,
+    at: usize,
+    told: &mut FirstFault,
+)
     ensures { told.new ≡ earliest_fault told.old (count_faults (written_edge_kind form.now) wanted given at) }
 {
     match form {
@@ -149,7 +160,7 @@ fn carried(
     taken: &[List<Option<Kind>>],
     target: Option<usize>,
     raw: &RawEdge,
-    told: &mut Told,
+    told: &mut FirstFault,
 ) -> Result<List<Expr>, NoMemory>
     ensures { IfOk result (λ es. CheckedPart (meaning_of names.now) told.old told.new (carried_faults (meaning_of names.now) taken.now (written_edge raw.now) (taken_by taken.now target)) (λ d. written_or (each_numbered (numbering.expression d)) [] (written_edge raw.now).values) (map expression_of es)) }
 {
@@ -158,7 +169,7 @@ fn carried(
         None => values(alloc, names, &[], raws, told),
         Some(kinds) => {
             let kinds = kinds.as_slice();
-            tell_count(&raw.form, kinds.len(), raws.len(), raw.target.at, told);
+            report_value_count(&raw.form, kinds.len(), raws.len(), raw.target.at, told);
             values(alloc, names, kinds, raws, told)
         }
     }
@@ -170,7 +181,7 @@ pub fn edge(
     names: &Names,
     taken: &[List<Option<Kind>>],
     raw: &RawEdge,
-    told: &mut Told,
+    told: &mut FirstFault,
 ) -> Result<Edge, NoMemory>
     ensures { IfOk result (λ e. CheckedPart (meaning_of names.now) told.old told.new (edge_faults (meaning_of names.now) taken.now (written_edge raw.now)) (λ d. numbering.edge d (written_edge raw.now)) (edge_of e)) }
 {
@@ -192,7 +203,7 @@ pub fn edges(
     names: &Names,
     taken: &[List<Option<Kind>>],
     raws: &[RawEdge],
-    told: &mut Told,
+    told: &mut FirstFault,
 ) -> Result<List<Edge>, NoMemory>
     ensures { IfOk result (λ es. CheckedPart (meaning_of names.now) told.old told.new (flat_map (edge_faults (meaning_of names.now) taken.now) (map written_edge raws.now)) (λ d. each_numbered (numbering.edge d) (map written_edge raws.now)) (map edge_of es)) }
 {

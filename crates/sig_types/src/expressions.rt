@@ -11,7 +11,7 @@ ghost use Rattle.static_laws.specs.Checked.{CheckedPart};
 
 use crate::kinds::{Typed, kinds_differ, known_or, operand_kind, result_kind, right_kind};
 use crate::names::Names;
-use crate::told::Told;
+use crate::told::FirstFault;
 use crate::uses::variable;
 use model_core::{Expr, Kind, RawExpr, RawForm, StaticKind};
 use sig_base::NoMemory;
@@ -24,7 +24,7 @@ pub(crate) fn operand(
     names: &Names,
     wanted: Option<Kind>,
     raw: &RawExpr,
-    told: &mut Told,
+    told: &mut FirstFault,
 ) -> Result<Typed<Expr>, NoMemory>
     ensures checked { IfOk result (λ e. CheckedPart (meaning_of names.now) told.old told.new (operand_faults (meaning_of names.now) wanted (written_expression raw.now)) (λ d. expression d (written_expression raw.now)) (expression_of e.part)) }
     ensures kind { IfOk result (λ e. e.kind ≡ expression_kind (meaning_of names.now) (written_expression raw.now)) }
@@ -42,7 +42,7 @@ fn boxed_operand(
     names: &Names,
     wanted: Option<Kind>,
     raw: &Box<RawExpr>,
-    told: &mut Told,
+    told: &mut FirstFault,
 ) -> Result<Typed<Box<Expr>>, NoMemory>
     ensures checked { IfOk result (λ e. CheckedPart (meaning_of names.now) told.old told.new (operand_faults (meaning_of names.now) wanted (written_expression raw.now.value)) (λ d. expression d (written_expression raw.now.value)) (expression_of e.part.value)) }
     ensures kind { IfOk result (λ e. e.kind ≡ expression_kind (meaning_of names.now) (written_expression raw.now.value)) }
@@ -59,7 +59,7 @@ fn typed_expression(
     alloc: Global,
     names: &Names,
     raw: &RawExpr,
-    told: &mut Told,
+    told: &mut FirstFault,
 ) -> Result<Typed<Expr>, NoMemory>
     ensures checked { IfOk result (λ e. CheckedPart (meaning_of names.now) told.old told.new (expression_faults (meaning_of names.now) (written_expression raw.now)) (λ d. expression d (written_expression raw.now)) (expression_of e.part)) }
     ensures kind { IfOk result (λ e. e.kind ≡ expression_kind (meaning_of names.now) (written_expression raw.now)) }

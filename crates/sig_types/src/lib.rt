@@ -22,13 +22,13 @@ mod vertices;
 mod watch;
 
 pub use changes::{source, wanted_at};
-pub use checking::{CheckedLists, check, check_lists, declared, tell_too_long};
-pub use declaring::tell_long_name;
+pub use checking::{CheckedLists, check, check_lists, declared, report_long_text};
+pub use declaring::report_long_name;
 pub use edges::{edge, items};
 pub use error::StaticError;
 pub use kinds::{Typed, kinds_differ, known_or, operand_kind, result_kind, right_kind};
 pub use names::Names;
 pub use numbers::bounded;
-pub use told::Told;
+pub use told::FirstFault;
 pub use uses::{spelled_variable, spelled_vertex};
 pub use vertices::{parameters, taken};

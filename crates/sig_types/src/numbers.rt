@@ -8,7 +8,7 @@ ghost use Rattle.model_core.specs.Static.RuleTable as table;
 ghost use Rattle.model_core.specs.Static.RuleTable.{is_between, number_too_large, literal_too_large, empty_range, initial_outside, draw_outside};
 ghost use Rattle.static_laws.specs.Checked.{CheckedPlain};
 
-use crate::told::Told;
+use crate::told::FirstFault;
 use model_core::{RawNumber, RawSigned, StaticKind};
 use sig_base::{LITERAL_MAX, WEIGHTS_MAX};
 
@@ -35,7 +35,7 @@ fn certain_signed(raw: &RawSigned) -> i128
 }
 
 /// A literal. Where it is outside the limit of literals, 0.
-pub(crate) fn literal(raw: &RawSigned, told: &mut Told) -> i64
+pub(crate) fn literal(raw: &RawSigned, told: &mut FirstFault) -> i64
     ensures { CheckedPlain told.old told.new (literal_too_large (written_signed raw.now)) (signed (written_signed raw.now)) result }
 {
     let certain = certain_signed(raw);
@@ -57,7 +57,7 @@ pub fn bounded(
     least: usize,
     most: usize,
     kind: StaticKind,
-    told: &mut Told,
+    told: &mut FirstFault,
 ) -> usize
     ensures checked { CheckedPlain told.old told.new (number_too_large (written_number raw.now) ++ fault_where (not (is_between (pos least) (pos most) (table.certain_value (written_number raw.now)))) kind raw.now.at) (natural (written_number raw.now)) result }
     ensures small { result ≤ most }
@@ -70,7 +70,7 @@ pub fn bounded(
 }
 
 /// Reports that a first bound exceeds the second.
-pub(crate) fn tell_empty(lo: &RawSigned, hi: &RawSigned, told: &mut Told)
+pub(crate) fn report_empty_range(lo: &RawSigned, hi: &RawSigned, told: &mut FirstFault)
     ensures { told.new ≡ earliest_fault told.old (empty_range (written_signed lo.now) (written_signed hi.now)) }
 {
     let empty = certain_signed(hi) < certain_signed(lo);
@@ -78,7 +78,7 @@ pub(crate) fn tell_empty(lo: &RawSigned, hi: &RawSigned, told: &mut Told)
 }
 
 /// Reports that from a first bound to a second there are too many values for a draw.
-pub(crate) fn tell_wide(lo: &RawSigned, hi: &RawSigned, told: &mut Told)
+pub(crate) fn report_wide_range(lo: &RawSigned, hi: &RawSigned, told: &mut FirstFault)
     ensures { told.new ≡ earliest_fault told.old (draw_outside (written_signed lo.now) (written_signed hi.now)) }
 {
     let wide = certain_signed(lo) + i128::from(WEIGHTS_MAX) <= certain_signed(hi);
@@ -86,7 +86,12 @@ pub(crate) fn tell_wide(lo: &RawSigned, hi: &RawSigned, told: &mut Told)
 }
 
 /// Reports that an initial value is outside its range.
-pub(crate) fn tell_outside(lo: &RawSigned, hi: &RawSigned, initial: &RawSigned, told: &mut Told)
+pub(crate) fn report_initial_outside(
+    lo: &RawSigned,
+    hi: &RawSigned,
+    initial: &RawSigned,
+    told: &mut FirstFault,
+)
     ensures { told.new ≡ earliest_fault told.old (initial_outside (written_signed lo.now) (written_signed hi.now) (written_signed initial.now)) }
 {
     let inside = lies_between(

@@ -8,7 +8,7 @@ ghost use Rattle.model_core.specs.Static.FaultOrder.{earliest_fault};
 ghost use Rattle.model_core.specs.Static.PartFaults.{repeated_names};
 ghost use Rattle.sig_types.specs.Seen.{bytes_of};
 
-use crate::told::Told;
+use crate::told::FirstFault;
 use indexmap::IndexSet;
 use model_core::{RawName, StaticKind};
 use sig_base::NoMemory;
@@ -30,7 +30,7 @@ fn is_among(raws: &[RawName], name: &[u8]) -> bool
 }
 
 /// Reports each name that occurs earlier in a short list.
-fn tell_few(raws: &[RawName], told: &mut Told)
+fn report_few_repeats(raws: &[RawName], told: &mut FirstFault)
     ensures { told.new ≡ earliest_fault told.old (repeated_names [] (map written_name raws.now)) }
 {
     for (place, raw) in raws.iter().enumerate() {
@@ -40,7 +40,11 @@ fn tell_few(raws: &[RawName], told: &mut Told)
 }
 
 /// Reports each name that occurs earlier in a list of any length.
-fn tell_many(alloc: Global, raws: &[RawName], told: &mut Told) -> Result<(), NoMemory>
+fn report_many_repeats(
+    alloc: Global,
+    raws: &[RawName],
+    told: &mut FirstFault,
+) -> Result<(), NoMemory>
     ensures { OnOk result (told.new ≡ earliest_fault told.old (repeated_names [] (map written_name raws.now))) }
 {
     let mut earlier = IndexSet::with_capacity(alloc, raws.len())?;
@@ -52,16 +56,16 @@ fn tell_many(alloc: Global, raws: &[RawName], told: &mut Told) -> Result<(), NoM
 }
 
 /// Reports each name that occurs earlier in the list.
-pub(crate) fn tell_repeated(
+pub(crate) fn report_repeats(
     alloc: Global,
     raws: &[RawName],
-    told: &mut Told,
+    told: &mut FirstFault,
 ) -> Result<(), NoMemory>
     ensures { OnOk result (told.new ≡ earliest_fault told.old (repeated_names [] (map written_name raws.now))) }
 {
     if raws.len() <= SHORT_LIST {
-        tell_few(raws, told);
+        report_few_repeats(raws, told);
         return Ok(());
     }
-    tell_many(alloc, raws, told)
+    report_many_repeats(alloc, raws, told)
 }

@@ -2,7 +2,7 @@
 
 ghost use Rattle.std.specs.Prelude.{◌≡◌, Bool, None, Some};
 ghost use Rattle.std.specs.Option.{option_map};
-ghost use Rattle.model_core.specs.Static.FaultOrder.{StaticFault, rule_row, is_told_before, earliest_fault, fault_where};
+ghost use Rattle.model_core.specs.Static.FaultOrder.{StaticFault, rule_row, is_earlier_fault, earliest_fault, fault_where};
 
 use model_core::StaticKind;
 use std::marker::Model;
@@ -16,11 +16,11 @@ pub struct Fault {
 
 /// The first fault, which contracts see as the plain one.
 #[derive(Drop)]
-pub struct Told {
+pub struct FirstFault {
     fault: Option<Fault>,
 }
 
-impl Model for Told {
+impl Model for FirstFault {
     ghost use Rattle.std.specs.Prelude.{Option};
     ghost use Rattle.std.specs.Option.{option_map};
     ghost use Rattle.model_core.specs.Static.FaultOrder.{StaticFault};
@@ -40,17 +40,17 @@ fn row(kind: StaticKind) -> u8
 
 /// Whether the first of two faults comes first: by place, and at one place by row.
 fn is_before(a: Fault, b: Fault) -> bool
-    ensures { result ≡ is_told_before (record { at = a.at; kind = a.kind }) (record { at = b.at; kind = b.kind }) }
+    ensures { result ≡ is_earlier_fault (record { at = a.at; kind = a.kind }) (record { at = b.at; kind = b.kind }) }
 {
     a.at < b.at || a.at == b.at && row(a.kind) < row(b.kind)
 }
 
-impl Told {
+impl FirstFault {
     /// No fault.
-    pub fn new() -> Told
+    pub fn new() -> FirstFault
         ensures { result ≡ None }
     {
-        Told { fault: None }
+        FirstFault { fault: None }
     }
 
     /// The first fault.

@@ -18,7 +18,7 @@ ghost use Rattle.static_laws.specs.Roles.{variable_role, vertex_meant};
 
 use crate::kinds::Typed;
 use crate::names::{Meaning, Names};
-use crate::told::Told;
+use crate::told::FirstFault;
 use model_core::{Kind, RawName, StaticKind, Watch};
 use sig_base::NAME_MAX;
 
@@ -49,7 +49,7 @@ fn is_fit(role: Role, meaning: Meaning) -> bool
 
 /// What the name that these bytes spell means, at this place and used so.
 #[inline(always)]
-fn used(names: &Names, role: Role, name: &[u8], at: usize, told: &mut Told) -> Option<Meaning>
+fn used(names: &Names, role: Role, name: &[u8], at: usize, told: &mut FirstFault) -> Option<Meaning>
     ensures told { told.new ≡ earliest_fault told.old (use_faults (meaning_of names.now) (role_seen role) (record { name = name.now; at = at })) }
     ensures means { option_map meaning_seen result ≡ meaning_of names.now name.now }
 {
@@ -95,7 +95,7 @@ pub fn spelled_variable(
     is_array: bool,
     name: &[u8],
     at: usize,
-    told: &mut Told,
+    told: &mut FirstFault,
 ) -> Typed<usize>
     ensures checked { CheckedPart (meaning_of names.now) told.old told.new (use_faults (meaning_of names.now) (variable_role is_array) (record { name = name.now; at = at })) (λ d. declared_place name.now d.variables) result.part }
     ensures kind { result.kind ≡ kind_in_role (variable_role is_array) (meaning_of names.now name.now) }
@@ -110,7 +110,7 @@ pub(crate) fn variable(
     names: &Names,
     is_array: bool,
     raw: &RawName,
-    told: &mut Told,
+    told: &mut FirstFault,
 ) -> Typed<usize>
     ensures checked { CheckedPart (meaning_of names.now) told.old told.new (use_faults (meaning_of names.now) (variable_role is_array) (written_name raw.now)) (λ d. declared_place raw.now.name d.variables) result.part }
     ensures kind { result.kind ≡ kind_in_role (variable_role is_array) (meaning_of names.now raw.now.name) }
@@ -137,7 +137,7 @@ fn table_meant(meaning: Option<Meaning>) -> usize
 }
 
 /// A name that is used as a table.
-pub(crate) fn table(names: &Names, raw: &RawName, told: &mut Told) -> usize
+pub(crate) fn table(names: &Names, raw: &RawName, told: &mut FirstFault) -> usize
     ensures { CheckedPart (meaning_of names.now) told.old told.new (use_faults (meaning_of names.now) AsTable (written_name raw.now)) (λ d. declared_place raw.now.name d.tables) result }
 {
     let meaning = used(names, Role::Table, raw.name.as_slice(), raw.at, told);
@@ -155,7 +155,7 @@ fn place_of_vertex(meaning: Option<Meaning>) -> Option<usize>
 }
 
 /// A name that is used as a vertex, where it is in the text. `None` where it isn't one.
-pub fn spelled_vertex(names: &Names, name: &[u8], at: usize, told: &mut Told) -> Option<usize>
+pub fn spelled_vertex(names: &Names, name: &[u8], at: usize, told: &mut FirstFault) -> Option<usize>
     ensures checked { CheckedPart (meaning_of names.now) told.old told.new (use_faults (meaning_of names.now) AsVertex (record { name = name.now; at = at })) (λ d. option_map (λ k. Some k) (declared_place name.now d.vertices)) result }
     ensures means { result ≡ vertex_meant (meaning_of names.now name.now) }
 {
@@ -164,7 +164,7 @@ pub fn spelled_vertex(names: &Names, name: &[u8], at: usize, told: &mut Told) ->
 }
 
 /// A name that is used as a vertex. `None` where it isn't one.
-pub(crate) fn vertex(names: &Names, raw: &RawName, told: &mut Told) -> Option<usize>
+pub(crate) fn vertex(names: &Names, raw: &RawName, told: &mut FirstFault) -> Option<usize>
     ensures checked { CheckedPart (meaning_of names.now) told.old told.new (use_faults (meaning_of names.now) AsVertex (written_name raw.now)) (λ d. option_map (λ k. Some k) (declared_place raw.now.name d.vertices)) result }
     ensures means { result ≡ vertex_meant (meaning_of names.now raw.now.name) }
 {
@@ -184,7 +184,7 @@ fn watch_meant(meaning: Option<Meaning>) -> Watch
 }
 
 /// A name that is watched.
-pub(crate) fn watched(names: &Names, raw: &RawName, told: &mut Told) -> Watch
+pub(crate) fn watched(names: &Names, raw: &RawName, told: &mut FirstFault) -> Watch
     ensures { CheckedPart (meaning_of names.now) told.old told.new (use_faults (meaning_of names.now) AsWatched (written_name raw.now)) (λ d. numbering.watched d (written_name raw.now)) (watched_of result) }
 {
     let meaning = used(names, Role::Watched, raw.name.as_slice(), raw.at, told);

@@ -12,15 +12,15 @@ ghost use Rattle.model_core.specs.Static.PartFaults.{if_written, size_faults, ra
 ghost use Rattle.static_laws.specs.Checked.{CheckedPlain};
 ghost use Rattle.sig_types.specs.Inner.HeldAsDeclared.{initial_faults, numbered_range};
 
-use crate::declaring::tell_long_name;
-use crate::numbers::{bounded, literal, tell_empty, tell_outside};
-use crate::told::Told;
+use crate::declaring::report_long_name;
+use crate::numbers::{bounded, literal, report_empty_range, report_initial_outside};
+use crate::told::FirstFault;
 use model_core::{Kind, RawKind, RawLiteral, RawNumber, RawSigned, RawVar, StaticKind, Var};
 use sig_base::{ARRAY_CELLS_MAX, List, NoMemory};
 use std::alloc::Global;
 
 /// The number of cells of an array, and 0 of a scalar.
-fn size(raw: &Option<RawNumber>, told: &mut Told) -> usize
+fn size(raw: &Option<RawNumber>, told: &mut FirstFault) -> usize
     ensures { CheckedPlain told.old told.new (if_written size_faults (option_map written_number raw.now)) (numbering.size (option_map written_number raw.now)) result }
 {
     match raw {
@@ -40,7 +40,7 @@ pub struct Range {
 }
 
 /// A truth value.
-fn truth(initial: &RawLiteral, told: &mut Told) -> Range
+fn truth(initial: &RawLiteral, told: &mut FirstFault) -> Range
     ensures { CheckedPlain told.old told.new (range_faults TruthKind (written_literal initial.now)) (numbered_range TruthKind (written_literal initial.now)) result }
 {
     let initial = match initial {
@@ -60,13 +60,13 @@ fn truth(initial: &RawLiteral, told: &mut Told) -> Range
 }
 
 /// The initial value of a number.
-fn initial_number(lo: &RawSigned, hi: &RawSigned, raw: &RawLiteral, told: &mut Told) -> i64
+fn initial_number(lo: &RawSigned, hi: &RawSigned, raw: &RawLiteral, told: &mut FirstFault) -> i64
     ensures { CheckedPlain told.old told.new (initial_faults (written_signed lo.now) (written_signed hi.now) (written_literal raw.now)) (numbering.initial (written_literal raw.now)) result }
 {
     match raw {
         RawLiteral::Signed(signed) => {
             let initial = literal(signed, told);
-            tell_outside(lo, hi, signed, told);
+            report_initial_outside(lo, hi, signed, told);
             initial
         }
         RawLiteral::Truth { at, .. } => {
@@ -77,12 +77,18 @@ fn initial_number(lo: &RawSigned, hi: &RawSigned, raw: &RawLiteral, told: &mut T
 }
 
 /// A number between two bounds.
-fn bounds(lo: &RawSigned, hi: &RawSigned, clip: bool, raw: &RawLiteral, told: &mut Told) -> Range
+fn bounds(
+    lo: &RawSigned,
+    hi: &RawSigned,
+    clip: bool,
+    raw: &RawLiteral,
+    told: &mut FirstFault,
+) -> Range
     ensures { CheckedPlain told.old told.new (range_faults (RangeKind (written_signed lo.now) (written_signed hi.now) clip) (written_literal raw.now)) (numbered_range (RangeKind (written_signed lo.now) (written_signed hi.now) clip) (written_literal raw.now)) result }
 {
     let least = literal(lo, told);
     let most = literal(hi, told);
-    tell_empty(lo, hi, told);
+    report_empty_range(lo, hi, told);
     let initial = initial_number(lo, hi, raw, told);
     Range {
         kind: Kind::Range,
@@ -94,7 +100,7 @@ fn bounds(lo: &RawSigned, hi: &RawSigned, clip: bool, raw: &RawLiteral, told: &m
 }
 
 /// What a variable holds, and its initial value.
-fn range_of(kind: &RawKind, initial: &RawLiteral, told: &mut Told) -> Range
+fn range_of(kind: &RawKind, initial: &RawLiteral, told: &mut FirstFault) -> Range
     ensures { CheckedPlain told.old told.new (range_faults (written_kind kind.now) (written_literal initial.now)) (numbered_range (written_kind kind.now) (written_literal initial.now)) result }
 {
     match kind {
@@ -104,10 +110,10 @@ fn range_of(kind: &RawKind, initial: &RawLiteral, told: &mut Told) -> Range
 }
 
 /// A variable.
-fn variable(raw: RawVar, told: &mut Told) -> Var
+fn variable(raw: RawVar, told: &mut FirstFault) -> Var
     ensures { CheckedPlain told.old told.new (variable_faults (written_variable raw)) (numbering.variable (written_variable raw)) (variable_of result) }
 {
-    tell_long_name(&raw.name, told);
+    report_long_name(&raw.name, told);
     let size = size(&raw.size, told);
     let range = range_of(&raw.kind, &raw.initial, told);
     Var {
@@ -125,7 +131,7 @@ fn variable(raw: RawVar, told: &mut Told) -> Var
 pub(crate) fn check_variables(
     alloc: Global,
     raws: List<RawVar>,
-    told: &mut Told,
+    told: &mut FirstFault,
 ) -> Result<List<Var>, NoMemory>
     ensures { IfOk result (λ vars. CheckedPlain told.old told.new (flat_map variable_faults (map written_variable raws)) (each_numbered numbering.variable (map written_variable raws)) (map variable_of vars)) }
 {

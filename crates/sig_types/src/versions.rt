@@ -13,8 +13,8 @@ ghost use Rattle.model_core.specs.Static.VersionFaults.{is_version_two, number_f
 
 use crate::edges::items;
 use crate::numbers::{certain_number, lies_between};
-use crate::placed::tell_too_many;
-use crate::told::Told;
+use crate::placed::report_too_many;
+use crate::told::FirstFault;
 use model_core::{
     RawChange, RawDelay, RawEdge, RawEdgeForm, RawModel, RawNumber, RawVar, RawVertex, StaticKind,
 };
@@ -34,7 +34,7 @@ fn is_version_two(raw: &Option<RawNumber>) -> bool
 }
 
 /// Reports an unknown version.
-fn tell_number(raw: &Option<RawNumber>, told: &mut Told)
+fn report_unknown_version(raw: &Option<RawNumber>, told: &mut FirstFault)
     ensures { told.new ≡ earliest_fault told.old (if_written number_faults (option_map written_number raw.now)) }
 {
     if let Some(raw) = raw {
@@ -45,7 +45,7 @@ fn tell_number(raw: &Option<RawNumber>, told: &mut Told)
 }
 
 /// Reports an array of more cells than one of version 1 may have, or of none.
-fn tell_size(raw: &RawVar, told: &mut Told)
+fn report_array_size(raw: &RawVar, told: &mut FirstFault)
     ensures { told.new ≡ earliest_fault told.old (size_faults_version_1 (written_variable raw.now)) }
 {
     if let Some(size) = &raw.size {
@@ -56,37 +56,37 @@ fn tell_size(raw: &RawVar, told: &mut Told)
 }
 
 /// Reports each of these arrays that has as many.
-fn tell_sizes(raws: &[RawVar], told: &mut Told)
+fn report_array_sizes(raws: &[RawVar], told: &mut FirstFault)
     ensures { told.new ≡ earliest_fault told.old (flat_map size_faults_version_1 (map written_variable raws.now)) }
 {
     for raw in raws {
-        tell_size(raw, told);
+        report_array_size(raw, told);
     }
 }
 
 /// Reports the first target beyond those that a `set` of version 1 may have.
-fn tell_targets(raw: &RawChange, told: &mut Told)
+fn report_target_count(raw: &RawChange, told: &mut FirstFault)
     ensures { told.new ≡ earliest_fault told.old (target_faults_version_1 (written_change raw.now)) }
 {
     match raw {
         RawChange::Set { targets, .. } => {
-            tell_too_many(TARGETS_MAX_VERSION_1, targets.as_slice(), told);
+            report_too_many(TARGETS_MAX_VERSION_1, targets.as_slice(), told);
         }
         RawChange::Draw { .. } => {}
     }
 }
 
 /// Reports it of each of these changes.
-fn tell_all_targets(raws: &[RawChange], told: &mut Told)
+fn report_target_counts(raws: &[RawChange], told: &mut FirstFault)
     ensures { told.new ≡ earliest_fault told.old (flat_map target_faults_version_1 (map written_change raws.now)) }
 {
     for raw in raws {
-        tell_targets(raw, told);
+        report_target_count(raw, told);
     }
 }
 
 /// Reports the delay of an edge, at its word `draw`, where it is drawn.
-fn tell_delay(raw: &RawEdgeForm, told: &mut Told)
+fn report_drawn_delay(raw: &RawEdgeForm, told: &mut FirstFault)
     ensures { told.new ≡ earliest_fault told.old (delay_faults_version_1 (written_edge_kind raw.now)) }
 {
     if let RawEdgeForm::Schedule {
@@ -99,38 +99,38 @@ fn tell_delay(raw: &RawEdgeForm, told: &mut Told)
 }
 
 /// Reports it of each of these edges.
-fn tell_all_delays(raws: &[RawEdge], told: &mut Told)
+fn report_drawn_delays(raws: &[RawEdge], told: &mut FirstFault)
     ensures { told.new ≡ earliest_fault told.old (flat_map (λ (e : WrittenEdge). delay_faults_version_1 e.kind) (map written_edge raws.now)) }
 {
     for raw in raws {
-        tell_delay(&raw.form, told);
+        report_drawn_delay(&raw.form, told);
     }
 }
 
 /// Reports the first parameter beyond those that a vertex of version 1 may have, such targets, and delays that are drawn.
-fn tell_vertex(raw: &RawVertex, told: &mut Told)
+fn report_vertex_limits(raw: &RawVertex, told: &mut FirstFault)
     ensures { told.new ≡ earliest_fault told.old (vertex_faults_version_1 (written_vertex raw.now)) }
 {
-    tell_too_many(PARAMETERS_MAX_VERSION_1, items(&raw.params), told);
-    tell_all_targets(raw.changes.as_slice(), told);
-    tell_all_delays(raw.edges.as_slice(), told);
+    report_too_many(PARAMETERS_MAX_VERSION_1, items(&raw.params), told);
+    report_target_counts(raw.changes.as_slice(), told);
+    report_drawn_delays(raw.edges.as_slice(), told);
 }
 
 /// Reports it of each of these vertices.
-fn tell_vertices(raws: &[RawVertex], told: &mut Told)
+fn report_vertices_limits(raws: &[RawVertex], told: &mut FirstFault)
     ensures { told.new ≡ earliest_fault told.old (flat_map vertex_faults_version_1 (map written_vertex raws.now)) }
 {
     for raw in raws {
-        tell_vertex(raw, told);
+        report_vertex_limits(raw, told);
     }
 }
 
 /// Reports what passes a limit of version 1, and delays that are drawn.
-fn tell_version_1(raw: &RawModel, told: &mut Told)
+fn report_version_1(raw: &RawModel, told: &mut FirstFault)
     ensures { told.new ≡ earliest_fault told.old (faults_version_1 (written_model raw.now)) }
 {
-    tell_sizes(raw.vars.as_slice(), told);
-    tell_vertices(raw.vertices.as_slice(), told);
+    report_array_sizes(raw.vars.as_slice(), told);
+    report_vertices_limits(raw.vertices.as_slice(), told);
 }
 
 /// A size, where it is within the limit on one array, and else 0.
@@ -156,7 +156,7 @@ fn cells(raw: &RawVar) -> usize
 }
 
 /// Reports the first array with which the cells of all arrays are too many.
-fn tell_cells(raws: &[RawVar], told: &mut Told)
+fn report_all_cells(raws: &[RawVar], told: &mut FirstFault)
     ensures { told.new ≡ earliest_fault told.old (cells_faults 0 (map written_variable raws.now)) }
 {
     let mut before = 0;
@@ -170,13 +170,13 @@ fn tell_cells(raws: &[RawVar], told: &mut Told)
 }
 
 /// Reports an unknown version, and what a text of the version may not have.
-pub(crate) fn tell_version(raw: &RawModel, told: &mut Told)
+pub(crate) fn report_version(raw: &RawModel, told: &mut FirstFault)
     ensures { told.new ≡ earliest_fault told.old (version_faults (written_model raw.now)) }
 {
-    tell_number(&raw.version, told);
+    report_unknown_version(&raw.version, told);
     if is_version_two(&raw.version) {
-        tell_cells(raw.vars.as_slice(), told);
+        report_all_cells(raw.vars.as_slice(), told);
     } else {
-        tell_version_1(raw, told);
+        report_version_1(raw, told);
     }
 }

@@ -11,12 +11,12 @@ ghost use Rattle.model_core.specs.Static.PartFaults.{use_faults, parameter_kind,
 ghost use Rattle.static_laws.specs.Checked.{CheckedPart};
 
 use crate::changes::changes;
-use crate::declaring::tell_long_name;
+use crate::declaring::report_long_name;
 use crate::edges::{edges, items};
 use crate::names::Names;
-use crate::placed::tell_too_many;
-use crate::repeats::tell_repeated;
-use crate::told::Told;
+use crate::placed::report_too_many;
+use crate::repeats::report_repeats;
+use crate::told::FirstFault;
 use crate::uses::{kind_of_scalar, variable};
 use model_core::{Change, Edge, Kind, RawName, RawVertex, Vertex};
 use sig_base::{CHANGES_MAX, EDGES_MAX, List, NoMemory, PARAMETERS_MAX};
@@ -53,7 +53,7 @@ fn numbers_of(
     alloc: Global,
     names: &Names,
     raws: &[RawName],
-    told: &mut Told,
+    told: &mut FirstFault,
 ) -> Result<List<usize>, NoMemory>
     ensures { IfOk result (λ vars. CheckedPart (meaning_of names.now) told.old told.new (flat_map (use_faults (meaning_of names.now) AsScalar) (map written_name raws.now)) (λ d. each_numbered (numbering.numbered_parameter d) (map written_name raws.now)) vars) }
 {
@@ -70,13 +70,13 @@ pub fn parameters(
     alloc: Global,
     names: &Names,
     raws: &[RawName],
-    told: &mut Told,
+    told: &mut FirstFault,
 ) -> Result<List<usize>, NoMemory>
     ensures { IfOk result (λ vars. CheckedPart (meaning_of names.now) told.old told.new (parameters_faults (meaning_of names.now) [] (map written_name raws.now)) (λ d. each_numbered (numbering.numbered_parameter d) (map written_name raws.now)) vars) }
 {
-    tell_too_many(PARAMETERS_MAX, raws, told);
+    report_too_many(PARAMETERS_MAX, raws, told);
     let vars = numbers_of(alloc, names, raws, told)?;
-    tell_repeated(alloc, raws, told)?;
+    report_repeats(alloc, raws, told)?;
     Ok(vars)
 }
 
@@ -94,15 +94,15 @@ fn parts_of(
     names: &Names,
     taken: &[List<Option<Kind>>],
     raw: &RawVertex,
-    told: &mut Told,
+    told: &mut FirstFault,
 ) -> Result<VertexParts, NoMemory>
     ensures { IfOk result (λ v. CheckedPart (meaning_of names.now) told.old told.new (vertex_faults (meaning_of names.now) taken.now (written_vertex raw.now)) (λ d. numbering.vertex d (written_vertex raw.now)) (record { name = raw.now.name.name; parameters = v.params; changes = map change_of v.changes; edges = map edge_of v.edges })) }
 {
-    tell_long_name(&raw.name, told);
+    report_long_name(&raw.name, told);
     let params = parameters(alloc, names, items(&raw.params), told)?;
-    tell_too_many(CHANGES_MAX, raw.changes.as_slice(), told);
+    report_too_many(CHANGES_MAX, raw.changes.as_slice(), told);
     let changes = changes(alloc, names, raw.changes.as_slice(), told)?;
-    tell_too_many(EDGES_MAX, raw.edges.as_slice(), told);
+    report_too_many(EDGES_MAX, raw.edges.as_slice(), told);
     let edges = edges(alloc, names, taken, raw.edges.as_slice(), told)?;
     Ok(VertexParts {
         params,
@@ -117,7 +117,7 @@ fn vertex(
     names: &Names,
     taken: &[List<Option<Kind>>],
     raw: RawVertex,
-    told: &mut Told,
+    told: &mut FirstFault,
 ) -> Result<Vertex, NoMemory>
     ensures { IfOk result (λ v. CheckedPart (meaning_of names.now) told.old told.new (vertex_faults (meaning_of names.now) taken.now (written_vertex raw)) (λ d. numbering.vertex d (written_vertex raw)) (vertex_of v)) }
 {
@@ -136,7 +136,7 @@ pub fn vertices(
     names: &Names,
     taken: &[List<Option<Kind>>],
     raws: List<RawVertex>,
-    told: &mut Told,
+    told: &mut FirstFault,
 ) -> Result<List<Vertex>, NoMemory>
     ensures { IfOk result (λ vs. CheckedPart (meaning_of names.now) told.old told.new (flat_map (vertex_faults (meaning_of names.now) taken.now) (map written_vertex raws)) (λ d. each_numbered (numbering.vertex d) (map written_vertex raws)) (map vertex_of vs)) }
 {

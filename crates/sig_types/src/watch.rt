@@ -11,8 +11,8 @@ ghost use Rattle.model_core.specs.Static.PartFaults.{use_faults, repeated_names}
 ghost use Rattle.static_laws.specs.Checked.{CheckedPart};
 
 use crate::names::Names;
-use crate::repeats::tell_repeated;
-use crate::told::Told;
+use crate::repeats::report_repeats;
+use crate::told::FirstFault;
 use crate::uses::watched;
 use model_core::{RawName, Watch};
 use sig_base::{List, NoMemory};
@@ -23,7 +23,7 @@ fn all_watched(
     alloc: Global,
     names: &Names,
     raws: &[RawName],
-    told: &mut Told,
+    told: &mut FirstFault,
 ) -> Result<List<Watch>, NoMemory>
     ensures { IfOk result (λ ws. CheckedPart (meaning_of names.now) told.old told.new (flat_map (use_faults (meaning_of names.now) AsWatched) (map written_name raws.now)) (λ d. each_numbered (numbering.watched d) (map written_name raws.now)) (map watched_of ws)) }
 {
@@ -39,11 +39,11 @@ pub(crate) fn watch_list(
     alloc: Global,
     names: &Names,
     raws: &[RawName],
-    told: &mut Told,
+    told: &mut FirstFault,
 ) -> Result<List<Watch>, NoMemory>
     ensures { IfOk result (λ ws. CheckedPart (meaning_of names.now) told.old told.new (flat_map (use_faults (meaning_of names.now) AsWatched) (map written_name raws.now) ++ repeated_names [] (map written_name raws.now)) (λ d. each_numbered (numbering.watched d) (map written_name raws.now)) (map watched_of ws)) }
 {
     let watch = all_watched(alloc, names, raws, told)?;
-    tell_repeated(alloc, raws, told)?;
+    report_repeats(alloc, raws, told)?;
     Ok(watch)
 }

@@ -10,7 +10,7 @@ use Rattle.answer_delivery.specs.declared.status.End.{End}
 use Rattle.answer_delivery.specs.declared.status.End.TheVariants as ends
 use Rattle.answer_delivery.specs.declared.status.Refusal.{Refusal}
 use Rattle.answer_delivery.specs.declared.status.Refusal.TheVariants as refusals
-use Rattle.sigma_top.specs.StatusTable.{IsReadToEnd, IsReadThrough, IsReadInPart, WritesAnswer, Refuses, FailsToRead, FailsToWrite, HasBegun, LacksMemory, ForJob, IsGiven, IsTurnedDown, Ends}
+use Rattle.sigma_top.specs.StatusTable.{IsReadToEnd, IsReadThrough, IsReadInPart, WritesAnswer, Refuses, FailsToRead, FailsToWrite, HasBegun, LacksMemory, ForJob, EndsWithAnswer, EndsWithRefusal, Ends}
 
 abbrev inlet : Inlet → Inlet
 inlet x = x
@@ -69,10 +69,10 @@ module _ {S K : Type 0} (source : S → Inlet) (sink : K → Outlet) where
     memory_lacked h = record { input_read = read_in_part (limit_of reading) i j h.input_read; input_steady = h.input_steady; output_grown = begun_as_seen h.output_grown; output_steady = h.output_steady }
 
 module _ {S K E : Type 0} (source : S → Inlet) (sink : K → Outlet) (errors : E → Outlet) (words : List (List ℕ)) (i j : S) (o p : K) (e f : E) where
-  given_as_seen : (end : End) → IsGiven source sink errors words i j o p e f end → IsGiven inlet outlet outlet words (source i) (source j) (sink o) (sink p) (errors e) (errors f) end
+  given_as_seen : (end : End) → EndsWithAnswer source sink errors words i j o p e f end → EndsWithAnswer inlet outlet outlet words (source i) (source j) (sink o) (sink p) (errors e) (errors f) end
   given_as_seen end h = ((h.0.0, h.0.1, answer_written source sink (reading_of h.0.0) i j o p end h.0.2), ap errors h.1)
 
-  refusal_as_seen : (why : Refusal) → IsTurnedDown source sink errors words i j o p e f why → IsTurnedDown inlet outlet outlet words (source i) (source j) (sink o) (sink p) (errors e) (errors f) why
+  refusal_as_seen : (why : Refusal) → EndsWithRefusal source sink errors words i j o p e f why → EndsWithRefusal inlet outlet outlet words (source i) (source j) (sink o) (sink p) (errors e) (errors f) why
   refusal_as_seen why h = (h.0, (h.1.0, h.1.1, text_refused source sink (reading_of h.1.0) i j o p why h.0 h.1.2), h.2)
 
   lack_as_seen : ((j ≡ i) × (p ≡ o)) ⊎ ForJob words (λ reading. LacksMemory source sink reading i j o p) → ((source j ≡ source i) × (sink p ≡ sink o)) ⊎ ForJob words (λ reading. LacksMemory inlet outlet reading (source i) (source j) (sink o) (sink p))

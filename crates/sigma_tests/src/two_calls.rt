@@ -8,7 +8,7 @@ ghost use Rattle.model_core.specs.Rules.Reduction.{RuleApplication};
 ghost use Rattle.model_core.specs.Text.Canonical.{canonical};
 ghost use Rattle.answer_laws.specs.PrintedAndReduced.{HasText, ShowTheSame};
 
-use answer_laws::canonical_texts_tell_models;
+use answer_laws::canonical_texts_determine_models;
 
 /// Where `print` wrote the canonical text of a model, and `reduce` that of another one with a certificate after it, and both models
 /// have a text, these two are the same.
@@ -16,5 +16,5 @@ pub fn written_models_are_the_same()
     ensures { (g h : EventGraph) (applications : List RuleApplication) → HasText g → HasText h
         → ShowTheSame (canonical g) (canonical h ++ certificate applications) → Same g h }
 {
-    canonical_texts_tell_models();
+    canonical_texts_determine_models();
 }

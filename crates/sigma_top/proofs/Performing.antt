@@ -9,8 +9,8 @@ use Rattle.command_words.specs.declared.reading.Reading.TheVariants as readings
 use Rattle.command_words.specs.Readings.{limit_of}
 use Rattle.answer_delivery.specs.declared.answer.Answer.{Answer}
 use Rattle.answer_delivery.specs.declared.answer.Answer.TheVariants.{Given, Refused}
-use Rattle.answer_delivery.specs.declared.delivering.Said.{Said}
-use Rattle.answer_delivery.specs.declared.delivering.Said.TheVariants as said
+use Rattle.answer_delivery.specs.declared.delivering.DeliveryOutcome.{DeliveryOutcome}
+use Rattle.answer_delivery.specs.declared.delivering.DeliveryOutcome.TheVariants as said
 use Rattle.answer_delivery.specs.declared.status.End.{End}
 use Rattle.answer_delivery.specs.declared.status.Refusal.{Refusal}
 use Rattle.answer_delivery.specs.declared.status.Failure.{Failure}
@@ -19,10 +19,10 @@ use Rattle.answer_delivery.specs.AnswerForms.{refused, too_long}
 use Rattle.job_answers.specs.AnswerLaws.{KeepsAnswerLaws}
 use Rattle.job_answers.specs.Answers.{Responds, MayStopShort, HasNothingToWrite, IsOver}
 use Rattle.answer_delivery.specs.Delivery.{Delivers, DeliversSome}
-use Rattle.sigma_top.specs.declared.text_taking.Taken.{Taken}
-use Rattle.sigma_top.specs.declared.text_taking.Taken.TheVariants as taken
+use Rattle.sigma_top.specs.declared.text_taking.TakenText.{TakenText}
+use Rattle.sigma_top.specs.declared.text_taking.TakenText.TheVariants as taken
 use Rattle.sigma_top.specs.StatusTable.{text_of, IsReadThrough, RepliesToInput, HasBegun}
-use Rattle.sigma_top.specs.Inner.CallSteps.{TakesText, Performs}
+use Rattle.sigma_top.specs.Inner.CallSteps.{TakesText, AnswersInput}
 use Rattle.sigma_top.proofs.InputRead.{read_through, read_in_part}
 
 -- ---- an answer that is given has bytes, unless its job may have none
@@ -57,22 +57,22 @@ refused_long : (reading : Reading) (i : Inlet) → IfSome (text_of (limit_of rea
 refused_long reading i over = let long = long_text (limit_of reading) i.left over in record { text = long.0; told = long.1; answers = inl (long.2, refl) }
 
 -- what was taken up to a limit that is the job's
-pub taken_as : {S : Type 0} (source : S → Inlet) (reading : Reading) (i j : S) (limit : Option ℕ) (r s : Result Taken Failure) → limit ≡ limit_of reading → r ≡ s → TakesText source limit r i j → TakesText source (limit_of reading) s i j
-taken_as source reading i j limit r s known is h = subst (λ (l : Option ℕ). TakesText source l s i j) known (subst (λ (x : Result Taken Failure). TakesText source limit x i j) is h)
+pub taken_within_limit : {S : Type 0} (source : S → Inlet) (reading : Reading) (i j : S) (limit : Option ℕ) (r s : Result TakenText Failure) → limit ≡ limit_of reading → r ≡ s → TakesText source limit r i j → TakesText source (limit_of reading) s i j
+taken_within_limit source reading i j limit r s known is h = subst (λ (l : Option ℕ). TakesText source l s i j) known (subst (λ (x : Result TakenText Failure). TakesText source limit x i j) is h)
 
 module _ {S K : Type 0} (source : S → Inlet) (sink : K → Outlet) (reading : Reading) (i j : S) (o : K) where
   -- no text was taken
-  pub not_taken : (f : Failure) → TakesText source (limit_of reading) (Err f) i j → Performs source sink reading (Err f) i j o o
-  not_taken failures.Usage h = absurd h
-  not_taken failures.ReadFault h = record { reads_text = h.0; input_read = h.1; input_failed = h.2; output_untouched = refl }
-  not_taken failures.WriteFault h = absurd h
-  not_taken failures.NoMemory h = record { input_read = h.0; input_steady = h.1; output_grown = inl refl; output_steady = refl }
+  pub input_not_taken : (f : Failure) → TakesText source (limit_of reading) (Err f) i j → AnswersInput source sink reading (Err f) i j o o
+  input_not_taken failures.Usage h = absurd h
+  input_not_taken failures.ReadFault h = record { reads_text = h.0; input_read = h.1; input_failed = h.2; output_untouched = refl }
+  input_not_taken failures.WriteFault h = absurd h
+  input_not_taken failures.NoMemory h = record { input_read = h.0; input_steady = h.1; output_grown = inl refl; output_steady = refl }
 
   module _ (p : K) where
     -- ---- the text is over the limit
 
     module _ (h : TakesText source (limit_of reading) (Ok taken.TooLong) i j) where
-      long_told : (r : Result Said Failure) → Delivers sink (refused too_long) r o p → Performs source sink reading r i j o p
+      long_told : (r : Result DeliveryOutcome Failure) → Delivers sink (refused too_long) r o p → AnswersInput source sink reading r i j o p
       long_told (Ok (said.Gave end)) k = absurd k
       long_told (Ok (said.Refused why line)) k = record {
         answer = subst (λ (w : Refusal). RepliesToInput reading (source i) (Refused w line)) (sym k.0) (subst (λ (l : List ℕ). RepliesToInput reading (source i) (refused l)) (sym k.1) (refused_long reading (source i) h.0));
@@ -82,13 +82,13 @@ module _ {S K : Type 0} (source : S → Inlet) (sink : K → Outlet) (reading : 
       }
       long_told (Err f) k = absurd k
 
-      short_of_memory : p ≡ o → Performs source sink reading (Err failures.NoMemory) i j o p
+      short_of_memory : p ≡ o → AnswersInput source sink reading (Err failures.NoMemory) i j o p
       short_of_memory same = record { input_read = read_in_part source i j (limit_of reading) h.1; input_steady = h.2; output_grown = inl same; output_steady = ap (λ (k : K). (sink k).faults) same }
 
-      pub performed_long : (made : Result Answer NoMemory) (r : Result Said Failure) → IfOk made (λ a. a ≡ refused too_long)
-          → MatchResult made (λ a. Delivers sink a r o p × (r ≢ Err failures.NoMemory)) (λ e. (r ≡ Err failures.NoMemory) × (p ≡ o)) → Performs source sink reading r i j o p
-      performed_long (Ok a) r is k = long_told r (subst (λ (b : Answer). Delivers sink b r o p) is k.0)
-      performed_long (Err e) r is k = subst (λ (x : Result Said Failure). Performs source sink reading x i j o p) (sym k.0) (short_of_memory k.1)
+      pub long_input_refused : (made : Result Answer NoMemory) (r : Result DeliveryOutcome Failure) → IfOk made (λ a. a ≡ refused too_long)
+          → MatchResult made (λ a. Delivers sink a r o p × (r ≢ Err failures.NoMemory)) (λ e. (r ≡ Err failures.NoMemory) × (p ≡ o)) → AnswersInput source sink reading r i j o p
+      long_input_refused (Ok a) r is k = long_told r (subst (λ (b : Answer). Delivers sink b r o p) is k.0)
+      long_input_refused (Err e) r is k = subst (λ (x : Result DeliveryOutcome Failure). AnswersInput source sink reading x i j o p) (sym k.0) (short_of_memory k.1)
 
     -- ---- the text was answered
 
@@ -99,7 +99,7 @@ module _ {S K : Type 0} (source : S → Inlet) (sink : K → Outlet) (reading : 
       through : IsReadThrough source (limit_of reading) i j
       through = read_through source i j (limit_of reading) text h.0 h.1 h.2
 
-      in_memory : (a : Answer) (r : Result Said Failure) → Responds reading text a → Delivers sink a r o p → (r ≡ Err failures.NoMemory → (p ≡ o) ⊎ MayStopShort reading text) → Performs source sink reading r i j o p
+      in_memory : (a : Answer) (r : Result DeliveryOutcome Failure) → Responds reading text a → Delivers sink a r o p → (r ≡ Err failures.NoMemory → (p ≡ o) ⊎ MayStopShort reading text) → AnswersInput source sink reading r i j o p
       in_memory (Given end bytes) (Ok (said.Gave other)) x k short = record {
         bytes = bytes;
         answer = subst (λ (e : End). RepliesToInput reading (source i) (Given e bytes)) (sym k.0) (replies (Given end bytes) x);
@@ -141,9 +141,9 @@ module _ {S K : Type 0} (source : S → Inlet) (sink : K → Outlet) (reading : 
       }
       in_memory (Refused why line) (Err f) x k short = absurd k
 
-      without_answer : p ≡ o → Performs source sink reading (Err failures.NoMemory) i j o p
+      without_answer : p ≡ o → AnswersInput source sink reading (Err failures.NoMemory) i j o p
       without_answer same = record { input_read = read_in_part source i j (limit_of reading) through; input_steady = h.3; output_grown = inl same; output_steady = ap (λ (k : K). (sink k).faults) same }
 
-      pub performed : (r : Result Said Failure) → DeliversSome sink (Responds reading text) (MayStopShort reading text) r o p → Performs source sink reading r i j o p
-      performed r (inl one) = in_memory one.answer r one.holds one.delivers one.short
-      performed r (inr none) = subst (λ (x : Result Said Failure). Performs source sink reading x i j o p) (sym none.0) (without_answer none.1)
+      pub input_answered : (r : Result DeliveryOutcome Failure) → DeliversSome sink (Responds reading text) (MayStopShort reading text) r o p → AnswersInput source sink reading r i j o p
+      input_answered r (inl one) = in_memory one.answer r one.holds one.delivers one.short
+      input_answered r (inr none) = subst (λ (x : Result DeliveryOutcome Failure). AnswersInput source sink reading x i j o p) (sym none.0) (without_answer none.1)

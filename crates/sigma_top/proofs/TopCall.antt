@@ -28,8 +28,8 @@ use Rattle.command_words.specs.KeptLimits.{KeepsLimits}
 use Rattle.command_words.specs.Readings.{reading_of, limit_of}
 use Rattle.answer_delivery.specs.declared.answer.Answer.{Answer}
 use Rattle.answer_delivery.specs.declared.answer.Answer.TheVariants.{Given, Refused}
-use Rattle.answer_delivery.specs.declared.delivering.Said.{Said}
-use Rattle.answer_delivery.specs.declared.delivering.Said.TheVariants as said
+use Rattle.answer_delivery.specs.declared.delivering.DeliveryOutcome.{DeliveryOutcome}
+use Rattle.answer_delivery.specs.declared.delivering.DeliveryOutcome.TheVariants as said
 use Rattle.answer_delivery.specs.declared.status.End.{End}
 use Rattle.answer_delivery.specs.declared.status.End.TheVariants as ends
 use Rattle.answer_delivery.specs.declared.status.Refusal.{Refusal}
@@ -49,8 +49,8 @@ use Rattle.job_answers.specs.SavedReading.{ReadsSaved}
 use Rattle.answer_delivery.specs.Statuses.{status_of_answer, bytes_of_answer, status_of_end, status_of_refusal, failure_line}
 use Rattle.answer_delivery.specs.FailureStatus.{status_of_failure}
 use Rattle.sigma_top.specs.Promises.{PrintsModel, KeepsPromises}
-use Rattle.sigma_top.specs.StatusTable.{text_of, Told, WritesAnswer, Refuses, RepliesToInput, HasBegun, LacksMemory, ForJob, Ends}
-use Rattle.sigma_top.specs.Inner.CallSteps.{Performs, PerformsJobOf}
+use Rattle.sigma_top.specs.StatusTable.{text_of, ReportsLine, WritesAnswer, Refuses, RepliesToInput, HasBegun, LacksMemory, ForJob, Ends}
+use Rattle.sigma_top.specs.Inner.CallSteps.{AnswersInput, AnswersWords}
 
 -- ---- what `print`, `reduce`, `fuse` and `narrow` give, and what `certify` finds sound
 
@@ -155,10 +155,10 @@ always_reduced law status (Some text) Grows (inr (a, answers, is, grows)) = λ g
 
 module _ {S K : Type 0} (source : S → Inlet) (sink : K → Outlet) (words : List (List ℕ)) (i j : S) (o p : K) where
   -- what the job does, the call does
-  pub serves : (job : Job) → job_of words ≡ Some job → (reading : Reading) → reading ≡ reading_of job → (r : Result Said Failure) → Performs source sink reading r i j o p → PerformsJobOf source sink words r i j o p
-  serves job asked reading known r h = by r (subst (λ (x : Reading). Performs source sink x r i j o p) known h)
+  pub answer_of_job : (job : Job) → job_of words ≡ Some job → (reading : Reading) → reading ≡ reading_of job → (r : Result DeliveryOutcome Failure) → AnswersInput source sink reading r i j o p → AnswersWords source sink words r i j o p
+  answer_of_job job asked reading known r h = by r (subst (λ (x : Reading). AnswersInput source sink x r i j o p) known h)
     where
-      by : (r : Result Said Failure) → Performs source sink (reading_of job) r i j o p → PerformsJobOf source sink words r i j o p
+      by : (r : Result DeliveryOutcome Failure) → AnswersInput source sink (reading_of job) r i j o p → AnswersWords source sink words r i j o p
       by (Ok s) h = (job, asked, h)
       by (Err failures.Usage) h = absurd h
       by (Err failures.ReadFault) h = (job, asked, h)
@@ -167,42 +167,42 @@ module _ {S K : Type 0} (source : S → Inlet) (sink : K → Outlet) (words : Li
 
 module _ {S K E : Type 0} (source : S → Inlet) (sink : K → Outlet) (errors : E → Outlet) (words : List (List ℕ)) (i j : S) (o p : K) (e : E) where
   -- a job that wrote is reported by its status alone
-  gave : (end : End) → PerformsJobOf source sink words (Ok (said.Gave end)) i j o p → Ends source sink errors words i j o p e e (status_of_end end)
+  gave : (end : End) → AnswersWords source sink words (Ok (said.Gave end)) i j o p → Ends source sink errors words i j o p e e (status_of_end end)
   gave ends.Done h = (h, refl)
   gave ends.ModelFault h = (h, refl)
   gave ends.Budget h = (h, refl)
   gave ends.Rejected h = (h, refl)
 
-  pub gave_ends : (end : End) (r : Result Said Failure) (status : Status) → r ≡ Ok (said.Gave end) → status ≡ status_of_end end → PerformsJobOf source sink words r i j o p → Ends source sink errors words i j o p e e status
+  pub gave_ends : (end : End) (r : Result DeliveryOutcome Failure) (status : Status) → r ≡ Ok (said.Gave end) → status ≡ status_of_end end → AnswersWords source sink words r i j o p → Ends source sink errors words i j o p e e status
   gave_ends end r status is known h =
-      subst (λ (s : Status). Ends source sink errors words i j o p e e s) (sym known) (gave end (subst (λ (x : Result Said Failure). PerformsJobOf source sink words x i j o p) is h))
+      subst (λ (s : Status). Ends source sink errors words i j o p e e s) (sym known) (gave end (subst (λ (x : Result DeliveryOutcome Failure). AnswersWords source sink words x i j o p) is h))
 
   module _ (f : E) where
     -- a refusal is reported by its line
-    refused : (why : Refusal) (line : List ℕ) → PerformsJobOf source sink words (Ok (said.Refused why line)) i j o p → Told (errors e) (errors f) line → Ends source sink errors words i j o p e f (status_of_refusal why)
+    refused : (why : Refusal) (line : List ℕ) → AnswersWords source sink words (Ok (said.Refused why line)) i j o p → ReportsLine (errors e) (errors f) line → Ends source sink errors words i j o p e f (status_of_refusal why)
     refused refusals.Refused line h told = (line, h, told)
     refused refusals.BadStart line h told = (line, h, told)
     refused refusals.Finished line h told = (line, h, told)
     refused refusals.TooLarge line h told = (line, h, told)
 
-    pub refused_ends : (why : Refusal) (line shown : List ℕ) (r : Result Said Failure) (status : Status) → r ≡ Ok (said.Refused why line) → status ≡ status_of_refusal why → shown ≡ line → PerformsJobOf source sink words r i j o p → Told (errors e) (errors f) shown
+    pub refused_ends : (why : Refusal) (line shown : List ℕ) (r : Result DeliveryOutcome Failure) (status : Status) → r ≡ Ok (said.Refused why line) → status ≡ status_of_refusal why → shown ≡ line → AnswersWords source sink words r i j o p → ReportsLine (errors e) (errors f) shown
         → Ends source sink errors words i j o p e f status
     refused_ends why line shown r status is known same h told =
         subst (λ (s : Status). Ends source sink errors words i j o p e f s) (sym known)
-        (refused why line (subst (λ (x : Result Said Failure). PerformsJobOf source sink words x i j o p) is h) (subst (λ (l : List ℕ). Told (errors e) (errors f) l) same told))
+        (refused why line (subst (λ (x : Result DeliveryOutcome Failure). AnswersWords source sink words x i j o p) is h) (subst (λ (l : List ℕ). ReportsLine (errors e) (errors f) l) same told))
 
     -- a failure is reported by its line
-    failed : (failure : Failure) → PerformsJobOf source sink words (Err failure) i j o p → Told (errors e) (errors f) (failure_line failure) → Ends source sink errors words i j o p e f (status_of_failure failure)
+    failed : (failure : Failure) → AnswersWords source sink words (Err failure) i j o p → ReportsLine (errors e) (errors f) (failure_line failure) → Ends source sink errors words i j o p e f (status_of_failure failure)
     failed failures.Usage h told = (h.0, h.1, h.2, told)
     failed failures.ReadFault h told = (h, told)
     failed failures.WriteFault h told = (h, told)
     failed failures.NoMemory h told = (h, told)
 
-    pub failure_ends : (failure : Failure) (shown : List ℕ) (r : Result Said Failure) (status : Status) → r ≡ Err failure → status ≡ status_of_failure failure → shown ≡ failure_line failure → PerformsJobOf source sink words r i j o p → Told (errors e) (errors f) shown
+    pub failure_ends : (failure : Failure) (shown : List ℕ) (r : Result DeliveryOutcome Failure) (status : Status) → r ≡ Err failure → status ≡ status_of_failure failure → shown ≡ failure_line failure → AnswersWords source sink words r i j o p → ReportsLine (errors e) (errors f) shown
         → Ends source sink errors words i j o p e f status
     failure_ends failure shown r status is known same h told =
         subst (λ (s : Status). Ends source sink errors words i j o p e f s) (sym known)
-        (failed failure (subst (λ (x : Result Said Failure). PerformsJobOf source sink words x i j o p) is h) (subst (λ (l : List ℕ). Told (errors e) (errors f) l) same told))
+        (failed failure (subst (λ (x : Result DeliveryOutcome Failure). AnswersWords source sink words x i j o p) is h) (subst (λ (l : List ℕ). ReportsLine (errors e) (errors f) l) same told))
 
     -- the bytes of the output grew by these
     abbrev Grows : List ℕ → Type 0

@@ -116,42 +116,42 @@ abbrev pub ForJob : List (List ℕ) → (Reading → Type 0) → Type 0
 ForJob words Holds = (job : Job) × (job_of words ≡ Some job) × Holds (reading_of job)
 
 -- the error output grew by this line, unless a write of it failed
-abbrev pub Told : Outlet → Outlet → List ℕ → Type 0
-Told old new line = HasRisen old.faults new.faults ⊎ GrowsBy old.written new.written line
+abbrev pub ReportsLine : Outlet → Outlet → List ℕ → Type 0
+ReportsLine old new line = HasRisen old.faults new.faults ⊎ GrowsBy old.written new.written line
 
 -- What a call with these words did: to the input from i to j, to the output from o to p, and to the error output from e
 -- to f, of which this is seen.
 module _ {S K E : Type 0} (source : S → Inlet) (sink : K → Outlet) (errors : E → Outlet) where
   module _ (words : List (List ℕ)) (i j : S) (o p : K) (e f : E) where
     -- the answer was written, and no line
-    abbrev pub IsGiven : End → Type 0
-    IsGiven end = ForJob words (λ reading. WritesAnswer source sink reading end i j o p) × (f ≡ e)
+    abbrev pub EndsWithAnswer : End → Type 0
+    EndsWithAnswer end = ForJob words (λ reading. WritesAnswer source sink reading end i j o p) × (f ≡ e)
 
     -- the text was refused, and the line that says why was written
-    abbrev pub IsTurnedDown : Refusal → Type 0
-    IsTurnedDown why =
+    abbrev pub EndsWithRefusal : Refusal → Type 0
+    EndsWithRefusal why =
         (line : List ℕ) × ForJob words (λ reading. Refuses source sink reading why line i j o p)
-        × Told (errors e) (errors f) line
+        × ReportsLine (errors e) (errors f) line
 
     -- the line of the failure was written
-    abbrev pub TellsFailure : Failure → Type 0
-    TellsFailure failure = Told (errors e) (errors f) (failure_line failure)
+    abbrev pub EndsWithFailure : Failure → Type 0
+    EndsWithFailure failure = ReportsLine (errors e) (errors f) (failure_line failure)
 
     -- what the call did that ended with this status
     abbrev pub Ends : Status → Type 0
-    Ends statuses.Done = IsGiven ends.Done
-    Ends statuses.Refused = IsTurnedDown refusals.Refused
-    Ends statuses.Usage = (job_of words ≡ None) × (j ≡ i) × (p ≡ o) × TellsFailure failures.Usage
+    Ends statuses.Done = EndsWithAnswer ends.Done
+    Ends statuses.Refused = EndsWithRefusal refusals.Refused
+    Ends statuses.Usage = (job_of words ≡ None) × (j ≡ i) × (p ≡ o) × EndsWithFailure failures.Usage
     Ends statuses.ReadFault =
-        ForJob words (λ reading. FailsToRead source sink reading i j o p) × TellsFailure failures.ReadFault
+        ForJob words (λ reading. FailsToRead source sink reading i j o p) × EndsWithFailure failures.ReadFault
     Ends statuses.WriteFault =
-        ForJob words (λ reading. FailsToWrite source sink reading i j o p) × TellsFailure failures.WriteFault
+        ForJob words (λ reading. FailsToWrite source sink reading i j o p) × EndsWithFailure failures.WriteFault
     Ends statuses.NoMemory =
         (((j ≡ i) × (p ≡ o)) ⊎ ForJob words (λ reading. LacksMemory source sink reading i j o p))
-        × TellsFailure failures.NoMemory
-    Ends statuses.ModelFault = IsGiven ends.ModelFault
-    Ends statuses.Budget = IsGiven ends.Budget
-    Ends statuses.Rejected = IsGiven ends.Rejected
-    Ends statuses.BadStart = IsTurnedDown refusals.BadStart
-    Ends statuses.Finished = IsTurnedDown refusals.Finished
-    Ends statuses.TooLarge = IsTurnedDown refusals.TooLarge
+        × EndsWithFailure failures.NoMemory
+    Ends statuses.ModelFault = EndsWithAnswer ends.ModelFault
+    Ends statuses.Budget = EndsWithAnswer ends.Budget
+    Ends statuses.Rejected = EndsWithAnswer ends.Rejected
+    Ends statuses.BadStart = EndsWithRefusal refusals.BadStart
+    Ends statuses.Finished = EndsWithRefusal refusals.Finished
+    Ends statuses.TooLarge = EndsWithRefusal refusals.TooLarge

@@ -7,7 +7,7 @@ ghost use Rattle.std.specs.String.{string_bytes};
 ghost use Rattle.answer_delivery.specs.declared.status.Failure.TheVariants as failures;
 ghost use Rattle.answer_delivery.specs.Statuses.{exit_status_of, failure_line};
 ghost use Rattle.sigma_top.specs.Promises.{KeepsPromises};
-ghost use Rattle.sigma_top.specs.StatusTable.{Told, Ends};
+ghost use Rattle.sigma_top.specs.StatusTable.{ReportsLine, Ends};
 
 use crate::top_call::sigma;
 use answer_delivery::Status;
@@ -33,7 +33,7 @@ fn without_words(kind: ErrorKind) -> (Status, &'static [u8])
 
 /// Does the job that the words ask for, as `sigma` does, and returns the status. Of an error in place of words, it writes the
 /// line.
-fn work<S: Source, K: Sink, E: Sink>(
+fn program_status<S: Source, K: Sink, E: Sink>(
     alloc: Global,
     words: io::Result<Vec<String>>,
     input: &mut S,
@@ -47,10 +47,10 @@ fn work<S: Source, K: Sink, E: Sink>(
     ensures untouched { OnErr words ((input.new ≡ input.old) × (output.new ≡ output.old)) }
     ensures without_memory { IfErr words (λ error. error_kind error ≡ ErrorKind.OutOfMemory
         → (result ≡ Status.NoMemory)
-        × Told (E.seen errors.old) (E.seen errors.new) (failure_line failures.NoMemory)) }
+        × ReportsLine (E.seen errors.old) (E.seen errors.new) (failure_line failures.NoMemory)) }
     ensures without_words { IfErr words (λ error. error_kind error ≢ ErrorKind.OutOfMemory
         → (result ≡ Status.Usage)
-        × Told (E.seen errors.old) (E.seen errors.new) (failure_line failures.Usage)) }
+        × ReportsLine (E.seen errors.old) (E.seen errors.new) (failure_line failures.Usage)) }
 {
     match words {
         Ok(words) => sigma(alloc, &words, input, output, errors),
@@ -83,11 +83,11 @@ pub fn program<S: Source, K: Sink, E: Sink>(
     ensures untouched { OnErr words ((input.new ≡ input.old) × (output.new ≡ output.old)) }
     ensures without_memory { IfErr words (λ error. error_kind error ≡ ErrorKind.OutOfMemory
         → (exit_status result ≡ exit_status_of Status.NoMemory)
-        × Told (E.seen errors.old) (E.seen errors.new) (failure_line failures.NoMemory)) }
+        × ReportsLine (E.seen errors.old) (E.seen errors.new) (failure_line failures.NoMemory)) }
     ensures without_words { IfErr words (λ error. error_kind error ≢ ErrorKind.OutOfMemory
         → (exit_status result ≡ exit_status_of Status.Usage)
-        × Told (E.seen errors.old) (E.seen errors.new) (failure_line failures.Usage)) }
+        × ReportsLine (E.seen errors.old) (E.seen errors.new) (failure_line failures.Usage)) }
 {
-    let status = work(alloc, words, input, output, errors);
+    let status = program_status(alloc, words, input, output, errors);
     ExitCode::from(status.number())
 }

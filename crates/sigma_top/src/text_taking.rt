@@ -8,7 +8,7 @@ use std::alloc::Global;
 
 /// The text of a job, or that the input has more bytes than the limit.
 #[derive(Drop)]
-pub enum Taken {
+pub enum TakenText {
     Whole(Text),
     TooLong,
 }
@@ -18,15 +18,15 @@ pub fn take_text<S: Source>(
     alloc: Global,
     limit: Option<usize>,
     input: &mut S,
-) -> Result<Taken, Failure>
+) -> Result<TakenText, Failure>
     ensures { TakesText S.seen limit result input.old input.new }
 {
     let Some(limit) = limit else {
-        return Ok(Taken::Whole(Text::from_vec(Vec::new(alloc))));
+        return Ok(TakenText::Whole(Text::from_vec(Vec::new(alloc))));
     };
     match take_all(alloc, input, limit) {
-        Ok(text) => Ok(Taken::Whole(text)),
-        Err(TakeError::TooLong) => Ok(Taken::TooLong),
+        Ok(text) => Ok(TakenText::Whole(text)),
+        Err(TakeError::TooLong) => Ok(TakenText::TooLong),
         Err(TakeError::ReadFault) => Err(Failure::ReadFault),
         Err(TakeError::NoMemory) => Err(Failure::NoMemory),
     }

@@ -16,11 +16,11 @@ ghost use Rattle.job_answers.specs.ResumeAnswer.{ResumedFitsRoom};
 ghost use Rattle.job_answers.specs.RunAnswer.{RunFitsRoom};
 ghost use Rattle.job_answers.specs.SavedReading.{ReadsSaved};
 ghost use Rattle.sigma_top.specs.Promises.{IsOfAnswer, KeepsPromises};
-ghost use Rattle.sigma_top.specs.StatusTable.{Told, Ends};
-ghost use Rattle.sigma_top.specs.Inner.CallSteps.{Performs, PerformsJobOf};
+ghost use Rattle.sigma_top.specs.StatusTable.{ReportsLine, Ends};
+ghost use Rattle.sigma_top.specs.Inner.CallSteps.{AnswersInput, AnswersWords};
 
-use crate::text_taking::{Taken, take_text};
-use answer_delivery::{Failure, Said, Status, deliver, too_long_answer};
+use crate::text_taking::{TakenText, take_text};
+use answer_delivery::{DeliveryOutcome, Failure, Status, deliver, too_long_answer};
 use command_words::{Reading, WordsError, jobs_keep_their_limits};
 use job_answers::{
     answer_text, answers_keep_their_laws, fused_models_mean_the_same,
@@ -36,14 +36,14 @@ fn answer_input<S: Source, K: Sink>(
     reading: &Reading,
     input: &mut S,
     output: &mut K,
-) -> Result<Said, Failure>
+) -> Result<DeliveryOutcome, Failure>
     requires { KeepsLimits reading.now }
-    ensures { Performs S.seen K.seen reading.now result input.old input.new output.old output.new }
+    ensures { AnswersInput S.seen K.seen reading.now result input.old input.new output.old output.new }
 {
     answers_keep_their_laws();
     match take_text(alloc, reading.limit(), input) {
-        Ok(Taken::Whole(text)) => answer_text(alloc, reading, text.as_slice(), output),
-        Ok(Taken::TooLong) => deliver(output, too_long_answer(alloc)),
+        Ok(TakenText::Whole(text)) => answer_text(alloc, reading, text.as_slice(), output),
+        Ok(TakenText::TooLong) => deliver(output, too_long_answer(alloc)),
         Err(failure) => Err(failure),
     }
 }
@@ -54,8 +54,8 @@ fn answer_words<S: Source, K: Sink>(
     words: &[String],
     input: &mut S,
     output: &mut K,
-) -> Result<Said, Failure>
-    ensures { PerformsJobOf S.seen K.seen (map string_bytes words.now) result
+) -> Result<DeliveryOutcome, Failure>
+    ensures { AnswersWords S.seen K.seen (map string_bytes words.now) result
         input.old input.new output.old output.new }
 {
     match command_words::words(alloc, words) {
@@ -67,7 +67,7 @@ fn answer_words<S: Source, K: Sink>(
 
 /// Writes a line on the error output.
 fn write_line<E: Sink>(errors: &mut E, line: &[u8])
-    ensures { Told (E.seen errors.old) (E.seen errors.new) line.now }
+    ensures { ReportsLine (E.seen errors.old) (E.seen errors.new) line.now }
 {
     let _ = put(errors, line);
 }
@@ -84,8 +84,8 @@ fn answer_call<S: Source, K: Sink, E: Sink>(
         input.old input.new output.old output.new errors.old errors.new result }
 {
     match answer_words(alloc, words, input, output) {
-        Ok(Said::Gave(end)) => end.status(),
-        Ok(Said::Refused(why, line)) => {
+        Ok(DeliveryOutcome::Gave(end)) => end.status(),
+        Ok(DeliveryOutcome::Refused(why, line)) => {
             write_line(errors, line.as_slice());
             why.status()
         }

@@ -33,8 +33,8 @@ one_part_more part value x later y out first all is so_far made =
       append_assoc out (y ∷ []) (map value later) ∙ ap (λ z. out ++ z ∷ map value later) k.1 ∙ made,
     )
 
-pub one_part_told : {A B : Type 0} (part : A → JudgedPart) (value : A → B) (x : A) (later : List A) (first : Option ℕ) → None ≡ if_good (part x).good (value x) → first_bad_part (map part (x ∷ later)) ≡ first → first ≡ Some (part x).at
-one_part_told part value x later first is so_far = sym so_far ∙ told (part x) (map part later) (if_good-none (part x).good (value x) is)
+pub one_part_reported : {A B : Type 0} (part : A → JudgedPart) (value : A → B) (x : A) (later : List A) (first : Option ℕ) → None ≡ if_good (part x).good (value x) → first_bad_part (map part (x ∷ later)) ≡ first → first ≡ Some (part x).at
+one_part_reported part value x later first is so_far = sym so_far ∙ told (part x) (map part later) (if_good-none (part x).good (value x) is)
 
 -- ---- streams
 
@@ -43,8 +43,8 @@ pub stream_passed : (least next : ℕ) (s : WrittenStream) (later : List Written
 stream_passed least next s later total good is so_far =
     ap (λ n. first_bad_part (stream_parts n later)) is ∙ sym (passed (record { good = stream_good least s; at = s.at }) (stream_parts (suc (number_or_zero s.stream)) later) good) ∙ so_far
 
-pub stream_told : (least : ℕ) (s : WrittenStream) (later : List WrittenStream) (total : Option ℕ) → stream_good least s ≡ false → first_bad_part (stream_parts least (s ∷ later)) ≡ total → total ≡ Some s.at
-stream_told least s later total bad so_far = sym so_far ∙ told (record { good = stream_good least s; at = s.at }) (stream_parts (suc (number_or_zero s.stream)) later) bad
+pub stream_reported : (least : ℕ) (s : WrittenStream) (later : List WrittenStream) (total : Option ℕ) → stream_good least s ≡ false → first_bad_part (stream_parts least (s ∷ later)) ≡ total → total ≡ Some s.at
+stream_reported least s later total bad so_far = sym so_far ∙ told (record { good = stream_good least s; at = s.at }) (stream_parts (suc (number_or_zero s.stream)) later) bad
 
 pub one_stream_more : (least number words : ℕ) (s : WrittenStream) (later : List WrittenStream) (taken : List ℕ) (first : Option ℕ) (all : List ℕ) → Some (number, words) ≡ if_good (stream_good least s) (stream_taken s) → number < 64
     → first_bad_part (stream_parts least (s ∷ later)) ≡ first → with_taken (s ∷ later) taken ≡ all → length taken ≡ 64
@@ -83,8 +83,8 @@ one_value_more v variables w later out added first all good is so_far made = (
       ∙ made,
 )
 
-pub one_value_told : (v : Variable) (variables : List Variable) (w : WrittenValue) (later : List WrittenValue) (first : Option ℕ) → false ≡ value_good v w → first_bad_part (value_parts (v ∷ variables) (w ∷ later)) ≡ first → first ≡ Some w.at
-one_value_told v variables w later first bad so_far = sym so_far ∙ told (record { good = value_good v w; at = w.at }) (value_parts variables later) (sym bad)
+pub one_value_reported : (v : Variable) (variables : List Variable) (w : WrittenValue) (later : List WrittenValue) (first : Option ℕ) → false ≡ value_good v w → first_bad_part (value_parts (v ∷ variables) (w ∷ later)) ≡ first → first ≡ Some w.at
+one_value_reported v variables w later first bad so_far = sym so_far ∙ told (record { good = value_good v w; at = w.at }) (value_parts variables later) (sym bad)
 
 -- ---- parts, and others after them
 

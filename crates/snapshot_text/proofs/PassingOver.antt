@@ -5,7 +5,7 @@ use Rattle.std.specs.Prelude.{Ok, Err}
 use Rattle.model_core.specs.Text.Lexing.{Lexeme}
 use Rattle.model_core.specs.Text.Format.{Yields, Single, Apply, Either, Many, ByRule}
 use Rattle.model_core.specs.Text.Expressions.{LanguageFormat}
-use Rattle.model_core.specs.Text.FirstWrong.{told_place}
+use Rattle.model_core.specs.Text.FirstWrong.{wrong_place}
 use Rattle.model_core.specs.Text.SnapshotGrammar.{WrittenSnapshot, snapshot_format, IsSnapshot, IsNoSnapshotAt}
 use Rattle.text_laws.specs.FirstTokens.{nullable, first_sorts, begins_among}
 use Rattle.text_laws.specs.FormatReader.{Parse, Parser, took, stuck, and_next, whole_read}
@@ -104,6 +104,6 @@ whole-is_snapshot tokens left e =
     let r = was-read (and_next whole_read (language_reader snapshot_format tokens)) left (sym (skims_whole-is snapshot_format tokens) ∙ e) in
     (r.value, all-is_spelled snapshot_format tokens r.value left r.took)
 
-pub stuck-is_none : (text : List ℕ) (tokens left : List Lexeme) → skims_whole snapshot_format tokens ≡ stuck left → IsNoSnapshotAt text tokens (told_place text left)
+pub stuck-is_none : (text : List ℕ) (tokens left : List Lexeme) → skims_whole snapshot_format tokens ≡ stuck left → IsNoSnapshotAt text tokens (wrong_place text left)
 stuck-is_none text tokens left e =
     all-is_wrong snapshot_format snapshot-fine text tokens left (was-stuck (and_next whole_read (language_reader snapshot_format tokens)) left (sym (skims_whole-is snapshot_format tokens) ∙ e))

@@ -15,7 +15,7 @@ use Rattle.model_core.specs.Text.Spellable.{IsName, IsSigned, sign_openings, ope
 use Rattle.model_core.specs.Text.Format.{Many, maybe, separated}
 use Rattle.model_core.specs.Text.Language.{signed_format}
 use Rattle.round_trip.proofs.LongestTokens.{Ends}
-use Rattle.round_trip.proofs.Writing.{Writes, Any, Takes, takes, writes-then, writes-made, writes-before, writes-after, writes-widened, writes-as, writes-text, writes-room, writes-some, writes-nothing, writes-none, writes-more, blank_before, blank_behind, feed_behind}
+use Rattle.round_trip.proofs.Writing.{Writes, Any, Takes, takes, writes-then, writes-made, writes-before, writes-after, writes-widened, writes-as, writes-text, writes-room, writes-some, writes-nothing, writes-none, writes-more, blank_before, blank_after, feed_after}
 use Rattle.round_trip.proofs.OneToken.{open_text, close_text, writes-name, writes-number}
 use Rattle.round_trip.proofs.ListText.{Pairs, signed-writes}
 use Rattle.model_core.specs.Saved.SavedRun.{IsWide}
@@ -38,8 +38,8 @@ pub record StreamIs (stream words : ℕ) (w : WrittenStream) : Type 0 where
 stream-writes : {i : ℕ} (s n : ℕ) → s < 2 ^ 63 → n < 2 ^ 63 → Writes stream_format (codes "stream " ++ decimal s ++ codes " " ++ decimal n ++ codes "\n") Any i i (StreamIs s n)
 unfolding stream_format
 stream-writes s n small few =
-    feed_behind (λ rest. refl) (writes-then (blank_behind (λ rest. refl) (writes-then
-    (writes-made (λ at stream words. record { at = at; stream = stream; words = words }) {J = Takes (IsNumber s) (Takes (IsNumber n) (StreamIs s n))} (blank_behind (λ rest. refl) (writes-this_name 115 (codes "tream") refl refl refl)) (λ at u. takes (λ a e. takes (λ b f. record { stream_is = e; words_is = f }))))
+    feed_after (λ rest. refl) (writes-then (blank_after (λ rest. refl) (writes-then
+    (writes-made (λ at stream words. record { at = at; stream = stream; words = words }) {J = Takes (IsNumber s) (Takes (IsNumber n) (StreamIs s n))} (blank_after (λ rest. refl) (writes-this_name 115 (codes "tream") refl refl refl)) (λ at u. takes (λ a e. takes (λ b f. record { stream_is = e; words_is = f }))))
     (λ rest i. tt) (writes-number s small))) (λ rest i. tt) (writes-number n few))
 
 -- the streams from this one on that gave words
@@ -85,8 +85,8 @@ pub record ValueIs (v : Variable) (xs : List ℤ) (w : WrittenValue) : Type 0 wh
 value-writes : (v : Variable) (x : ℤ) (xs : List ℤ) → IsName v.name → AllByRecursion IsSigned (x ∷ xs) → (j : ℕ) → Writes value_format (codes "value " ++ v.name ++ codes " " ++ comma_values (x ∷ xs) ++ codes "\n") Any (openings_together sign_openings (x ∷ xs) + j) j (ValueIs v (x ∷ xs))
 unfolding value_format
 value-writes v x xs named h j =
-    feed_behind (λ rest. refl) (writes-then (blank_behind (λ rest. refl) (writes-then
-    (writes-made (λ at variable values. record { at = at; variable = variable; values = values }) {J = Takes (λ n. n.name ≡ v.name) (Takes (AreSigned (x ∷ xs)) (ValueIs v (x ∷ xs)))} (blank_behind (λ rest. refl) (writes-this_name 118 (codes "alue") refl refl refl)) (λ at u. takes (λ a e. takes (λ b f. record { name = e; values = f }))))
+    feed_after (λ rest. refl) (writes-then (blank_after (λ rest. refl) (writes-then
+    (writes-made (λ at variable values. record { at = at; variable = variable; values = values }) {J = Takes (λ n. n.name ≡ v.name) (Takes (AreSigned (x ∷ xs)) (ValueIs v (x ∷ xs)))} (blank_after (λ rest. refl) (writes-this_name 118 (codes "alue") refl refl refl)) (λ at u. takes (λ a e. takes (λ b f. record { name = e; values = f }))))
     (λ rest i. tt) (writes-name v.name named))) (λ rest i. tt) (signed-list-writes x xs h j))
 
 -- each variable with the next of the values
@@ -149,7 +149,7 @@ noted-follows (x ∷ xs) rest e = refl
 noted-line-writes : (values : List ℤ) → AllByRecursion IsSigned values → (j : ℕ) → Writes noted_format (codes "noted" ++ noted_values values ++ codes "\n") Any (openings_together sign_openings values + j) j (NotedIs values)
 unfolding noted_format
 noted-line-writes values h j =
-    feed_behind (λ rest. refl) (writes-then
+    feed_after (λ rest. refl) (writes-then
     (writes-made (λ at values. record { at = at; values = unwrap_or values [] }) {J = Takes (λ o. AreSigned values (unwrap_or o [])) (NotedIs values)} (writes-this_name 110 (codes "oted") refl refl refl) (λ at u. takes (λ o e. record { values = e })))
     (noted-follows values) (noted-values-write values h j))
 
@@ -202,6 +202,6 @@ entry_cost e = carried_cost e.values
 pub pending-writes : (g : EventGraph) (clock : ℕ) (e : Entry) → IsTellable g clock e → (j : ℕ) → Writes pending_format (pending_line g clock e) Any (entry_cost e + j) j (PendingIs g clock e)
 unfolding pending_format
 pending-writes g clock e h j =
-    feed_behind (λ rest. refl) (writes-then (writes-then (blank_behind (λ rest. refl) (writes-then (blank_behind (λ rest. refl) (writes-then
-    (writes-made (λ at ticks priority vertex values. record { at = at; ticks = ticks; priority = priority; vertex = vertex; values = unwrap_or values [] }) {J = Takes (IsNumber (e.time - clock)) (Takes (IsNumber e.priority) (Takes (λ n. n.name ≡ (vertex_name g e.vertex)) (Takes (λ o. map carried_of (unwrap_or o []) ≡ e.values) (PendingIs g clock e))))} (blank_behind (λ rest. refl) (writes-this_name 112 (codes "ending") refl refl refl))
+    feed_after (λ rest. refl) (writes-then (writes-then (blank_after (λ rest. refl) (writes-then (blank_after (λ rest. refl) (writes-then
+    (writes-made (λ at ticks priority vertex values. record { at = at; ticks = ticks; priority = priority; vertex = vertex; values = unwrap_or values [] }) {J = Takes (IsNumber (e.time - clock)) (Takes (IsNumber e.priority) (Takes (λ n. n.name ≡ (vertex_name g e.vertex)) (Takes (λ o. map carried_of (unwrap_or o []) ≡ e.values) (PendingIs g clock e))))} (blank_after (λ rest. refl) (writes-this_name 112 (codes "ending") refl refl refl))
     (λ at u. takes (λ a i. takes (λ b k. takes (λ n l. takes (λ o m. record { ticks = i; priority = k; vertex = l; values = m })))))) (λ rest i. tt) (writes-number (e.time - clock) h.near))) (λ rest i. tt) (writes-number e.priority h.low))) (λ rest i. tt) (writes-name (vertex_name g e.vertex) h.named)) (carries-follow e.values) (carries-write e.values h.wide j))

@@ -6,7 +6,7 @@ use Rattle.model_core.specs.declared.token.Word.TheVariants as words
 use Rattle.model_core.specs.EventGraph.{EventGraph}
 use Rattle.model_core.specs.Text.Written.{WrittenNumber}
 use Rattle.model_core.specs.Text.Spellable.{IsSigned, openings_together}
-use Rattle.round_trip.proofs.Writing.{Writes, Any, Takes, takes, writes-yields, writes-then, writes-before, blank_behind, feed_behind}
+use Rattle.round_trip.proofs.Writing.{Writes, Any, Takes, takes, writes-yields, writes-then, writes-before, blank_after, feed_after}
 use Rattle.round_trip.proofs.OneToken.{a_word, writes-number}
 use Rattle.round_trip.proofs.ExpressionText.{is_word}
 use Rattle.round_trip.proofs.ListText.{Pairs}
@@ -78,26 +78,26 @@ module _ (g : EventGraph) (s : SavedRun) (h : IsWritable g s) where
       (writes-then {K = MaybeNoted s.noted} {J = Behind_noted}
       (writes-then {K = AreValues g.variables s.values} {J = Behind_values}
       (writes-then {K = AreStreams 0 s.taken} {J = Behind_streams}
-      (feed_behind (λ rest. refl) (writes-then {K = IsNumber s.events} {J = Behind_events}
+      (feed_after (λ rest. refl) (writes-then {K = IsNumber s.events} {J = Behind_events}
       (writes-then {K = AnyPlace} {J = Takes (IsNumber s.events) Behind_events}
-      (feed_behind (λ rest. refl) (writes-then {K = IsNumber s.clock} {J = Behind_clock}
+      (feed_after (λ rest. refl) (writes-then {K = IsNumber s.clock} {J = Behind_clock}
       (writes-then {K = AnyPlace} {J = Takes (IsNumber s.clock) Behind_clock}
-      (feed_behind (λ rest. refl) (writes-then {K = IsNumber (s.seed % 2 ^ 32)} {J = Behind_seed}
-      (blank_behind (λ rest. refl) (writes-then {K = IsNumber (s.seed / 2 ^ 32)} {J = Takes (IsNumber (s.seed % 2 ^ 32)) Behind_seed}
+      (feed_after (λ rest. refl) (writes-then {K = IsNumber (s.seed % 2 ^ 32)} {J = Behind_seed}
+      (blank_after (λ rest. refl) (writes-then {K = IsNumber (s.seed / 2 ^ 32)} {J = Takes (IsNumber (s.seed % 2 ^ 32)) Behind_seed}
       (writes-then {K = AnyPlace} {J = Takes (IsNumber (s.seed / 2 ^ 32)) (Takes (IsNumber (s.seed % 2 ^ 32)) Behind_seed)}
       (writes-before {F = Any} {G = Behind_word}
       (writes-yields _ (takes (λ seed_at a. takes (λ seed b. takes (λ rest c. takes (λ clock_at d. takes (λ clock e. takes (λ events_at f. takes (λ events k. takes (λ streams l. takes (λ values m. takes (λ noted n. takes (λ pending o. takes (λ end_at p.
       record { seed = b; seed_rest = c; clock = e; events = k; streams = l; values = m; noted = n; pending = o }))))))))))))))
-      (λ rest i. tt) (feed_behind (λ rest. refl) (writes-this_name 115 (codes "napshot") refl refl refl)))
-      (λ rest i. tt) (blank_behind (λ rest. refl) (writes-this_name 115 (codes "eed") refl refl refl)))
+      (λ rest i. tt) (feed_after (λ rest. refl) (writes-this_name 115 (codes "napshot") refl refl refl)))
+      (λ rest i. tt) (blank_after (λ rest. refl) (writes-this_name 115 (codes "eed") refl refl refl)))
       (λ rest i. tt) (writes-number (s.seed / 2 ^ 32) (omega (arith, h.seed)))))
       (λ rest i. tt) (writes-number (s.seed % 2 ^ 32) (omega arith))))
-      (λ rest i. tt) (blank_behind (λ rest. refl) (a_word 99 (codes "lk") words.Clk (is_word refl refl refl) refl)))
+      (λ rest i. tt) (blank_after (λ rest. refl) (a_word 99 (codes "lk") words.Clk (is_word refl refl refl) refl)))
       (λ rest i. tt) (writes-number s.clock h.clock)))
-      (λ rest i. tt) (blank_behind (λ rest. refl) (writes-this_name 101 (codes "vents") refl refl refl)))
+      (λ rest i. tt) (blank_after (λ rest. refl) (writes-this_name 101 (codes "vents") refl refl refl)))
       (λ rest i. tt) (writes-number s.events h.events)))
       (λ rest i. tt) (streams-write 0 s.taken (omega (arith, h.streams)) h.words))
       (λ rest i. tt) (values-write g.variables s.values h.values _))
       (λ rest i. tt) (noted-writes s.noted h.noted _))
       (λ rest i. tt) (rows-write (pending_line g s.clock) entry_cost (IsTellable g s.clock) (PendingIs g s.clock) (pending-writes g s.clock) s.pending h.pending j))
-      (λ rest i. tt) (feed_behind (λ rest. refl) (a_word 101 (codes "nd") words.End (is_word refl refl refl) refl))
+      (λ rest i. tt) (feed_after (λ rest. refl) (a_word 101 (codes "nd") words.End (is_word refl refl refl) refl))

@@ -7,8 +7,8 @@ use Rattle.model_core.specs.declared.static_kind.StaticKind.{StaticKind}
 use Rattle.model_core.specs.declared.static_kind.StaticKind.TheVariants as rules
 use Rattle.model_core.specs.EventGraph.{EventGraph}
 use Rattle.model_core.specs.Text.Written.{WrittenModel}
-use Rattle.model_core.specs.Static.FaultOrder.{StaticFault, rule_row, is_told_before, earliest_fault}
-use Rattle.model_core.specs.Static.ModelFaults.{faults_of_parts, model_faults, Broken, IsTold, told_fault, Accepted}
+use Rattle.model_core.specs.Static.FaultOrder.{StaticFault, rule_row, is_earlier_fault, earliest_fault}
+use Rattle.model_core.specs.Static.ModelFaults.{faults_of_parts, model_faults, Broken, IsFirstFault, first_fault, Accepted}
 use Rattle.model_core.specs.Static.VersionFaults.{version_faults}
 use Rattle.model_core.proofs.EmptyLists.{left_empty}
 use Rattle.static_laws.proofs.ToldFaults.{IsLeast, not_before_place, not_before_row, earliest_is_least, none_told}
@@ -57,7 +57,7 @@ abbrev fault_of : StaticKind → ℕ → StaticFault
 fault_of kind at = record { at = at; kind = kind }
 
 -- two faults are one where neither comes before the other
-one_fault : (f g : StaticFault) → is_told_before g f ≡ false → is_told_before f g ≡ false → f ≡ g
+one_fault : (f g : StaticFault) → is_earlier_fault g f ≡ false → is_earlier_fault f g ≡ false → f ≡ g
 one_fault f g a b = ap (λ kind. fault_of kind f.at) one_kind ∙ ap (fault_of g.kind) one_byte
   where
     one_byte : f.at ≡ g.at
@@ -65,8 +65,8 @@ one_fault f g a b = ap (λ kind. fault_of kind f.at) one_kind ∙ ap (fault_of g
 
     one_kind : f.kind ≡ g.kind
     one_kind = one_place f.kind g.kind (both_ways (rule_row f.kind) (rule_row g.kind)
-        (not_before_row f.at (rule_row f.kind) (rule_row g.kind) (subst (λ at. is_told_before (fault_of g.kind at) f ≡ false) (sym one_byte) a))
-        (not_before_row g.at (rule_row g.kind) (rule_row f.kind) (subst (λ at. is_told_before (fault_of f.kind at) g ≡ false) one_byte b)))
+        (not_before_row f.at (rule_row f.kind) (rule_row g.kind) (subst (λ at. is_earlier_fault (fault_of g.kind at) f ≡ false) (sym one_byte) a))
+        (not_before_row g.at (rule_row g.kind) (rule_row f.kind) (subst (λ at. is_earlier_fault (fault_of f.kind at) g ≡ false) one_byte b)))
 
 -- lists that have the same faults have the same first one
 pub same_told : (fs gs : List StaticFault) → ((f : StaticFault) → Contains fs f → Contains gs f) → ((f : StaticFault) → Contains gs f → Contains fs f) → earliest_fault None fs ≡ earliest_fault None gs
@@ -89,7 +89,7 @@ either_order fs gs = same_told (fs ++ gs) (gs ++ fs) (exchanged fs gs) (exchange
     exchanged xs ys f c = elim (Contains-append_cases xs ys f c) [ inl a ↦ Contains-append_right ys xs f a | inr b ↦ Contains-append_left ys xs f b ]
 
 module _ (m : WrittenModel) where
-  earliest_told : (f : StaticFault) → told_fault m ≡ Some f → IsTold m f.kind f.at
+  earliest_told : (f : StaticFault) → first_fault m ≡ Some f → IsFirstFault m f.kind f.at
   earliest_told f e = record {
     broken = least.among;
     least = λ other place b. not_before_place f.at (rule_row f.kind) place (rule_row other) (least.least (record { at = place; kind = other }) b);
@@ -100,7 +100,7 @@ module _ (m : WrittenModel) where
       least = earliest_is_least (model_faults m) f e
 
   -- no two faults are first
-  one_told : (f g : StaticFault) → IsTold m f.kind f.at → IsTold m g.kind g.at → f ≡ g
+  one_told : (f g : StaticFault) → IsFirstFault m f.kind f.at → IsFirstFault m g.kind g.at → f ≡ g
   one_told f g t u = ap (λ kind. fault_of kind f.at) one_kind ∙ ap (fault_of g.kind) one_byte
     where
       one_byte : f.at ≡ g.at
@@ -114,28 +114,28 @@ module _ (m : WrittenModel) where
   nothing_broken : model_faults m ≡ [] → (kind : StaticKind) (at : ℕ) → ¬ Broken m kind at
   nothing_broken e kind at b = empty_contains (record { at = at; kind = kind }) (subst (λ fs. Contains fs (record { at = at; kind = kind })) e b)
 
-  told_earliest : (f : StaticFault) → IsTold m f.kind f.at → told_fault m ≡ Some f
-  told_earliest f t = by_case (told_fault m) refl
+  told_earliest : (f : StaticFault) → IsFirstFault m f.kind f.at → first_fault m ≡ Some f
+  told_earliest f t = by_case (first_fault m) refl
     where
-      by_case : (o : Option StaticFault) → told_fault m ≡ o → told_fault m ≡ Some f
+      by_case : (o : Option StaticFault) → first_fault m ≡ o → first_fault m ≡ Some f
       by_case None e = absurd (nothing_broken (none_told (model_faults m) e) f.kind f.at t.broken)
       by_case (Some g) e = e ∙ ap Some (one_told g f (earliest_told g e) t)
 
-  pub told_is_told : (f : StaticFault) → told_fault m ≡ Some f ↔ IsTold m f.kind f.at
-  told_is_told f = (earliest_told f, told_earliest f)
+  pub found_is_first_fault : (f : StaticFault) → first_fault m ≡ Some f ↔ IsFirstFault m f.kind f.at
+  found_is_first_fault f = (earliest_told f, told_earliest f)
 
-  not_told : ((g : EventGraph) × Accepted m g) → told_fault m ≡ None
-  not_told (g, a) = by_case (told_fault m) refl
+  not_told : ((g : EventGraph) × Accepted m g) → first_fault m ≡ None
+  not_told (g, a) = by_case (first_fault m) refl
     where
-      by_case : (o : Option StaticFault) → told_fault m ≡ o → told_fault m ≡ None
+      by_case : (o : Option StaticFault) → first_fault m ≡ o → first_fault m ≡ None
       by_case None e = e
       by_case (Some f) e = absurd (a.unbroken f.kind f.at (earliest_told f e).broken)
 
-  accepted_unless_told : told_fault m ≡ None → (g : EventGraph) × Accepted m g
+  accepted_unless_told : first_fault m ≡ None → (g : EventGraph) × Accepted m g
   accepted_unless_told e =
       let nothing = none_told (model_faults m) e in
       let (g, numbers, keeps, by_kind) = parts_kept m (left_empty (faults_of_parts m) (version_faults m) (none_of_parts m _ (faults_of_parts m ++ version_faults m) nothing)) in
       (g, record { unbroken = nothing_broken nothing; numbers = numbers })
 
-  pub accepted_or_told : told_fault m ≡ None ↔ ((g : EventGraph) × Accepted m g)
-  accepted_or_told = (accepted_unless_told, not_told)
+  pub accepted_or_first_fault : first_fault m ≡ None ↔ ((g : EventGraph) × Accepted m g)
+  accepted_or_first_fault = (accepted_unless_told, not_told)

@@ -11,12 +11,12 @@ use Rattle.model_core.specs.Text.Numbering.{each_numbered, written_or, declared_
 use Rattle.model_core.specs.Static.FaultOrder.{StaticFault, earliest_fault}
 use Rattle.model_core.specs.Static.RuleTable.{model_too_long}
 use Rattle.model_core.specs.Static.PartFaults.{written_items, variable_faults, table_faults, vertex_faults}
-use Rattle.model_core.specs.Static.ModelFaults.{model_meaning, model_takes, watch_faults, faults_of_parts, or_too_long, model_faults, told_fault, Accepted}
+use Rattle.model_core.specs.Static.ModelFaults.{model_meaning, model_takes, watch_faults, faults_of_parts, or_too_long, model_faults, first_fault, Accepted}
 use Rattle.model_core.specs.Static.VersionFaults.{version_faults}
 use Rattle.model_core.proofs.EmptyLists.{left_empty}
 use Rattle.static_laws.proofs.NamedPlaces.{placed_as}
 use Rattle.static_laws.proofs.ToldFaults.{none_told}
-use Rattle.static_laws.proofs.OneFaultTold.{either_order, accepted_or_told}
+use Rattle.static_laws.proofs.OneFaultTold.{either_order, accepted_or_first_fault}
 use Rattle.static_laws.specs.Checked.{Checked, CheckedPart, CheckedPlain}
 use Rattle.static_laws.specs.DeclaredFaults.{faults_of_declared}
 use Rattle.static_laws.proofs.LeftOut.{each_numbered-items}
@@ -53,7 +53,7 @@ module _ (m : WrittenModel) where
 
   -- with the fault of the length where there is no other, the first fault is that of the model
   pub all_told : (g : EventGraph) (t1 t2 : Option StaticFault) → Checked None t1 (faults_of_parts m ++ version_faults m) (numbered m ≡ Some g)
-      → (t1 ≡ None → t2 ≡ earliest_fault None (model_too_long TEXT_MAX (canonical g) m.end_at)) → ((f : StaticFault) → t1 ≡ Some f → t2 ≡ t1) → t2 ≡ told_fault m
+      → (t1 ≡ None → t2 ≡ earliest_fault None (model_too_long TEXT_MAX (canonical g) m.end_at)) → ((f : StaticFault) → t1 ≡ Some f → t2 ≡ t1) → t2 ≡ first_fault m
   all_told g None t2 c none some =
       let nothing = none_told (faults_of_parts m ++ version_faults m) (sym c.told) in
       none refl ∙ ap (earliest_fault None) (sym (long_told g (c.unbroken nothing) (faults_of_parts m ++ version_faults m) nothing))
@@ -64,8 +64,8 @@ module _ (m : WrittenModel) where
   parts_unbroken [] e = refl
   parts_unbroken (f ∷ fs) e = cc
 
-  pub is_accepted : (g : EventGraph) → (faults_of_parts m ≡ [] → numbered m ≡ Some g) → told_fault m ≡ None → Accepted m g
+  pub is_accepted : (g : EventGraph) → (faults_of_parts m ≡ [] → numbered m ≡ Some g) → first_fault m ≡ None → Accepted m g
   is_accepted g numbers none =
-      let (h, accepted) = (accepted_or_told m).0 none in
+      let (h, accepted) = (accepted_or_first_fault m).0 none in
       let is : numbered m ≡ Some g = numbers (left_empty (faults_of_parts m) (version_faults m) (parts_unbroken (faults_of_parts m ++ version_faults m) (none_told (model_faults m) none))) in
       record { unbroken = accepted.unbroken; numbers = is }

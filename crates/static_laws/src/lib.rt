@@ -4,4 +4,4 @@
 
 mod static_law;
 
-pub use static_law::{accepted_models_keep_their_rules, one_fault_is_told};
+pub use static_law::{accepted_models_keep_their_rules, accepted_or_one_fault};

@@ -7,14 +7,14 @@ ghost use Rattle.model_core.specs.Static.WrittenByKind.{VariablesByKind};
 ghost use Rattle.model_core.specs.EventGraph.{EventGraph};
 ghost use Rattle.model_core.specs.Text.Written.{WrittenModel};
 ghost use Rattle.model_core.specs.Static.FaultOrder.{StaticFault};
-ghost use Rattle.model_core.specs.Static.ModelFaults.{IsTold, told_fault, Accepted};
+ghost use Rattle.model_core.specs.Static.ModelFaults.{IsFirstFault, first_fault, Accepted};
 ghost use Rattle.static_laws.specs.FitsVersion.{FitsVersion};
 
 /// A written model is accepted as a model, or it has exactly one first static fault: of those with the least
 /// place the first of the table.
-pub fn one_fault_is_told()
-    ensures told { (m : WrittenModel) (f : StaticFault) → told_fault m ≡ Some f ↔ IsTold m f.kind f.at }
-    ensures accepted { (m : WrittenModel) → told_fault m ≡ None ↔ ((g : EventGraph) × Accepted m g) }
+pub fn accepted_or_one_fault()
+    ensures told { (m : WrittenModel) (f : StaticFault) → first_fault m ≡ Some f ↔ IsFirstFault m f.kind f.at }
+    ensures accepted { (m : WrittenModel) → first_fault m ≡ None ↔ ((g : EventGraph) × Accepted m g) }
 {}
 
 /// A written model is accepted as a model exactly where that is the model with numbers in place of its names, it keeps

@@ -14,8 +14,8 @@ use Rattle.tally_report.specs.declared.item.Item.{Item}
 use Rattle.tally_report.specs.declared.item.Item.TheVariants as items
 use Rattle.tally_report.specs.declared.sums.Sum.{Sum}
 use Rattle.tally_report.specs.CellCourse.{widened, value_noted, course, span_from, area_from}
-use Rattle.tally_report.specs.Tallying.{ItemOf, CellAt, VertexAt, items_at, items_reported_from, items_reported, occurrences, item_told, last_time}
-use Rattle.tally_report.specs.Inner.Sums.{held_until, occurred_once, sum_at, sum_on, Tallied, behind_note, behind_notes, cell_sum, vertex_sum, sums_at, sums_from}
+use Rattle.tally_report.specs.Tallying.{ItemOf, CellAt, VertexAt, items_at, items_reported_from, items_reported, occurrences, item_of_notes, last_time}
+use Rattle.tally_report.specs.Inner.Sums.{held_until, occurred_once, sum_at, sum_on, Tallied, after_note, after_notes, cell_sum, vertex_sum, sums_at, sums_from}
 use Rattle.tally_report.proofs.RisingNotes.{RisesTo}
 
 -- ---- each sum goes its own way
@@ -32,26 +32,26 @@ sum_behind g [] since s = s
 sum_behind g (At time values ∷ notes) since s = sum_behind g notes (max since time) (sum_at g values since (max since time) s)
 sum_behind g (On time place values ∷ notes) since s = sum_behind g notes since (sum_on place s)
 
-sums-behind : (g : EventGraph) (notes : List Note) (t : Tallied) → (behind_notes g notes t).sums ≡ map (sum_behind g notes t.since) t.sums
+sums-behind : (g : EventGraph) (notes : List Note) (t : Tallied) → (after_notes g notes t).sums ≡ map (sum_behind g notes t.since) t.sums
 sums-behind g [] t = sym (map-same t.sums)
   where
     map-same : (xs : List Sum) → map (λ s. s) xs ≡ xs
     map-same [] = refl
     map-same (x ∷ xs) = ap (λ ys. x ∷ ys) (map-same xs)
 sums-behind g (At time values ∷ notes) t =
-    sums-behind g notes (behind_note g (At time values) t) ∙ map-map (sum_behind g notes (max t.since time)) (sum_at g values t.since (max t.since time)) t.sums
+    sums-behind g notes (after_note g (At time values) t) ∙ map-map (sum_behind g notes (max t.since time)) (sum_at g values t.since (max t.since time)) t.sums
 sums-behind g (On time place values ∷ notes) t =
-    sums-behind g notes (behind_note g (On time place values) t) ∙ map-map (sum_behind g notes t.since) (sum_on place) t.sums
+    sums-behind g notes (after_note g (On time place values) t) ∙ map-map (sum_behind g notes t.since) (sum_on place) t.sums
 
-pub since-behind : (g : EventGraph) (notes : List Note) (t : Tallied) → (behind_notes g notes t).since ≡ latest_at notes t.since
+pub since-behind : (g : EventGraph) (notes : List Note) (t : Tallied) → (after_notes g notes t).since ≡ latest_at notes t.since
 since-behind g [] t = refl
-since-behind g (At time values ∷ notes) t = since-behind g notes (behind_note g (At time values) t)
-since-behind g (On time place values ∷ notes) t = since-behind g notes (behind_note g (On time place values) t)
+since-behind g (At time values ∷ notes) t = since-behind g notes (after_note g (At time values) t)
+since-behind g (On time place values ∷ notes) t = since-behind g notes (after_note g (On time place values) t)
 
-pub latest-behind : (g : EventGraph) (notes : List Note) (t : Tallied) → (behind_notes g notes t).latest ≡ last_time t.latest notes
+pub latest-behind : (g : EventGraph) (notes : List Note) (t : Tallied) → (after_notes g notes t).latest ≡ last_time t.latest notes
 latest-behind g [] t = refl
-latest-behind g (At time values ∷ notes) t = latest-behind g notes (behind_note g (At time values) t)
-latest-behind g (On time place values ∷ notes) t = latest-behind g notes (behind_note g (On time place values) t)
+latest-behind g (At time values ∷ notes) t = latest-behind g notes (after_note g (At time values) t)
+latest-behind g (On time place values ∷ notes) t = latest-behind g notes (after_note g (On time place values) t)
 
 -- the latest `at` note comes no later than all notes
 pub latest_at-by : (notes : List Note) (since from to : ℕ) → since ≤ from → RisesTo from notes to → latest_at notes since ≤ to
@@ -93,7 +93,7 @@ module _ (g : EventGraph) (place index end : ℕ) where
   cell-told (On time at values ∷ notes) since from to span area le (first, later) =
       ap (come_to g notes since end) (counted-or-not place index (Some span) area (place == at)) ∙ cell-told notes since time to span area (le_trans le first) later
 
-  pub empty-told : (notes : List Note) (since from to : ℕ) → since ≤ from → RisesTo from notes to → come_to g notes since end empty ≡ item_told g notes end (CellAt place index)
+  pub empty-told : (notes : List Note) (since from to : ℕ) → since ≤ from → RisesTo from notes to → come_to g notes since end empty ≡ item_of_notes g notes end (CellAt place index)
   empty-told [] since from to le rises = refl
   empty-told (At time values ∷ notes) since from to le (first, later) =
       let now : max since time ≡ time = omega (arith, le, first) in
@@ -147,12 +147,12 @@ abbrev pub first_tallied : EventGraph → Tallied
 first_tallied g = record { sums = sums_from g 0 g.watch; since = 0; latest = 0 }
 
 module _ (g : EventGraph) (notes : List Note) (to end : ℕ) (rises : RisesTo 0 notes to) (few : length notes < 2 ^ 64) where
-  item-comes : (item : ItemOf) → come_to g notes 0 end (first_sum item) ≡ item_told g notes end item
+  item-comes : (item : ItemOf) → come_to g notes 0 end (first_sum item) ≡ item_of_notes g notes end item
   item-comes (CellAt place index) = empty-told g place index end notes 0 0 to (omega arith) rises
   item-comes (VertexAt place) = count-told g place end notes 0 0 (omega (arith, few)) ∙ ap items.Count (omega arith)
 
-  pub items_told : (t : Tallied) → t ≡ behind_notes g notes (first_tallied g)
-      → map (λ (s : Sum). held_until t.since (max t.since end) s.item) t.sums ≡ map (item_told g notes end) (items_reported g)
+  pub items_told : (t : Tallied) → t ≡ after_notes g notes (first_tallied g)
+      → map (λ (s : Sum). held_until t.since (max t.since end) s.item) t.sums ≡ map (item_of_notes g notes end) (items_reported g)
   items_told t is =
       let sums : t.sums ≡ map (sum_behind g notes 0) (map first_sum (items_reported g)) =
       ap (λ (t : Tallied). t.sums) is ∙ sums-behind g notes (first_tallied g) ∙ ap (map (sum_behind g notes 0)) (first-from g 0 g.watch) in
@@ -160,4 +160,4 @@ module _ (g : EventGraph) (notes : List Note) (to end : ℕ) (rises : RisesTo 0 
       ap₂ (λ (n : ℕ) (xs : List Sum). map (λ (s : Sum). held_until n (max n end) s.item) xs) since sums
       ∙ map-map (λ (s : Sum). held_until (latest_at notes 0) (max (latest_at notes 0) end) s.item) (sum_behind g notes 0) (map first_sum (items_reported g))
       ∙ map-map (come_to g notes 0 end) first_sum (items_reported g)
-      ∙ map_alike (λ item. come_to g notes 0 end (first_sum item)) (item_told g notes end) item-comes (items_reported g)
+      ∙ map_alike (λ item. come_to g notes 0 end (first_sum item)) (item_of_notes g notes end) item-comes (items_reported g)

@@ -5,10 +5,10 @@ use Rattle.std.specs.Prelude.{option_map, option_to_list, position}
 use lib.Pointwise.{pointwise}
 use Rattle.model_core.specs.EventGraph.{EventGraph}
 use Rattle.model_core.specs.Run.Value.{OrFault}
-use Rattle.model_core.specs.Run.Pending.{TakenOff, next_entry, same_values}
+use Rattle.model_core.specs.Run.Pending.{EntryAndRest, next_entry, same_values}
 use Rattle.model_core.specs.Run.Step.{Configuration, Fault, faulted_at, vertex_at, occur, step}
-use Rattle.model_core.specs.Run.Machine.{Note, At, On, Standing, Ended, Stopped, Faulted, Look, Move, Rests, Fails, Goes, before, after, look_of}
-use Rattle.model_core.specs.Run.History.{Moment, watched_values, watches, at_note, leave, leave_for, completed, stepped, comes, next_move, look_from}
+use Rattle.model_core.specs.Run.Machine.{Note, At, On, RunStatus, Ended, Stopped, Faulted, Look, Move, Rests, Fails, Goes, before, after, look_of}
+use Rattle.model_core.specs.Run.History.{Moment, watched_values, watches, at_note, leave, noting_before_event, completed, stepped, comes, next_move, look_from}
 use Rattle.run_laws.proofs.MappedPending.{next_among-every}
 use Rattle.run_laws.proofs.OnTime.{NoneEarlier, step-on_time}
 use Rattle.tally_report.specs.Tallying.{note_time, last_time}
@@ -27,7 +27,7 @@ rises-append a b to [] more le rises = rises-sooner a b to more le rises
 rises-append a b to (note ∷ notes) more (first, later) rises = (first, rises-append (note_time note) b to notes more later rises)
 
 -- the end of a run is by the stop time
-abbrev pub EndsBy : ℕ → Standing → Type 0
+abbrev pub EndsBy : ℕ → RunStatus → Type 0
 EndsBy until (Ended time) = time ≤ until
 EndsBy until (Faulted time kind) = time ≤ until
 EndsBy until other = Unit
@@ -75,18 +75,18 @@ time-of-fault t (Err kind) f e =
     ap (λ (f : Fault). f.time) (sym same)
 
 module _ (g : EventGraph) (seed until : ℕ) (m : Moment) (by : m.now.clock ≤ until) (none : NoneEarlier m.now.clock m.now.pending) where
-  module _ (n : TakenOff) (at_next : next_entry m.now.pending ≡ Some n) (due : n.entry.time ≤ until) where
+  module _ (n : EntryAndRest) (at_next : next_entry m.now.pending ≡ Some n) (due : n.entry.time ≤ until) where
     not_past : m.now.clock ≤ n.entry.time
     not_past = (next_among-every (λ x. m.now.clock ≤ x.time) (λ x. true) m.now.pending none n at_next).0
 
-    stepped-fine : (r : Result Configuration Fault) → step g seed m.now n ≡ r → Fine m.now.clock until (stepped g n.entry.vertex (leave_for g m n.entry.time) r)
+    stepped-fine : (r : Result Configuration Fault) → step g seed m.now n ≡ r → Fine m.now.clock until (stepped g n.entry.vertex (noting_before_event g m n.entry.time) r)
     stepped-fine (Ok c) e =
         let (time, later) = step-on_time g seed m.now c n at_next e in
-        let left : Rise 1 m.now.clock (leave_for g m n.entry.time).notes c.clock = left-for-rises g m c.clock (omega (arith, time, not_past)) (nat_lt m.now.clock n.entry.time) in
+        let left : Rise 1 m.now.clock (noting_before_event g m n.entry.time).notes c.clock = left-for-rises g m c.clock (omega (arith, time, not_past)) (nat_lt m.now.clock n.entry.time) in
         let done = completed-rises g n.entry.vertex c in
-        let few : length ((leave_for g m n.entry.time).notes ++ completed g n.entry.vertex c) ≤ 2 =
-        omega (arith, left.few, done.few, length-append (leave_for g m n.entry.time).notes (completed g n.entry.vertex c)) in (
-          record { rises = rises-append m.now.clock c.clock c.clock (leave_for g m n.entry.time).notes (completed g n.entry.vertex c) left.rises done.rises; few = few },
+        let few : length ((noting_before_event g m n.entry.time).notes ++ completed g n.entry.vertex c) ≤ 2 =
+        omega (arith, left.few, done.few, length-append (noting_before_event g m n.entry.time).notes (completed g n.entry.vertex c)) in (
+          record { rises = rises-append m.now.clock c.clock c.clock (noting_before_event g m n.entry.time).notes (completed g n.entry.vertex c) left.rises done.rises; few = few },
           omega (arith, time, due),
           later,
         )
@@ -94,12 +94,12 @@ module _ (g : EventGraph) (seed until : ℕ) (m : Moment) (by : m.now.clock ≤ 
         let time = time-of-fault n.entry.time (occur g seed (vertex_at g n.entry.vertex) n m.now.state m.now.taken) f e in
         (left-for-rises g m until by (nat_lt m.now.clock n.entry.time), omega (arith, time, due))
 
-  due-fine : (n : TakenOff) → next_entry m.now.pending ≡ Some n → (b : Bool) → nat_lt until n.entry.time ≡ b
-      → Fine m.now.clock until (cond b (Rests (leave g m).notes Stopped) (stepped g n.entry.vertex (leave_for g m n.entry.time) (step g seed m.now n)))
+  due-fine : (n : EntryAndRest) → next_entry m.now.pending ≡ Some n → (b : Bool) → nat_lt until n.entry.time ≡ b
+      → Fine m.now.clock until (cond b (Rests (leave g m).notes Stopped) (stepped g n.entry.vertex (noting_before_event g m n.entry.time) (step g seed m.now n)))
   due-fine n at_next true is = (left-rises g m until by, tt)
   due-fine n at_next false is = stepped-fine n at_next (grind (arith, nat_tests)) (step g seed m.now n) refl
 
-  comes-fine : (o : Option TakenOff) → next_entry m.now.pending ≡ o → Fine m.now.clock until (comes g seed until m o)
+  comes-fine : (o : Option EntryAndRest) → next_entry m.now.pending ≡ o → Fine m.now.clock until (comes g seed until m o)
   comes-fine None is = (left-rises g m until by, by)
   comes-fine (Some n) is = due-fine n is (nat_lt until n.entry.time) refl
 

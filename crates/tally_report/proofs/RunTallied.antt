@@ -11,36 +11,36 @@ use Rattle.run_laws.proofs.OnTime.{starts-on_time}
 use Rattle.run_control.specs.Beginning.{BegunRun}
 use Rattle.run_control.specs.Running.{Running}
 use Rattle.watch_trace.specs.Tracing.{Tracing, moment_of}
-use Rattle.model_core.specs.Run.Machine.{Note, At, On, Standing, Ended, Stopped, Faulted, Going, Look}
+use Rattle.model_core.specs.Run.Machine.{Note, At, On, RunStatus, Ended, Stopped, Faulted, Going, Look}
 use Rattle.watch_trace.specs.declared.outcome.Outcome.{Outcome}
 use Rattle.watch_trace.specs.declared.outcome.Outcome.TheVariants as outcomes
-use Rattle.watch_trace.specs.Following.{outcome_of, seen_from, Completes}
-use Rattle.tally_report.specs.Tallying.{ItemOf, CellAt, VertexAt, items_reported, item_told, occurrences, run_end, end_time, last_time, tally_of}
+use Rattle.watch_trace.specs.Following.{outcome_of, run_look, Completes}
+use Rattle.tally_report.specs.Tallying.{ItemOf, CellAt, VertexAt, items_reported, item_of_notes, occurrences, run_end, end_time, last_time, tally_of}
 use Rattle.tally_report.specs.declared.item.Item.{Item}
 use Rattle.tally_report.specs.declared.item.Item.TheVariants as items
 use Rattle.tally_report.specs.SmallAreas.{IsOfRuns}
 use Rattle.tally_report.specs.Inner.Sums.{IsSmall}
 use Rattle.tally_report.specs.declared.run_tally.RunEnd.{RunEnd}
 use Rattle.tally_report.specs.Inner.RunEnds.{end_reached, time_reached}
-use Rattle.tally_report.specs.Inner.Sums.{Tallied, behind_notes, tally_told}
+use Rattle.tally_report.specs.Inner.Sums.{Tallied, after_notes, tally_of_sums}
 use Rattle.tally_report.proofs.AreaBounds.{area-longer}
 use Rattle.tally_report.proofs.RisingNotes.{fine_look, FineLook, RisesTo, EndsBy, note_by}
 use Rattle.tally_report.proofs.ItemsTold.{first_tallied, items_told, latest-behind, since-behind, latest_at, latest_at-by}
 
-end-is : (end : Standing) → end_reached (outcome_of end) ≡ run_end end
+end-is : (end : RunStatus) → end_reached (outcome_of end) ≡ run_end end
 end-is (Ended time) = refl
 end-is Stopped = refl
 end-is (Faulted time kind) = refl
 end-is Going = refl
 
-time-is : (until : ℕ) (notes : List Note) (end : Standing) → time_reached (outcome_of end) until (last_time 0 notes) ≡ end_time until notes end
+time-is : (until : ℕ) (notes : List Note) (end : RunStatus) → time_reached (outcome_of end) until (last_time 0 notes) ≡ end_time until notes end
 time-is until notes (Ended time) = refl
 time-is until notes Stopped = refl
 time-is until notes (Faulted time kind) = refl
 time-is until notes Going = refl
 
 -- a run ends by its stop time
-ends-by : (until : ℕ) (notes : List Note) (end : Standing) → RisesTo 0 notes until → EndsBy until end → end_time until notes end ≤ until
+ends-by : (until : ℕ) (notes : List Note) (end : RunStatus) → RisesTo 0 notes until → EndsBy until end → end_time until notes end ≤ until
 ends-by until notes (Ended time) rises by = by
 ends-by until notes Stopped rises by = omega arith
 ends-by until notes (Faulted time kind) rises by = by
@@ -69,29 +69,29 @@ occurrences-few place (On time at values ∷ notes) = one (place == at) (occurre
     one true m n few = omega (arith, few)
     one false m n few = omega (arith, few)
 
-few-occurrences : (g : EventGraph) (notes : List Note) (end : ℕ) (item : ItemOf) → length notes ≤ 2 ^ 42 → FewCounted (item_told g notes end item)
+few-occurrences : (g : EventGraph) (notes : List Note) (end : ℕ) (item : ItemOf) → length notes ≤ 2 ^ 42 → FewCounted (item_of_notes g notes end item)
 few-occurrences g notes end (CellAt place index) few = tt
 few-occurrences g notes end (VertexAt place) few = let no_more = occurrences-few place notes in omega (arith, few, no_more)
 
-module _ (g : EventGraph) (until events : ℕ) (seen : Look) (fine : FineLook 0 until events seen) (bounded : events ≤ 2 ^ 40) (t : Tallied) (is : t ≡ behind_notes g seen.history (first_tallied g)) (outcome : Outcome) (stands : outcome ≡ outcome_of seen.standing) where
+module _ (g : EventGraph) (until events : ℕ) (seen : Look) (fine : FineLook 0 until events seen) (bounded : events ≤ 2 ^ 40) (t : Tallied) (is : t ≡ after_notes g seen.history (first_tallied g)) (outcome : Outcome) (stands : outcome ≡ outcome_of seen.standing) where
   latest : t.latest ≡ last_time 0 seen.history
   latest = ap (λ (t : Tallied). t.latest) is ∙ latest-behind g seen.history (first_tallied g)
 
   time : time_reached outcome until t.latest ≡ end_time until seen.history seen.standing
   time = ap₂ (λ o n. time_reached o until n) stands latest ∙ time-is until seen.history seen.standing
 
-  pub tallied : tally_told (end_reached outcome) (time_reached outcome until t.latest) t ≡ tally_of g until seen
+  pub tallied : tally_of_sums (end_reached outcome) (time_reached outcome until t.latest) t ≡ tally_of g until seen
   tallied =
       let end : end_reached outcome ≡ run_end seen.standing = ap end_reached stands ∙ end-is seen.standing in
       let few : length seen.history < 2 ^ 64 = omega (arith, fine.few, bounded) in
-      ap₂ (λ (e : RunEnd) (n : ℕ). tally_told e n t) end time
+      ap₂ (λ (e : RunEnd) (n : ℕ). tally_of_sums e n t) end time
       ∙ ap (λ items. record { end = run_end seen.standing; time = end_time until seen.history seen.standing; items = items })
       (items_told g seen.history until (end_time until seen.history seen.standing) fine.rises few t is)
 
   -- few events are counted
   pub few_counted : All FewCounted (tally_of g until seen).items
   few_counted =
-      All-map FewCounted (item_told g seen.history (end_time until seen.history seen.standing)) (items_reported g)
+      All-map FewCounted (item_of_notes g seen.history (end_time until seen.history seen.standing)) (items_reported g)
       (λ k d within. few-occurrences g seen.history (end_time until seen.history seen.standing) (slice_index_or (items_reported g) k d) (omega (arith, fine.few, bounded)))
 
   -- the last time of all is no later than the stop time
@@ -106,8 +106,8 @@ module _ (g : EventGraph) (until events : ℕ) (seen : Look) (fine : FineLook 0 
 pub tallied_from_beginning : (m : Model) (starts : List ℤ) (room until events : ℕ) (r : Running) (t : Tracing) (w u : Tallied) (outcome : Outcome) (notes rest : List Note)
     → BegunRun m r.seed starts room r → t.noted ≡ None → w ≡ first_tallied (graph_of m) → events ≤ 2 ^ 40
     → (outcome ≡ outcomes.WriteFault → ⊥) → (outcome ≡ outcomes.NoMemory → ⊥)
-    → notes ++ rest ≡ (seen_from until events r t).history → Completes (seen_from until events r t) rest outcome → u ≡ behind_notes (graph_of r.model) notes w
-    → (tally_told (end_reached outcome) (time_reached outcome until u.latest) u ≡ tally_of (graph_of m) until (look_from (graph_of m) r.seed until events (record { now = r.now; noted = None })))
+    → notes ++ rest ≡ (run_look until events r t).history → Completes (run_look until events r t) rest outcome → u ≡ after_notes (graph_of r.model) notes w
+    → (tally_of_sums (end_reached outcome) (time_reached outcome until u.latest) u ≡ tally_of (graph_of m) until (look_from (graph_of m) r.seed until events (record { now = r.now; noted = None })))
     × (max u.since (time_reached outcome until u.latest) ≤ until)
     × All FewCounted (tally_of (graph_of m) until (look_from (graph_of m) r.seed until events (record { now = r.now; noted = None }))).items
 tallied_from_beginning m starts room until events r t w u outcome notes rest begun noted fresh bounded well roomy splits completes taken =
@@ -115,11 +115,11 @@ tallied_from_beginning m starts room until events r t w u outcome notes rest beg
     let moment : Configuration → Option (List (List ℤ)) → Moment = λ c n. record { now = c; noted = n } in
     let begins : moment_of r t ≡ start g starts = ap₂ moment begun.now noted in
     let begins-too : moment r.now None ≡ start g starts = ap (λ c. moment c None) begun.now in
-    let same : seen_from until events r t ≡ look g r.seed starts until events = ap₂ (λ (n : Model) (b : Moment). look_from (graph_of n) r.seed until events b) begun.model begins in
-    let (stands, none) = completed-so (seen_from until events r t) outcome rest well roomy completes in
+    let same : run_look until events r t ≡ look g r.seed starts until events = ap₂ (λ (n : Model) (b : Moment). look_from (graph_of n) r.seed until events b) begun.model begins in
+    let (stands, none) = completed-so (run_look until events r t) outcome rest well roomy completes in
     let whole : notes ≡ (look g r.seed starts until events).history = sym (append-nil notes) ∙ ap (λ (x : List Note). notes ++ x) (sym none) ∙ splits ∙ ap (λ (l : Look). l.history) same in
-    let all : u ≡ behind_notes g (look g r.seed starts until events).history (first_tallied g) =
-    taken ∙ ap₂ (λ (n : Model) (x : List Note). behind_notes (graph_of n) x w) begun.model whole ∙ ap (behind_notes g (look g r.seed starts until events).history) fresh in
+    let all : u ≡ after_notes g (look g r.seed starts until events).history (first_tallied g) =
+    taken ∙ ap₂ (λ (n : Model) (x : List Note). after_notes (graph_of n) x w) begun.model whole ∙ ap (after_notes g (look g r.seed starts until events).history) fresh in
     let fine : FineLook 0 until events (look g r.seed starts until events) = fine_look g r.seed until events (start g starts) (omega arith) (starts-on_time g starts) in
     let is : outcome ≡ outcome_of (look g r.seed starts until events).standing = stands ∙ ap (λ (l : Look). outcome_of l.standing) same in (
       tallied g until events (look g r.seed starts until events) fine bounded u all outcome is ∙ ap (λ (b : Moment). tally_of g until (look_from g r.seed until events b)) (sym begins-too),

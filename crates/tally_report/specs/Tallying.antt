@@ -2,7 +2,7 @@
 use Rattle.std.specs.Prelude.{ℕ, suc, ◌+◌, cond, ◌==◌, List, [], ◌∷◌, ◌++◌, map}
 use Rattle.std.specs.List.{range_with_len}
 use Rattle.model_core.specs.EventGraph.{EventGraph, Watched, WatchedVariable, WatchedVertex}
-use Rattle.model_core.specs.Run.Machine.{Note, At, On, Standing, Ended, Stopped, Faulted, Going, Look}
+use Rattle.model_core.specs.Run.Machine.{Note, At, On, RunStatus, Ended, Stopped, Faulted, Going, Look}
 use Rattle.model_core.specs.Saved.Cells.{cells_declared}
 use Rattle.tally_report.specs.declared.item.Item.{Item}
 use Rattle.tally_report.specs.declared.item.Item.TheVariants as items
@@ -37,9 +37,9 @@ occurrences place (At time values ∷ notes) = occurrences place notes
 occurrences place (On time at values ∷ notes) = cond (place == at) 1 0 + occurrences place notes
 
 -- the item of a subject
-abbrev pub item_told : EventGraph → List Note → ℕ → ItemOf → Item
-item_told g notes end (CellAt place index) = items.Cell (span_of (course g place index notes)) (area_of (course g place index notes) end)
-item_told g notes end (VertexAt place) = items.Count (occurrences place notes)
+abbrev pub item_of_notes : EventGraph → List Note → ℕ → ItemOf → Item
+item_of_notes g notes end (CellAt place index) = items.Cell (span_of (course g place index notes)) (area_of (course g place index notes) end)
+item_of_notes g notes end (VertexAt place) = items.Count (occurrences place notes)
 
 abbrev pub note_time : Note → ℕ
 note_time (At time values) = time
@@ -50,14 +50,14 @@ abbrev pub last_time : ℕ → List Note → ℕ
 last_time time [] = time
 last_time time (note ∷ notes) = last_time (note_time note) notes
 
-abbrev pub run_end : Standing → RunEnd
+abbrev pub run_end : RunStatus → RunEnd
 run_end (Ended time) = ends.Ended
 run_end Stopped = ends.Stopped
 run_end (Faulted time kind) = ends.Fault
 run_end Going = ends.Budget
 
 -- the time at which a run with this stop time ends: where it goes on, that of its last note
-abbrev pub end_time : ℕ → List Note → Standing → ℕ
+abbrev pub end_time : ℕ → List Note → RunStatus → ℕ
 end_time until notes (Ended time) = time
 end_time until notes Stopped = until
 end_time until notes (Faulted time kind) = time
@@ -66,4 +66,4 @@ end_time until notes Going = last_time 0 notes
 abbrev pub tally_of : EventGraph → ℕ → Look → RunTally
 tally_of g until seen =
     let time = end_time until seen.history seen.standing in
-    record { end = run_end seen.standing; time = time; items = map (item_told g seen.history time) (items_reported g) }
+    record { end = run_end seen.standing; time = time; items = map (item_of_notes g seen.history time) (items_reported g) }

@@ -3,7 +3,7 @@
 ghost use Rattle.std.specs.Prelude.{◌≡◌, max, All, map, IfOk};
 ghost use Rattle.model_core.specs.Code.Views.{graph_of, watched_of};
 ghost use Rattle.tally_report.specs.Inner.Sums.{IsSmall};
-ghost use Rattle.tally_report.specs.Inner.Sums.{held_until, sums_from, tally_told};
+ghost use Rattle.tally_report.specs.Inner.Sums.{held_until, sums_from, tally_of_sums};
 
 use crate::run_tally::{RunEnd, RunTally};
 use crate::sums::{Sum, count_at, first_sums, items_until, take_values};
@@ -55,7 +55,7 @@ impl TallyTaker {
 
     /// The tally of a run that came to this end at this time.
     pub fn tally(&self, alloc: Global, end: RunEnd, time: u64) -> Result<RunTally, NoMemory>
-        ensures told { IfOk result (λ run. run ≡ tally_told end time self.now) }
+        ensures told { IfOk result (λ run. run ≡ tally_of_sums end time self.now) }
         ensures small { IfOk result (λ run. All (IsSmall (max self.now.since time)) run.items) }
     {
         let upto = self.since.max(time);
@@ -70,10 +70,10 @@ impl TallyTaker {
 
 impl NoteTaker<()> for TallyTaker {
     ghost use Rattle.std.specs.Prelude.{◌≡◌, false, refl};
-    ghost use Rattle.tally_report.specs.Inner.Sums.{behind_notes};
-    ghost use Rattle.tally_report.specs.Inner.NotesInTurn.{behind_both};
+    ghost use Rattle.tally_report.specs.Inner.Sums.{after_notes};
+    ghost use Rattle.tally_report.specs.Inner.NotesInTurn.{after_both};
 
-    ghost takes = { λ g notes s u. u.0 ≡ behind_notes g notes s.0 };
+    ghost takes = { λ g notes s u. u.0 ≡ after_notes g notes s.0 };
 
     ghost failed = { λ t. false };
 
@@ -95,5 +95,5 @@ impl NoteTaker<()> for TallyTaker {
 
     ghost nothing = { λ g s. refl };
 
-    ghost both = { λ g s t u a b p q. behind_both g a b s.0 t.0 u.0 p q };
+    ghost both = { λ g s t u a b p q. after_both g a b s.0 t.0 u.0 p q };
 }

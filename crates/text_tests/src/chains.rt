@@ -104,7 +104,7 @@ fn a_chain_to_another_model_differs(rt: HostRuntime) -> Result<(), Fail> {
 }
 
 /// The verdict on this application after one that is right.
-fn behind_a_prune(alloc: Global, last: Result<Application, NoMemory>) -> Result<Verdict, NoMemory> {
+fn after_a_prune(alloc: Global, last: Result<Application, NoMemory>) -> Result<Verdict, NoMemory> {
     let last = last?;
     let mut applications = List::of_one(alloc, prune(alloc, b"RUN", 1)?)?;
     applications.push(last)?;
@@ -116,12 +116,12 @@ const SECOND: Result<Verdict, NoMemory> = Ok(Verdict::Rejected { line: 2 });
 #[test]
 fn names_and_numbers_that_name_nothing_are_rejected(rt: HostRuntime) {
     let alloc = rt.alloc();
-    assert_eq!(rt; behind_a_prune(alloc, prune(alloc, b"RUN", 0)), SECOND);
-    assert_eq!(rt; behind_a_prune(alloc, prune(alloc, b"RUN", 2)), SECOND);
-    assert_eq!(rt; behind_a_prune(alloc, settle(alloc, b"X", 1)), SECOND);
-    assert_eq!(rt; behind_a_prune(alloc, drop_one(alloc, b"D")), SECOND);
-    assert_eq!(rt; behind_a_prune(alloc, merge(alloc, b"D", b"C")), SECOND);
-    assert_eq!(rt; behind_a_prune(alloc, slice_one(alloc, b"A")), SECOND);
+    assert_eq!(rt; after_a_prune(alloc, prune(alloc, b"RUN", 0)), SECOND);
+    assert_eq!(rt; after_a_prune(alloc, prune(alloc, b"RUN", 2)), SECOND);
+    assert_eq!(rt; after_a_prune(alloc, settle(alloc, b"X", 1)), SECOND);
+    assert_eq!(rt; after_a_prune(alloc, drop_one(alloc, b"D")), SECOND);
+    assert_eq!(rt; after_a_prune(alloc, merge(alloc, b"D", b"C")), SECOND);
+    assert_eq!(rt; after_a_prune(alloc, slice_one(alloc, b"A")), SECOND);
 }
 
 fn drop_none(alloc: Global) -> Application {
@@ -133,9 +133,9 @@ fn drop_none(alloc: Global) -> Application {
 #[test]
 fn what_meets_no_conditions_is_rejected(rt: HostRuntime) {
     let alloc = rt.alloc();
-    assert_eq!(rt; behind_a_prune(alloc, prune(alloc, b"RUN", 1)), SECOND);
-    assert_eq!(rt; behind_a_prune(alloc, Ok(drop_none(alloc))), SECOND);
-    assert_eq!(rt; behind_a_prune(alloc, drop_one(alloc, b"C")), SECOND);
-    assert_eq!(rt; behind_a_prune(alloc, merge(alloc, b"A", b"A")), SECOND);
-    assert_eq!(rt; behind_a_prune(alloc, slice_one(alloc, b"X")), SECOND);
+    assert_eq!(rt; after_a_prune(alloc, prune(alloc, b"RUN", 1)), SECOND);
+    assert_eq!(rt; after_a_prune(alloc, Ok(drop_none(alloc))), SECOND);
+    assert_eq!(rt; after_a_prune(alloc, drop_one(alloc, b"C")), SECOND);
+    assert_eq!(rt; after_a_prune(alloc, merge(alloc, b"A", b"A")), SECOND);
+    assert_eq!(rt; after_a_prune(alloc, slice_one(alloc, b"X")), SECOND);
 }

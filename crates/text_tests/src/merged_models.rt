@@ -2,14 +2,16 @@
 
 ghost use Rattle.std.specs.Prelude.{IfOk};
 ghost use Rattle.model_core.specs.Code.Views.{graph_of};
-ghost use Rattle.merge_rules.specs.Known.{IsKnown};
+ghost use Rattle.merge_rules.specs.FactsOfModel.{FactsAreRight};
 
 use crate::static_rules::checked;
 use edge_pruning::{drop_vertices, prune, settle};
-use merge_rules::{Known, SecondVertex, know_pruned, know_settled, merge, merge_measured};
+use merge_rules::{
+    FactsOfModel, SecondVertex, keep_after_prune, keep_after_settle, merge, merge_measured,
+};
 use model_core::{Model, RuleError};
 use model_print::{print, printed_length};
-use reduction_cert::know_without;
+use reduction_cert::keep_after_drop;
 use sig_base::{List, NoMemory};
 use std::alloc::Global;
 use std::test::*;
@@ -42,7 +44,7 @@ const WATCHED: &[u8] =
     b"model M; var S : 0..2 = 2; watch RUN; vertex RUN { urgent B; } vertex B { set S := S - 1; } end";
 
 #[test]
-fn each_condition_is_told(rt: HostRuntime) {
+fn each_failed_condition_is_named(rt: HostRuntime) {
     for (text, vertex, target, condition) in [
         (CHAIN, 0, 2, 1),
         (CHAIN, 0, 9, 1),
@@ -135,10 +137,10 @@ end
 ";
 
 /// Merges the first two vertices of a model, and gives what is known of the result.
-fn merged_and_measured(alloc: Global, model: &mut Model) -> Result<Known, RuleError>
-    ensures { IfOk result (λ known. IsKnown (graph_of model.new) known) }
+fn merged_and_measured(alloc: Global, model: &mut Model) -> Result<FactsOfModel, RuleError>
+    ensures { IfOk result (λ known. FactsAreRight (graph_of model.new) known) }
 {
-    let mut known = Known::begin(alloc);
+    let mut known = FactsOfModel::begin(alloc);
     let mut counts = UseCounts::begin(alloc, model)?;
     let second = SecondVertex::Stays;
     merge_measured(alloc, model, &mut known, &mut counts, 0, 1, second)?;
@@ -165,26 +167,26 @@ const TWO_TESTS: &[u8] =
     b"model M; var N : 0..9 = 0; watch N; vertex RUN { urgent B; } vertex B { set N := 1; schedule B after 1 when N > 9; schedule RUN after 2 when N < 10; } end";
 
 /// Whether it is known how many bytes the text of the model has, and those of the lines of what its first vertex does.
-fn has_lengths(known: &Known, model: &Model, body: u64) -> bool {
+fn has_lengths(known: &FactsOfModel, model: &Model, body: u64) -> bool {
     known.text_length() == Some(printed_length(model)) && known.bodies.get(0) == Some(body)
 }
 
 #[test]
-fn lengths_stay_known_behind_a_prune(rt: HostRuntime) -> Result<(), Fail> {
+fn lengths_stay_known_after_a_prune(rt: HostRuntime) -> Result<(), Fail> {
     let mut model = model_of_text(rt.alloc(), TWO_TESTS)?;
     let mut known = merged_and_measured(rt.alloc(), &mut model).map_err(|_| NoMemory)?;
     assert!(rt; has_lengths(&known, &model, 83));
-    know_pruned(&model, &mut known, 0, 0);
+    keep_after_prune(&model, &mut known, 0, 0);
     assert_eq!(rt; prune(&mut model, 0, 0), Ok(()));
     assert!(rt; has_lengths(&known, &model, 50));
     Ok(())
 }
 
 #[test]
-fn lengths_stay_known_behind_a_settle(rt: HostRuntime) -> Result<(), Fail> {
+fn lengths_stay_known_after_a_settle(rt: HostRuntime) -> Result<(), Fail> {
     let mut model = model_of_text(rt.alloc(), TWO_TESTS)?;
     let mut known = merged_and_measured(rt.alloc(), &mut model).map_err(|_| NoMemory)?;
-    know_settled(&model, &mut known, 0, 1);
+    keep_after_settle(&model, &mut known, 0, 1);
     assert_eq!(rt; settle(&mut model, 0, 1), Ok(()));
     assert!(rt; has_lengths(&known, &model, 71));
     Ok(())
@@ -195,26 +197,26 @@ const FOUR_URGENT: &[u8] =
 
 /// Whether the model with four such edges beside a merged one takes at most one at once, if known, after a settle of an
 /// edge.
-fn single_behind_settle(
+fn single_after_settle(
     alloc: Global,
     vertex: usize,
     edge: usize,
 ) -> Result<Option<bool>, RuleError> {
     let mut model = model_of_text(alloc, FOUR_URGENT)?;
     let mut known = merged_and_measured(alloc, &mut model)?;
-    know_settled(&model, &mut known, vertex, edge);
+    keep_after_settle(&model, &mut known, vertex, edge);
     Ok(known.single)
 }
 
 #[test]
-fn edges_that_stand_alone_may_be_settled(rt: HostRuntime) {
+fn edges_alone_may_be_settled(rt: HostRuntime) {
     for (vertex, edge, single) in [
         (0, 0, Some(true)),
         (2, 0, Some(true)),
         (2, 1, None),
         (3, 0, None),
     ] {
-        assert_eq!(rt; single_behind_settle(rt.alloc(), vertex, edge), Ok(single));
+        assert_eq!(rt; single_after_settle(rt.alloc(), vertex, edge), Ok(single));
     }
 }
 
@@ -223,13 +225,13 @@ const THREE_URGENT: &[u8] =
 
 /// Whether the model with three such edges takes at most one at once, if known, after a prune of the first one, or after a
 /// drop of the vertex that was merged.
-fn single_behind(alloc: Global, drops: bool) -> Result<Option<bool>, RuleError> {
+fn single_after(alloc: Global, drops: bool) -> Result<Option<bool>, RuleError> {
     let mut model = model_of_text(alloc, THREE_URGENT)?;
     let mut known = merged_and_measured(alloc, &mut model)?;
     if drops {
-        know_without(&model, &mut known, &[1]);
+        keep_after_drop(&model, &mut known, &[1]);
     } else {
-        know_pruned(&model, &mut known, 2, 0);
+        keep_after_prune(&model, &mut known, 2, 0);
     }
     Ok(known.single)
 }
@@ -237,24 +239,24 @@ fn single_behind(alloc: Global, drops: bool) -> Result<Option<bool>, RuleError> 
 #[test]
 fn a_model_without_a_part_takes_at_most_one_edge_at_once(rt: HostRuntime) {
     for drops in [false, true] {
-        assert_eq!(rt; single_behind(rt.alloc(), drops), Ok(Some(true)));
+        assert_eq!(rt; single_after(rt.alloc(), drops), Ok(Some(true)));
     }
 }
 
 /// By how much the length that is known of the text is wrong after a drop of the vertex that was merged, if one is known.
-fn length_behind_drop(alloc: Global) -> Result<Option<u64>, RuleError> {
+fn length_after_drop(alloc: Global) -> Result<Option<u64>, RuleError> {
     let mut model = model_of_text(alloc, THREE_URGENT)?;
     let mut known = merged_and_measured(alloc, &mut model)?;
     let gone = List::of_one(alloc, 1)?;
-    know_without(&model, &mut known, gone.as_slice());
+    keep_after_drop(&model, &mut known, gone.as_slice());
     drop_vertices(alloc, &mut model, &gone)?;
     let length = printed_length(&model);
     Ok(known.text_length().map(|known| length.abs_diff(known)))
 }
 
 #[test]
-fn lengths_stay_known_behind_a_drop(rt: HostRuntime) {
-    assert_eq!(rt; length_behind_drop(rt.alloc()), Ok(Some(0)));
+fn lengths_stay_known_after_a_drop(rt: HostRuntime) {
+    assert_eq!(rt; length_after_drop(rt.alloc()), Ok(Some(0)));
 }
 
 const TWO_DRAWN_DELAYS: &[u8] =
@@ -262,13 +264,13 @@ const TWO_DRAWN_DELAYS: &[u8] =
 
 /// Whether a text of version 2 is known to be needed after a prune of an edge of the third vertex, and by how much the length that
 /// is known of the text then is wrong, if one is known.
-fn version_behind_prune(
+fn version_after_prune(
     alloc: Global,
     edge: usize,
 ) -> Result<(Option<bool>, Option<u64>), RuleError> {
     let mut model = model_of_text(alloc, TWO_DRAWN_DELAYS)?;
     let mut known = merged_and_measured(alloc, &mut model)?;
-    know_pruned(&model, &mut known, 2, edge);
+    keep_after_prune(&model, &mut known, 2, edge);
     if prune(&mut model, 2, edge).is_err() {
         return Err(RuleError::NoMemory);
     }
@@ -280,11 +282,11 @@ fn version_behind_prune(
 }
 
 #[test]
-fn a_version_stays_known_behind_a_prune(rt: HostRuntime) {
+fn a_version_stays_known_after_a_prune(rt: HostRuntime) {
     assert_eq!(rt;
-        version_behind_prune(rt.alloc(), 1),
+        version_after_prune(rt.alloc(), 1),
         Ok((Some(true), Some(0)))
     );
     // An edge that draws its delay may have been all that needs version 2.
-    assert_eq!(rt; version_behind_prune(rt.alloc(), 2), Ok((None, None)));
+    assert_eq!(rt; version_after_prune(rt.alloc(), 2), Ok((None, None)));
 }

@@ -115,7 +115,7 @@ fn models_declare_what_they_need(rt: HostRuntime) -> Result<(), Fail> {
 }
 
 #[test]
-fn the_first_range_that_fails_is_told(rt: HostRuntime) -> Result<(), Fail> {
+fn the_first_range_that_fails_is_named(rt: HostRuntime) -> Result<(), Fail> {
     for (ranges, verdict) in [
         (
             [(0, 4), (3, 3), (0, 1000000)],

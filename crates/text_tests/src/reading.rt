@@ -264,7 +264,7 @@ fn unclosed(alloc: Global, head: &[u8], times: usize) -> Result<Option<Refused>,
 }
 
 #[test]
-fn too_many_openings_are_told_before_all_else(rt: HostRuntime) -> Result<(), Fail> {
+fn too_many_openings_are_reported_first(rt: HostRuntime) -> Result<(), Fail> {
     for (head, times, refused) in [
         (HEAD, 256, Refused::Unexpected(285)),
         (HEAD, 257, Refused::TooDeep(285)),
@@ -309,7 +309,7 @@ fn front(alloc: Global, text: &[u8], from: usize) -> Result<(usize, usize), Refu
 }
 
 #[test]
-fn texts_behind_one_another_are_read_in_turn(rt: HostRuntime) {
+fn texts_one_after_another_are_read_in_turn(rt: HostRuntime) {
     for (length, from, read) in [
         (65, 0, Ok((6, 8))),
         (65, 8, Ok((34, 16))),
@@ -325,7 +325,7 @@ fn texts_behind_one_another_are_read_in_turn(rt: HostRuntime) {
 }
 
 #[test]
-fn openings_behind_a_text_are_none_of_its_own(rt: HostRuntime) -> Result<(), Fail> {
+fn openings_after_a_text_are_none_of_its_own(rt: HostRuntime) -> Result<(), Fail> {
     let mut text = Vec::from_slice(rt.alloc(), b"model ONE; vertex A { } end ")?;
     repeated(&mut text, b"(", 257)?;
     assert_eq!(rt; front(rt.alloc(), text.as_slice(), 0), Ok((6, 8)));

@@ -100,7 +100,7 @@ const BROKEN: [(&[u8], StaticKind, usize); 9] = [
 ];
 
 #[test]
-fn faults_are_told_at_their_bytes(rt: HostRuntime) {
+fn faults_are_reported_at_their_bytes(rt: HostRuntime) {
     for (text, kind, at) in BROKEN {
         assert_eq!(rt; told(rt.alloc(), text), Some((kind, at)));
     }

@@ -3,10 +3,10 @@ use Rattle.std.proofs.Common.{ℕ, ℤ, zero, suc, ◌+◌, ◌*◌, ◌≤◌, 
 use Rattle.std.specs.Prelude.{option_map, option_to_list, position}
 use lib.Pointwise.{pointwise}
 use Rattle.model_core.specs.EventGraph.{EventGraph}
-use Rattle.model_core.specs.Run.Pending.{TakenOff, next_entry, same_values}
+use Rattle.model_core.specs.Run.Pending.{EntryAndRest, next_entry, same_values}
 use Rattle.model_core.specs.Run.Step.{Configuration, Fault, step}
 use Rattle.model_core.specs.Run.Machine.{At, On, Stopped, Move, Rests, Fails, Goes, before, after, look_of}
-use Rattle.model_core.specs.Run.History.{Moment, Noting, watched_values, watches, at_note, leave, leave_for, completed, stepped, comes, next_move, look_from}
+use Rattle.model_core.specs.Run.History.{Moment, Noting, watched_values, watches, at_note, leave, noting_before_event, completed, stepped, comes, next_move, look_from}
 
 -- how many notes a move has at most
 Few : {S : Type 0} → Move S → Type 0
@@ -43,12 +43,12 @@ unfolding Few
 few-stepped g vertex left few (Ok c) = let more = few-completed g vertex c in omega (arith, few, more, length-append left.notes (completed g vertex c))
 few-stepped g vertex left few (Err f) = few
 
-few-by : (g : EventGraph) (m : Moment) (n : TakenOff) (r : Result Configuration Fault) (b : Bool) → Few (cond b (Rests (leave g m).notes Stopped) (stepped g n.entry.vertex (leave_for g m n.entry.time) r))
+few-by : (g : EventGraph) (m : Moment) (n : EntryAndRest) (r : Result Configuration Fault) (b : Bool) → Few (cond b (Rests (leave g m).notes Stopped) (stepped g n.entry.vertex (noting_before_event g m n.entry.time) r))
 unfolding Few
 few-by g m n r true = few-left g m
-few-by g m n r false = few-stepped g n.entry.vertex (leave_for g m n.entry.time) (few-for g m (nat_lt m.now.clock n.entry.time)) r
+few-by g m n r false = few-stepped g n.entry.vertex (noting_before_event g m n.entry.time) (few-for g m (nat_lt m.now.clock n.entry.time)) r
 
-few-comes : (g : EventGraph) (seed until : ℕ) (m : Moment) (next : Option TakenOff) → Few (comes g seed until m next)
+few-comes : (g : EventGraph) (seed until : ℕ) (m : Moment) (next : Option EntryAndRest) → Few (comes g seed until m next)
 unfolding Few
 few-comes g seed until m None = few-left g m
 few-comes g seed until m (Some n) = few-by g m n (step g seed m.now n) (nat_lt until n.entry.time)

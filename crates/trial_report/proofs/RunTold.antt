@@ -10,10 +10,10 @@ use Rattle.run_control.specs.Running.{Running}
 use Rattle.watch_trace.specs.declared.outcome.Outcome.{Outcome}
 use Rattle.watch_trace.specs.declared.outcome.Outcome.TheVariants as outcomes
 use Rattle.watch_trace.specs.Tracing.{Tracing, moment_of}
-use Rattle.watch_trace.specs.Following.{outcome_of, seen_from, Completes, Stands, FollowKeeps}
+use Rattle.watch_trace.specs.Following.{outcome_of, run_look, Completes, StepsLead, FollowKeeps}
 use Rattle.trial_report.specs.StepsMade.{steps_made}
 use Rattle.trial_report.specs.Inner.Counted.{CountsNotes}
-use Rattle.trial_report.specs.Inner.ToldByMeasures.{Tells}
+use Rattle.trial_report.specs.Inner.ToldByMeasures.{IsMeasureOf}
 use Rattle.trial_report.proofs.StepsCounted.{from_there, none_at_rest, one_at_fault}
 use Rattle.trial_report.proofs.FewNotes.{few_notes}
 
@@ -26,7 +26,7 @@ module _ (until events : ℕ) (r later : Running) (t after : Tracing) (from : r.
   all-steps : (k n : ℕ) (here : Moment) → Steps events (moment_of r t) ≡ k + Steps n here → Steps n here ≡ 0 → Steps events (moment_of r t) ≡ k
   all-steps k n here e none = e ∙ ap (λ x. k + x) none ∙ omega arith
 
-  made : (outcome : Outcome) → (outcome ≡ outcomes.WriteFault → ⊥) → (outcome ≡ outcomes.NoMemory → ⊥) → Stands until events r t outcome later after → later.turns ≡ Steps events (moment_of r t)
+  made : (outcome : Outcome) → (outcome ≡ outcomes.WriteFault → ⊥) → (outcome ≡ outcomes.NoMemory → ⊥) → StepsLead until events r t outcome later after → later.turns ≡ Steps events (moment_of r t)
   made (outcomes.Ended time) well roomy p =
       let counts = p.stands.0.counts in
       let few : p.steps ≤ events = omega (arith, counts, from, keeps.counted) in
@@ -55,8 +55,8 @@ module _ (until events : ℕ) (r later : Running) (t after : Tracing) (from : r.
   made outcomes.WriteFault well roomy p = absurd (well refl)
   made outcomes.NoMemory well roomy p = absurd (roomy refl)
 
-  completed-so : (outcome : Outcome) (rest : List Note) → (outcome ≡ outcomes.WriteFault → ⊥) → (outcome ≡ outcomes.NoMemory → ⊥) → Completes (seen_from until events r t) rest outcome
-      → (outcome ≡ outcome_of (seen_from until events r t).standing) × (rest ≡ [])
+  completed-so : (outcome : Outcome) (rest : List Note) → (outcome ≡ outcomes.WriteFault → ⊥) → (outcome ≡ outcomes.NoMemory → ⊥) → Completes (run_look until events r t) rest outcome
+      → (outcome ≡ outcome_of (run_look until events r t).standing) × (rest ≡ [])
   completed-so (outcomes.Ended time) rest well roomy p = p
   completed-so outcomes.Stopped rest well roomy p = p
   completed-so (outcomes.Faulted time kind) rest well roomy p = p
@@ -72,17 +72,17 @@ at-start m seed room r t begun noted =
 
 pub tells : (m : Model) (room until events : ℕ) (r later : Running) (t after : Tracing) (outcome : Outcome) (count : ℕ) (notes rest : List Note)
     → BegunRun m r.seed [] room r → t.noted ≡ None → events ≤ 2 ^ 40 → (outcome ≡ outcomes.WriteFault → ⊥) → (outcome ≡ outcomes.NoMemory → ⊥)
-    → notes ++ rest ≡ (seen_from until events r t).history → Completes (seen_from until events r t) rest outcome → CountsNotes 0 count notes
-    → Stands until events r t outcome later after → FollowKeeps events r t later after
-    → Tells (graph_of m) r.seed until events (record { outcome = outcome; events = later.turns; notes = count })
+    → notes ++ rest ≡ (run_look until events r t).history → Completes (run_look until events r t) rest outcome → CountsNotes 0 count notes
+    → StepsLead until events r t outcome later after → FollowKeeps events r t later after
+    → IsMeasureOf (graph_of m) r.seed until events (record { outcome = outcome; events = later.turns; notes = count })
 tells m room until events r later t after outcome count notes rest begun noted few well roomy splits completes counted stands keeps =
     let (is, none) = completed-so until events r later t after begun.turns keeps outcome rest well roomy completes in
-    let whole : notes ≡ (seen_from until events r t).history = sym (append-nil notes) ∙ ap (λ (x : List Note). notes ++ x) (sym none) ∙ splits in
+    let whole : notes ≡ (run_look until events r t).history = sym (append-nil notes) ∙ ap (λ (x : List Note). notes ++ x) (sym none) ∙ splits in
     let short = few_notes (graph_of r.model) r.seed until events (moment_of r t) in
-    let long : length notes ≡ length (seen_from until events r t).history = ap length whole in
-    let number : count ≡ length (seen_from until events r t).history = omega (arith, counted, short, long, few) in
+    let long : length notes ≡ length (run_look until events r t).history = ap length whole in
+    let number : count ≡ length (run_look until events r t).history = omega (arith, counted, short, long, few) in
     let begins : moment_of r t ≡ start (graph_of r.model) [] = at-start m r.seed room r t begun noted in
-    subst (λ (x : Model). Tells (graph_of x) r.seed until events (record { outcome = outcome; events = later.turns; notes = count })) begun.model
+    subst (λ (x : Model). IsMeasureOf (graph_of x) r.seed until events (record { outcome = outcome; events = later.turns; notes = count })) begun.model
     (record {
       outcome = is ∙ ap (λ (b : Moment). outcome_of (look_from (graph_of r.model) r.seed until events b).standing) begins;
       made = made until events r later t after begun.turns keeps outcome well roomy stands ∙ ap (steps_made (next_move (graph_of r.model) r.seed until) events) begins;

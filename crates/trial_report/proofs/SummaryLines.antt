@@ -2,7 +2,7 @@
 use Rattle.std.proofs.Common.{◌≡◌, ℕ, ◌-◌, List, [], ◌∷◌, ◌++◌, length, length-append, map, take, codes, decimal, refl, sym, ap, ◌∙◌, arith}
 use Rattle.std.proofs.Math.Seq.{take-append_seam}
 use Rattle.model_core.specs.EventGraph.{EventGraph}
-use Rattle.model_core.specs.Run.Machine.{Standing, Ended, Stopped, Faulted, Going}
+use Rattle.model_core.specs.Run.Machine.{RunStatus, Ended, Stopped, Faulted, Going}
 use Rattle.model_core.specs.Run.State.{variable_at}
 use Rattle.model_core.specs.Run.Step.{vertex_at}
 use Rattle.model_core.specs.Run.History.{look}
@@ -14,21 +14,21 @@ use Rattle.std.specs.List.{range_with_len}
 use Rattle.model_gen.specs.Generated.{generated, generated_vertex}
 use Rattle.trial_report.specs.StepsMade.{steps_of_run}
 use Rattle.trial_report.specs.TrialText.{without_feed, run_line}
-use Rattle.trial_report.specs.Inner.ToldByMeasures.{standing_text, measure_line, Tells}
+use Rattle.trial_report.specs.Inner.ToldByMeasures.{standing_text, measure_line, IsMeasureOf}
 
 feed-goes : (text line : List ℕ) → line ≡ text ++ codes "\n" → text ≡ without_feed line
 feed-goes text line is =
     let size : length text ≡ length line - 1 = omega (arith, ap length is, length-append text (codes "\n")) in
     sym (take-append_seam text (codes "\n")) ∙ (λ i. take (size i) (sym is i))
 
-pub standing_line : (until events : ℕ) (end : Standing) → standing_text until events (outcome_of end) ≡ without_feed (end_line until events end)
+pub standing_line : (until events : ℕ) (end : RunStatus) → standing_text until events (outcome_of end) ≡ without_feed (end_line until events end)
 standing_line until events (Ended t) = feed-goes (standing_text until events (outcome_of (Ended t))) _ refl
 standing_line until events Stopped = feed-goes (standing_text until events (outcome_of Stopped)) _ refl
 standing_line until events (Faulted t kind) = feed-goes (standing_text until events (outcome_of (Faulted t kind))) _ refl
 standing_line until events Going = feed-goes (standing_text until events (outcome_of Going)) _ refl
 
-pub told_line : (name : List ℕ) (g : EventGraph) (seed until events : ℕ) (m : RunMeasure) → Tells g seed until events m → measure_line name until events m ≡ run_line name g seed until events
-told_line name g seed until events m told =
+pub measured_line : (name : List ℕ) (g : EventGraph) (seed until events : ℕ) (m : RunMeasure) → IsMeasureOf g seed until events m → measure_line name until events m ≡ run_line name g seed until events
+measured_line name g seed until events m told =
     (λ i. name ++ codes " " ++ standing_text until events (told.outcome i) ++ codes " events " ++ decimal (told.made i) ++ codes " notes " ++ decimal (told.noted i) ++ codes "\n")
     ∙ ap (λ x. name ++ codes " " ++ x ++ codes " events " ++ decimal (steps_of_run g seed [] until events) ++ codes " notes " ++ decimal (length (look g seed [] until events).history) ++ codes "\n")
     (standing_line until events (look g seed [] until events).standing)

@@ -5,7 +5,7 @@ ghost use Rattle.model_core.specs.Run.Step.{vertex_at};
 ghost use Rattle.model_core.specs.Static.Reading.{IsValid};
 ghost use Rattle.model_core.specs.Code.Views.{graph_of};
 ghost use Rattle.run_control.specs.Beginning.{BegunRun};
-ghost use Rattle.trial_report.specs.Inner.ToldByMeasures.{Tells};
+ghost use Rattle.trial_report.specs.Inner.ToldByMeasures.{IsMeasureOf};
 
 use crate::note_count::NoteCount;
 use event_heap::HeapPending;
@@ -51,7 +51,7 @@ fn follow<'m>(
     requires soon { until ≤ 2 ^ 48 }
     requires budget { events ≤ 2 ^ 40 }
     requires begun { BegunRun model.now run.old.seed [] 4096 run.old }
-    ensures { IfOk result (Tells (graph_of model.now) run.old.seed until events) }
+    ensures { IfOk result (IsMeasureOf (graph_of model.now) run.old.seed until events) }
 {
     let mut tracer = Tracer::begin(alloc, model)?;
     let mut count = NoteCount { notes: 0 };
@@ -79,7 +79,7 @@ pub(crate) fn measure(
     requires plain { (vertex_at (graph_of model.now) 0).parameters ≡ [] }
     requires soon { until ≤ 2 ^ 48 }
     requires budget { events ≤ 2 ^ 40 }
-    ensures { IfOk result (Tells (graph_of model.now) seed until events) }
+    ensures { IfOk result (IsMeasureOf (graph_of model.now) seed until events) }
 {
     let mut run = begin(alloc, model, seed)?;
     follow(alloc, model, &mut run, until, events)

@@ -5,7 +5,7 @@ ghost use Rattle.model_core.specs.EventGraph.{EventGraph};
 ghost use Rattle.model_core.specs.Run.Step.{vertex_at};
 ghost use Rattle.model_core.specs.Static.Reading.{IsValid};
 ghost use Rattle.model_core.specs.Code.Views.{graph_of};
-ghost use Rattle.trial_report.specs.Inner.ToldByMeasures.{Tells};
+ghost use Rattle.trial_report.specs.Inner.ToldByMeasures.{IsMeasureOf};
 ghost use Rattle.trial_report.specs.TrialText.{run_line, reduction_lines, Summarises};
 
 use crate::run_measure::{RunMeasure, measure};
@@ -50,7 +50,7 @@ fn put_reduction(
     requires plain { (vertex_at (graph_of reduced.now.model) 0).parameters ≡ [] }
     requires soon { until ≤ 2 ^ 48 }
     requires budget { events ≤ 2 ^ 40 }
-    ensures { (g : EventGraph) → Tells g seed until events run → OnOk result (out.new.items ≡ out.old.items ++ reduction_lines g (graph_of reduced.now.model) (length reduced.now.applications) seed until events) }
+    ensures { (g : EventGraph) → IsMeasureOf g seed until events run → OnOk result (out.new.items ≡ out.old.items ++ reduction_lines g (graph_of reduced.now.model) (length reduced.now.applications) seed until events) }
 {
     put_size(out, b"reduced", &reduced.model)?;
     put_applications(out, reduced.applications.len())?;

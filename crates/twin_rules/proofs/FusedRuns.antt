@@ -13,7 +13,7 @@ use Rattle.model_core.proofs.EachOne.{every-fails, every-both}
 use Rattle.model_core.proofs.Images.{at-map}
 use Rattle.model_core.proofs.FusedPlaces.{Other, standing-itself, fused-at, fused-first, fused-apart, same-leading}
 use Rattle.twin_rules.proofs.AlikeVertices.{AreAlike}
-use Rattle.run_laws.proofs.MappedVertices.{DoesAs, MayLead, WatchedTold, mapped-Same}
+use Rattle.run_laws.proofs.MappedVertices.{BehavesAs, LeadsToMapped, WatchedAreApart, mapped-Same}
 
 -- what holds of the edges of each vertex holds of those of the vertex at a place
 edges_at : (P : EventEdge → Type 0) (vs : List EventVertex) (k : ℕ) → AllByRecursion (λ (v : EventVertex). AllByRecursion P v.edges) vs → AllByRecursion P (slice_index_or vs k no_vertex).edges
@@ -33,9 +33,9 @@ module _ (g : EventGraph) (keep gone : ℕ) (are : AreAlike g keep gone) where
   placed k = at-map (vertex_renumbered f) (remove g.vertices gone) (f k) no_vertex ∙ ap (vertex_renumbered f) (fused-at keep gone are.first g.vertices k no_vertex)
 
   -- which does the same
-  does : (k : ℕ) → DoesAs f (vertex_at g k) (vertex_at h (f k))
-  does k = subst (DoesAs f (vertex_at g k)) (sym (placed k)) (by (k == gone) refl) where
-    by : (b : Bool) → (k == gone) ≡ b → DoesAs f (vertex_at g k) (vertex_renumbered f (vertex_at g (cond b keep k)))
+  does : (k : ℕ) → BehavesAs f (vertex_at g k) (vertex_at h (f k))
+  does k = subst (BehavesAs f (vertex_at g k)) (sym (placed k)) (by (k == gone) refl) where
+    by : (b : Bool) → (k == gone) ≡ b → BehavesAs f (vertex_at g k) (vertex_renumbered f (vertex_at g (cond b keep k)))
     by true is =
         let there : vertex_at g k ≡ vertex_at g gone = ap (vertex_at g) (same-place k gone is) in
         record {
@@ -49,9 +49,9 @@ module _ (g : EventGraph) (keep gone : ℕ) (are : AreAlike g keep gone) where
   Told t = Other keep gone are.first t
 
   abbrev May : EventEdge → Type 0
-  May e = MayLead (λ k. Unit {0}) Told e.kind e.target
+  May e = LeadsToMapped (λ k. Unit {0}) Told e.kind e.target
 
-  may-lead : (kind : EdgeKind) (t : ℕ) → (is_cancelling kind && (t == keep)) ≡ false → (is_cancelling kind && (t == gone)) ≡ false → MayLead (λ k. Unit {0}) Told kind t
+  may-lead : (kind : EdgeKind) (t : ℕ) → (is_cancelling kind && (t == keep)) ≡ false → (is_cancelling kind && (t == gone)) ≡ false → LeadsToMapped (λ k. Unit {0}) Told kind t
   may-lead (Schedule delay priority) t a b = tt
   may-lead Urgent t a b = tt
   may-lead CancelNext t a b = record { not_keep = a; not_gone = b }
@@ -65,10 +65,10 @@ module _ (g : EventGraph) (keep gone : ℕ) (are : AreAlike g keep gone) where
       every-both (λ (e : EventEdge). cancels keep e ≡ false) (λ (e : EventEdge). cancels gone e ≡ false) May (λ e. may-lead e.kind e.target) v.edges (every-fails (cancels keep) v.edges a) (every-fails (cancels gone) v.edges b))
       g.vertices (every-fails (λ (v : EventVertex). list_any (cancels keep) v.edges) g.vertices are.keep_uncancelled) (every-fails (λ (v : EventVertex). list_any (cancels gone) v.edges) g.vertices are.gone_uncancelled))
 
-  pub watched-told : AllByRecursion (WatchedTold Told) g.watch
+  pub watched-told : AllByRecursion (WatchedAreApart Told) g.watch
   watched-told =
-      every-both (λ w. watches keep w ≡ false) (λ w. watches gone w ≡ false) (WatchedTold Told) one g.watch (every-fails (watches keep) g.watch are.keep_unwatched) (every-fails (watches gone) g.watch are.gone_unwatched) where
-        one : (w : Watched) → watches keep w ≡ false → watches gone w ≡ false → WatchedTold Told w
+      every-both (λ w. watches keep w ≡ false) (λ w. watches gone w ≡ false) (WatchedAreApart Told) one g.watch (every-fails (watches keep) g.watch are.keep_unwatched) (every-fails (watches gone) g.watch are.gone_unwatched) where
+        one : (w : Watched) → watches keep w ≡ false → watches gone w ≡ false → WatchedAreApart Told w
         one (WatchedVariable v) a b = tt
         one (WatchedVertex v) a b = record { not_keep = a; not_gone = b }
 

@@ -12,7 +12,7 @@ use Rattle.model_core.proofs.BothTrue.{and_first, and_second}
 use Rattle.model_core.proofs.Among.{either_true}
 use Rattle.twin_rules.proofs.AlikeByTests.{mapped-none}
 use Rattle.twin_rules.proofs.NextPlaces.{last-or-before, first-or-after}
-use Rattle.twin_rules.proofs.StillAsked.{alike_told}
+use Rattle.twin_rules.proofs.PairsStillApart.{are_alike-alike}
 use Rattle.twin_rules.specs.Inner.ComparedPairs.{are_alike, NoneAlikeBefore, NoneAlikeWith}
 
 -- where one of the first conditions fails, one of all fails
@@ -62,7 +62,7 @@ beyond-all : (g : EventGraph) (keep y : ℕ) → length g.vertices ≤ y → are
 beyond-all g keep y past = by (are_alike g keep y) refl where
   by : (b : Bool) → are_alike g keep y ≡ b → b ≡ false
   by false told = refl
-  by true told = let less = (alike_told g keep y told).within in absurd (omega (arith, less, past))
+  by true told = let less = (are_alike-alike g keep y told).within in absurd (omega (arith, less, past))
 
 pub none-at-all : (g : EventGraph) (keep from : ℕ) → length g.vertices ≤ from → ((y : ℕ) → y < from → are_alike g keep y ≡ false) → NoneAlikeWith g keep None
 none-at-all g keep from past none y = by (cases_lt y from) where

@@ -9,13 +9,13 @@ pub mod FirstFound
 pub mod NextPlaces
 pub mod FusedSoFar
 pub mod Marking
-pub mod StillAsked
+pub mod PairsStillApart
 pub mod KnownPairs
 pub mod BarredAfter
-pub mod VertexPrints
-pub mod PrintsAfter
+pub mod VertexFingerprints
+pub mod FingerprintsAfter
 pub mod TellingApart
-pub mod PrintsRenewed
+pub mod FingerprintsRenewed
 pub mod PrintLists
 pub mod SkippedPlaces
 pub mod AlikeByTests

@@ -11,7 +11,7 @@ use Rattle.model_core.specs.Text.Canonical.{variable_name, vertex_name, expressi
 use Rattle.model_core.specs.Rules.Drop.{edge_renumbered, vertex_renumbered}
 use Rattle.model_core.specs.Rules.Fuse.{standing_for, fused_place, fused, has_short_text}
 use Rattle.model_core.specs.Rules.Merge.{is_watched_vertex}
-use Rattle.model_core.proofs.NoLongerTexts.{NoLonger, no_longer-behind, no_longer-before, no_longer-same, no_longer-both, no_longer-each}
+use Rattle.model_core.proofs.NoLongerTexts.{NoLonger, no_longer-after, no_longer-before, no_longer-same, no_longer-both, no_longer-each}
 use Rattle.model_core.proofs.FusedText.{same_declarations, same_lines}
 use Rattle.round_trip.proofs.VersionsKept.{NeedsNoMore, needed-kept, declared-shorter}
 use Rattle.twin_rules.proofs.ValidFused.{some-remove}
@@ -37,7 +37,7 @@ module _ (g : EventGraph) (keep gone : ℕ) (first : keep < gone) (unwatched : i
 
   edge-shorter : (e : EventEdge) → NoLonger (edge_line g (edge_renumbered s e)) (edge_line g e)
   edge-shorter e =
-      no_longer-before (codes ";\n") (no_longer-before (condition_text g e.condition) (no_longer-before (timing_text g e.kind) (no_longer-before (in_parentheses (expression_texts g e.values)) (no_longer-behind (edge_word e.kind) (name-shorter e.target)))))
+      no_longer-before (codes ";\n") (no_longer-before (condition_text g e.condition) (no_longer-before (timing_text g e.kind) (no_longer-before (in_parentheses (expression_texts g e.values)) (no_longer-after (edge_word e.kind) (name-shorter e.target)))))
 
   lines-map : (es : List EventEdge) → NoLonger (flat_map (edge_line g) (map (edge_renumbered s) es)) (flat_map (edge_line g) es)
   lines-map [] = record { at_most = omega arith }
@@ -45,7 +45,7 @@ module _ (g : EventGraph) (keep gone : ℕ) (first : keep < gone) (unwatched : i
 
   vertex-shorter : (v : EventVertex) → NoLonger (vertex_lines g (vertex_renumbered s v)) (vertex_lines g v)
   vertex-shorter v =
-      no_longer-before (codes "}\n") (no_longer-behind (codes "vertex " ++ v.name ++ in_parentheses (map (variable_name g) v.parameters) ++ codes " {\n" ++ flat_map (change_line g) v.changes) (lines-map v.edges))
+      no_longer-before (codes "}\n") (no_longer-after (codes "vertex " ++ v.name ++ in_parentheses (map (variable_name g) v.parameters) ++ codes " {\n" ++ flat_map (change_line g) v.changes) (lines-map v.edges))
 
   needs-no_more : NeedsNoMore h g
   needs-no_more = needed-kept g (remove g.vertices gone) (fused_place keep gone) h.watch (some-remove g.vertices gone)

@@ -15,7 +15,7 @@ use Rattle.twin_rules.specs.Inner.MarkedVertices.{has_mark, one_marks}
 use Rattle.twin_rules.specs.Inner.LedTo.{NoneLeadsTo, MarksTargets}
 use Rattle.twin_rules.proofs.AlikeVertices.{AreAlike}
 use Rattle.twin_rules.proofs.StillApart.{none-at, placed, keep-apart, places_same}
-use Rattle.twin_rules.proofs.StillAsked.{stays-apart, and-back}
+use Rattle.twin_rules.proofs.PairsStillApart.{stays-apart, and-back}
 use Rattle.twin_rules.proofs.BarredAfter.{none-after, leads-after}
 
 -- ---- at first

@@ -8,26 +8,26 @@ use Rattle.model_core.specs.Rules.Drop.{edge_renumbered}
 use Rattle.model_core.specs.Rules.Merge.{leads_to}
 use Rattle.model_core.specs.Rules.Fuse.{standing_for}
 use Rattle.model_core.proofs.EachOne.{either_false}
-use Rattle.twin_rules.specs.declared.print.Print.{Print}
+use Rattle.twin_rules.specs.declared.print.VertexFingerprint.{VertexFingerprint}
 use Rattle.twin_rules.specs.Inner.ComparedPairs.{are_alike, some_leads}
-use Rattle.twin_rules.specs.Inner.Fingerprints.{half, list_print, change_print, edge_print, vertex_print}
-use Rattle.twin_rules.specs.Inner.KeptFingerprints.{number_in, aims_at, ArePrints}
-use Rattle.twin_rules.specs.Inner.KeptRows.{prints_agree}
+use Rattle.twin_rules.specs.Inner.Fingerprints.{half, list_fingerprint, change_fingerprint, edge_fingerprint, vertex_fingerprint}
+use Rattle.twin_rules.specs.Inner.KeptFingerprints.{number_in, targets_fingerprint_at, AreFingerprints}
+use Rattle.twin_rules.specs.Inner.KeptRows.{fingerprints_agree}
 use Rattle.twin_rules.proofs.AlikeVertices.{AreAlike}
-use Rattle.twin_rules.proofs.StillAsked.{alike_told}
-use Rattle.twin_rules.proofs.VertexPrints.{edges-print, whole_print}
+use Rattle.twin_rules.proofs.PairsStillApart.{are_alike-alike}
+use Rattle.twin_rules.proofs.VertexFingerprints.{edges-print, whole_print}
 
 -- ---- what they do
 
-same-doing : (g : EventGraph) (keep gone : ℕ) → AreAlike g keep gone → vertex_print (vertex_at g keep) ≡ vertex_print (vertex_at g gone)
+same-doing : (g : EventGraph) (keep gone : ℕ) → AreAlike g keep gone → vertex_fingerprint (vertex_at g keep) ≡ vertex_fingerprint (vertex_at g gone)
 same-doing g keep gone are =
     let a = vertex_at g keep in
     let b = vertex_at g gone in
     let s = standing_for keep gone in
-    let edges : map edge_print a.edges ≡ map edge_print b.edges = sym (edges-print s a.edges) ∙ (ap (map edge_print) are.edges ∙ edges-print s b.edges) in
-    ap (λ ps. whole_print ps (map change_print a.changes) (map edge_print a.edges)) are.parameters
-    ∙ (ap (λ cs. whole_print b.parameters (map change_print cs) (map edge_print a.edges)) are.changes
-    ∙ ap (whole_print b.parameters (map change_print b.changes)) edges)
+    let edges : map edge_fingerprint a.edges ≡ map edge_fingerprint b.edges = sym (edges-print s a.edges) ∙ (ap (map edge_fingerprint) are.edges ∙ edges-print s b.edges) in
+    ap (λ ps. whole_print ps (map change_fingerprint a.changes) (map edge_fingerprint a.edges)) are.parameters
+    ∙ (ap (λ cs. whole_print b.parameters (map change_fingerprint cs) (map edge_fingerprint a.edges)) are.changes
+    ∙ ap (whole_print b.parameters (map change_fingerprint b.changes)) edges)
 
 -- ---- where they lead
 
@@ -54,12 +54,12 @@ same-targets keep gone number (a ∷ as_) (b ∷ bs) none none_too same =
     let rest : map (edge_renumbered (standing_for keep gone)) as_ ≡ map (edge_renumbered (standing_for keep gone)) bs = cc in
     ap₂ (λ n ns. n ∷ ns) (ap number (same-target keep gone a.target b.target here here_too (ap (λ (e : EventEdge). e.target) first))) (same-targets keep gone number as_ bs later later_too rest)
 
-same-aims : (g : EventGraph) (keep gone : ℕ) (known : List Print) → AreAlike g keep gone → some_leads g keep keep ≡ false → some_leads g keep gone ≡ false → aims_at g known keep ≡ aims_at g known gone
-same-aims g keep gone known are loops leads = ap (λ ns. half (list_print ns)) (same-targets keep gone (number_in known) (vertex_at g keep).edges (vertex_at g gone).edges loops leads are.edges)
+same-aims : (g : EventGraph) (keep gone : ℕ) (known : List VertexFingerprint) → AreAlike g keep gone → some_leads g keep keep ≡ false → some_leads g keep gone ≡ false → targets_fingerprint_at g known keep ≡ targets_fingerprint_at g known gone
+same-aims g keep gone known are loops leads = ap (λ ns. half (list_fingerprint ns)) (same-targets keep gone (number_in known) (vertex_at g keep).edges (vertex_at g gone).edges loops leads are.edges)
 
 -- ---- so they fit
 
-module _ (g : EventGraph) (keep gone : ℕ) (known : List Print) (prints : ArePrints g known) (own other : Print) (is : slice_get known keep ≡ Some own) (is_other : slice_get known gone ≡ Some other) (leads : Bool) (none : leads ≡ false → (some_leads g keep keep ≡ false) × (some_leads g keep gone ≡ false)) where
+module _ (g : EventGraph) (keep gone : ℕ) (known : List VertexFingerprint) (prints : AreFingerprints g known) (own other : VertexFingerprint) (is : slice_get known keep ≡ Some own) (is_other : slice_get known gone ≡ Some other) (leads : Bool) (none : leads ≡ false → (some_leads g keep keep ≡ false) × (some_leads g keep gone ≡ false)) where
   aims-fit : AreAlike g keep gone → (b : Bool) → leads ≡ b → (own.aims == other.aims || b) ≡ true
   aims-fit are true told = by (own.aims == other.aims) where
     by : (b : Bool) → (b || true) ≡ true
@@ -70,15 +70,15 @@ module _ (g : EventGraph) (keep gone : ℕ) (known : List Print) (prints : ArePr
       let same : own.aims ≡ other.aims = (prints keep own is).aims tt ∙ (same-aims g keep gone known are loops leads_there ∙ sym ((prints gone other is_other).aims tt)) in
       ap (λ b. b || false) (eq-eqb own.aims other.aims same)
 
-  alike-fit : AreAlike g keep gone → prints_agree own other leads ≡ true
+  alike-fit : AreAlike g keep gone → fingerprints_agree own other leads ≡ true
   alike-fit are =
       let doing : (own.doing == other.doing) ≡ true = eq-eqb own.doing other.doing ((prints keep own is).doing ∙ (ap half (same-doing g keep gone are) ∙ sym ((prints gone other is_other).doing))) in
       let mine : own.barred ≡ false = (prints keep own is).barred ∙ ap₂ (λ a b. a || b) are.keep_unwatched are.keep_uncancelled in
       let others : other.barred ≡ false = (prints gone other is_other).barred ∙ ap₂ (λ a b. a || b) are.gone_unwatched are.gone_uncancelled in
       λ i. doing i && aims-fit are leads refl i && not (mine i) && not (others i)
 
-  pub told-apart : prints_agree own other leads ≡ false → are_alike g keep gone ≡ false
+  pub told-apart : fingerprints_agree own other leads ≡ false → are_alike g keep gone ≡ false
   told-apart unfit = by (are_alike g keep gone) refl where
     by : (b : Bool) → are_alike g keep gone ≡ b → b ≡ false
     by false told = refl
-    by true told = sym (alike-fit (alike_told g keep gone told)) ∙ unfit
+    by true told = sym (alike-fit (are_alike-alike g keep gone told)) ∙ unfit

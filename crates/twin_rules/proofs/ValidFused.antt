@@ -18,7 +18,7 @@ use Rattle.round_trip.proofs.FewerVertices.{Stay, kept-spellable, kept-parts}
 use Rattle.model_core.specs.Rules.Fuse.{standing_for, fused_place, fused}
 use Rattle.model_core.proofs.FusedPlaces.{Other, fused-get, fused-below, fused-apart}
 use Rattle.twin_rules.proofs.AlikeVertices.{AreAlike}
-use Rattle.run_laws.proofs.MappedVertices.{WatchedTold}
+use Rattle.run_laws.proofs.MappedVertices.{WatchedAreApart}
 use Rattle.twin_rules.proofs.FusedRuns.{watched-told}
 
 -- ---- lists
@@ -86,7 +86,7 @@ module _ (g : EventGraph) (keep gone : ℕ) (are : AreAlike g keep gone) where
     some = some-remove g.vertices gone;
     has_one = has-some kept (let is = length-remove g.vertices gone are.within in let a = are.first in let b = are.within in omega (arith, is, a, b));
     edges = λ v there e among. tt;
-    watched = λ v there. (tt, of-among (WatchedTold (Other keep gone are.first)) g.watch (WatchedVertex v) (watched-told g keep gone are) there);
+    watched = λ v there. (tt, of-among (WatchedAreApart (Other keep gone are.first)) g.watch (WatchedVertex v) (watched-told g keep gone are) there);
     within = λ v any below. let is = length-remove g.vertices gone are.within in let small = fused-below keep gone are.first v (length g.vertices) below are.within in omega (arith, is, small);
     takes = λ v ps any is. takes_same v ps is;
     apart = λ v w a b. fused-apart keep gone are.first w b v;

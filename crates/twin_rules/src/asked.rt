@@ -9,7 +9,7 @@ ghost use Rattle.model_core.specs.Rules.MarkedPlaces.{place_without};
 ghost use Rattle.model_core.specs.Rules.Fuse.{fused, first_twins};
 ghost use Rattle.model_core.specs.Code.Views.{graph_of, edge_of};
 ghost use Rattle.twin_rules.specs.Inner.LedTo.{NoneLeadsTo};
-ghost use Rattle.twin_rules.specs.Inner.ComparedPairs.{is_before_pair, has_changed, was_asked, next_changed, SkipsUnchanged, NoneAlike, NoneAlikeBefore, place_before, some_leads};
+ghost use Rattle.twin_rules.specs.Inner.ComparedPairs.{is_before_pair, has_changed, was_compared, next_changed, SkipsUnchanged, NoneAlike, NoneAlikeBefore, place_before, some_leads};
 
 use model_core::{Edge, Model};
 use sig_base::VERTICES_MAX;
@@ -17,7 +17,7 @@ use sig_base::VERTICES_MAX;
 /// All pairs before this one were looked at, but for those of which a vertex has changed since then. Takes no memory: a
 /// vertex past the limit on vertices counts as changed.
 #[derive(Drop)]
-pub(crate) struct Asked {
+pub(crate) struct PairSearch {
     keep: usize,
     gone: usize,
     changed: [bool; VERTICES_MAX],
@@ -55,15 +55,15 @@ pub(crate) fn place_before(gone: usize, place: usize) -> usize
     if place < gone { place } else { place + 1 }
 }
 
-impl Asked {
+impl PairSearch {
     /// No pair was looked at, and each vertex counts as changed.
-    pub(crate) fn none() -> Asked
+    pub(crate) fn none() -> PairSearch
         ensures keep { result.keep ≡ 0 }
         ensures gone { result.gone ≡ 0 }
         ensures changed { (k : ℕ) → has_changed result.changed k ≡ true }
         ensures skips { SkipsUnchanged result }
     {
-        Asked {
+        PairSearch {
             keep: 0,
             gone: 0,
             changed: [true; VERTICES_MAX],
@@ -91,7 +91,7 @@ impl Asked {
     pub(crate) fn next(&self, keep: usize, from: usize) -> usize
         requires skips { SkipsUnchanged self.now }
         ensures behind { from ≤ result }
-        ensures asked { (y : ℕ) → from ≤ y → y < result → was_asked self.now keep y ≡ true }
+        ensures asked { (y : ℕ) → from ≤ y → y < result → was_compared self.now keep y ≡ true }
     {
         if keep < self.keep && !self.has_changed(keep) {
             self.next_changed(from).max(from)
@@ -180,7 +180,7 @@ impl Asked {
     }
 
     /// Counts all pairs before this one as looked at where it is known that they aren't alike, and else none.
-    fn look_up_to(&mut self, keep: usize, gone: usize, known: bool)
+    fn count_as_compared(&mut self, keep: usize, gone: usize, known: bool)
         ensures { (g : EventGraph) → NoneAlike g self.old → (known ≡ true → NoneAlikeBefore g (Some (keep, gone))) → NoneAlike g self.new }
     {
         if !known {
@@ -201,7 +201,7 @@ impl Asked {
         ensures skips { SkipsUnchanged self.new }
         ensures changed { (x : ℕ) → has_changed self.new.changed x ≡ false → some_leads (graph_of model.now) (place_before gone x) gone ≡ false }
     {
-        self.look_up_to(keep, gone, known);
+        self.count_as_compared(keep, gone, known);
         self.mark(model, gone, led);
         self.move_up(gone);
         self.find_next();

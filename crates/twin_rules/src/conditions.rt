@@ -4,11 +4,11 @@ ghost use Rattle.std.specs.Prelude.{◌≡◌, ◌<◌, ◌&&◌, true, None, ta
 ghost use Rattle.model_core.specs.Rules.Conditions.{first_failed};
 ghost use Rattle.model_core.specs.Rules.Fuse.{fused, has_short_text, fuse_conditions};
 ghost use Rattle.twin_rules.specs.Inner.ComparedPairs.{are_alike, alike_by};
-ghost use Rattle.twin_rules.specs.Inner.KeptFingerprints.{ArePrints};
+ghost use Rattle.twin_rules.specs.Inner.KeptFingerprints.{AreFingerprints};
 ghost use Rattle.twin_rules.specs.Inner.MarkedVertices.{is_barred};
 ghost use Rattle.model_core.specs.Code.Views.{graph_of};
 
-use crate::prints::Prints;
+use crate::prints::FingerprintTable;
 use crate::same_doing::{have_same_edges, have_same_events};
 use crate::untouched::{are_uncancelled, are_unwatched, can_be_cancelled};
 use model_core::{Model, is_watched};
@@ -67,8 +67,8 @@ pub(crate) fn failed_fuse(model: &Model, short: bool, keep: usize, gone: usize) 
 }
 
 /// Whether a vertex is watched or its events are cancelled.
-fn is_barred(model: &Model, prints: &Prints, vertex: usize) -> bool
-    requires { ArePrints (graph_of model.now) prints.now }
+fn is_barred(model: &Model, prints: &FingerprintTable, vertex: usize) -> bool
+    requires { AreFingerprints (graph_of model.now) prints.now }
     ensures { result ≡ is_barred (graph_of model.now) vertex }
 {
     match prints.at(vertex) {
@@ -78,8 +78,8 @@ fn is_barred(model: &Model, prints: &Prints, vertex: usize) -> bool
 }
 
 /// Whether two vertices aren't watched, no edge cancels their events, and they do the same.
-fn do_the_same(model: &Model, prints: &Prints, keep: usize, gone: usize) -> bool
-    requires prints { ArePrints (graph_of model.now) prints.now }
+fn do_the_same(model: &Model, prints: &FingerprintTable, keep: usize, gone: usize) -> bool
+    requires prints { AreFingerprints (graph_of model.now) prints.now }
     requires keep { keep < length model.now.vertices }
     requires gone { gone < length model.now.vertices }
     ensures { result ≡ alike_by (graph_of model.now) keep gone }
@@ -92,8 +92,8 @@ fn do_the_same(model: &Model, prints: &Prints, keep: usize, gone: usize) -> bool
 }
 
 /// Whether two vertices meet all conditions but that on the limits.
-pub(crate) fn are_alike(model: &Model, prints: &Prints, keep: usize, gone: usize) -> bool
-    requires prints { ArePrints (graph_of model.now) prints.now }
+pub(crate) fn are_alike(model: &Model, prints: &FingerprintTable, keep: usize, gone: usize) -> bool
+    requires prints { AreFingerprints (graph_of model.now) prints.now }
     requires keep { keep < length model.now.vertices }
     requires gone { gone < length model.now.vertices }
     ensures { result ≡ are_alike (graph_of model.now) keep gone }

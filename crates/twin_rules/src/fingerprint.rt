@@ -5,7 +5,7 @@ ghost use Rattle.std.specs.Prelude.{◌≡◌, ℕ, map};
 ghost use Rattle.std.specs.Option.{option_map};
 ghost use Rattle.model_core.specs.EventGraph.{EventEdge, Expression, Location, StateChange};
 ghost use Rattle.model_core.specs.Code.Views.{operator_of, expression_of, location_of, choice_of, change_of, edge_delay_of, edge_kind_of, edge_of, vertex_of};
-ghost use Rattle.twin_rules.specs.Inner.Fingerprints.{mixed, half, list_print, truth_print, operator_print, expression_print, index_print, location_print, choice_print, change_print, delay_print, kind_print, edge_print, vertex_print};
+ghost use Rattle.twin_rules.specs.Inner.Fingerprints.{mixed, half, list_fingerprint, truth_fingerprint, operator_fingerprint, expression_fingerprint, index_fingerprint, location_fingerprint, choice_fingerprint, change_fingerprint, delay_fingerprint, kind_fingerprint, edge_fingerprint, vertex_fingerprint};
 
 use model_core::{Change, Choice, Delay, Edge, EdgeForm, Expr, Op, Target, Vertex};
 
@@ -27,7 +27,7 @@ pub(crate) fn half(print: u64) -> u32
 }
 
 /// Parts of which a list has a fingerprint.
-trait Printed {
+trait HasFingerprint {
     // The plain type of the parts.
     ghost Plain: { Type 0 };
 
@@ -43,8 +43,8 @@ trait Printed {
 }
 
 /// The print of a list.
-fn list_print<T: Printed>(parts: &[T]) -> u64
-    ensures { result ≡ list_print (map T.print (map T.plain parts.now)) }
+fn list_fingerprint<T: HasFingerprint>(parts: &[T]) -> u64
+    ensures { result ≡ list_fingerprint (map T.print (map T.plain parts.now)) }
 {
     let mut print = 0;
     for part in parts {
@@ -54,15 +54,15 @@ fn list_print<T: Printed>(parts: &[T]) -> u64
 }
 
 /// The print of a truth value.
-fn truth_print(truth: bool) -> u64
-    ensures { result ≡ truth_print truth }
+fn truth_fingerprint(truth: bool) -> u64
+    ensures { result ≡ truth_fingerprint truth }
 {
     if truth { 1 } else { 0 }
 }
 
 /// The print of an operator.
-fn operator_print(op: Op) -> u64
-    ensures { result ≡ operator_print (operator_of op) }
+fn operator_fingerprint(op: Op) -> u64
+    ensures { result ≡ operator_fingerprint (operator_of op) }
 {
     match op {
         Op::Add => 11,
@@ -84,43 +84,46 @@ fn operator_print(op: Op) -> u64
 }
 
 /// The print of an expression.
-fn expr_print(expr: &Expr) -> u64
-    ensures { result ≡ expression_print (expression_of expr.now) }
+fn expr_fingerprint(expr: &Expr) -> u64
+    ensures { result ≡ expression_fingerprint (expression_of expr.now) }
 {
     match expr {
         Expr::Int(number) => mixed(number.unsigned_abs(), 1),
-        Expr::Truth(truth) => mixed(truth_print(*truth), 2),
+        Expr::Truth(truth) => mixed(truth_fingerprint(*truth), 2),
         Expr::Clk => 3,
         Expr::Scalar(var) => mixed(*var as u64, 4),
-        Expr::Cell(var, index) => mixed(mixed(expr_print(index), *var as u64), 5),
-        Expr::Neg(of) => mixed(expr_print(of), 6),
-        Expr::Not(of) => mixed(expr_print(of), 7),
+        Expr::Cell(var, index) => mixed(mixed(expr_fingerprint(index), *var as u64), 5),
+        Expr::Neg(of) => mixed(expr_fingerprint(of), 6),
+        Expr::Not(of) => mixed(expr_fingerprint(of), 7),
         Expr::Binary(op, left, right) => mixed(
-            mixed(expr_print(left), expr_print(right)),
-            operator_print(*op),
+            mixed(expr_fingerprint(left), expr_fingerprint(right)),
+            operator_fingerprint(*op),
         ),
         Expr::If(test, yes, no) => mixed(
-            mixed(mixed(expr_print(test), expr_print(yes)), expr_print(no)),
+            mixed(
+                mixed(expr_fingerprint(test), expr_fingerprint(yes)),
+                expr_fingerprint(no),
+            ),
             8,
         ),
     }
 }
 
-impl Printed for Expr {
+impl HasFingerprint for Expr {
     ghost Plain = { Expression };
 
     ghost plain = { expression_of };
 
-    ghost print = { expression_print };
+    ghost print = { expression_fingerprint };
 
     fn print(&self) -> u64
-        ensures { result ≡ expression_print (expression_of self.now) }
+        ensures { result ≡ expression_fingerprint (expression_of self.now) }
     {
-        expr_print(self)
+        expr_fingerprint(self)
     }
 }
 
-impl Printed for usize {
+impl HasFingerprint for usize {
     ghost Plain = { ℕ };
 
     ghost plain = { λ n. n };
@@ -135,39 +138,39 @@ impl Printed for usize {
 }
 
 /// The print of an index, if there is one.
-fn index_print(index: &Option<Expr>) -> u64
-    ensures { result ≡ index_print (option_map expression_of index.now) }
+fn index_fingerprint(index: &Option<Expr>) -> u64
+    ensures { result ≡ index_fingerprint (option_map expression_of index.now) }
 {
     match index {
-        Some(index) => mixed(expr_print(index), 1),
+        Some(index) => mixed(expr_fingerprint(index), 1),
         None => 0,
     }
 }
 
 /// The print of what takes a value.
 fn target_print(target: &Target) -> u64
-    ensures { result ≡ location_print (location_of target.now) }
+    ensures { result ≡ location_fingerprint (location_of target.now) }
 {
-    mixed(index_print(&target.index), target.var as u64)
+    mixed(index_fingerprint(&target.index), target.var as u64)
 }
 
-impl Printed for Target {
+impl HasFingerprint for Target {
     ghost Plain = { Location };
 
     ghost plain = { location_of };
 
-    ghost print = { location_print };
+    ghost print = { location_fingerprint };
 
     fn print(&self) -> u64
-        ensures { result ≡ location_print (location_of self.now) }
+        ensures { result ≡ location_fingerprint (location_of self.now) }
     {
         target_print(self)
     }
 }
 
 /// The print of what a draw takes its value from.
-fn choice_print(choice: Choice) -> u64
-    ensures { result ≡ choice_print (choice_of choice) }
+fn choice_fingerprint(choice: Choice) -> u64
+    ensures { result ≡ choice_fingerprint (choice_of choice) }
 {
     match choice {
         Choice::Uniform { lo, hi } => mixed(mixed(lo.unsigned_abs(), hi.unsigned_abs()), 1),
@@ -176,13 +179,13 @@ fn choice_print(choice: Choice) -> u64
 }
 
 /// The print of a change.
-fn change_print(change: &Change) -> u64
-    ensures { result ≡ change_print (change_of change.now) }
+fn change_fingerprint(change: &Change) -> u64
+    ensures { result ≡ change_fingerprint (change_of change.now) }
 {
     match change {
         Change::Set { targets, values } => mixed(
-            list_print(targets.as_slice()),
-            list_print(values.as_slice()),
+            list_fingerprint(targets.as_slice()),
+            list_fingerprint(values.as_slice()),
         ),
         Change::Draw {
             target,
@@ -190,41 +193,41 @@ fn change_print(change: &Change) -> u64
             choice,
         } => mixed(
             mixed(target_print(target), *stream as u64),
-            choice_print(*choice),
+            choice_fingerprint(*choice),
         ),
     }
 }
 
-impl Printed for Change {
+impl HasFingerprint for Change {
     ghost Plain = { StateChange };
 
     ghost plain = { change_of };
 
-    ghost print = { change_print };
+    ghost print = { change_fingerprint };
 
     fn print(&self) -> u64
-        ensures { result ≡ change_print (change_of self.now) }
+        ensures { result ≡ change_fingerprint (change_of self.now) }
     {
-        change_print(self)
+        change_fingerprint(self)
     }
 }
 
 /// The print of a delay.
-fn delay_print(delay: &Delay) -> u64
-    ensures { result ≡ delay_print (edge_delay_of delay.now) }
+fn delay_fingerprint(delay: &Delay) -> u64
+    ensures { result ≡ delay_fingerprint (edge_delay_of delay.now) }
 {
     match delay {
-        Delay::Fixed(expr) => mixed(expr_print(expr), 1),
-        Delay::Drawn { stream, choice } => mixed(choice_print(*choice), *stream as u64),
+        Delay::Fixed(expr) => mixed(expr_fingerprint(expr), 1),
+        Delay::Drawn { stream, choice } => mixed(choice_fingerprint(*choice), *stream as u64),
     }
 }
 
 /// The print of what an edge does.
 fn form_print(form: &EdgeForm) -> u64
-    ensures { result ≡ kind_print (edge_kind_of form.now) }
+    ensures { result ≡ kind_fingerprint (edge_kind_of form.now) }
 {
     match form {
-        EdgeForm::Schedule { delay, priority } => mixed(delay_print(delay), *priority as u64),
+        EdgeForm::Schedule { delay, priority } => mixed(delay_fingerprint(delay), *priority as u64),
         EdgeForm::Urgent => 1,
         EdgeForm::CancelNext => 2,
         EdgeForm::CancelEqual => 3,
@@ -233,38 +236,38 @@ fn form_print(form: &EdgeForm) -> u64
 }
 
 /// The print of an edge, whose target is left out.
-fn edge_print(edge: &Edge) -> u64
-    ensures { result ≡ edge_print (edge_of edge.now) }
+fn edge_fingerprint(edge: &Edge) -> u64
+    ensures { result ≡ edge_fingerprint (edge_of edge.now) }
 {
     mixed(
-        mixed(form_print(&edge.form), expr_print(&edge.condition)),
-        list_print(edge.values.as_slice()),
+        mixed(form_print(&edge.form), expr_fingerprint(&edge.condition)),
+        list_fingerprint(edge.values.as_slice()),
     )
 }
 
-impl Printed for Edge {
+impl HasFingerprint for Edge {
     ghost Plain = { EventEdge };
 
     ghost plain = { edge_of };
 
-    ghost print = { edge_print };
+    ghost print = { edge_fingerprint };
 
     fn print(&self) -> u64
-        ensures { result ≡ edge_print (edge_of self.now) }
+        ensures { result ≡ edge_fingerprint (edge_of self.now) }
     {
-        edge_print(self)
+        edge_fingerprint(self)
     }
 }
 
 /// The print of what a vertex does: of its parameters, changes and edges.
-pub(crate) fn vertex_print(vertex: &Vertex) -> u64
-    ensures { result ≡ vertex_print (vertex_of vertex.now) }
+pub(crate) fn vertex_fingerprint(vertex: &Vertex) -> u64
+    ensures { result ≡ vertex_fingerprint (vertex_of vertex.now) }
 {
     mixed(
         mixed(
-            list_print(vertex.params.as_slice()),
-            list_print(vertex.changes.as_slice()),
+            list_fingerprint(vertex.params.as_slice()),
+            list_fingerprint(vertex.changes.as_slice()),
         ),
-        list_print(vertex.edges.as_slice()),
+        list_fingerprint(vertex.edges.as_slice()),
     )
 }

@@ -4,34 +4,34 @@ ghost use Rattle.std.specs.Prelude.{◌≡◌, ◌<◌, true, false, length};
 ghost use Rattle.model_core.specs.Rules.Fuse.{has_short_text, are_twins, first_twin_of, first_twins};
 ghost use Rattle.model_core.specs.Code.Views.{graph_of};
 ghost use Rattle.twin_rules.specs.Inner.ComparedPairs.{are_alike, SkipsUnchanged, NoneAlike, NoneAlikeBefore, NoneAlikeWith};
-ghost use Rattle.twin_rules.specs.Inner.KeptFingerprints.{ArePrints};
+ghost use Rattle.twin_rules.specs.Inner.KeptFingerprints.{AreFingerprints};
 ghost use Rattle.twin_rules.specs.Inner.KeptRows.{IsRow};
 
-use crate::asked::Asked;
+use crate::asked::PairSearch;
 use crate::conditions::{are_alike, is_within_limits};
-use crate::prints::Prints;
-use crate::row::{Row, next_like};
+use crate::prints::FingerprintTable;
+use crate::row::{Row, next_candidate};
 use model_core::Model;
 
 /// Whether two vertices may be fused. `known` stays true if it is known that they are alike only if they may.
 fn are_twins(
     model: &Model,
     short: bool,
-    prints: &Prints,
+    prints: &FingerprintTable,
     row: &Row,
     keep: usize,
     gone: usize,
     known: &mut bool,
 ) -> bool
     requires short { short ≡ true → has_short_text (graph_of model.now) ≡ true }
-    requires prints { ArePrints (graph_of model.now) prints.now }
+    requires prints { AreFingerprints (graph_of model.now) prints.now }
     requires row { IsRow (graph_of model.now) prints.now keep row.now }
     requires keep { keep < length model.now.vertices }
     requires gone { gone < length model.now.vertices }
     ensures twins { result ≡ are_twins (graph_of model.now) keep gone }
     ensures known { known.new ≡ true → (known.old ≡ true) × (result ≡ false → are_alike (graph_of model.now) keep gone ≡ false) }
 {
-    if !row.may_fit(prints, gone) {
+    if !row.may_be_alike(prints, gone) {
         return false;
     }
     if !are_alike(model, prints, keep, gone) {
@@ -47,13 +47,13 @@ fn are_twins(
 fn first_twin_of(
     model: &Model,
     short: bool,
-    prints: &Prints,
-    asked: &Asked,
+    prints: &FingerprintTable,
+    asked: &PairSearch,
     keep: usize,
     known: &mut bool,
 ) -> Option<usize>
     requires short { short ≡ true → has_short_text (graph_of model.now) ≡ true }
-    requires prints { ArePrints (graph_of model.now) prints.now }
+    requires prints { AreFingerprints (graph_of model.now) prints.now }
     requires asked { NoneAlike (graph_of model.now) asked.now }
     requires skips { SkipsUnchanged asked.now }
     requires keep { keep < length model.now.vertices }
@@ -61,7 +61,7 @@ fn first_twin_of(
     ensures known { known.new ≡ true → (known.old ≡ true) × NoneAlikeWith (graph_of model.now) keep result }
 {
     let count = model.vertices.len();
-    let mut gone = next_like(model, prints, asked, keep, keep + 1);
+    let mut gone = next_candidate(model, prints, asked, keep, keep + 1);
     if gone >= count {
         return None;
     }
@@ -70,7 +70,7 @@ fn first_twin_of(
         if are_twins(model, short, prints, &row, keep, gone, known) {
             return Some(gone);
         }
-        gone = next_like(model, prints, asked, keep, gone + 1);
+        gone = next_candidate(model, prints, asked, keep, gone + 1);
     }
     None
 }
@@ -80,12 +80,12 @@ fn first_twin_of(
 pub(crate) fn first_twins_in(
     model: &Model,
     short: bool,
-    prints: &Prints,
-    asked: &Asked,
+    prints: &FingerprintTable,
+    asked: &PairSearch,
     known: &mut bool,
 ) -> Option<(usize, usize)>
     requires short { short ≡ true → has_short_text (graph_of model.now) ≡ true }
-    requires prints { ArePrints (graph_of model.now) prints.now }
+    requires prints { AreFingerprints (graph_of model.now) prints.now }
     requires asked { NoneAlike (graph_of model.now) asked.now }
     requires skips { SkipsUnchanged asked.now }
     ensures found { result ≡ first_twins (graph_of model.now) }
@@ -103,8 +103,8 @@ pub(crate) fn first_twins_in(
 pub fn first_twins(model: &Model) -> Option<(usize, usize)>
     ensures { result ≡ first_twins (graph_of model.now) }
 {
-    let asked = Asked::none();
-    let mut prints = Prints::none();
+    let asked = PairSearch::none();
+    let mut prints = FingerprintTable::none();
     prints.fill(model, &asked);
     first_twins_in(model, false, &prints, &asked, &mut true)
 }

@@ -105,7 +105,7 @@ impl Marks {
     }
 
     /// The vertices to which one of the edges leads.
-    pub(crate) fn led_to(edges: &[Edge]) -> Marks
+    pub(crate) fn target_marks(edges: &[Edge]) -> Marks
         ensures { (x : ℕ) → has_mark result x ≡ false → list_any (marks_at false x) (map edge_of edges.now) ≡ false }
     {
         let mut marks = Marks::none();

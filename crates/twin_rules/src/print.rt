@@ -3,7 +3,7 @@
 /// What is kept of a vertex, by which most vertices that do something else are found different at once. Fingerprints are kept
 /// by halves, so that those of all vertices take little room.
 #[derive(Clone, Copy)]
-pub(crate) struct Print {
+pub(crate) struct VertexFingerprint {
     /// The print of its parameters, its changes, and its edges without their targets.
     pub(crate) doing: u32,
     /// The print of the numbers of the vertices that its edges lead to.

@@ -5,31 +5,31 @@ ghost use Rattle.std.specs.List.{remove};
 ghost use Rattle.sig_base.specs.declared.limits.TheConstants.{VERTICES_MAX as LIMIT};
 ghost use Rattle.model_core.specs.Run.Step.{vertex_at};
 ghost use Rattle.model_core.specs.Code.Views.{graph_of, edge_of};
-ghost use Rattle.twin_rules.specs.declared.print.Print.{Print as Kept};
+ghost use Rattle.twin_rules.specs.declared.print.VertexFingerprint.{VertexFingerprint as Kept};
 ghost use Rattle.twin_rules.specs.Inner.ComparedPairs.{has_changed};
-ghost use Rattle.twin_rules.specs.Inner.Fingerprints.{half, aims_print, vertex_print};
+ghost use Rattle.twin_rules.specs.Inner.Fingerprints.{half, targets_fingerprint, vertex_fingerprint};
 ghost use Rattle.twin_rules.specs.Inner.MarkedVertices.{has_mark};
-ghost use Rattle.twin_rules.specs.Inner.KeptFingerprints.{number_in, aims_at, ArePrints, ArePrintsBut, ArePrintsOfAll, IsRenewed};
+ghost use Rattle.twin_rules.specs.Inner.KeptFingerprints.{number_in, targets_fingerprint_at, AreFingerprints, AreFingerprintsBut, AreFingerprintsOfAll, IsRenewed};
 
-use crate::asked::Asked;
-use crate::fingerprint::{half, mixed, vertex_print};
+use crate::asked::PairSearch;
+use crate::fingerprint::{half, mixed, vertex_fingerprint};
 use crate::marks::Marks;
-use crate::print::Print;
+use crate::print::VertexFingerprint;
 use crate::same_doing::vertex_at;
 use model_core::{Edge, Model};
 use sig_base::VERTICES_MAX;
 
 /// What is kept of the vertices, up to the limit on vertices. Takes no memory.
 #[derive(Drop)]
-pub(crate) struct Prints {
+pub(crate) struct FingerprintTable {
     count: usize,
-    prints: [Print; VERTICES_MAX],
+    prints: [VertexFingerprint; VERTICES_MAX],
 }
 
-impl std::marker::Model for Prints {
+impl std::marker::Model for FingerprintTable {
     ghost use Rattle.std.specs.Prelude.{◌≤◌, List, take};
     ghost use Rattle.sig_base.specs.declared.limits.TheConstants.{VERTICES_MAX as MOST};
-    ghost use Rattle.twin_rules.specs.declared.print.Print.{Print as Item};
+    ghost use Rattle.twin_rules.specs.declared.print.VertexFingerprint.{VertexFingerprint as Item};
 
     ghost Value = { List Item };
 
@@ -38,25 +38,25 @@ impl std::marker::Model for Prints {
     ghost invariant = { λ p. p.count ≤ MOST };
 }
 
-impl Prints {
+impl FingerprintTable {
     /// Nothing is kept.
-    pub(crate) fn none() -> Prints
+    pub(crate) fn none() -> FingerprintTable
         ensures { result ≡ [] }
     {
-        let nothing = Print {
+        let nothing = VertexFingerprint {
             doing: 0,
             aims: 0,
             number: 0,
             barred: true,
         };
-        Prints {
+        FingerprintTable {
             count: 0,
             prints: [nothing; VERTICES_MAX],
         }
     }
 
     /// What is kept of the vertex at this place, if anything is.
-    pub(crate) fn at(&self, place: usize) -> Option<Print>
+    pub(crate) fn at(&self, place: usize) -> Option<VertexFingerprint>
         ensures { result ≡ slice_get self.now place }
     {
         if place < self.count {
@@ -67,7 +67,7 @@ impl Prints {
     }
 
     /// Keeps this of one more vertex.
-    fn push(&mut self, print: Print)
+    fn push(&mut self, print: VertexFingerprint)
         requires { length self.old < LIMIT }
         ensures { self.new ≡ self.old ++ print ∷ [] }
     {
@@ -109,7 +109,7 @@ impl Prints {
 
     /// The print of the targets of edges.
     fn aims(&self, edges: &[Edge]) -> u64
-        ensures { result ≡ aims_print (number_in self.now) (map edge_of edges.now) }
+        ensures { result ≡ targets_fingerprint (number_in self.now) (map edge_of edges.now) }
     {
         let mut print = 0;
         for edge in edges {
@@ -119,8 +119,8 @@ impl Prints {
     }
 
     /// The print of the targets of the vertex's edges.
-    fn aims_at(&self, model: &Model, place: usize) -> u32
-        ensures { result ≡ aims_at (graph_of model.now) self.now place }
+    fn targets_fingerprint_at(&self, model: &Model, place: usize) -> u32
+        ensures { result ≡ targets_fingerprint_at (graph_of model.now) self.now place }
     {
         match model.vertices.as_slice().get(place) {
             Some(vertex) => half(self.aims(vertex.edges.as_slice())),
@@ -132,14 +132,14 @@ impl Prints {
     fn renew_at(&mut self, model: &Model, place: usize)
         ensures { IsRenewed (graph_of model.now) self.old self.new place }
     {
-        let aims = self.aims_at(model, place);
+        let aims = self.targets_fingerprint_at(model, place);
         self.set_aims(place, aims);
     }
 
     /// Prints the targets of the edges of all vertices that have changed anew.
-    pub(crate) fn renew(&mut self, model: &Model, asked: &Asked)
-        requires { ArePrintsBut (graph_of model.now) self.old asked.now.changed }
-        ensures { ArePrints (graph_of model.now) self.new }
+    pub(crate) fn renew(&mut self, model: &Model, asked: &PairSearch)
+        requires { AreFingerprintsBut (graph_of model.now) self.old asked.now.changed }
+        ensures { AreFingerprints (graph_of model.now) self.new }
     {
         for place in 0..self.count {
             if asked.has_changed(place) {
@@ -149,14 +149,14 @@ impl Prints {
     }
 
     /// What is kept of a vertex at first: nothing yet of its targets.
-    fn first_print(model: &Model, barred: &Marks, place: usize) -> Print
+    fn first_fingerprint(model: &Model, barred: &Marks, place: usize) -> VertexFingerprint
         requires there { place < length model.now.vertices }
         requires within { place < LIMIT }
-        ensures doing { result.doing ≡ half (vertex_print (vertex_at (graph_of model.now) place)) }
+        ensures doing { result.doing ≡ half (vertex_fingerprint (vertex_at (graph_of model.now) place)) }
         ensures barred { result.barred ≡ has_mark barred.now place }
     {
-        Print {
-            doing: half(vertex_print(vertex_at(model, place))),
+        VertexFingerprint {
+            doing: half(vertex_fingerprint(vertex_at(model, place))),
             aims: 0,
             number: place as u16,
             barred: barred.has(place),
@@ -166,19 +166,19 @@ impl Prints {
     /// Keeps what is to be kept of the vertices at first: nothing yet of their targets.
     fn fill_without_aims(&mut self, model: &Model)
         requires { self.old ≡ [] }
-        ensures { ArePrintsOfAll (graph_of model.now) self.new }
+        ensures { AreFingerprintsOfAll (graph_of model.now) self.new }
     {
         let barred = Marks::barred(model);
         for place in 0..model.vertices.len().min(VERTICES_MAX) {
-            self.push(Prints::first_print(model, &barred, place));
+            self.push(FingerprintTable::first_fingerprint(model, &barred, place));
         }
     }
 
     /// Keeps what is to be kept of the vertices, each of which counts as changed.
-    pub(crate) fn fill(&mut self, model: &Model, asked: &Asked)
+    pub(crate) fn fill(&mut self, model: &Model, asked: &PairSearch)
         requires empty { self.old ≡ [] }
         requires changed { (k : ℕ) → has_changed asked.now.changed k ≡ true }
-        ensures { ArePrints (graph_of model.now) self.new }
+        ensures { AreFingerprints (graph_of model.now) self.new }
     {
         self.fill_without_aims(model);
         self.renew(model, asked);

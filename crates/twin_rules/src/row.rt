@@ -4,21 +4,21 @@ ghost use Rattle.std.specs.Prelude.{◌≡◌, ◌<◌, ◌≤◌, ℕ, false};
 ghost use Rattle.model_core.specs.EventGraph.{EventGraph};
 ghost use Rattle.model_core.specs.Code.Views.{graph_of};
 ghost use Rattle.twin_rules.specs.Inner.ComparedPairs.{are_alike, some_leads, SkipsUnchanged, NoneAlike};
-ghost use Rattle.twin_rules.specs.Inner.KeptFingerprints.{ArePrints};
+ghost use Rattle.twin_rules.specs.Inner.KeptFingerprints.{AreFingerprints};
 ghost use Rattle.twin_rules.specs.Inner.MarkedVertices.{has_mark};
-ghost use Rattle.twin_rules.specs.Inner.KeptRows.{prints_agree, IsRow};
+ghost use Rattle.twin_rules.specs.Inner.KeptRows.{fingerprints_agree, IsRow};
 
-use crate::asked::Asked;
+use crate::asked::PairSearch;
 use crate::marks::Marks;
-use crate::print::Print;
-use crate::prints::Prints;
+use crate::print::VertexFingerprint;
+use crate::prints::FingerprintTable;
 use model_core::Model;
 
 /// A vertex that is compared with those after it.
 #[derive(Drop)]
 pub(crate) struct Row {
     /// What is kept of it.
-    print: Option<Print>,
+    print: Option<VertexFingerprint>,
     /// The vertices that its edges lead to.
     leads: Marks,
     /// Whether an edge of the vertex leads back to it.
@@ -26,41 +26,41 @@ pub(crate) struct Row {
 }
 
 /// The vertices that the edges of the vertex at this place lead to.
-fn led_to(model: &Model, place: usize) -> Marks
+fn target_marks(model: &Model, place: usize) -> Marks
     ensures { (v : ℕ) → has_mark result v ≡ false → some_leads (graph_of model.now) place v ≡ false }
 {
     match model.vertices.as_slice().get(place) {
-        Some(vertex) => Marks::led_to(vertex.edges.as_slice()),
+        Some(vertex) => Marks::target_marks(vertex.edges.as_slice()),
         None => Marks::none(),
     }
 }
 
 /// Whether two vertices of which this is kept may be alike, if the caller says whether the first leads to one of the two.
-fn prints_agree(own: Print, other: Print, leads: bool) -> bool
-    ensures { result ≡ prints_agree own other leads }
+fn fingerprints_agree(own: VertexFingerprint, other: VertexFingerprint, leads: bool) -> bool
+    ensures { result ≡ fingerprints_agree own other leads }
 {
     own.doing == other.doing && (own.aims == other.aims || leads) && !own.barred && !other.barred
 }
 
 /// Whether two vertices may be alike by what is kept of them, wherever their edges lead.
-fn may_do_the_same(prints: &Prints, keep: usize, gone: usize) -> bool
-    ensures { (g : EventGraph) → ArePrints g prints.now → result ≡ false → are_alike g keep gone ≡ false }
+fn may_do_the_same(prints: &FingerprintTable, keep: usize, gone: usize) -> bool
+    ensures { (g : EventGraph) → AreFingerprints g prints.now → result ≡ false → are_alike g keep gone ≡ false }
 {
     match (prints.at(keep), prints.at(gone)) {
-        (Some(own), Some(other)) => prints_agree(own, other, true),
+        (Some(own), Some(other)) => fingerprints_agree(own, other, true),
         _ => true,
     }
 }
 
 /// The next vertex from this place on that may be alike with the one at `keep`, or a place after all vertices.
-pub(crate) fn next_like(
+pub(crate) fn next_candidate(
     model: &Model,
-    prints: &Prints,
-    asked: &Asked,
+    prints: &FingerprintTable,
+    asked: &PairSearch,
     keep: usize,
     from: usize,
 ) -> usize
-    requires prints { ArePrints (graph_of model.now) prints.now }
+    requires prints { AreFingerprints (graph_of model.now) prints.now }
     requires asked { NoneAlike (graph_of model.now) asked.now }
     requires skips { SkipsUnchanged asked.now }
     ensures behind { from ≤ result }
@@ -76,10 +76,10 @@ pub(crate) fn next_like(
 
 impl Row {
     /// The row of the vertex at a place.
-    pub(crate) fn of(model: &Model, prints: &Prints, keep: usize) -> Row
+    pub(crate) fn of(model: &Model, prints: &FingerprintTable, keep: usize) -> Row
         ensures { IsRow (graph_of model.now) prints.now keep result }
     {
-        let leads = led_to(model, keep);
+        let leads = target_marks(model, keep);
         Row {
             print: prints.at(keep),
             loops: leads.has(keep),
@@ -88,12 +88,12 @@ impl Row {
     }
 
     /// Whether the vertex may be alike with the one at this place, as far as fingerprints show.
-    pub(crate) fn may_fit(&self, prints: &Prints, gone: usize) -> bool
-        ensures { (g : EventGraph) (keep : ℕ) → ArePrints g prints.now → IsRow g prints.now keep self.now → result ≡ false → are_alike g keep gone ≡ false }
+    pub(crate) fn may_be_alike(&self, prints: &FingerprintTable, gone: usize) -> bool
+        ensures { (g : EventGraph) (keep : ℕ) → AreFingerprints g prints.now → IsRow g prints.now keep self.now → result ≡ false → are_alike g keep gone ≡ false }
     {
         match (self.print, prints.at(gone)) {
             (Some(own), Some(other)) => {
-                prints_agree(own, other, self.loops || self.leads.has(gone))
+                fingerprints_agree(own, other, self.loops || self.leads.has(gone))
             }
             _ => true,
         }

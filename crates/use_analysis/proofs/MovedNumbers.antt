@@ -14,7 +14,7 @@ use Rattle.use_analysis.specs.declared.moving.Way.{Way}
 use Rattle.use_analysis.specs.declared.moving.Way.TheVariants as ways
 use Rattle.use_analysis.specs.declared.moving.Part.{Part}
 use Rattle.use_analysis.specs.UseNumbers.{UseNumbers, changed_where, raised_at, lowered_at, CanRaise}
-use Rattle.use_analysis.specs.Inner.Moving.{shifted, moved_number, moved_at, numbers_of, StampedTo, StampedBelow, nothing_stamped, wiped}
+use Rattle.use_analysis.specs.Inner.Moving.{shifted, moved_number, moved_at, numbers_of, StampedTo, StampedBelow, nothing_stamped, without_stamp}
 
 -- the variables of two parts of a part are walked one after the other
 pub moved_together : (part : Part) (first second : List ℕ) (numbers : List Stamped) → moved_at part (first ++ second) numbers ≡ moved_at part second (moved_at part first numbers)
@@ -163,11 +163,11 @@ module _ {A B : Type 0} (view : A → B) (gives : B → List ℕ) (part : Part) 
 
 -- ---- stamps that are taken away
 
-pub wiped_numbers : (xs : List Stamped) → numbers_of (map wiped xs) ≡ numbers_of xs
+pub wiped_numbers : (xs : List Stamped) → numbers_of (map without_stamp xs) ≡ numbers_of xs
 wiped_numbers [] = refl
 wiped_numbers (x ∷ xs) = ap (λ ns. x.number ∷ ns) (wiped_numbers xs)
 
-pub wiped_stamps : (xs : List Stamped) → StampedTo 0 (map wiped xs)
+pub wiped_stamps : (xs : List Stamped) → StampedTo 0 (map without_stamp xs)
 wiped_stamps [] = tt
 wiped_stamps (x ∷ xs) = (omega arith, wiped_stamps xs)
 

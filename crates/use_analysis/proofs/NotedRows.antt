@@ -3,7 +3,7 @@ use Rattle.std.proofs.Common.{◌≡◌, ℕ, ◌+◌, ◌-◌, ◌≤◌, ◌==
 use Rattle.std.specs.Prelude.{slice_get}
 use Rattle.std.specs.Option.{option_map_or}
 use Rattle.std.specs.List.{range_with_len}
-use Rattle.sig_base.proofs.Lists.{get-behind}
+use Rattle.sig_base.proofs.Lists.{get-after}
 use Rattle.model_core.specs.EventGraph.{EventGraph, EventVertex, watched_variables}
 use Rattle.model_core.specs.Rules.MarkedPlaces.{is_among}
 use Rattle.model_core.specs.Rules.Uses.{VariableUses, vertex_reads, vertex_writes, places_where}
@@ -26,7 +26,7 @@ one_change f false false x twice = refl
 ends-snoc : (xs : List ℕ) (y k : ℕ) → ends_with (xs ++ y ∷ []) k ≡ (y == k)
 ends-snoc xs y k =
     let last : length (xs ++ y ∷ []) - 1 ≡ length xs = omega (arith, length-append xs (y ∷ [])) in
-    ap (λ (n : ℕ). option_map_or (λ last. last == k) (slice_get (xs ++ y ∷ []) n) false) last ∙ ap (λ o. option_map_or (λ last. last == k) o false) (get-behind xs y [])
+    ap (λ (n : ℕ). option_map_or (λ last. last == k) (slice_get (xs ++ y ∷ []) n) false) last ∙ ap (λ o. option_map_or (λ last. last == k) o false) (get-after xs y [])
 
 once-twice : (xs : List ℕ) (k : ℕ) → once (once xs k) k ≡ once xs k
 once-twice xs k = tested (ends_with xs k) refl where

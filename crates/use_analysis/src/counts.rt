@@ -6,7 +6,7 @@ ghost use Rattle.model_core.specs.Rules.MarkedPlaces.{is_among};
 ghost use Rattle.model_core.specs.Rules.Uses.{change_reads, change_writes, edge_reads};
 ghost use Rattle.model_core.specs.Code.Views.{change_of, edge_of};
 ghost use Rattle.use_analysis.specs.UseNumbers.{changed_where, raised_at, lowered_at, no_numbers, CanRaise, CanLower};
-ghost use Rattle.use_analysis.specs.Inner.Moving.{shifted, numbers_of, StampedTo, StampedBelow, nothing_stamped, wiped};
+ghost use Rattle.use_analysis.specs.Inner.Moving.{shifted, numbers_of, StampedTo, StampedBelow, nothing_stamped, without_stamp};
 
 use crate::moving::{
     Part, Stamped, Way, move_read_by_change, move_read_by_edge, move_set_by_change,
@@ -56,8 +56,8 @@ fn nothing_stamped(alloc: Global, count: usize) -> Result<Vec<Stamped>, NoMemory
 }
 
 /// Takes all stamps away.
-fn wipe(numbers: &mut Vec<Stamped>)
-    ensures { numbers.new.items ≡ map wiped numbers.old.items }
+fn clear_stamps(numbers: &mut Vec<Stamped>)
+    ensures { numbers.new.items ≡ map without_stamp numbers.old.items }
 {
     for number in numbers.iter_mut() {
         number.stamp = 0;
@@ -65,7 +65,7 @@ fn wipe(numbers: &mut Vec<Stamped>)
 }
 
 /// Takes all stamps away where no later one is left.
-fn leave_a_stamp(numbers: &mut Numbers)
+fn ensure_free_stamp(numbers: &mut Numbers)
     requires readers { StampedTo numbers.old.last numbers.old.readers.items }
     requires setters { StampedTo numbers.old.last numbers.old.setters.items }
     ensures left { numbers.new.last < 2 ^ 64 - 1 }
@@ -77,8 +77,8 @@ fn leave_a_stamp(numbers: &mut Numbers)
     if numbers.last < u64::MAX {
         return;
     }
-    wipe(&mut numbers.readers);
-    wipe(&mut numbers.setters);
+    clear_stamps(&mut numbers.readers);
+    clear_stamps(&mut numbers.setters);
     numbers.last = 0;
 }
 
@@ -93,7 +93,7 @@ fn next_part(numbers: &mut Numbers, way: Way) -> Part
     ensures new_to_readers { StampedBelow result.stamp numbers.new.readers.items }
     ensures new_to_setters { StampedBelow result.stamp numbers.new.setters.items }
 {
-    leave_a_stamp(numbers);
+    ensure_free_stamp(numbers);
     numbers.last += 1;
     Part {
         way,

@@ -12,27 +12,27 @@ ghost use Rattle.model_core.specs.Code.Views.{expression_of, location_of, change
 use model_core::{Change, Delay, Edge, EdgeForm, Expr, Target, Vertex};
 
 /// Whether a variable occurs in an expression.
-fn stands_in(expr: &Expr, var: usize) -> bool
+fn occurs_in(expr: &Expr, var: usize) -> bool
     ensures { result ≡ is_among (variables_in (expression_of expr.now)) var }
 {
     match expr {
         Expr::Int(_) | Expr::Truth(_) | Expr::Clk => false,
         Expr::Scalar(v) => *v == var,
-        Expr::Cell(v, index) => *v == var || stands_in(index, var),
-        Expr::Neg(a) | Expr::Not(a) => stands_in(a, var),
-        Expr::Binary(_, left, right) => { stands_in(left, var) || stands_in(right, var) }
+        Expr::Cell(v, index) => *v == var || occurs_in(index, var),
+        Expr::Neg(a) | Expr::Not(a) => occurs_in(a, var),
+        Expr::Binary(_, left, right) => { occurs_in(left, var) || occurs_in(right, var) }
         Expr::If(test, yes, no) => {
-            stands_in(test, var) || stands_in(yes, var) || stands_in(no, var)
+            occurs_in(test, var) || occurs_in(yes, var) || occurs_in(no, var)
         }
     }
 }
 
 /// Whether a variable occurs in one of these expressions.
-fn stands_in_one(exprs: &[Expr], var: usize) -> bool
+fn occurs_in_one(exprs: &[Expr], var: usize) -> bool
     ensures { result ≡ is_among (flat_map variables_in (map expression_of exprs.now)) var }
 {
     for expr in exprs {
-        if stands_in(expr, var) {
+        if occurs_in(expr, var) {
             return true;
         }
     }
@@ -45,7 +45,7 @@ fn indexes(target: &Target, var: usize) -> bool
 {
     match &target.index {
         None => false,
-        Some(index) => stands_in(index, var),
+        Some(index) => occurs_in(index, var),
     }
 }
 
@@ -67,7 +67,7 @@ pub fn reads_of_change(change: &Change, var: usize) -> bool
 {
     match change {
         Change::Set { targets, values } => {
-            indexes_one(targets.as_slice(), var) || stands_in_one(values.as_slice(), var)
+            indexes_one(targets.as_slice(), var) || occurs_in_one(values.as_slice(), var)
         }
         Change::Draw {
             target,
@@ -82,7 +82,7 @@ fn reads_of_delay(delay: &Delay, var: usize) -> bool
     ensures { result ≡ is_among (delay_reads (edge_delay_of delay.now)) var }
 {
     match delay {
-        Delay::Fixed(expr) => stands_in(expr, var),
+        Delay::Fixed(expr) => occurs_in(expr, var),
         Delay::Drawn { .. } => false,
     }
 }
@@ -103,9 +103,9 @@ fn reads_of_timing(form: &EdgeForm, var: usize) -> bool
 pub fn reads_of_edge(edge: &Edge, var: usize) -> bool
     ensures { result ≡ is_among (edge_reads (edge_of edge.now)) var }
 {
-    stands_in(&edge.condition, var)
+    occurs_in(&edge.condition, var)
         || reads_of_timing(&edge.form, var)
-        || stands_in_one(edge.values.as_slice(), var)
+        || occurs_in_one(edge.values.as_slice(), var)
 }
 
 /// Whether one of these changes reads a variable.

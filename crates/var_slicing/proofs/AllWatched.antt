@@ -10,9 +10,9 @@ use Rattle.model_core.proofs.Among.{Among, among-contained, contained-among, amo
 use Rattle.mark_laws.specs.PlacePairs.{pairs_from}
 use Rattle.mark_laws.proofs.EntailedMarks.{entailed-marked, entailed_marks-long, entailed_marks-entailed, entailed_marks-hold, marks-implied}
 use Rattle.mark_laws.proofs.UnmarkedPlaces.{none_unmarked, marked_all}
-use Rattle.var_slicing.specs.Inner.Linking.{no_lists, linked}
+use Rattle.var_slicing.specs.Inner.Linking.{no_lists, lists_of_pairs}
 use Rattle.var_slicing.specs.Inner.Unwatched.{unwatched}
-use Rattle.var_slicing.proofs.LinkedLaws.{linked-length, pairs-linked, linked-pairs}
+use Rattle.var_slicing.proofs.LinkedLaws.{lists_of_pairs-length, pairs-lists_of_pairs, lists_of_pairs-pairs}
 
 -- what is there at first, with nothing that any pair leads to, is entailed by more at first and by pairs
 pub no_pair : (count : ℕ) (first whole : List ℕ) (pairs : List (ℕ × ℕ)) → ((k : ℕ) → Among k first → Among k whole) → {k : ℕ} → Entailed count first [] k → Entailed count whole pairs k
@@ -20,10 +20,10 @@ no_pair count first whole pairs more (from_first k below there) = from_first k b
 no_pair count first whole pairs more (over_pair j k below before there) = absurd (among-contained [] (j, k) there)
 
 -- the marks that are found where the list of each place is empty
-pub unlinked-marked : (first : List ℕ) (next : List (List ℕ)) (n : ℕ) → next ≡ linked [] (no_lists n) → entailed_marks (length next) first (pairs_from 0 next) ≡ entailed_marks n first []
+pub unlinked-marked : (first : List ℕ) (next : List (List ℕ)) (n : ℕ) → next ≡ lists_of_pairs [] (no_lists n) → entailed_marks (length next) first (pairs_from 0 next) ≡ entailed_marks n first []
 unlinked-marked first next n listed = rw listed
-    (ap (λ (m : ℕ). entailed_marks m first (pairs_from 0 (linked [] (no_lists n)))) (linked-length [] n)
-    ∙ marks-implied n first (pairs_from 0 (linked [] (no_lists n))) [] (linked-pairs [] n first) (pairs-linked [] n first))
+    (ap (λ (m : ℕ). entailed_marks m first (pairs_from 0 (lists_of_pairs [] (no_lists n)))) (lists_of_pairs-length [] n)
+    ∙ marks-implied n first (pairs_from 0 (lists_of_pairs [] (no_lists n))) [] (lists_of_pairs-pairs [] n first) (pairs-lists_of_pairs [] n first))
 
 module _ (g : EventGraph) where
   watched-needed : (k : ℕ) → Among k (watched_variables g.watch) → Among k (needed_at_once g)

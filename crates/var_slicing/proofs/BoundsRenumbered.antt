@@ -14,10 +14,10 @@ use Rattle.model_core.specs.Rules.Settle.{is_literal_true, can_be_settled, first
 use Rattle.model_core.specs.Rules.MarkedPlaces.{rank}
 use Rattle.model_core.specs.Rules.Uses.{variables_in}
 use Rattle.model_core.specs.Rules.Needed.{needed_marks}
-use Rattle.model_core.specs.Rules.Slice.{expression_renumbered, edge_left, vertex_left, of_marked_variables, slice_conditions, sliced}
+use Rattle.model_core.specs.Rules.Slice.{expression_renumbered, sliced_edge, sliced_vertex, of_marked_variables, slice_conditions, sliced}
 use Rattle.mark_laws.proofs.Marks.{Marked}
 use Rattle.bound_laws.proofs.NoGuard.{beside_no_guard}
-use Rattle.model_core.proofs.EachOne.{every-front, every-behind, every-map}
+use Rattle.model_core.proofs.EachOne.{every-front, every-after, every-map}
 use Rattle.var_slicing.proofs.StoresLeft.{variable-left}
 use Rattle.var_slicing.proofs.ValuesLeft.{ReadsMarked}
 use Rattle.var_slicing.proofs.NeedsClosed.{EdgeNeeds, NeedsHold, live_streams}
@@ -44,12 +44,12 @@ module _ (f : ℕ → ℕ) (old new : List Variable) where
   bounds-renumbered (Not a) same = ap opposite (bounds-renumbered a same)
   bounds-renumbered (Binary op a b) same =
       operands-bounds new op (expression_renumbered f a) (expression_renumbered f b)
-      ∙ ap₂ (operator_bounds op) (bounds-renumbered a (every-front RangedSame (variables_in a) (variables_in b) same)) (bounds-renumbered b (every-behind RangedSame (variables_in a) (variables_in b) same))
+      ∙ ap₂ (operator_bounds op) (bounds-renumbered a (every-front RangedSame (variables_in a) (variables_in b) same)) (bounds-renumbered b (every-after RangedSame (variables_in a) (variables_in b) same))
       ∙ sym (operands-bounds old op a b)
   bounds-renumbered (If c a b) same =
       let first = every-front RangedSame (variables_in c ++ variables_in a) (variables_in b) same in
-      ap₂ (λ (x y : Bounds). chosen_bounds x y (bounds_under no_guard new (expression_renumbered f b))) (bounds-renumbered c (every-front RangedSame (variables_in c) (variables_in a) first)) (bounds-renumbered a (every-behind RangedSame (variables_in c) (variables_in a) first))
-      ∙ ap (chosen_bounds (bounds_under no_guard old c) (bounds_under no_guard old a)) (bounds-renumbered b (every-behind RangedSame (variables_in c ++ variables_in a) (variables_in b) same))
+      ap₂ (λ (x y : Bounds). chosen_bounds x y (bounds_under no_guard new (expression_renumbered f b))) (bounds-renumbered c (every-front RangedSame (variables_in c) (variables_in a) first)) (bounds-renumbered a (every-after RangedSame (variables_in c) (variables_in a) first))
+      ∙ ap (chosen_bounds (bounds_under no_guard old c) (bounds_under no_guard old a)) (bounds-renumbered b (every-after RangedSame (variables_in c ++ variables_in a) (variables_in b) same))
 
 pub bounds-left : (g : EventGraph) (marks : List Bool) (e : Expression) → ReadsMarked marks e → bounds_of (of_marked_variables g marks) (expression_renumbered (rank marks) e) ≡ bounds_of g e
 bounds-left g marks e reads =
@@ -81,20 +81,20 @@ module _ (g : EventGraph) (marks live : List Bool) (needs : NeedsHold g marks li
   abbrev h : EventGraph
   h = of_marked_variables g marks
 
-  refuted-left : (e : EventEdge) → EdgeNeeds g marks e → has_refuted_condition h (edge_left g marks e) ≡ has_refuted_condition g e
+  refuted-left : (e : EventEdge) → EdgeNeeds g marks e → has_refuted_condition h (sliced_edge g marks e) ≡ has_refuted_condition g e
   refuted-left e need = ap refuted (bounds-left g marks e.condition need.0)
 
-  settled-left : (e : EventEdge) → EdgeNeeds g marks e → can_be_settled h (edge_left g marks e) ≡ can_be_settled g e
+  settled-left : (e : EventEdge) → EdgeNeeds g marks e → can_be_settled h (sliced_edge g marks e) ≡ can_be_settled g e
   settled-left e need = ap₂ (λ (b c : Bool). not b && c) (literal-left (rank marks) e.condition) (ap proved (bounds-left g marks e.condition need.0))
 
-  each-edge : (test new_test : EventEdge → Bool) → ((e : EventEdge) → EdgeNeeds g marks e → new_test (edge_left g marks e) ≡ test e) → AllByRecursion (λ (v : EventVertex). AllByRecursion (λ (e : EventEdge). new_test (edge_left g marks e) ≡ test e) v.edges) g.vertices
-  each-edge test new_test same = every-map (λ (v : EventVertex). AllByRecursion (EdgeNeeds g marks) v.edges) (λ (v : EventVertex). AllByRecursion (λ (e : EventEdge). new_test (edge_left g marks e) ≡ test e) v.edges) (λ v all. every-map (EdgeNeeds g marks) (λ e. new_test (edge_left g marks e) ≡ test e) same v.edges all) g.vertices needs.edges
+  each-edge : (test new_test : EventEdge → Bool) → ((e : EventEdge) → EdgeNeeds g marks e → new_test (sliced_edge g marks e) ≡ test e) → AllByRecursion (λ (v : EventVertex). AllByRecursion (λ (e : EventEdge). new_test (sliced_edge g marks e) ≡ test e) v.edges) g.vertices
+  each-edge test new_test same = every-map (λ (v : EventVertex). AllByRecursion (EdgeNeeds g marks) v.edges) (λ (v : EventVertex). AllByRecursion (λ (e : EventEdge). new_test (sliced_edge g marks e) ≡ test e) v.edges) (λ v all. every-map (EdgeNeeds g marks) (λ e. new_test (sliced_edge g marks e) ≡ test e) same v.edges all) g.vertices needs.edges
 
   first_prune-left : first_prune h ≡ first_prune g
-  first_prune-left = first_edge-mapped (has_refuted_condition g) (has_refuted_condition h) (edge_left g marks) (vertex_left g marks) (λ v. refl) g.vertices (each-edge (has_refuted_condition g) (has_refuted_condition h) refuted-left) 0
+  first_prune-left = first_edge-mapped (has_refuted_condition g) (has_refuted_condition h) (sliced_edge g marks) (sliced_vertex g marks) (λ v. refl) g.vertices (each-edge (has_refuted_condition g) (has_refuted_condition h) refuted-left) 0
 
   first_settle-left : first_settle h ≡ first_settle g
-  first_settle-left = first_edge-mapped (can_be_settled g) (can_be_settled h) (edge_left g marks) (vertex_left g marks) (λ v. refl) g.vertices (each-edge (can_be_settled g) (can_be_settled h) settled-left) 0
+  first_settle-left = first_edge-mapped (can_be_settled g) (can_be_settled h) (sliced_edge g marks) (sliced_vertex g marks) (λ v. refl) g.vertices (each-edge (can_be_settled g) (can_be_settled h) settled-left) 0
 
 -- ---- the result of slicing
 

@@ -4,7 +4,7 @@ use Rattle.std.specs.List.{AllByRecursion, AllZip}
 use Rattle.model_core.specs.declared.model.Kind.{Kind}
 use Rattle.model_core.specs.EventGraph.{EventGraph, Expression, Location}
 use Rattle.model_core.specs.Rules.MarkedPlaces.{rank, is_marked}
-use Rattle.model_core.specs.Rules.Slice.{location_renumbered, kept_beside, parameters_left, targets_left}
+use Rattle.model_core.specs.Rules.Slice.{location_renumbered, items_where_marked, sliced_parameters, sliced_targets}
 use Rattle.mark_laws.proofs.Marks.{Marked}
 use Rattle.var_slicing.proofs.ValuesLeft.{ReadsMarked}
 use Rattle.var_slicing.proofs.ChangesLeft.{IndexReadsMarked}
@@ -15,10 +15,10 @@ use Rattle.var_slicing.proofs.NeedsClosed.{SetNeeds, ParameterNeeds}
 abbrev pub variables_of : List Location → List ℕ
 variables_of ls = map (λ (l : Location). l.variable) ls
 
-pub targets-kept : (marks : List Bool) (ls : List Location) → targets_left marks ls ≡ map (location_renumbered (rank marks)) (kept_beside marks (variables_of ls) ls)
+pub targets-kept : (marks : List Bool) (ls : List Location) → sliced_targets marks ls ≡ map (location_renumbered (rank marks)) (items_where_marked marks (variables_of ls) ls)
 targets-kept marks [] = refl
 targets-kept marks (l ∷ ls) = tested (is_marked marks l.variable) (targets-kept marks ls) where
-  tested : (b : Bool) → targets_left marks ls ≡ map (location_renumbered (rank marks)) (kept_beside marks (variables_of ls) ls) → cond b (location_renumbered (rank marks) l ∷ targets_left marks ls) (targets_left marks ls) ≡ map (location_renumbered (rank marks)) (cond b (l ∷ kept_beside marks (variables_of ls) ls) (kept_beside marks (variables_of ls) ls))
+  tested : (b : Bool) → sliced_targets marks ls ≡ map (location_renumbered (rank marks)) (items_where_marked marks (variables_of ls) ls) → cond b (location_renumbered (rank marks) l ∷ sliced_targets marks ls) (sliced_targets marks ls) ≡ map (location_renumbered (rank marks)) (cond b (l ∷ items_where_marked marks (variables_of ls) ls) (items_where_marked marks (variables_of ls) ls))
   tested true e = ap (λ rest. location_renumbered (rank marks) l ∷ rest) e
   tested false e = e
 
@@ -35,44 +35,44 @@ ValuesRead marks [] es = AllByRecursion (ReadsMarked marks) es
 ValuesRead marks (v ∷ vs) [] = Unit {0}
 ValuesRead marks (v ∷ vs) (e ∷ es) = (Marked marks v → ReadsMarked marks e) × ValuesRead marks vs es
 
-pub targets-marked : (marks : List Bool) (ls : List Location) → TargetsRead marks ls → AllByRecursion (TargetMarked marks) (kept_beside marks (variables_of ls) ls)
+pub targets-marked : (marks : List Bool) (ls : List Location) → TargetsRead marks ls → AllByRecursion (TargetMarked marks) (items_where_marked marks (variables_of ls) ls)
 targets-marked marks [] reads = tt
 targets-marked marks (l ∷ ls) reads = tested (is_marked marks l.variable) refl (targets-marked marks ls reads.1) where
-  tested : (b : Bool) → is_marked marks l.variable ≡ b → AllByRecursion (TargetMarked marks) (kept_beside marks (variables_of ls) ls) → AllByRecursion (TargetMarked marks) (cond b (l ∷ kept_beside marks (variables_of ls) ls) (kept_beside marks (variables_of ls) ls))
+  tested : (b : Bool) → is_marked marks l.variable ≡ b → AllByRecursion (TargetMarked marks) (items_where_marked marks (variables_of ls) ls) → AllByRecursion (TargetMarked marks) (cond b (l ∷ items_where_marked marks (variables_of ls) ls) (items_where_marked marks (variables_of ls) ls))
   tested true marked rest = ((marked, reads.0 marked), rest)
   tested false unmarked rest = rest
 
-pub values-marked : (marks : List Bool) (vs : List ℕ) (es : List Expression) → ValuesRead marks vs es → AllByRecursion (ReadsMarked marks) (kept_beside marks vs es)
+pub values-marked : (marks : List Bool) (vs : List ℕ) (es : List Expression) → ValuesRead marks vs es → AllByRecursion (ReadsMarked marks) (items_where_marked marks vs es)
 values-marked marks [] es reads = reads
 values-marked marks (v ∷ vs) [] reads = tt
 values-marked marks (v ∷ vs) (e ∷ es) reads = tested (is_marked marks v) refl (values-marked marks vs es reads.1) where
-  tested : (b : Bool) → is_marked marks v ≡ b → AllByRecursion (ReadsMarked marks) (kept_beside marks vs es) → AllByRecursion (ReadsMarked marks) (cond b (e ∷ kept_beside marks vs es) (kept_beside marks vs es))
+  tested : (b : Bool) → is_marked marks v ≡ b → AllByRecursion (ReadsMarked marks) (items_where_marked marks vs es) → AllByRecursion (ReadsMarked marks) (cond b (e ∷ items_where_marked marks vs es) (items_where_marked marks vs es))
   tested true marked rest = (reads.0 marked, rest)
   tested false unmarked rest = rest
 
-pub parameters-kept : (marks : List Bool) (vs : List ℕ) → parameters_left marks vs ≡ map (rank marks) (kept_beside marks vs vs)
+pub parameters-kept : (marks : List Bool) (vs : List ℕ) → sliced_parameters marks vs ≡ map (rank marks) (items_where_marked marks vs vs)
 parameters-kept marks [] = refl
 parameters-kept marks (v ∷ vs) = tested (is_marked marks v) (parameters-kept marks vs) where
-  tested : (b : Bool) → parameters_left marks vs ≡ map (rank marks) (kept_beside marks vs vs) → cond b (rank marks v ∷ parameters_left marks vs) (parameters_left marks vs) ≡ map (rank marks) (cond b (v ∷ kept_beside marks vs vs) (kept_beside marks vs vs))
+  tested : (b : Bool) → sliced_parameters marks vs ≡ map (rank marks) (items_where_marked marks vs vs) → cond b (rank marks v ∷ sliced_parameters marks vs) (sliced_parameters marks vs) ≡ map (rank marks) (cond b (v ∷ items_where_marked marks vs vs) (items_where_marked marks vs vs))
   tested true e = ap (λ rest. rank marks v ∷ rest) e
   tested false e = e
 
-pub parameters-marked : (marks : List Bool) (vs : List ℕ) → AllByRecursion (Marked marks) (kept_beside marks vs vs)
+pub parameters-marked : (marks : List Bool) (vs : List ℕ) → AllByRecursion (Marked marks) (items_where_marked marks vs vs)
 parameters-marked marks [] = tt
 parameters-marked marks (v ∷ vs) = tested (is_marked marks v) refl (parameters-marked marks vs) where
-  tested : (b : Bool) → is_marked marks v ≡ b → AllByRecursion (Marked marks) (kept_beside marks vs vs) → AllByRecursion (Marked marks) (cond b (v ∷ kept_beside marks vs vs) (kept_beside marks vs vs))
+  tested : (b : Bool) → is_marked marks v ≡ b → AllByRecursion (Marked marks) (items_where_marked marks vs vs) → AllByRecursion (Marked marks) (cond b (v ∷ items_where_marked marks vs vs) (items_where_marked marks vs vs))
   tested true marked rest = (marked, rest)
   tested false unmarked rest = rest
 
 -- ---- lists beside one another
 
-pub zip-kept : {A B : Type 0} (R : A → B → Type 0) (marks : List Bool) (vs : List ℕ) (xs : List A) (ys : List B) → AllZip R xs ys → AllZip R (kept_beside marks vs xs) (kept_beside marks vs ys)
+pub zip-kept : {A B : Type 0} (R : A → B → Type 0) (marks : List Bool) (vs : List ℕ) (xs : List A) (ys : List B) → AllZip R xs ys → AllZip R (items_where_marked marks vs xs) (items_where_marked marks vs ys)
 zip-kept R marks [] xs ys all = all
 zip-kept R marks (v ∷ vs) [] [] all = tt
 zip-kept R marks (v ∷ vs) [] (y ∷ ys) all = absurd all
 zip-kept R marks (v ∷ vs) (x ∷ xs) [] all = absurd all
 zip-kept R marks (v ∷ vs) (x ∷ xs) (y ∷ ys) all = tested (is_marked marks v) (zip-kept R marks vs xs ys all.1) where
-  tested : (b : Bool) → AllZip R (kept_beside marks vs xs) (kept_beside marks vs ys) → AllZip R (cond b (x ∷ kept_beside marks vs xs) (kept_beside marks vs xs)) (cond b (y ∷ kept_beside marks vs ys) (kept_beside marks vs ys))
+  tested : (b : Bool) → AllZip R (items_where_marked marks vs xs) (items_where_marked marks vs ys) → AllZip R (cond b (x ∷ items_where_marked marks vs xs) (items_where_marked marks vs xs)) (cond b (y ∷ items_where_marked marks vs ys) (items_where_marked marks vs ys))
   tested true rest = (all.0, rest)
   tested false rest = rest
 

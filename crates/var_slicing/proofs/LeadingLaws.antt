@@ -9,7 +9,7 @@ use Rattle.model_core.specs.Rules.Needed.{needed_by_streams}
 use Rattle.model_core.proofs.Among.{Among, contained-among, among-map, among-of_map, among-front, among-back, among-flat_map, among-either, among-filter}
 use Rattle.model_core.proofs.PlacesChanged.{same_number}
 use Rattle.mark_laws.proofs.EntailedMarks.{same-place, entailed-below, Implied}
-use Rattle.var_slicing.specs.Inner.Leading.{leader, next_leaders, leaders_after, leaders_of, led_pairs}
+use Rattle.var_slicing.specs.Inner.Leading.{leader, next_leaders, leaders_after, leaders_of, leader_pairs}
 
 -- ---- what flat maps and filters hold
 
@@ -107,19 +107,19 @@ module _ (count : ℕ) where
   -- ---- pairs
 
   abbrev pub through_leaders : List (ℕ × ℕ) → List (ℕ × ℕ)
-  through_leaders draws = flat_map (led_pairs (leaders_of count draws)) draws
+  through_leaders draws = flat_map (leader_pairs (leaders_of count draws)) draws
 
   leader-draw : (draws : List (ℕ × ℕ)) (s l : ℕ) → leader (leaders_of count draws) s ≡ Some l → Among (s, l) draws
   leader-draw draws s l is = after-draws draws [] draws (λ p none. absurd none) (λ p h. h) (s, l) (leader-among (leaders_of count draws) s l is)
 
   to_leader : (draws : List (ℕ × ℕ)) (s v l : ℕ) → Among (s, v) draws → leader (leaders_of count draws) s ≡ Some l → Among (v, l) (through_leaders draws)
   to_leader draws s v l among is =
-      among-flat_map (led_pairs (leaders_of count draws)) draws (s, v) (v, l) among
+      among-flat_map (leader_pairs (leaders_of count draws)) draws (s, v) (v, l) among
       (subst (λ (o : Option ℕ). Among {A = ℕ × ℕ} (v, l) (option_map_or (λ l. (l, v) ∷ (v, l) ∷ []) o [])) (sym is) (inr (inl refl)))
 
   from_leader : (draws : List (ℕ × ℕ)) (s v l : ℕ) → Among (s, v) draws → leader (leaders_of count draws) s ≡ Some l → Among (l, v) (through_leaders draws)
   from_leader draws s v l among is =
-      among-flat_map (led_pairs (leaders_of count draws)) draws (s, v) (l, v) among
+      among-flat_map (leader_pairs (leaders_of count draws)) draws (s, v) (l, v) among
       (subst (λ (o : Option ℕ). Among {A = ℕ × ℕ} (l, v) (option_map_or (λ l. (l, v) ∷ (v, l) ∷ []) o [])) (sym is) (inl refl))
 
   -- leaders are below the count
@@ -149,7 +149,7 @@ module _ (count : ℕ) where
 
   led-one_stream : (draws : List (ℕ × ℕ)) (j k : ℕ) → Among (j, k) (through_leaders draws) → OneStream draws j k
   led-one_stream draws j k among =
-      let (p, drawn, there) = among-of_flat_map (led_pairs (leaders_of count draws)) draws (j, k) among in
+      let (p, drawn, there) = among-of_flat_map (leader_pairs (leaders_of count draws)) draws (j, k) among in
       by p.0 p.1 drawn (leader (leaders_of count draws) p.0) refl there where
         by : (s v : ℕ) → Among (s, v) draws → (o : Option ℕ) → leader (leaders_of count draws) s ≡ o → Among {A = ℕ × ℕ} (j, k) (option_map_or (λ l. (l, v) ∷ (v, l) ∷ []) o []) → OneStream draws j k
         by s v drawn None is none = absurd none

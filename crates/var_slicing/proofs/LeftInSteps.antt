@@ -5,7 +5,7 @@ use Rattle.model_core.specs.declared.vertex.Vertex.{Vertex}
 use Rattle.model_core.specs.EventGraph.{EventGraph, EventVertex, EventEdge}
 use Rattle.model_core.specs.Run.Step.{no_vertex}
 use Rattle.model_core.specs.Static.OwnRules.{parameters_of}
-use Rattle.model_core.specs.Rules.Slice.{values_left, edge_left, vertex_left}
+use Rattle.model_core.specs.Rules.Slice.{sliced_values, sliced_edge, sliced_vertex}
 use Rattle.model_core.specs.Code.Views.{vertex_of, edge_of}
 use Rattle.sig_base.proofs.Lists.{ChangedTo, ChangedTo-step}
 use Rattle.var_slicing.specs.Inner.StepsOfLeaving.{edge_left_in, edges_left_in, own_parts_left}
@@ -56,14 +56,14 @@ one_vertex_more marks i xs ys x emptied again v below is there params rest made 
 -- ---- both steps
 
 module _ (g : EventGraph) (marks : List Bool) where
-  same_edge : (e : EventEdge) → edge_left_in (parameters_of g) marks e ≡ edge_left g marks e
-  same_edge e = ap (λ (ps : List ℕ). record (edge_left g marks e) { values = values_left marks ps e.values }) (parameters_there g.vertices e.target)
+  same_edge : (e : EventEdge) → edge_left_in (parameters_of g) marks e ≡ sliced_edge g marks e
+  same_edge e = ap (λ (ps : List ℕ). record (sliced_edge g marks e) { values = sliced_values marks ps e.values }) (parameters_there g.vertices e.target)
 
-  same_edges : (es : List EventEdge) → map (edge_left_in (parameters_of g) marks) es ≡ map (edge_left g marks) es
+  same_edges : (es : List EventEdge) → map (edge_left_in (parameters_of g) marks) es ≡ map (sliced_edge g marks) es
   same_edges [] = refl
   same_edges (e ∷ es) = ap₂ (λ (e : EventEdge) (es : List EventEdge). e ∷ es) (same_edge e) (same_edges es)
 
-  pub in_two_steps : (vs : List EventVertex) → map (own_parts_left marks) (map (edges_left_in (parameters_of g) marks) vs) ≡ map (vertex_left g marks) vs
+  pub in_two_steps : (vs : List EventVertex) → map (own_parts_left marks) (map (edges_left_in (parameters_of g) marks) vs) ≡ map (sliced_vertex g marks) vs
   in_two_steps [] = refl
   in_two_steps (v ∷ vs) =
-      ap₂ (λ (es : List EventEdge) (rest : List EventVertex). record (vertex_left g marks v) { edges = es } ∷ rest) (same_edges v.edges) (in_two_steps vs)
+      ap₂ (λ (es : List EventEdge) (rest : List EventVertex). record (sliced_vertex g marks v) { edges = es } ∷ rest) (same_edges v.edges) (in_two_steps vs)

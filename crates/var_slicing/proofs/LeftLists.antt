@@ -3,7 +3,7 @@ use Rattle.std.proofs.Common.{◌≡◌, ℕ, zero, suc, ◌<◌, Bool, true, fa
 use Rattle.model_core.specs.declared.vertex.Target.{Target}
 use Rattle.model_core.specs.EventGraph.{Expression, Location}
 use Rattle.model_core.specs.Rules.MarkedPlaces.{rank, is_marked}
-use Rattle.model_core.specs.Rules.Slice.{expression_renumbered, location_renumbered, kept_beside, values_left, parameters_left, targets_left}
+use Rattle.model_core.specs.Rules.Slice.{expression_renumbered, location_renumbered, items_where_marked, sliced_values, sliced_parameters, sliced_targets}
 use Rattle.model_core.specs.Code.Views.{location_of}
 use Rattle.var_slicing.specs.Inner.Beside.{keeps_beside}
 
@@ -18,19 +18,19 @@ first_or_none false x xs = refl
 
 -- ---- values beside variables
 
-values-first : (marks : List Bool) (vars : List ℕ) (i : ℕ) (x : Expression) (rest : List Expression) → values_left marks (drop i vars) (x ∷ rest) ≡ cond (keeps_beside marks vars i) (expression_renumbered (rank marks) x ∷ []) [] ++ values_left marks (drop (suc i) vars) rest
+values-first : (marks : List Bool) (vars : List ℕ) (i : ℕ) (x : Expression) (rest : List Expression) → sliced_values marks (drop i vars) (x ∷ rest) ≡ cond (keeps_beside marks vars i) (expression_renumbered (rank marks) x ∷ []) [] ++ sliced_values marks (drop (suc i) vars) rest
 values-first marks [] zero x rest = refl
 values-first marks [] (suc i) x rest = refl
 values-first marks (v ∷ vs) zero x rest = tested (is_marked marks v) where
-  tested : (b : Bool) → map (expression_renumbered (rank marks)) (cond b (x ∷ kept_beside marks vs rest) (kept_beside marks vs rest)) ≡ cond b (expression_renumbered (rank marks) x ∷ []) [] ++ values_left marks vs rest
+  tested : (b : Bool) → map (expression_renumbered (rank marks)) (cond b (x ∷ items_where_marked marks vs rest) (items_where_marked marks vs rest)) ≡ cond b (expression_renumbered (rank marks) x ∷ []) [] ++ sliced_values marks vs rest
   tested true = refl
   tested false = refl
 values-first marks (v ∷ vs) (suc i) x rest = values-first marks vs i x rest
 
-pub values-at : (marks : List Bool) (vars : List ℕ) (i : ℕ) (x y : Expression) (b : Bool) → b ≡ keeps_beside marks vars i → y ≡ expression_renumbered (rank marks) x → (rest : List Expression) → values_left marks (drop i vars) (x ∷ rest) ≡ cond b (y ∷ []) [] ++ values_left marks (drop (suc i) vars) rest
+pub values-at : (marks : List Bool) (vars : List ℕ) (i : ℕ) (x y : Expression) (b : Bool) → b ≡ keeps_beside marks vars i → y ≡ expression_renumbered (rank marks) x → (rest : List Expression) → sliced_values marks (drop i vars) (x ∷ rest) ≡ cond b (y ∷ []) [] ++ sliced_values marks (drop (suc i) vars) rest
 values-at marks vars i x y b stays is rest = values-first marks vars i x rest ∙ told _ (sym stays) (sym is)
 
-pub values-none : (marks : List Bool) (vars : List ℕ) → values_left marks vars [] ≡ []
+pub values-none : (marks : List Bool) (vars : List ℕ) → sliced_values marks vars [] ≡ []
 values-none marks [] = refl
 values-none marks (v ∷ vs) = refl
 
@@ -42,8 +42,8 @@ variable_there (u ∷ ts) (suc k) t there is = variable_there ts k t (omega arit
 
 -- ---- parameters and targets
 
-pub parameters-at : (marks : List Bool) (v r : ℕ) (b : Bool) → b ≡ is_marked marks v → r ≡ rank marks v → (rest : List ℕ) → parameters_left marks (v ∷ rest) ≡ cond b (r ∷ []) [] ++ parameters_left marks rest
-parameters-at marks v r b stays is rest = first_or_none (is_marked marks v) (rank marks v) (parameters_left marks rest) ∙ told _ (sym stays) (sym is)
+pub parameters-at : (marks : List Bool) (v r : ℕ) (b : Bool) → b ≡ is_marked marks v → r ≡ rank marks v → (rest : List ℕ) → sliced_parameters marks (v ∷ rest) ≡ cond b (r ∷ []) [] ++ sliced_parameters marks rest
+parameters-at marks v r b stays is rest = first_or_none (is_marked marks v) (rank marks v) (sliced_parameters marks rest) ∙ told _ (sym stays) (sym is)
 
-pub targets-at : (marks : List Bool) (l m : Location) (b : Bool) → b ≡ is_marked marks l.variable → m ≡ location_renumbered (rank marks) l → (rest : List Location) → targets_left marks (l ∷ rest) ≡ cond b (m ∷ []) [] ++ targets_left marks rest
-targets-at marks l m b stays is rest = first_or_none (is_marked marks l.variable) (location_renumbered (rank marks) l) (targets_left marks rest) ∙ told _ (sym stays) (sym is)
+pub targets-at : (marks : List Bool) (l m : Location) (b : Bool) → b ≡ is_marked marks l.variable → m ≡ location_renumbered (rank marks) l → (rest : List Location) → sliced_targets marks (l ∷ rest) ≡ cond b (m ∷ []) [] ++ sliced_targets marks rest
+targets-at marks l m b stays is rest = first_or_none (is_marked marks l.variable) (location_renumbered (rank marks) l) (sliced_targets marks rest) ∙ told _ (sym stays) (sym is)

@@ -7,7 +7,7 @@ use Rattle.model_core.proofs.Among.{Among, contained-among, among-front, among-b
 use Rattle.model_core.proofs.PlacesChanged.{same_number, same_on_range, place-mapped}
 use Rattle.mark_laws.proofs.EntailedMarks.{same-place, entailed-below, Implied}
 use Rattle.mark_laws.specs.PlacePairs.{places_behind, pairs_from}
-use Rattle.var_slicing.specs.Inner.Linking.{no_lists, with_behind, linked}
+use Rattle.var_slicing.specs.Inner.Linking.{no_lists, with_behind, lists_of_pairs}
 use Rattle.mark_laws.proofs.PairsBehind.{behind-pairs, pairs-behind}
 
 -- the second places of the pairs that have this one as their first
@@ -19,19 +19,19 @@ one_more : (b : Bool) (xs : List ℕ) (k : ℕ) → cond b (with_behind k xs) xs
 one_more true xs k = refl
 one_more false xs k = sym (append-nil xs)
 
-linked-mapped : (pairs : List (ℕ × ℕ)) (F : ℕ → List ℕ) (n : ℕ) → linked pairs (map F (range_with_len 0 n)) ≡ map (λ j. F j ++ seconds j pairs) (range_with_len 0 n)
-linked-mapped [] F n = same_on_range F (λ j. F j ++ []) 0 n (λ j from. sym (append-nil (F j)))
-linked-mapped ((i, k) ∷ pairs) F n =
+lists_of_pairs-mapped : (pairs : List (ℕ × ℕ)) (F : ℕ → List ℕ) (n : ℕ) → lists_of_pairs pairs (map F (range_with_len 0 n)) ≡ map (λ j. F j ++ seconds j pairs) (range_with_len 0 n)
+lists_of_pairs-mapped [] F n = same_on_range F (λ j. F j ++ []) 0 n (λ j from. sym (append-nil (F j)))
+lists_of_pairs-mapped ((i, k) ∷ pairs) F n =
     let G : ℕ → List ℕ = λ j. cond (i == j) (with_behind k (F j)) (F j) in
-    ap (linked pairs) (place-mapped (with_behind k) F i i 0 n (omega arith)) ∙ linked-mapped pairs G n
+    ap (lists_of_pairs pairs) (place-mapped (with_behind k) F i i 0 n (omega arith)) ∙ lists_of_pairs-mapped pairs G n
     ∙ same_on_range (λ j. G j ++ seconds j pairs) (λ j. F j ++ seconds j ((i, k) ∷ pairs)) 0 n
     (λ j from. ap (λ xs. xs ++ seconds j pairs) (one_more (i == j) (F j) k) ∙ append_assoc (F j) (cond (i == j) (k ∷ []) []) (seconds j pairs))
 
-linked-lists : (pairs : List (ℕ × ℕ)) (n : ℕ) → linked pairs (no_lists n) ≡ map (λ j. seconds j pairs) (range_with_len 0 n)
-linked-lists pairs n = linked-mapped pairs (λ j. []) n
+lists_of_pairs-lists : (pairs : List (ℕ × ℕ)) (n : ℕ) → lists_of_pairs pairs (no_lists n) ≡ map (λ j. seconds j pairs) (range_with_len 0 n)
+lists_of_pairs-lists pairs n = lists_of_pairs-mapped pairs (λ j. []) n
 
-pub linked-length : (pairs : List (ℕ × ℕ)) (n : ℕ) → length (linked pairs (no_lists n)) ≡ n
-linked-length pairs n = ap length (linked-lists pairs n) ∙ length-map-range_with_len (λ j. seconds j pairs) 0 n
+pub lists_of_pairs-length : (pairs : List (ℕ × ℕ)) (n : ℕ) → length (lists_of_pairs pairs (no_lists n)) ≡ n
+lists_of_pairs-length pairs n = ap length (lists_of_pairs-lists pairs n) ∙ length-map-range_with_len (λ j. seconds j pairs) 0 n
 
 second-pair : (pairs : List (ℕ × ℕ)) (j k : ℕ) → Among k (seconds j pairs) → Among (j, k) pairs
 second-pair [] j k among = absurd among
@@ -54,22 +54,22 @@ pair-second ((i, n) ∷ pairs) j k (inl e) =
 
 module _ (pairs : List (ℕ × ℕ)) (n : ℕ) where
   abbrev lists : List (List ℕ)
-  lists = linked pairs (no_lists n)
+  lists = lists_of_pairs pairs (no_lists n)
 
   behind-seconds : (j : ℕ) → j < n → places_behind lists j ≡ seconds j pairs
   behind-seconds j below =
-      ap (λ (next : List (List ℕ)). slice_index_or next j []) (linked-lists pairs n) ∙ get_or-map-range_with_len (λ j. seconds j pairs) 0 n j j [] below (omega arith)
+      ap (λ (next : List (List ℕ)). slice_index_or next j []) (lists_of_pairs-lists pairs n) ∙ get_or-map-range_with_len (λ j. seconds j pairs) 0 n j j [] below (omega arith)
 
-  pub pairs-linked : (first : List ℕ) → Implied n first pairs (pairs_from 0 lists)
-  pairs-linked first = record {
+  pub pairs-lists_of_pairs : (first : List ℕ) → Implied n first pairs (pairs_from 0 lists)
+  pairs-lists_of_pairs first = record {
     over = λ j k among below before.
         over_pair j k below before
         (contained-among (pairs_from 0 lists) (j, k) (behind-pairs lists 0 j j k (omega arith)
         (subst (λ (ks : List ℕ). Among k ks) (sym (behind-seconds j (entailed-below n first (pairs_from 0 lists) before))) (pair-second pairs j k among))));
   }
 
-  pub linked-pairs : (first : List ℕ) → Implied n first (pairs_from 0 lists) pairs
-  linked-pairs first = record {
+  pub lists_of_pairs-pairs : (first : List ℕ) → Implied n first (pairs_from 0 lists) pairs
+  lists_of_pairs-pairs first = record {
     over = λ j k among below before.
         let (i, is, there) = pairs-behind lists 0 j k among in
         let same : i ≡ j = omega (arith, is) in

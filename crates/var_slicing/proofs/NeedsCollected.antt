@@ -15,13 +15,13 @@ use Rattle.model_core.proofs.Among.{Among, contained-among, among-front, among-b
 use Rattle.mark_laws.proofs.Marks.{Marked}
 use Rattle.mark_laws.proofs.EntailedMarks.{Implied, marks-implied, entailed_marks-entailed}
 use Rattle.mark_laws.specs.PlacePairs.{pairs_from}
-use Rattle.var_slicing.specs.Inner.Leading.{leaders_of, led_pairs}
-use Rattle.var_slicing.specs.Inner.Linking.{no_lists, linked}
-use Rattle.var_slicing.specs.Inner.Needing.{Collected, nothing, added_each, needed_to_decide, with_streams, with_edge, with_edges, with_all_edges, collected_at_once, open_pairs, target_pairs, value_pairs, with_targets, with_change, with_changes, with_all_changes, edge_pairs, with_value_pairs, with_drawn, known_at_once, with_all_pairs, collected}
+use Rattle.var_slicing.specs.Inner.Leading.{leaders_of, leader_pairs}
+use Rattle.var_slicing.specs.Inner.Linking.{no_lists, lists_of_pairs}
+use Rattle.var_slicing.specs.Inner.Needing.{Collected, nothing, added_each, needed_to_decide, with_streams, with_edge, with_edges, with_all_edges, collected_at_once, open_pairs, target_pairs, value_pairs, with_targets, with_change, with_changes, with_all_changes, edge_pairs, with_value_pairs, with_drawn, known_at_once, with_all_pairs, all_needs}
 use Rattle.var_slicing.specs.Inner.Faulting.{faulting_unless}
 use Rattle.var_slicing.specs.Inner.MarkedTwice.{marked_over, marked_with_faults}
 use Rattle.var_slicing.proofs.AllWatched.{no_pair}
-use Rattle.var_slicing.proofs.LinkedLaws.{linked-length, pairs-linked, linked-pairs}
+use Rattle.var_slicing.proofs.LinkedLaws.{lists_of_pairs-length, pairs-lists_of_pairs, lists_of_pairs-pairs}
 use Rattle.var_slicing.proofs.LeadingLaws.{among-of_flat_map, through_leaders, streams-led, led-streams}
 use Rattle.var_slicing.proofs.DelayStreams.{streams-both, drawn-once}
 use Rattle.var_slicing.proofs.LeavingOut.{LeavesOut, left-joined, left-each, left-filtered}
@@ -141,8 +141,8 @@ module _ (g : EventGraph) where
   abbrev without_faults : List ℕ
   without_faults = first_of_all ++ needed_by_delays g
 
-  pub collected-all : collected g ≡ record { first = without_faults; pairs = still_open; draws = all_draws g; delays = delays_once }
-  collected-all =
+  pub all_needs-all : all_needs g ≡ record { first = without_faults; pairs = still_open; draws = all_draws g; delays = delays_once }
+  all_needs-all =
       let begun : Collected = record { first = first_of_all; pairs = []; draws = []; delays = delays_once } in
       let paired : List (ℕ × ℕ) → Collected = λ ps. record { first = first_of_all; pairs = ps; draws = all_draws g; delays = delays_once } in
       ap (λ (n : Collected). with_drawn (with_all_pairs known g n)) at_once-all
@@ -191,12 +191,12 @@ module _ (g : EventGraph) where
     by j k (inr h) = among-back plain_pairs led (j, k) h
 
   abbrev next : List (List ℕ)
-  next = linked (still_open ++ led) (no_lists count)
+  next = lists_of_pairs (still_open ++ led) (no_lists count)
 
   over-all : (first : List ℕ) → HoldsFirst first → marked_over next first ≡ entailed_marks count first (needed_beside g)
   over-all first holds =
-      ap (λ (n : ℕ). entailed_marks n first (pairs_from 0 next)) (linked-length (still_open ++ led) count)
-      ∙ marks-implied count first (pairs_from 0 next) (still_open ++ led) (linked-pairs (still_open ++ led) count first) (pairs-linked (still_open ++ led) count first)
+      ap (λ (n : ℕ). entailed_marks n first (pairs_from 0 next)) (lists_of_pairs-length (still_open ++ led) count)
+      ∙ marks-implied count first (pairs_from 0 next) (still_open ++ led) (lists_of_pairs-pairs (still_open ++ led) count first) (pairs-lists_of_pairs (still_open ++ led) count first)
       ∙ marks-implied count first (still_open ++ led) (plain_pairs ++ led) (open-plain first) (plain-open first holds)
       ∙ marks-implied count first (plain_pairs ++ led) (needed_beside g) (led-streams count first plain_pairs (all_draws g)) (streams-led count first plain_pairs (all_draws g))
 
@@ -286,11 +286,11 @@ module _ (g : EventGraph) where
       ∙ marks-covered count (needed_beside g) (without_faults ++ faults) (needed_at_once g) (λ k below h. from_first k below (contained-among (needed_at_once g) k (needs-all k h))) needed-covered
 
 -- from what the calls give
-pub needed-marked : (g : EventGraph) (n : Collected) (pairs : List (ℕ × ℕ)) (next : List (List ℕ)) (size : ℕ) → n ≡ collected g → size ≡ length g.variables → pairs ≡ n.pairs ++ flat_map (led_pairs (leaders_of size n.draws)) n.draws → next ≡ linked pairs (no_lists size) → marked_with_faults g next n.first ≡ needed_marks g
+pub needed-marked : (g : EventGraph) (n : Collected) (pairs : List (ℕ × ℕ)) (next : List (List ℕ)) (size : ℕ) → n ≡ all_needs g → size ≡ length g.variables → pairs ≡ n.pairs ++ flat_map (leader_pairs (leaders_of size n.draws)) n.draws → next ≡ lists_of_pairs pairs (no_lists size) → marked_with_faults g next n.first ≡ needed_marks g
 needed-marked g n pairs next size all sized paired listed =
-    let whole : n ≡ record { first = without_faults g; pairs = still_open g; draws = all_draws g; delays = delays_once g } = all ∙ collected-all g in
-    let of : Collected → ℕ → List (List ℕ) = λ m k. linked (m.pairs ++ flat_map (led_pairs (leaders_of k m.draws)) m.draws) (no_lists k) in
-    let lists : next ≡ of n size = listed ∙ ap (λ (ps : List (ℕ × ℕ)). linked ps (no_lists size)) paired in
+    let whole : n ≡ record { first = without_faults g; pairs = still_open g; draws = all_draws g; delays = delays_once g } = all ∙ all_needs-all g in
+    let of : Collected → ℕ → List (List ℕ) = λ m k. lists_of_pairs (m.pairs ++ flat_map (leader_pairs (leaders_of k m.draws)) m.draws) (no_lists k) in
+    let lists : next ≡ of n size = listed ∙ ap (λ (ps : List (ℕ × ℕ)). lists_of_pairs ps (no_lists size)) paired in
     ap (λ (ls : List (List ℕ)). marked_with_faults g ls n.first) lists
     ∙ ap₂ (λ (m : Collected) (k : ℕ). marked_with_faults g (of m k) m.first) whole sized
     ∙ twice-needed g

@@ -11,7 +11,7 @@ use Rattle.model_core.specs.Static.HasKind.{IsVariable, HasKind}
 use Rattle.model_core.specs.Static.OwnRules.{TakesKind, KeepsSource, KeepsDelay}
 use Rattle.model_core.specs.Rules.MarkedPlaces.{rank}
 use Rattle.model_core.specs.Rules.Uses.{variables_in}
-use Rattle.model_core.specs.Rules.Slice.{expression_renumbered, delay_renumbered, location_renumbered, kept_beside, values_left, parameters_left, targets_left, of_marked_variables}
+use Rattle.model_core.specs.Rules.Slice.{expression_renumbered, delay_renumbered, location_renumbered, items_where_marked, sliced_values, sliced_parameters, sliced_targets, of_marked_variables}
 use Rattle.mark_laws.proofs.Marks.{Marked, rank-within, get-marked}
 use Rattle.model_core.proofs.EachOne.{every-map, every-images}
 use Rattle.var_slicing.proofs.HeldByAll.{held-both}
@@ -19,7 +19,7 @@ use Rattle.var_slicing.proofs.ValuesLeft.{ReadsMarked}
 use Rattle.var_slicing.proofs.ChangesLeft.{IndexReadsMarked}
 use Rattle.var_slicing.proofs.EdgesLeft.{DelayReadsMarked}
 use Rattle.var_slicing.proofs.NeedsClosed.{variables-below}
-use Rattle.model_core.proofs.SomeOfAList.{SomeOf, some-kept_beside, some-map, some-hold, some-few, some-openings}
+use Rattle.model_core.proofs.SomeOfAList.{SomeOf, some-items_where_marked, some-map, some-hold, some-few, some-openings}
 use Rattle.var_slicing.proofs.RenumberedTexts.{openings-renumbered, index_openings-renumbered, spellable-renumbered, IsDeclared, variable-declared, kind-renumbered, name-renumbered, text-renumbered, index_text-renumbered}
 use Rattle.var_slicing.proofs.KeptBeside.{variables_of, targets-kept, TargetMarked, TargetsRead, ValuesRead, targets-marked, values-marked, parameters-kept, parameters-marked, zip-kept, zip-mapped}
 
@@ -133,45 +133,45 @@ module _ (g : EventGraph) (marks : List Bool) where
 
   -- ---- targets
 
-  pub target-texts : (ls : List Location) → TargetsRead marks ls → SomeOf (map (location_text h) (targets_left marks ls)) (map (location_text g) ls)
+  pub target-texts : (ls : List Location) → TargetsRead marks ls → SomeOf (map (location_text h) (sliced_targets marks ls)) (map (location_text g) ls)
   target-texts ls reads =
-      let kept = kept_beside marks (variables_of ls) ls in
+      let kept = items_where_marked marks (variables_of ls) ls in
       subst (λ (ts : List (List ℕ)). SomeOf ts (map (location_text g) ls))
       (sym (ap (map (location_text h)) (targets-kept marks ls) ∙ mapped-alike (TargetMarked marks) (location_renumbered f) (location_text h) (location_text g) location_text-left kept (targets-marked marks ls reads)))
-      (some-map (location_text g) (some-kept_beside marks (variables_of ls) ls))
+      (some-map (location_text g) (some-items_where_marked marks (variables_of ls) ls))
 
-  pub targets-spellable : (ls : List Location) → TargetsRead marks ls → AllByRecursion (SpellableLocation count) ls → AllByRecursion (SpellableLocation left_count) (targets_left marks ls)
+  pub targets-spellable : (ls : List Location) → TargetsRead marks ls → AllByRecursion (SpellableLocation count) ls → AllByRecursion (SpellableLocation left_count) (sliced_targets marks ls)
   targets-spellable ls reads s =
-      let kept = kept_beside marks (variables_of ls) ls in
+      let kept = items_where_marked marks (variables_of ls) ls in
       subst (AllByRecursion (SpellableLocation left_count)) (sym (targets-kept marks ls))
       (every-images (λ l. TargetMarked marks l × SpellableLocation count l) (SpellableLocation left_count) (location_renumbered f) location-spellable kept
-      (held-both (TargetMarked marks) (SpellableLocation count) kept (targets-marked marks ls reads) (some-hold (SpellableLocation count) (some-kept_beside marks (variables_of ls) ls) s)))
+      (held-both (TargetMarked marks) (SpellableLocation count) kept (targets-marked marks ls reads) (some-hold (SpellableLocation count) (some-items_where_marked marks (variables_of ls) ls) s)))
 
-  pub target-openings : (ls : List Location) → openings_together location_openings (targets_left marks ls) ≤ openings_together location_openings ls
+  pub target-openings : (ls : List Location) → openings_together location_openings (sliced_targets marks ls) ≤ openings_together location_openings ls
   target-openings ls =
-      let kept = kept_beside marks (variables_of ls) ls in
+      let kept = items_where_marked marks (variables_of ls) ls in
       let same = ap (openings_together location_openings) (targets-kept marks ls) ∙ openings-alike (location_renumbered f) location_openings location_openings-left kept in
-      let fewer = some-openings location_openings (some-kept_beside marks (variables_of ls) ls) in
+      let fewer = some-openings location_openings (some-items_where_marked marks (variables_of ls) ls) in
       omega (arith, same, fewer)
 
   -- ---- values
 
-  pub value-texts : (vs : List ℕ) (es : List Expression) → ValuesRead marks vs es → SomeOf (expression_texts h (values_left marks vs es)) (expression_texts g es)
+  pub value-texts : (vs : List ℕ) (es : List Expression) → ValuesRead marks vs es → SomeOf (expression_texts h (sliced_values marks vs es)) (expression_texts g es)
   value-texts vs es reads =
       subst (λ (ts : List (List ℕ)). SomeOf ts (expression_texts g es))
-      (sym (mapped-alike (ReadsMarked marks) (expression_renumbered f) (expression_text h) (expression_text g) text-of_left (kept_beside marks vs es) (values-marked marks vs es reads)))
-      (some-map (expression_text g) (some-kept_beside marks vs es))
+      (sym (mapped-alike (ReadsMarked marks) (expression_renumbered f) (expression_text h) (expression_text g) text-of_left (items_where_marked marks vs es) (values-marked marks vs es reads)))
+      (some-map (expression_text g) (some-items_where_marked marks vs es))
 
-  pub values-spellable : (vs : List ℕ) (es : List Expression) → ValuesRead marks vs es → AllByRecursion (SpellableExpression count) es → AllByRecursion (SpellableExpression left_count) (values_left marks vs es)
+  pub values-spellable : (vs : List ℕ) (es : List Expression) → ValuesRead marks vs es → AllByRecursion (SpellableExpression count) es → AllByRecursion (SpellableExpression left_count) (sliced_values marks vs es)
   values-spellable vs es reads s =
-      let kept = kept_beside marks vs es in
+      let kept = items_where_marked marks vs es in
       every-images (λ e. ReadsMarked marks e × SpellableExpression count e) (SpellableExpression left_count) (expression_renumbered f) (λ e both. spellable-left e both.0 both.1) kept
-      (held-both (ReadsMarked marks) (SpellableExpression count) kept (values-marked marks vs es reads) (some-hold (SpellableExpression count) (some-kept_beside marks vs es) s))
+      (held-both (ReadsMarked marks) (SpellableExpression count) kept (values-marked marks vs es reads) (some-hold (SpellableExpression count) (some-items_where_marked marks vs es) s))
 
-  pub value-openings : (vs : List ℕ) (es : List Expression) → openings_together expression_openings (values_left marks vs es) ≤ openings_together expression_openings es
+  pub value-openings : (vs : List ℕ) (es : List Expression) → openings_together expression_openings (sliced_values marks vs es) ≤ openings_together expression_openings es
   value-openings vs es =
-      let same = openings-alike (expression_renumbered f) expression_openings (openings-renumbered f) (kept_beside marks vs es) in
-      let fewer = some-openings expression_openings (some-kept_beside marks vs es) in
+      let same = openings-alike (expression_renumbered f) expression_openings (openings-renumbered f) (items_where_marked marks vs es) in
+      let fewer = some-openings expression_openings (some-items_where_marked marks vs es) in
       omega (arith, same, fewer)
 
   enclosed-openings : (es kept : List Expression) → SomeOf kept es → openings_together expression_openings (map (expression_renumbered f) kept) ≤ openings_together expression_openings es → values_openings (map (expression_renumbered f) kept) ≤ values_openings es
@@ -180,25 +180,25 @@ module _ (g : EventGraph) (marks : List Bool) where
   enclosed-openings (x ∷ es) (e ∷ kept) some fewer = omega (arith, fewer)
 
   -- in their parentheses
-  pub values_openings-left : (vs : List ℕ) (es : List Expression) → values_openings (values_left marks vs es) ≤ values_openings es
-  values_openings-left vs es = enclosed-openings es (kept_beside marks vs es) (some-kept_beside marks vs es) (value-openings vs es)
+  pub values_openings-left : (vs : List ℕ) (es : List Expression) → values_openings (sliced_values marks vs es) ≤ values_openings es
+  values_openings-left vs es = enclosed-openings es (items_where_marked marks vs es) (some-items_where_marked marks vs es) (value-openings vs es)
 
   -- what values there are, beside the kinds that stay
-  pub values-given : (vs : List ℕ) (es : List Expression) (ks : List Kind) → ValuesRead marks vs es → AllZip (HasKind g.variables) es ks → AllZip (HasKind h.variables) (values_left marks vs es) (kept_beside marks vs ks)
+  pub values-given : (vs : List ℕ) (es : List Expression) (ks : List Kind) → ValuesRead marks vs es → AllZip (HasKind g.variables) es ks → AllZip (HasKind h.variables) (sliced_values marks vs es) (items_where_marked marks vs ks)
   values-given vs es ks reads given =
-      zip-mapped (ReadsMarked marks) (HasKind g.variables) (HasKind h.variables) (expression_renumbered f) kind-of_left (kept_beside marks vs es) (kept_beside marks vs ks) (values-marked marks vs es reads) (zip-kept (HasKind g.variables) marks vs es ks given)
+      zip-mapped (ReadsMarked marks) (HasKind g.variables) (HasKind h.variables) (expression_renumbered f) kind-of_left (items_where_marked marks vs es) (items_where_marked marks vs ks) (values-marked marks vs es reads) (zip-kept (HasKind g.variables) marks vs es ks given)
 
   -- ---- parameters
 
-  pub parameter-names : (vs : List ℕ) → SomeOf (map (variable_name h) (parameters_left marks vs)) (map (variable_name g) vs)
+  pub parameter-names : (vs : List ℕ) → SomeOf (map (variable_name h) (sliced_parameters marks vs)) (map (variable_name g) vs)
   parameter-names vs =
       subst (λ (ts : List (List ℕ)). SomeOf ts (map (variable_name g) vs))
-      (sym (ap (map (variable_name h)) (parameters-kept marks vs) ∙ mapped-alike (Marked marks) f (variable_name h) (variable_name g) name-left (kept_beside marks vs vs) (parameters-marked marks vs)))
-      (some-map (variable_name g) (some-kept_beside marks vs vs))
+      (sym (ap (map (variable_name h)) (parameters-kept marks vs) ∙ mapped-alike (Marked marks) f (variable_name h) (variable_name g) name-left (items_where_marked marks vs vs) (parameters-marked marks vs)))
+      (some-map (variable_name g) (some-items_where_marked marks vs vs))
 
-  pub parameters-below_left : (vs : List ℕ) → AllByRecursion (λ v. v < count) vs → AllByRecursion (λ v. v < left_count) (parameters_left marks vs)
+  pub parameters-below_left : (vs : List ℕ) → AllByRecursion (λ v. v < count) vs → AllByRecursion (λ v. v < left_count) (sliced_parameters marks vs)
   parameters-below_left vs below =
-      let kept = kept_beside marks vs vs in
+      let kept = items_where_marked marks vs vs in
       subst (AllByRecursion (λ v. v < left_count)) (sym (parameters-kept marks vs))
       (every-images (λ v. Marked marks v × (v < count)) (λ v. v < left_count) f (λ v both. rank-below_left v both.0 both.1) kept
-      (held-both (Marked marks) (λ v. v < count) kept (parameters-marked marks vs) (some-hold (λ v. v < count) (some-kept_beside marks vs vs) below)))
+      (held-both (Marked marks) (λ v. v < count) kept (parameters-marked marks vs) (some-hold (λ v. v < count) (some-items_where_marked marks vs vs) below)))

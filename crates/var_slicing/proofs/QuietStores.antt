@@ -6,7 +6,7 @@ use Rattle.model_core.specs.declared.model.Kind.{Kind}
 use Rattle.model_core.specs.EventGraph.{EventGraph, Expression, Location, StateChange, Set, Draw, EventVertex, EventEdge, EdgeKind, Schedule, Urgent, CancelNext, CancelEqual, CancelAll, scalar_location, delay_given}
 use Rattle.model_core.specs.Run.State.{State, Place, variable_at, in_range, with_cell}
 use Rattle.model_core.specs.Run.Value.{each, in_turn, value_of, place_of}
-use Rattle.model_core.specs.Run.Changes.{Changed, kept, store, set_all, make_change}
+use Rattle.model_core.specs.Run.Changes.{ChangeState, kept, store, set_all, make_change}
 use Rattle.model_core.specs.Run.Step.{no_vertex, vertex_at}
 use Rattle.model_core.specs.Static.HasKind.{IsVariable, HasKind}
 use Rattle.model_core.specs.Static.OwnRules.{TakesKind, TakeCarried, KeepsChange, CarriesValues, KeepsEdge, KeepsVertex, parameters_of, KeepsParts}
@@ -27,7 +27,7 @@ use Rattle.var_slicing.proofs.NeedsClosed.{SetNeeds, ChangeNeeds, ParameterNeeds
 
 -- a quiet change of a model that keeps its rules has no fault
 abbrev pub QuietChanges : EventGraph → Type 0
-QuietChanges g = (seed clk : ℕ) (c : StateChange) (d : Changed) → KeepsChange g.variables (length g.tables) (parameters_of g) c → IsTrue (in_range g d.state) → clk ≤ 2 ^ 48 → quiet_change g c ≡ true → (e : Changed) × (make_change g seed clk c d ≡ Ok e)
+QuietChanges g = (seed clk : ℕ) (c : StateChange) (d : ChangeState) → KeepsChange g.variables (length g.tables) (parameters_of g) c → IsTrue (in_range g d.state) → clk ≤ 2 ^ 48 → quiet_change g c ≡ true → (e : ChangeState) × (make_change g seed clk c d ≡ Ok e)
 
 -- what a location takes of an expression
 record StoresQuietly (g : EventGraph) (s : State) (clk : ℕ) (l : Location) (e : Expression) : Type 0 where
@@ -45,7 +45,7 @@ module _ (g : EventGraph) (quiet : QuietChanges g) (s : State) (inside : IsTrue 
 
   stores_quietly : (l : Location) (e : Expression) (k : Kind) → Takes l k → HasKind g.variables e k → quiet_set g l e ≡ true → StoresQuietly g s clk l e
   stores_quietly l e k takes has quietly =
-      let d : Changed = record { state = s; taken = [] } in
+      let d : ChangeState = record { state = s; taken = [] } in
       let (f, done) = quiet 0 clk (Set (l ∷ []) (e ∷ [])) d (omega arith, record { kinds = k ∷ []; taken = (takes, tt); given = (has, tt) }) inside early (and_true (quiet_set g l e) quietly) in
       let (t, is_set, at_end) = bind_ok (set_all g clk (l ∷ []) (e ∷ []) s) _ f done in
       let (values, at_values, after_values) = bind_ok (each (value_of g s clk) (e ∷ [])) _ t is_set in
@@ -113,7 +113,7 @@ module _ (g : EventGraph) (quiet : QuietChanges g) (keeps : KeepsParts g) (marks
   abbrev EdgeKeeps : EventEdge → Type 0
   EdgeKeeps = KeepsEdge g.variables (length g.tables) (parameters_of g)
 
-  change-fits : (seed clk : ℕ) → clk ≤ 2 ^ 48 → (c : StateChange) → ChangeKeeps c × ChangeNeeds g marks live c → (d : Changed) → Inside d.state → ChangeFits g marks live seed clk d c
+  change-fits : (seed clk : ℕ) → clk ≤ 2 ^ 48 → (c : StateChange) → ChangeKeeps c × ChangeNeeds g marks live c → (d : ChangeState) → Inside d.state → ChangeFits g marks live seed clk d c
   change-fits seed clk early (Set targets rights) (rules, need) d inside = set-fits g quiet d.state inside clk early marks targets rights rules.1.kinds rules.1.taken rules.1.given need
   change-fits seed clk early (Draw target stream choice) (rules, need) d inside =
       (need.0, λ unmarked. let (dead, quietly) = need.1 unmarked in (dead, quiet seed clk (Draw target stream choice) d rules inside early quietly))
@@ -139,7 +139,7 @@ module _ (g : EventGraph) (quiet : QuietChanges g) (keeps : KeepsParts g) (marks
 
   vertex-fits : (k : ℕ) → VertexFits g marks live Inside (vertex_at g k)
   vertex-fits k = record {
-    changes = λ seed clk early. every-map (λ c. ChangeKeeps c × ChangeNeeds g marks live c) (λ c. (d : Changed) → Inside d.state → ChangeFits g marks live seed clk d c) (change-fits seed clk early) (vertex_at g k).changes
+    changes = λ seed clk early. every-map (λ c. ChangeKeeps c × ChangeNeeds g marks live c) (λ c. (d : ChangeState) → Inside d.state → ChangeFits g marks live seed clk d c) (change-fits seed clk early) (vertex_at g k).changes
         (held-both ChangeKeeps (ChangeNeeds g marks live) (vertex_at g k).changes (kept_parts k).0 (held-at ChangesNeed g.vertices no_vertex tt needs.changes k));
     edges = λ s inside clk early. every-map (λ e. EdgeKeeps e × (EdgeNeeds g marks e × DelayLives live e)) (EdgeFits g marks live s clk) (edge-fits s inside clk early) (vertex_at g k).edges
         (held-both EdgeKeeps (λ e. EdgeNeeds g marks e × DelayLives live e) (vertex_at g k).edges (kept_parts k).1

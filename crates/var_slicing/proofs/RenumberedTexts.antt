@@ -6,13 +6,13 @@ use Rattle.std.specs.List.{AllByRecursion}
 use Rattle.model_core.specs.declared.model.Kind.{Kind}
 use Rattle.model_core.specs.declared.model.Kind.TheVariants as kinds
 use Rattle.model_core.specs.EventGraph.{EventGraph, Variable, Operator, Least, Greatest, Expression, Number, Truth, Clock, Scalar, Cell, Negative, Not, Binary, If, Delay, Fixed, Drawn}
-use Rattle.model_core.specs.Text.Canonical.{operator_text, level, left_level, right_level, operand, binary_text, variable_name, expression_text, index_text, condition_text}
+use Rattle.model_core.specs.Text.Canonical.{operator_text, level, left_operand_level, right_operand_level, operand, binary_text, variable_name, expression_text, index_text, condition_text}
 use Rattle.model_core.specs.Text.Spellable.{operand_openings, binary_openings, expression_openings, index_openings, delay_openings, SpellableExpression}
 use Rattle.model_core.specs.Static.Kinds.{operand_kind}
 use Rattle.model_core.specs.Static.HasKind.{IsVariable, FitOperands, HasKind}
 use Rattle.model_core.specs.Rules.Uses.{variables_in, index_reads}
 use Rattle.model_core.specs.Rules.Slice.{expression_renumbered, delay_renumbered}
-use Rattle.model_core.proofs.EachOne.{every-front, every-behind}
+use Rattle.model_core.proofs.EachOne.{every-front, every-after}
 
 level-renumbered : (f : ℕ → ℕ) (e : Expression) → level (expression_renumbered f e) ≡ level e
 level-renumbered f (Number n) = refl
@@ -34,7 +34,7 @@ binary_openings-same : (f : ℕ → ℕ) (op : Operator) (a b : Expression) (i j
 binary_openings-same f Least a b i j m n left right = ap₂ (λ (k l : ℕ). suc (suc (k + l))) left right
 binary_openings-same f Greatest a b i j m n left right = ap₂ (λ (k l : ℕ). suc (suc (k + l))) left right
 binary_openings-same f op a b i j m n left right =
-    ap₂ (λ (k l : ℕ). suc (k + l)) (operand_openings-same (left_level op) (expression_renumbered f a) a i m (level-renumbered f a) left) (operand_openings-same (right_level op) (expression_renumbered f b) b j n (level-renumbered f b) right)
+    ap₂ (λ (k l : ℕ). suc (k + l)) (operand_openings-same (left_operand_level op) (expression_renumbered f a) a i m (level-renumbered f a) left) (operand_openings-same (right_operand_level op) (expression_renumbered f b) b j n (level-renumbered f b) right)
 
 pub openings-renumbered : (f : ℕ → ℕ) (e : Expression) → expression_openings (expression_renumbered f e) ≡ expression_openings e
 openings-renumbered f (Number n) = refl
@@ -66,10 +66,10 @@ spellable-renumbered f m n (Scalar v) below s = below.0
 spellable-renumbered f m n (Cell v e) below s = (below.0, spellable-renumbered f m n e below.1 s.1)
 spellable-renumbered f m n (Negative a) below s = spellable-renumbered f m n a below s
 spellable-renumbered f m n (Not a) below s = spellable-renumbered f m n a below s
-spellable-renumbered f m n (Binary op a b) below s = (spellable-renumbered f m n a (every-front (λ v. f v < m) (variables_in a) (variables_in b) below) s.0, spellable-renumbered f m n b (every-behind (λ v. f v < m) (variables_in a) (variables_in b) below) s.1)
+spellable-renumbered f m n (Binary op a b) below s = (spellable-renumbered f m n a (every-front (λ v. f v < m) (variables_in a) (variables_in b) below) s.0, spellable-renumbered f m n b (every-after (λ v. f v < m) (variables_in a) (variables_in b) below) s.1)
 spellable-renumbered f m n (If c a b) below s =
     let first = every-front (λ v. f v < m) (variables_in c ++ variables_in a) (variables_in b) below in
-    (spellable-renumbered f m n c (every-front (λ v. f v < m) (variables_in c) (variables_in a) first) s.0, spellable-renumbered f m n a (every-behind (λ v. f v < m) (variables_in c) (variables_in a) first) s.1, spellable-renumbered f m n b (every-behind (λ v. f v < m) (variables_in c ++ variables_in a) (variables_in b) below) s.2)
+    (spellable-renumbered f m n c (every-front (λ v. f v < m) (variables_in c) (variables_in a) first) s.0, spellable-renumbered f m n a (every-after (λ v. f v < m) (variables_in c) (variables_in a) first) s.1, spellable-renumbered f m n b (every-after (λ v. f v < m) (variables_in c ++ variables_in a) (variables_in b) below) s.2)
 
 -- ---- variables that are declared at their new numbers
 
@@ -89,13 +89,13 @@ module _ (g h : EventGraph) (f : ℕ → ℕ) where
   kind-renumbered (Negative a) k declared has = (has.0, kind-renumbered a kinds.Range declared has.1)
   kind-renumbered (Not a) k declared has = (has.0, kind-renumbered a kinds.Truth declared has.1)
   kind-renumbered (Binary op a b) k declared has =
-      (has.0, fit-operands (operand_kind op) (λ k. kind-renumbered a k (every-front IsDeclared (variables_in a) (variables_in b) declared)) (λ k. kind-renumbered b k (every-behind IsDeclared (variables_in a) (variables_in b) declared)) has.1) where
+      (has.0, fit-operands (operand_kind op) (λ k. kind-renumbered a k (every-front IsDeclared (variables_in a) (variables_in b) declared)) (λ k. kind-renumbered b k (every-after IsDeclared (variables_in a) (variables_in b) declared)) has.1) where
         fit-operands : (o : Option Kind) → ((k : Kind) → HasKind g.variables a k → HasKind h.variables (expression_renumbered f a) k) → ((k : Kind) → HasKind g.variables b k → HasKind h.variables (expression_renumbered f b) k) → FitOperands o (HasKind g.variables a) (HasKind g.variables b) → FitOperands o (HasKind h.variables (expression_renumbered f a)) (HasKind h.variables (expression_renumbered f b))
         fit-operands None left right fit = (fit.0, left fit.0 fit.1, right fit.0 fit.2)
         fit-operands (Some k) left right fit = (left k fit.0, right k fit.1)
   kind-renumbered (If c a b) k declared has =
       let first = every-front IsDeclared (variables_in c ++ variables_in a) (variables_in b) declared in
-      (kind-renumbered c kinds.Truth (every-front IsDeclared (variables_in c) (variables_in a) first) has.0, kind-renumbered a k (every-behind IsDeclared (variables_in c) (variables_in a) first) has.1, kind-renumbered b k (every-behind IsDeclared (variables_in c ++ variables_in a) (variables_in b) declared) has.2)
+      (kind-renumbered c kinds.Truth (every-front IsDeclared (variables_in c) (variables_in a) first) has.0, kind-renumbered a k (every-after IsDeclared (variables_in c) (variables_in a) first) has.1, kind-renumbered b k (every-after IsDeclared (variables_in c ++ variables_in a) (variables_in b) declared) has.2)
 
   -- ---- texts
 
@@ -108,7 +108,7 @@ module _ (g h : EventGraph) (f : ℕ → ℕ) where
   binary_text-same : (op : Operator) (a b : Expression) (x y z w : List ℕ) → x ≡ z → y ≡ w → binary_text op (expression_renumbered f a) x (expression_renumbered f b) y ≡ binary_text op a z b w
   binary_text-same Least a b x y z w left right = ap₂ (λ (s t : List ℕ). codes "min(" ++ s ++ codes ", " ++ t ++ codes ")") left right
   binary_text-same Greatest a b x y z w left right = ap₂ (λ (s t : List ℕ). codes "max(" ++ s ++ codes ", " ++ t ++ codes ")") left right
-  binary_text-same op a b x y z w left right = ap₂ (λ (s t : List ℕ). s ++ codes " " ++ operator_text op ++ codes " " ++ t) (operand-same (left_level op) a x z left) (operand-same (right_level op) b y w right)
+  binary_text-same op a b x y z w left right = ap₂ (λ (s t : List ℕ). s ++ codes " " ++ operator_text op ++ codes " " ++ t) (operand-same (left_operand_level op) a x z left) (operand-same (right_operand_level op) b y w right)
 
   pub text-renumbered : (e : Expression) → AllByRecursion IsDeclared (variables_in e) → expression_text h (expression_renumbered f e) ≡ expression_text g e
   text-renumbered (Number n) declared = refl
@@ -119,12 +119,12 @@ module _ (g h : EventGraph) (f : ℕ → ℕ) where
   text-renumbered (Negative a) declared = ap (λ t. codes "-" ++ t) (operand-same 7 a (expression_text h (expression_renumbered f a)) (expression_text g a) (text-renumbered a declared))
   text-renumbered (Not a) declared = ap (λ t. codes "not " ++ t) (operand-same 3 a (expression_text h (expression_renumbered f a)) (expression_text g a) (text-renumbered a declared))
   text-renumbered (Binary op a b) declared =
-      binary_text-same op a b (expression_text h (expression_renumbered f a)) (expression_text h (expression_renumbered f b)) (expression_text g a) (expression_text g b) (text-renumbered a (every-front IsDeclared (variables_in a) (variables_in b) declared)) (text-renumbered b (every-behind IsDeclared (variables_in a) (variables_in b) declared))
+      binary_text-same op a b (expression_text h (expression_renumbered f a)) (expression_text h (expression_renumbered f b)) (expression_text g a) (expression_text g b) (text-renumbered a (every-front IsDeclared (variables_in a) (variables_in b) declared)) (text-renumbered b (every-after IsDeclared (variables_in a) (variables_in b) declared))
   text-renumbered (If c a b) declared =
       let first = every-front IsDeclared (variables_in c ++ variables_in a) (variables_in b) declared in
       ap₂ (λ (s t : List ℕ). s ++ codes " else " ++ t)
-      (ap₂ (λ (s t : List ℕ). codes "if " ++ s ++ codes " then " ++ t) (text-renumbered c (every-front IsDeclared (variables_in c) (variables_in a) first)) (text-renumbered a (every-behind IsDeclared (variables_in c) (variables_in a) first)))
-      (text-renumbered b (every-behind IsDeclared (variables_in c ++ variables_in a) (variables_in b) declared))
+      (ap₂ (λ (s t : List ℕ). codes "if " ++ s ++ codes " then " ++ t) (text-renumbered c (every-front IsDeclared (variables_in c) (variables_in a) first)) (text-renumbered a (every-after IsDeclared (variables_in c) (variables_in a) first)))
+      (text-renumbered b (every-after IsDeclared (variables_in c ++ variables_in a) (variables_in b) declared))
 
   pub index_text-renumbered : (i : Option Expression) → AllByRecursion IsDeclared (index_reads i) → index_text h (option_map (expression_renumbered f) i) ≡ index_text g i
   index_text-renumbered None declared = refl

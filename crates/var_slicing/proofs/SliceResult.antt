@@ -5,7 +5,7 @@ use Rattle.model_core.specs.Run.Same.{Same}
 use Rattle.model_core.specs.Text.Spellable.{IsSpellable}
 use Rattle.model_core.specs.Static.OwnRules.{KeepsParts}
 use Rattle.model_core.specs.Rules.Conditions.{first_failed}
-use Rattle.model_core.specs.Rules.Drop.{lists_some, lists_exactly, staying_marks}
+use Rattle.model_core.specs.Rules.Drop.{is_nonempty_list, lists_exactly, staying_marks}
 use Rattle.model_core.specs.Rules.Needed.{needed_at_once, needed_beside, needed_marks, unneeded}
 use Rattle.model_core.specs.Rules.Slice.{slice_conditions, of_marked_variables, sliced}
 use Rattle.bound_laws.proofs.BeginsInRange.{kept_models_begin_in_range}
@@ -21,7 +21,7 @@ second-holds true false none = cc
 second-holds false b none = cc
 
 lists_unneeded : (g : EventGraph) (variables : List ℕ) → first_failed (slice_conditions g variables) ≡ None → variables ≡ unneeded g
-lists_unneeded g variables none = exactly-equal variables (unneeded g) (second-holds (lists_some variables) (lists_exactly variables (unneeded g)) none)
+lists_unneeded g variables none = exactly-equal variables (unneeded g) (second-holds (is_nonempty_list variables) (lists_exactly variables (unneeded g)) none)
 
 needed_marks-long : (g : EventGraph) → length (needed_marks g) ≡ length g.variables
 needed_marks-long g = entailed_marks-long (length g.variables) (needed_at_once g) (needed_beside g)

@@ -8,7 +8,7 @@ use Rattle.model_core.specs.Run.Changes.{kept, store}
 use Rattle.model_core.specs.Run.Step.{receive}
 use Rattle.model_core.specs.Rules.MarkedPlaces.{rank, is_marked}
 use Rattle.model_core.specs.Rules.Uses.{variables_in}
-use Rattle.model_core.specs.Rules.Slice.{expression_renumbered, kept_beside, values_left, parameters_left, of_marked_variables}
+use Rattle.model_core.specs.Rules.Slice.{expression_renumbered, items_where_marked, sliced_values, sliced_parameters, of_marked_variables}
 use Rattle.model_core.proofs.Alongside.{Alongside, both_go, alongside-equal, bind-alongside, bind-alongside-same, bind-alongside-left}
 use Rattle.mark_laws.proofs.Marks.{Marked}
 use Rattle.model_core.proofs.EachOne.{every-map}
@@ -26,10 +26,10 @@ places_left marks (p ∷ ps) = cond (is_marked marks p.variable) (place_left mar
 pub both_marks : {A : Type 0} (marks : List Bool) (v : ℕ) → Marked marks v → is_marked marks v ≡ false → A
 both_marks marks v marked unmarked = absurd (let no : true ≡ false = sym marked ∙ unmarked in let never : ⊥ = cc in never)
 
-scalars-left : (marks : List Bool) (vs : List ℕ) → places_left marks (map scalar vs) ≡ map scalar (parameters_left marks vs)
+scalars-left : (marks : List Bool) (vs : List ℕ) → places_left marks (map scalar vs) ≡ map scalar (sliced_parameters marks vs)
 scalars-left marks [] = refl
 scalars-left marks (v ∷ vs) = one (is_marked marks v) (scalars-left marks vs) where
-  one : (b : Bool) → places_left marks (map scalar vs) ≡ map scalar (parameters_left marks vs) → cond b (scalar (rank marks v) ∷ places_left marks (map scalar vs)) (places_left marks (map scalar vs)) ≡ map scalar (cond b (rank marks v ∷ parameters_left marks vs) (parameters_left marks vs))
+  one : (b : Bool) → places_left marks (map scalar vs) ≡ map scalar (sliced_parameters marks vs) → cond b (scalar (rank marks v) ∷ places_left marks (map scalar vs)) (places_left marks (map scalar vs)) ≡ map scalar (cond b (rank marks v ∷ sliced_parameters marks vs) (sliced_parameters marks vs))
   one true e = ap (λ ps. scalar (rank marks v) ∷ ps) e
   one false e = e
 
@@ -41,20 +41,20 @@ zip-nothing : (ps : List Place) → zip {X = ℤ} ps [] ≡ []
 zip-nothing [] = refl
 zip-nothing (p ∷ ps) = refl
 
-pub zip-left : (marks : List Bool) (ps : List Place) (xs : List ℤ) → stores_left marks (zip ps xs) ≡ zip (places_left marks ps) (kept_beside marks (map (λ p. p.variable) ps) xs)
+pub zip-left : (marks : List Bool) (ps : List Place) (xs : List ℤ) → stores_left marks (zip ps xs) ≡ zip (places_left marks ps) (items_where_marked marks (map (λ p. p.variable) ps) xs)
 zip-left marks [] xs = refl
 zip-left marks (p ∷ ps) [] = sym (zip-nothing (places_left marks (p ∷ ps)))
 zip-left marks (p ∷ ps) (x ∷ xs) = one (is_marked marks p.variable) (zip-left marks ps xs) where
-  one : (b : Bool) → stores_left marks (zip ps xs) ≡ zip (places_left marks ps) (kept_beside marks (map (λ p. p.variable) ps) xs) → cond b ((place_left marks p, x) ∷ stores_left marks (zip ps xs)) (stores_left marks (zip ps xs)) ≡ zip (cond b (place_left marks p ∷ places_left marks ps) (places_left marks ps)) (cond b (x ∷ kept_beside marks (map (λ p. p.variable) ps) xs) (kept_beside marks (map (λ p. p.variable) ps) xs))
+  one : (b : Bool) → stores_left marks (zip ps xs) ≡ zip (places_left marks ps) (items_where_marked marks (map (λ p. p.variable) ps) xs) → cond b ((place_left marks p, x) ∷ stores_left marks (zip ps xs)) (stores_left marks (zip ps xs)) ≡ zip (cond b (place_left marks p ∷ places_left marks ps) (places_left marks ps)) (cond b (x ∷ items_where_marked marks (map (λ p. p.variable) ps) xs) (items_where_marked marks (map (λ p. p.variable) ps) xs))
   one true e = ap (λ zs. (place_left marks p, x) ∷ zs) e
   one false e = e
 
 -- where all of the variables are marked, all items beside them stay
-pub all-kept_beside : {A : Type 0} (marks : List Bool) (vs : List ℕ) (xs : List A) → AllByRecursion (Marked marks) vs → kept_beside marks vs xs ≡ xs
-all-kept_beside marks [] xs all = refl
-all-kept_beside marks (v ∷ vs) [] all = refl
-all-kept_beside marks (v ∷ vs) (x ∷ xs) (now, all) =
-    ap (λ b. cond b (x ∷ kept_beside marks vs xs) (kept_beside marks vs xs)) now ∙ ap (λ xs. x ∷ xs) (all-kept_beside marks vs xs all)
+pub all-items_where_marked : {A : Type 0} (marks : List Bool) (vs : List ℕ) (xs : List A) → AllByRecursion (Marked marks) vs → items_where_marked marks vs xs ≡ xs
+all-items_where_marked marks [] xs all = refl
+all-items_where_marked marks (v ∷ vs) [] all = refl
+all-items_where_marked marks (v ∷ vs) (x ∷ xs) (now, all) =
+    ap (λ b. cond b (x ∷ items_where_marked marks vs xs) (items_where_marked marks vs xs)) now ∙ ap (λ xs. x ∷ xs) (all-items_where_marked marks vs xs all)
 
 -- values that can be stored where their variable goes
 abbrev pub CanBeStored : EventGraph → List Bool → List ℕ → List ℤ → Type 0
@@ -87,7 +87,7 @@ ValuesFit g marks s clk (v ∷ vs) (e ∷ es) = (Marked marks v → ReadsMarked 
 
 -- values beside these variables, and what is left of them
 abbrev pub ValuesKept : EventGraph → List Bool → List ℕ → List ℤ → List ℤ → Type 0
-ValuesKept g marks vs xs ys = (kept_beside marks vs xs ≡ ys) × CanBeStored g marks vs xs
+ValuesKept g marks vs xs ys = (items_where_marked marks vs xs ≡ ys) × CanBeStored g marks vs xs
 
 module _ (g : EventGraph) (marks : List Bool) (s t : State) (left : StateLeft marks s t) (clk : ℕ) where
   abbrev h : EventGraph
@@ -107,26 +107,26 @@ module _ (g : EventGraph) (marks : List Bool) (s t : State) (left : StateLeft ma
   abbrev Values : List ℕ → List ℤ → List ℤ → Type 0
   Values vs = ValuesKept g marks vs
 
-  pub values-alongside : (vs : List ℕ) (es : List Expression) → ValuesFit g marks s clk vs es → Alongside (ValuesKept g marks vs) (each (value_of g s clk) es) (each (value_of h t clk) (values_left marks vs es))
+  pub values-alongside : (vs : List ℕ) (es : List Expression) → ValuesFit g marks s clk vs es → Alongside (ValuesKept g marks vs) (each (value_of g s clk) es) (each (value_of h t clk) (sliced_values marks vs es))
   values-alongside [] es fit = alongside-equal (Values []) (λ xs. (refl, tt)) (each-left es fit)
   values-alongside (v ∷ vs) [] fit = both_go (refl, tt)
   values-alongside (v ∷ vs) (e ∷ es) (reads, quiet, fit) = one (is_marked marks v) refl (values-alongside vs es fit) where
-    one : (b : Bool) → is_marked marks v ≡ b → Alongside (Values vs) (each (value_of g s clk) es) (each (value_of h t clk) (values_left marks vs es)) → Alongside (Values (v ∷ vs)) (each (value_of g s clk) (e ∷ es)) (each (value_of h t clk) (map (expression_renumbered (rank marks)) (cond b (e ∷ kept_beside marks vs es) (kept_beside marks vs es))))
+    one : (b : Bool) → is_marked marks v ≡ b → Alongside (Values vs) (each (value_of g s clk) es) (each (value_of h t clk) (sliced_values marks vs es)) → Alongside (Values (v ∷ vs)) (each (value_of g s clk) (e ∷ es)) (each (value_of h t clk) (map (expression_renumbered (rank marks)) (cond b (e ∷ items_where_marked marks vs es) (items_where_marked marks vs es))))
     one true marked later =
-        subst (λ (r : OrFault ℤ). Alongside (Values (v ∷ vs)) (each (value_of g s clk) (e ∷ es)) (r >>= λ x. each (value_of h t clk) (values_left marks vs es) >>= λ xs. Ok (x ∷ xs))) (sym (value-left e (reads marked)))
+        subst (λ (r : OrFault ℤ). Alongside (Values (v ∷ vs)) (each (value_of g s clk) (e ∷ es)) (r >>= λ x. each (value_of h t clk) (sliced_values marks vs es) >>= λ xs. Ok (x ∷ xs))) (sym (value-left e (reads marked)))
         (bind-alongside-same (Values (v ∷ vs)) (value_of g s clk e) _ _ (λ x is.
         bind-alongside (Values vs) (Values (v ∷ vs)) later _ _ (λ xs ys (same, stored).
-        both_go (ap (λ b. cond b (x ∷ kept_beside marks vs xs) (kept_beside marks vs xs)) marked ∙ ap (λ ys. x ∷ ys) same, ((λ unmarked. both_marks marks v marked unmarked), stored)))))
+        both_go (ap (λ b. cond b (x ∷ items_where_marked marks vs xs) (items_where_marked marks vs xs)) marked ∙ ap (λ ys. x ∷ ys) same, ((λ unmarked. both_marks marks v marked unmarked), stored)))))
     one false unmarked later =
         let now = quiet unmarked in
-        subst (λ (r : OrFault ℤ). Alongside (Values (v ∷ vs)) (r >>= λ x. each (value_of g s clk) es >>= λ xs. Ok (x ∷ xs)) (each (value_of h t clk) (values_left marks vs es))) (sym now.known)
+        subst (λ (r : OrFault ℤ). Alongside (Values (v ∷ vs)) (r >>= λ x. each (value_of g s clk) es >>= λ xs. Ok (x ∷ xs)) (each (value_of h t clk) (sliced_values marks vs es))) (sym now.known)
         (bind-alongside-left (Values vs) (Values (v ∷ vs)) later _ (λ xs ys (same, stored).
-        both_go (ap (λ b. cond b (now.value ∷ kept_beside marks vs xs) (kept_beside marks vs xs)) unmarked ∙ same, ((λ unmarked. (now.stored, now.keeps)), stored))))
+        both_go (ap (λ b. cond b (now.value ∷ items_where_marked marks vs xs) (items_where_marked marks vs xs)) unmarked ∙ same, ((λ unmarked. (now.stored, now.keeps)), stored))))
 
   -- what is received
-  pub received-alongside : (vs : List ℕ) (xs : List ℤ) → CanBeStored g marks vs xs → Alongside (StateLeft marks) (receive g vs xs s) (receive h (parameters_left marks vs) (kept_beside marks vs xs) t)
+  pub received-alongside : (vs : List ℕ) (xs : List ℤ) → CanBeStored g marks vs xs → Alongside (StateLeft marks) (receive g vs xs s) (receive h (sliced_parameters marks vs) (items_where_marked marks vs xs) t)
   received-alongside vs xs fit =
       let named : CanBeStored g marks (map (λ (p : Place). p.variable) (map scalar vs)) xs = subst (λ vs. CanBeStored g marks vs xs) (sym (variables-scalars vs)) fit in
-      let stores : stores_left marks (zip (map scalar vs) xs) ≡ zip (map scalar (parameters_left marks vs)) (kept_beside marks vs xs) = zip-left marks (map scalar vs) xs ∙ ap₂ (λ ps (us : List ℕ). zip ps (kept_beside marks us xs)) (scalars-left marks vs) (variables-scalars vs) in
+      let stores : stores_left marks (zip (map scalar vs) xs) ≡ zip (map scalar (sliced_parameters marks vs)) (items_where_marked marks vs xs) = zip-left marks (map scalar vs) xs ∙ ap₂ (λ ps (us : List ℕ). zip ps (items_where_marked marks us xs)) (scalars-left marks vs) (variables-scalars vs) in
       subst (λ (zs : List (Place × ℤ)). Alongside (StateLeft marks) (receive g vs xs s) (in_turn (store h) zs t)) stores
       (stores-left g marks (zip (map scalar vs) xs) (stored-storable g marks (map scalar vs) xs named) s t left)

@@ -2,9 +2,9 @@
 
 ghost use Rattle.std.specs.Prelude.{◌≡◌, OnOk, IfOk};
 ghost use Rattle.model_core.specs.Rules.PlacedEdges.{with_place};
-ghost use Rattle.var_slicing.specs.Inner.Linking.{no_lists, with_behind, linked};
+ghost use Rattle.var_slicing.specs.Inner.Linking.{no_lists, with_behind, lists_of_pairs};
 
-use marked_walks::PlacesBehind;
+use marked_walks::PlaceSuccessors;
 use sig_base::{List, NoMemory};
 use std::alloc::Global;
 
@@ -14,21 +14,21 @@ pub(crate) struct Links {
     lists: Vec<List<usize>>,
 }
 
-impl PlacesBehind for Links {
+impl PlaceSuccessors for Links {
     ghost lists = { λ l. l.lists.items };
 
     fn place_count(&self) -> usize {
         self.lists.len()
     }
 
-    fn count_behind(&self, place: usize) -> usize {
+    fn successor_count(&self, place: usize) -> usize {
         match self.lists.get(place) {
             Some(places) => places.len(),
             None => 0,
         }
     }
 
-    fn nth_behind(&self, place: usize, nth: usize) -> Option<usize> {
+    fn nth_successor(&self, place: usize, nth: usize) -> Option<usize> {
         let places = self.lists.get(place)?;
         let behind = places.as_slice().get(nth)?;
         Some(*behind)
@@ -57,12 +57,12 @@ fn link(next: &mut Vec<List<usize>>, place: usize, behind: usize) -> Result<(), 
 }
 
 /// For each of so many places the second places of its pairs.
-pub(crate) fn lists_behind(
+pub(crate) fn lists_by_place(
     alloc: Global,
     count: usize,
     pairs: &[(usize, usize)],
 ) -> Result<Links, NoMemory>
-    ensures { IfOk result (λ next. next.lists.items ≡ linked pairs.now (no_lists count)) }
+    ensures { IfOk result (λ next. next.lists.items ≡ lists_of_pairs pairs.now (no_lists count)) }
 {
     let mut lists = no_lists(alloc, count)?;
     for pair in pairs {

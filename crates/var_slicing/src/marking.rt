@@ -4,12 +4,12 @@ ghost use Rattle.std.specs.Prelude.{◌≡◌, [], IfOk};
 ghost use Rattle.model_core.specs.Rules.Entailed.{entailed_marks};
 ghost use Rattle.model_core.specs.Rules.Needed.{needed_marks, unneeded};
 ghost use Rattle.model_core.specs.Code.Views.{graph_of};
-ghost use Rattle.var_slicing.specs.Inner.Needing.{collected_of, collected};
+ghost use Rattle.var_slicing.specs.Inner.Needing.{collected_of, all_needs};
 ghost use Rattle.var_slicing.specs.Inner.MarkedTwice.{marked_with_faults};
 ghost use Rattle.var_slicing.specs.Inner.Unwatched.{unwatched};
 
 use crate::faults::add_faulting;
-use crate::linking::{Links, lists_behind};
+use crate::linking::{Links, lists_by_place};
 use crate::needs::{Needs, add_watched};
 use crate::streams::add_stream_pairs;
 use marked_walks::{entailed, unmarked};
@@ -21,13 +21,13 @@ use std::alloc::Global;
 fn marked(alloc: Global, count: usize, vars: &[usize]) -> Result<Vec<bool>, NoMemory>
     ensures { IfOk result (λ marks. marks.items ≡ entailed_marks count vars.now []) }
 {
-    let next = lists_behind(alloc, count, &[])?;
+    let next = lists_by_place(alloc, count, &[])?;
     entailed(alloc, vars, &next)
 }
 
 /// What is needed at once but for what may fault, and pairs that lead from it.
-fn collected(alloc: Global, model: &Model) -> Result<Needs, NoMemory>
-    ensures { IfOk result (λ needs. collected_of needs ≡ collected (graph_of model.now)) }
+fn all_needs(alloc: Global, model: &Model) -> Result<Needs, NoMemory>
+    ensures { IfOk result (λ needs. collected_of needs ≡ all_needs (graph_of model.now)) }
 {
     let mut needs = Needs::at_once(alloc, model)?;
     let known = marked(alloc, model.vars.len(), needs.first.as_slice())?;
@@ -63,10 +63,10 @@ fn marked_with_faults(
 pub(crate) fn needed(alloc: Global, model: &Model) -> Result<Vec<bool>, NoMemory>
     ensures { IfOk result (λ marks. marks.items ≡ needed_marks (graph_of model.now)) }
 {
-    let mut needs = collected(alloc, model)?;
+    let mut needs = all_needs(alloc, model)?;
     let count = model.vars.len();
     add_stream_pairs(alloc, &mut needs.pairs, needs.draws.as_slice(), count)?;
-    let next = lists_behind(alloc, count, needs.pairs.as_slice())?;
+    let next = lists_by_place(alloc, count, needs.pairs.as_slice())?;
     marked_with_faults(alloc, model, &mut needs.first, &next)
 }
 

@@ -3,7 +3,7 @@
 ghost use Rattle.std.specs.Prelude.{◌≡◌, map};
 ghost use Rattle.std.specs.Option.{option_map};
 ghost use Rattle.model_core.specs.Rules.MarkedPlaces.{rank};
-ghost use Rattle.model_core.specs.Rules.Slice.{expression_renumbered, location_renumbered, delay_renumbered, kind_left, watched_left};
+ghost use Rattle.model_core.specs.Rules.Slice.{expression_renumbered, location_renumbered, delay_renumbered, sliced_kind, sliced_watched};
 ghost use Rattle.model_core.specs.Code.Views.{expression_of, location_of, edge_delay_of, edge_kind_of, watched_of};
 
 use marked_walks::Staying;
@@ -66,7 +66,7 @@ fn renumber_delay(staying: &Staying, delay: &mut Delay)
 
 /// Gives the variables of what an edge does their new numbers.
 pub(crate) fn renumber_form(staying: &Staying, form: &mut EdgeForm)
-    ensures { edge_kind_of form.new ≡ kind_left staying.now (edge_kind_of form.old) }
+    ensures { edge_kind_of form.new ≡ sliced_kind staying.now (edge_kind_of form.old) }
 {
     match form {
         EdgeForm::Schedule { delay, priority: _ } => renumber_delay(staying, delay),
@@ -76,7 +76,7 @@ pub(crate) fn renumber_form(staying: &Staying, form: &mut EdgeForm)
 
 /// A watch item with the new number of its variable.
 fn item_left(staying: &Staying, watched: Watch) -> Watch
-    ensures { watched_of result ≡ watched_left staying.now (watched_of watched) }
+    ensures { watched_of result ≡ sliced_watched staying.now (watched_of watched) }
 {
     match watched {
         Watch::Variable { var } => Watch::Variable {
@@ -88,7 +88,7 @@ fn item_left(staying: &Staying, watched: Watch) -> Watch
 
 /// Gives the watched variables their new numbers.
 pub(crate) fn renumber_watched_vars(staying: &Staying, watch: &mut Vec<Watch>)
-    ensures { map watched_of watch.new.items ≡ map (watched_left staying.now) (map watched_of watch.old.items) }
+    ensures { map watched_of watch.new.items ≡ map (sliced_watched staying.now) (map watched_of watch.old.items) }
 {
     for watched in watch.iter_mut() {
         *watched = item_left(staying, *watched);

@@ -2,11 +2,11 @@
 
 ghost use Rattle.std.specs.Prelude.{◌≡◌, None, OnOk, OnErr, IfErr};
 ghost use Rattle.model_core.specs.Rules.Conditions.{first_failed};
-ghost use Rattle.model_core.specs.Rules.ConditionTold.{TellsCondition};
+ghost use Rattle.model_core.specs.Rules.ConditionTold.{NamesCondition};
 ghost use Rattle.model_core.specs.Rules.Slice.{slice_conditions, sliced};
 ghost use Rattle.model_core.specs.Code.Views.{graph_of};
 
-use crate::leaving::leave;
+use crate::leaving::keep_and_renumber;
 use crate::marking::needed;
 use marked_walks::{Staying, unmarked};
 use model_core::{Model, RuleError};
@@ -18,7 +18,7 @@ use std::alloc::Global;
 pub fn slice(alloc: Global, model: &mut Model, vars: &List<usize>) -> Result<(), RuleError>
     ensures done { OnOk result ((first_failed (slice_conditions (graph_of model.old) vars.now) ≡ None)
         × (graph_of model.new ≡ sliced (graph_of model.old) vars.now)) }
-    ensures refused { IfErr result (λ e. TellsCondition e (first_failed (slice_conditions (graph_of model.old) vars.now))) }
+    ensures refused { IfErr result (λ e. NamesCondition e (first_failed (slice_conditions (graph_of model.old) vars.now))) }
     ensures unchanged { OnErr result (graph_of model.new ≡ graph_of model.old) }
 {
     if vars.len() == 0 {
@@ -30,6 +30,6 @@ pub fn slice(alloc: Global, model: &mut Model, vars: &List<usize>) -> Result<(),
         return Err(RuleError::Refused { condition: 2 });
     }
     let staying = Staying::of(alloc, marks)?;
-    leave(alloc, model, &staying);
+    keep_and_renumber(alloc, model, &staying);
     Ok(())
 }

@@ -2,7 +2,7 @@
 
 ghost use Rattle.std.specs.Prelude.{◌≡◌, ◌++◌, OnOk, IfOk};
 ghost use Rattle.std.specs.List.{flat_map};
-ghost use Rattle.var_slicing.specs.Inner.Leading.{leader, next_leaders, leaders_of, led_pairs};
+ghost use Rattle.var_slicing.specs.Inner.Leading.{leader, next_leaders, leaders_of, leader_pairs};
 
 use sig_base::NoMemory;
 use std::alloc::Global;
@@ -55,13 +55,13 @@ fn leaders_of(
 }
 
 /// Adds the pairs that lead from a draw's variable to the leader of its stream and back.
-fn add_led_pair(
+fn add_leader_pair(
     pairs: &mut Vec<(usize, usize)>,
     leaders: &[StreamDraw],
     stream: usize,
     var: usize,
 ) -> Result<(), NoMemory>
-    ensures { OnOk result (pairs.new.items ≡ pairs.old.items ++ led_pairs leaders.now (stream, var)) }
+    ensures { OnOk result (pairs.new.items ≡ pairs.old.items ++ leader_pairs leaders.now (stream, var)) }
 {
     match leader(leaders, stream) {
         Some(first) => {
@@ -74,16 +74,16 @@ fn add_led_pair(
 }
 
 /// Adds for each draw the pairs that lead from its variable to the leader of its stream and back.
-fn add_led_pairs(
+fn add_leader_pairs(
     pairs: &mut Vec<(usize, usize)>,
     leaders: &[StreamDraw],
     draws: &[StreamDraw],
 ) -> Result<(), NoMemory>
-    ensures { OnOk result (pairs.new.items ≡ pairs.old.items ++ flat_map (led_pairs leaders.now) draws.now) }
+    ensures { OnOk result (pairs.new.items ≡ pairs.old.items ++ flat_map (leader_pairs leaders.now) draws.now) }
 {
     for draw in draws {
         let (stream, var) = *draw;
-        add_led_pair(pairs, leaders, stream, var)?;
+        add_leader_pair(pairs, leaders, stream, var)?;
     }
     Ok(())
 }
@@ -96,8 +96,8 @@ pub(crate) fn add_stream_pairs(
     draws: &[StreamDraw],
     count: usize,
 ) -> Result<(), NoMemory>
-    ensures { OnOk result (pairs.new.items ≡ pairs.old.items ++ flat_map (led_pairs (leaders_of count draws.now)) draws.now) }
+    ensures { OnOk result (pairs.new.items ≡ pairs.old.items ++ flat_map (leader_pairs (leaders_of count draws.now)) draws.now) }
 {
     let leaders = leaders_of(alloc, draws, count)?;
-    add_led_pairs(pairs, leaders.as_slice(), draws)
+    add_leader_pairs(pairs, leaders.as_slice(), draws)
 }

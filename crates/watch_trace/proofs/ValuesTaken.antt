@@ -84,8 +84,8 @@ module _ {X Y : Type 0} (f : Y → List ℤ) (view : X → Y) (xs : List X) wher
     whole_taken =
         sym (take_all from values (omega (arith, at_end, so_far.as_long))) ∙ so_far.front ∙ ap (λ l. flat_map f (map view l)) (take_all i xs beyond)
 
-    pub whole_told : new ≡ not (same_values initial (flat_map f (map view xs)))
-    whole_told =
+    pub whole_is_new : new ≡ not (same_values initial (flat_map f (map view xs)))
+    whole_is_new =
         sym (so_far.told ∙ ap₂ (λ l m. new || not (same_values l (flat_map f (map view m)))) (drop_all from initial at_end) (drop_all i xs beyond) ∙ or-false new) where
           or-false : (b : Bool) → (b || false) ≡ b
           or-false true = refl

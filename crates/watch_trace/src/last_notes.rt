@@ -6,7 +6,7 @@ ghost use Rattle.model_core.specs.Run.State.{in_range};
 ghost use Rattle.model_core.specs.Run.Pending.{next_entry};
 ghost use Rattle.model_core.specs.Run.History.{watched_values, watches};
 ghost use Rattle.model_core.specs.Code.Views.{graph_of, watched_of};
-ghost use Rattle.run_control.specs.Running.{told_next};
+ghost use Rattle.run_control.specs.Running.{next_shown};
 ghost use Rattle.watch_trace.specs.Tracing.{leaves_time};
 
 use crate::watched_cells::{are_same, put_values, take_values, zeros};
@@ -62,7 +62,7 @@ fn place_of(watch: &[Watch], vertex: usize) -> Option<usize>
 
 /// Whether the clock leaves its time before a run's next turn. `next` is the run's next event.
 pub fn leaves_time<'m, P: Pending>(run: &Run<'m, P>, next: Option<First>, until: u64) -> bool
-    requires { next ≡ told_next run.now None }
+    requires { next ≡ next_shown run.now None }
     ensures { result ≡ leaves_time run.now.now.clock until (next_entry run.now.now.pending) }
 {
     match next {
@@ -141,7 +141,7 @@ impl<'m> LastNotes<'m> {
     /// Whether an `at` note is due before the run's next turn. `next` is the run's next event.
     pub fn leaving<P: Pending>(&self, run: &Run<'m, P>, next: Option<First>, until: u64) -> bool
         requires one_model { self.now.model ≡ run.now.model }
-        requires told { next ≡ told_next run.now None }
+        requires told { next ≡ next_shown run.now None }
         ensures { result ≡ (leaves_time run.now.now.clock until (next_entry run.now.now.pending)
             && is_new (watched_values (map watched_of self.now.model.watch) run.now.now.state) self.now.noted) }
     {

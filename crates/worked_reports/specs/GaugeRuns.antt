@@ -1,6 +1,6 @@
 -- Histories of the gauge, courses of one cell, and tallies.
 use Rattle.std.specs.Prelude.{ℕ, ℤ, pos, negsuc, List, [], ◌∷◌, Some, None}
-use Rattle.model_core.specs.Run.Machine.{Note, At, On, Standing, Look}
+use Rattle.model_core.specs.Run.Machine.{Note, At, On, RunStatus, Look}
 use Rattle.tally_report.specs.declared.item.Span.{Span}
 use Rattle.tally_report.specs.declared.item.Item.{Item}
 use Rattle.tally_report.specs.declared.item.Item.TheVariants as items
@@ -35,7 +35,7 @@ gauge_notes =
     ∷ At 6 (gauged (pos 0) (negsuc 0) (pos 4) (pos 8))
     ∷ On 7 3 (gauged (pos 9) (pos 9) (pos 9) (pos 9)) ∷ []
 
-abbrev pub gauge_seen : Standing → Look
+abbrev pub gauge_seen : RunStatus → Look
 gauge_seen standing = record { history = gauge_notes; standing = standing }
 
 -- the tally of the gauge: of TOCK, of A, of N, of TICK and of B

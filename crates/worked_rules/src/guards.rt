@@ -53,7 +53,7 @@ pub fn comparisons_take_up_what_is_left()
 {}
 
 /// What is known of a variable that clips narrows it as any other, and it goes on to clip; an array isn't narrowed.
-pub fn clipped_variables_are_told_of()
+pub fn clipped_variables_are_refined()
     ensures scalar { refined (comparison Below 0 (whole 5)) true (clipped (bounded_by [] (pos 0) (pos 9)) ∷ []) ≡ clipped (bounded_by [] (pos 0) (pos 4)) ∷ [] }
     ensures array { refined (comparison Below 0 (whole 5)) true (array 3 (clipped (bounded_by [] (pos 0) (pos 9))) ∷ []) ≡ array 3 (clipped (bounded_by [] (pos 0) (pos 9))) ∷ [] }
 {}
@@ -76,7 +76,7 @@ pub fn other_conditions_leave_all()
 /// others narrow nothing.
 // not: once, twice, and of what is false; both: of one variable, and of two; no `and` that is false, no `or` that is true,
 // no other operator; order: the left one leaves 0..4, of which the right one leaves nothing; within one another.
-pub fn conditions_are_told_together()
+pub fn conditions_refine_together()
     ensures not { left_at 0 true (Not (comparison Below 0 (whole 5))) ≡ span 5 9 }
     ensures not_false { left_at 0 false (Not (comparison Below 0 (whole 5))) ≡ span 0 4 }
     ensures not_not { left_at 0 true (Not (Not (comparison Below 0 (whole 5)))) ≡ span 0 4 }

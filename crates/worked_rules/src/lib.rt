@@ -31,12 +31,12 @@ pub use edge_halves::{
     vertices_are_reached_as_far_as_edges_go,
 };
 pub use guards::{
-    clipped_variables_are_told_of, comparisons_leave_ranges, comparisons_take_up_what_is_left,
-    conditions_are_told_together, other_conditions_leave_all, other_ranges_are_taken,
+    clipped_variables_are_refined, comparisons_leave_ranges, comparisons_take_up_what_is_left,
+    conditions_refine_together, other_conditions_leave_all, other_ranges_are_taken,
     parts_are_bounded_under_guards,
 };
 pub use meeting_vertices::{
-    edges_that_are_never_taken_count, reasons_are_told_together, some_cancel_the_other,
+    edges_that_are_never_taken_count, reasons_are_listed_together, some_cancel_the_other,
     some_draw_from_a_stream, some_meet, some_touch_a_variable,
 };
 pub use merge_halves::{
@@ -71,5 +71,5 @@ pub use twins::{
 };
 pub use using::{
     numbers_are_moved, numbers_have_room, streams_are_drawn_from, variables_are_used_in_each_way,
-    variables_stand_in_expressions,
+    variables_occur_in_expressions,
 };

@@ -112,7 +112,7 @@ pub fn edges_that_are_never_taken_count()
 /// All reasons that hold are listed, in their order, with commas.
 // ALL NEXT: all three; ALL HALF: the last two; ALL PART: the first and the last; HALF PART: both cancel ALL; HALF HALF: no
 // variable.
-pub fn reasons_are_told_together()
+pub fn reasons_are_listed_together()
     ensures { conflict_text reasons_together
         ≡ codes "RUN ALL cancels\n"
         ++ codes "RUN NEXT cancels\n"

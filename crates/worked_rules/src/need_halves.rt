@@ -5,7 +5,7 @@ ghost use Rattle.std.specs.Prelude.{◌≡◌, ◌∷◌, [], true, false, map, 
 ghost use Rattle.model_core.specs.EventGraph.{Truth, Scalar, Set, Draw, Uniform, Urgent, CancelNext, CancelEqual, CancelAll, Fixed, Drawn, Schedule, WatchedVariable, WatchedVertex};
 ghost use Rattle.model_core.specs.Rules.Conditions.{first_failed};
 ghost use Rattle.model_core.specs.Rules.Needed.{unneeded};
-ghost use Rattle.model_core.specs.Rules.Slice.{slice_conditions, change_left, edge_left, sliced};
+ghost use Rattle.model_core.specs.Rules.Slice.{slice_conditions, sliced_change, sliced_edge, sliced};
 ghost use Rattle.worked_runs.specs.Building.{whole, at_variable, at_cell, set, draw, only_if, positive, plain_edge, schedule, one_over_zero, x_watched};
 ghost use Rattle.worked_rules.specs.NeedHalves.{four_clipped, taken_over, drawn_of, giving_edge, one_strict, before_slice, behind_slice};
 
@@ -84,10 +84,10 @@ pub fn slices_list_all()
 // none.
 pub fn parts_are_sliced()
     ensures whole { sliced before_slice (1 ∷ []) ≡ behind_slice }
-    ensures without_values { map (edge_left before_slice (true ∷ false ∷ true ∷ true ∷ [])) (plain_edge Urgent 1 [] ∷ plain_edge CancelEqual 1 [] ∷ plain_edge Urgent 1 (whole 7 ∷ []) ∷ plain_edge CancelEqual 1 (whole 7 ∷ []) ∷ [])
+    ensures without_values { map (sliced_edge before_slice (true ∷ false ∷ true ∷ true ∷ [])) (plain_edge Urgent 1 [] ∷ plain_edge CancelEqual 1 [] ∷ plain_edge Urgent 1 (whole 7 ∷ []) ∷ plain_edge CancelEqual 1 (whole 7 ∷ []) ∷ [])
         ≡ plain_edge Urgent 1 [] ∷ plain_edge CancelEqual 1 [] ∷ plain_edge Urgent 1 [] ∷ plain_edge CancelEqual 1 [] ∷ [] }
-    ensures with_values { map (edge_left before_slice (true ∷ true ∷ false ∷ true ∷ [])) (plain_edge Urgent 1 (whole 7 ∷ Scalar 3 ∷ []) ∷ plain_edge CancelEqual 1 (Scalar 1 ∷ whole 8 ∷ []) ∷ plain_edge CancelNext 1 [] ∷ plain_edge CancelNext 2 (Scalar 3 ∷ []) ∷ [])
+    ensures with_values { map (sliced_edge before_slice (true ∷ true ∷ false ∷ true ∷ [])) (plain_edge Urgent 1 (whole 7 ∷ Scalar 3 ∷ []) ∷ plain_edge CancelEqual 1 (Scalar 1 ∷ whole 8 ∷ []) ∷ plain_edge CancelNext 1 [] ∷ plain_edge CancelNext 2 (Scalar 3 ∷ []) ∷ [])
         ≡ plain_edge Urgent 1 (whole 7 ∷ []) ∷ plain_edge CancelEqual 1 (Scalar 1 ∷ []) ∷ plain_edge CancelNext 1 [] ∷ plain_edge CancelNext 2 (Scalar 2 ∷ []) ∷ [] }
-    ensures more_sides { change_left (true ∷ false ∷ []) (Set (at_variable 1 ∷ []) (whole 1 ∷ whole 2 ∷ [])) ≡ Set [] (whole 2 ∷ []) ∷ [] }
-    ensures fewer_sides { change_left (true ∷ false ∷ []) (Set (at_variable 1 ∷ at_variable 0 ∷ []) (whole 1 ∷ [])) ≡ Set (at_variable 0 ∷ []) [] ∷ [] }
+    ensures more_sides { sliced_change (true ∷ false ∷ []) (Set (at_variable 1 ∷ []) (whole 1 ∷ whole 2 ∷ [])) ≡ Set [] (whole 2 ∷ []) ∷ [] }
+    ensures fewer_sides { sliced_change (true ∷ false ∷ []) (Set (at_variable 1 ∷ at_variable 0 ∷ []) (whole 1 ∷ [])) ≡ Set (at_variable 0 ∷ []) [] ∷ [] }
 {}

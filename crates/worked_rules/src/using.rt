@@ -11,7 +11,7 @@ ghost use Rattle.worked_rules.specs.UsingModels.{expressions, users_in_turn, usi
 /// The variables of an expression occur in all its parts, from left to right, each as often as it occurs there.
 // a number, a truth value, the clock: none; a scalar; a cell: its array and its index; `-`, `not`; both operands; all three
 // parts of an `if`; one variable twice.
-pub fn variables_stand_in_expressions()
+pub fn variables_occur_in_expressions()
     ensures { map variables_in expressions
         ≡ [] ∷ [] ∷ [] ∷ (5 ∷ []) ∷ (6 ∷ 5 ∷ []) ∷ (5 ∷ []) ∷ (5 ∷ []) ∷ (5 ∷ 4 ∷ []) ∷ (5 ∷ 4 ∷ 3 ∷ []) ∷ (5 ∷ 5 ∷ []) ∷ [] }
 {}

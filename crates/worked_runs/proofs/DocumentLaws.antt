@@ -7,11 +7,11 @@ use Rattle.model_core.specs.EventGraph.{EventGraph}
 use Rattle.model_core.specs.Rules.Reduction.{RuleApplication}
 use Rattle.model_core.specs.Text.Lexing.{Lexeme, tokens_of}
 use Rattle.model_core.specs.Text.Written.{WrittenModel}
-use Rattle.model_core.specs.Text.FirstWrong.{told_place}
+use Rattle.model_core.specs.Text.FirstWrong.{wrong_place}
 use Rattle.model_core.specs.Text.Openings.{front_to_end, too_deep_at}
 use Rattle.model_core.specs.Text.Numbering.{numbered}
 use Rattle.model_core.specs.Text.CertificateText.{certificate_format, IsNoCertificateAt}
-use Rattle.model_core.specs.Static.ModelFaults.{told_fault, Accepted}
+use Rattle.model_core.specs.Static.ModelFaults.{first_fault, Accepted}
 use Rattle.model_core.specs.Static.Reading.{ReadsDocument}
 use Rattle.text_laws.specs.FormatReader.{Parse, took, and_next, whole_read}
 use Rattle.text_laws.specs.LanguageReader.{language_reader, text_and_rest}
@@ -26,7 +26,7 @@ certificate_parse tokens = and_next whole_read (language_reader certificate_form
 
 stuck_at : (text : List ℕ) (tokens : List Lexeme) (at : ℕ) (r : Parse (List RuleApplication)) → certificate_parse tokens ≡ r → place_stuck text r ≡ Some at → IsNoCertificateAt text tokens at
 stuck_at text tokens at (Ok r) same e = absurd cc
-stuck_at text tokens at (Err rest) same e = let is : told_place text rest ≡ at = cc in subst (λ k. IsNoCertificateAt text tokens k) is (all-is_wrong certificate_format certificate-fine text tokens rest same)
+stuck_at text tokens at (Err rest) same e = let is : wrong_place text rest ≡ at = cc in subst (λ k. IsNoCertificateAt text tokens k) is (all-is_wrong certificate_format certificate-fine text tokens rest same)
 
 pub no_certificate : {text : List ℕ} {at : ℕ} → certificate_stuck text (tokens_of text) ≡ Some at → IsNoCertificateText text at
 no_certificate {text} {at} e = go (tokens_of text) refl e
@@ -36,17 +36,17 @@ no_certificate {text} {at} e = go (tokens_of text) refl e
     go (Err k) cut e = absurd cc
 
 -- a written model is accepted as the model that its names name, where it has no fault
-accepted-as : ((m : WrittenModel) → told_fault m ≡ None → (g : EventGraph) × Accepted m g) → (m : WrittenModel) (g : EventGraph) → told_fault m ≡ None → numbered m ≡ Some g → Accepted m g
+accepted-as : ((m : WrittenModel) → first_fault m ≡ None → (g : EventGraph) × Accepted m g) → (m : WrittenModel) (g : EventGraph) → first_fault m ≡ None → numbered m ≡ Some g → Accepted m g
 accepted-as accepts m g none is =
     let (h, accepted) = accepts m none in
     let same : ◌≡◌ {A = Option EventGraph} (Some h) (Some g) = sym accepted.numbers ∙ is in
     let one : h ≡ g = cc in
     subst (Accepted m) one accepted
 
-pub document_read : ((m : WrittenModel) → told_fault m ≡ None → (g : EventGraph) × Accepted m g) → {text : List ℕ} {tokens left last : List Lexeme} {first second : WrittenModel} {applications : List RuleApplication} {g h : EventGraph}
+pub document_read : ((m : WrittenModel) → first_fault m ≡ None → (g : EventGraph) × Accepted m g) → {text : List ℕ} {tokens left last : List Lexeme} {first second : WrittenModel} {applications : List RuleApplication} {g h : EventGraph}
     → length text ≤ DOCUMENT_MAX → tokens_of text ≡ Ok tokens
     → text_and_rest tokens ≡ took first left → too_deep_at OPENINGS_MAX (front_to_end tokens) ≡ None → text_and_rest left ≡ took second last → too_deep_at OPENINGS_MAX (front_to_end left) ≡ None → certificate_parse last ≡ took applications []
-    → told_fault first ≡ None → numbered first ≡ Some g → told_fault second ≡ None → numbered second ≡ Some h → ReadsDocument text g applications h
+    → first_fault first ≡ None → numbered first ≡ Some g → first_fault second ≡ None → numbered second ≡ Some h → ReadsDocument text g applications h
 document_read accepts {text} {tokens} {left} {last} {first} {second} {applications} {g} {h} fits cut reads_first few_first reads_second few_second reads_certificate none_first is_first none_second is_second = record {
   fits = fits;
   first = first;

@@ -6,7 +6,7 @@ use Rattle.model_core.specs.Text.Lexing.{Lexeme, tokens_of}
 use Rattle.model_core.specs.Text.Written.{WrittenModel}
 use Rattle.model_core.specs.Text.Expressions.{LanguageFormat, level_format}
 use Rattle.model_core.specs.Text.Language.{text_format}
-use Rattle.model_core.specs.Text.FirstWrong.{IsUnexpectedAt, told_place}
+use Rattle.model_core.specs.Text.FirstWrong.{IsUnexpectedAt, wrong_place}
 use Rattle.model_core.specs.Text.Openings.{front_to_end}
 use Rattle.text_laws.specs.FormatReader.{Parse, took, and_next, whole_read}
 use Rattle.text_laws.specs.LanguageReader.{level_lookahead, language_reader, text_read}
@@ -38,7 +38,7 @@ refusal text tokens at e = go (text_read tokens) refl e
   where
     go : (r : Parse WrittenModel) → text_read tokens ≡ r → place_stuck text r ≡ Some at → IsUnexpectedAt text tokens at
     go (Ok r) same e = absurd cc
-    go (Err rest) same e = subst (λ k. IsUnexpectedAt text tokens k) (same_Some (told_place text rest) at e) (refused-is_unexpected text tokens rest same)
+    go (Err rest) same e = subst (λ k. IsUnexpectedAt text tokens k) (same_Some (wrong_place text rest) at e) (refused-is_unexpected text tokens rest same)
 
 pub refused : {text : List ℕ} {at : ℕ} → refused_at text ≡ Some at → IsRefusedAt text at
 refused {text} {at} e = go (tokens_of text) refl e

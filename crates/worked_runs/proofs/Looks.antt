@@ -4,7 +4,7 @@ use Rattle.std.proofs.lemmas.Bool.{le-ltb}
 use Rattle.model_core.specs.EventGraph.{EventGraph}
 use Rattle.model_core.specs.Run.Machine.{Note, On, Going, Look, finished, Move, Rests, Fails, Goes, before, ahead, after, look_of}
 use Rattle.model_core.specs.Run.History.{next_move, start, allowed, look}
-use Rattle.model_core.specs.Run.Same.{Begins, SameLooks, thing, first_parameters, Same}
+use Rattle.model_core.specs.Run.Same.{Begins, SameLooks, watched_name_of, first_parameters, Same}
 use Rattle.run_laws.proofs.Simulation.{Answers, Joined}
 use Rattle.worked_runs.specs.Pairs.{Apart}
 
@@ -94,7 +94,7 @@ apart_by_notes g h seed fits starts ok ok_too until early n missing = (
 )
 
 -- models are apart that watch other things
-pub apart_by_watch : (g h : EventGraph) → (map (thing g) g.watch ≡ map (thing h) h.watch → ⊥) → Apart g h
+pub apart_by_watch : (g h : EventGraph) → (map (watched_name_of g) g.watch ≡ map (watched_name_of h) h.watch → ⊥) → Apart g h
 apart_by_watch g h differ = (λ same. differ same.watched, λ same. differ (sym same.watched))
 
 -- models are apart whose runs begin with other parameters

@@ -2,7 +2,7 @@
 use Rattle.std.proofs.Common.{◌≡◌, ℕ, true, List, refl, subst}
 use Rattle.std.specs.Prelude.{Some, Result, Ok, Err}
 use Rattle.model_core.specs.Text.Lexing.{Lexeme, tokens_of}
-use Rattle.model_core.specs.Text.FirstWrong.{told_place}
+use Rattle.model_core.specs.Text.FirstWrong.{wrong_place}
 use Rattle.model_core.specs.Text.Language.{signed_format}
 use Rattle.model_core.specs.Text.SnapshotGrammar.{WrittenSnapshot, stream_format, value_format, noted_format, exact_format, carried_format, carries_format, pending_format, snapshot_format, IsNoSnapshotAt}
 use Rattle.text_laws.specs.FirstTokens.{fine}
@@ -21,7 +21,7 @@ snapshot_parse tokens = and_next whole_read (language_reader snapshot_format tok
 
 stuck_at : (text : List ℕ) (tokens : List Lexeme) (at : ℕ) (r : Parse WrittenSnapshot) → snapshot_parse tokens ≡ r → place_stuck text r ≡ Some at → IsNoSnapshotAt text tokens at
 stuck_at text tokens at (Ok r) same e = absurd cc
-stuck_at text tokens at (Err rest) same e = let is : told_place text rest ≡ at = cc in subst (λ k. IsNoSnapshotAt text tokens k) is (all-is_wrong snapshot_format one_token_decides text tokens rest same)
+stuck_at text tokens at (Err rest) same e = let is : wrong_place text rest ≡ at = cc in subst (λ k. IsNoSnapshotAt text tokens k) is (all-is_wrong snapshot_format one_token_decides text tokens rest same)
 
 pub no_snapshot : {text : List ℕ} {at : ℕ} → snapshot_stuck text (tokens_of text) ≡ Some at → IsNoSnapshotText text at
 no_snapshot {text} {at} e = go (tokens_of text) refl e

@@ -2,7 +2,7 @@
 use Rattle.std.specs.Prelude.{ℕ, ℤ, pos, true, false, List, [], ◌∷◌, map, Some, None}
 use Rattle.model_core.specs.declared.model.Kind.TheVariants as kinds
 use Rattle.model_core.specs.EventGraph.{Variable, Operator, Location, Expression, Number, Scalar, Negative, Binary, Add, Subtract, Divide, Above, Equal, Truth, StateChange, Set, Draw, Uniform, EventEdge, EdgeKind, Fixed, Schedule, Urgent, EventVertex, Watched, WatchedVariable}
-use Rattle.model_core.specs.Run.Machine.{Note, Standing, Look}
+use Rattle.model_core.specs.Run.Machine.{Note, RunStatus, Look}
 
 -- a range variable lo..hi that is a scalar, and begins with this value
 abbrev pub ranged : List ℕ → ℕ → ℕ → ℕ → Variable
@@ -75,7 +75,7 @@ abbrev pub scalars : List ℕ → List (List ℤ)
 scalars values = map (λ x. pos x ∷ []) values
 
 -- the look: these notes, and the standing of the run
-abbrev pub showing : List Note → Standing → Look
+abbrev pub showing : List Note → RunStatus → Look
 showing notes standing = record { history = notes; standing = standing }
 
 -- the variable and 1

@@ -5,7 +5,7 @@ use Rattle.model_core.specs.Text.Written.{WrittenModel}
 use Rattle.model_core.specs.Text.Format.{Spells}
 use Rattle.model_core.specs.Text.Expressions.{LanguageFormat, level_format}
 use Rattle.model_core.specs.Text.Language.{text_format}
-use Rattle.model_core.specs.Text.FirstWrong.{IsUnexpectedAt, told_place}
+use Rattle.model_core.specs.Text.FirstWrong.{IsUnexpectedAt, wrong_place}
 use Rattle.model_core.specs.Text.Openings.{front_to_end, too_deep_at}
 use Rattle.text_laws.specs.FormatReader.{Parse, and_next, whole_read}
 use Rattle.text_laws.specs.LanguageReader.{language_reader, text_read}
@@ -41,7 +41,7 @@ value_taken (Err rest) = None
 
 abbrev pub place_stuck : {A : Type 0} → List ℕ → Parse A → Option ℕ
 place_stuck text (Ok r) = None
-place_stuck text (Err rest) = Some (told_place text rest)
+place_stuck text (Err rest) = Some (wrong_place text rest)
 
 abbrev pub value_of_tokens : {A : Type 0} → LanguageFormat A → Result (List Lexeme) ℕ → Option A
 value_of_tokens f (Ok tokens) = value_taken (and_next whole_read (language_reader f tokens))

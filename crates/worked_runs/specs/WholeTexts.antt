@@ -6,12 +6,12 @@ use Rattle.model_core.specs.Text.Language.{text_format}
 use Rattle.model_core.specs.Text.Numbering.{numbered}
 use Rattle.model_core.specs.Text.Canonical.{canonical}
 use Rattle.model_core.specs.Static.FaultOrder.{StaticFault}
-use Rattle.model_core.specs.Static.ModelFaults.{told_fault}
+use Rattle.model_core.specs.Static.ModelFaults.{first_fault}
 use Rattle.worked_runs.specs.GrammarTexts.{read_as}
 
 abbrev pub fault_of_read : Option WrittenModel → Option StaticFault
 fault_of_read None = None
-fault_of_read (Some m) = told_fault m
+fault_of_read (Some m) = first_fault m
 
 -- the first static fault of a text
 abbrev pub fault_in : List ℕ → Option StaticFault

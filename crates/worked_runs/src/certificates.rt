@@ -7,7 +7,7 @@ ghost use Rattle.model_core.specs.Static.Reading.{ReadsDocument};
 ghost use Rattle.worked_runs.specs.GrammarTexts.{IsSpelled};
 ghost use Rattle.worked_runs.specs.CertificateTexts.{IsNoCertificateText, two_vertices, one_vertex, dropping, two_models};
 
-use static_laws::one_fault_is_told;
+use static_laws::accepted_or_one_fault;
 
 /// A certificate spells its applications, and a number too large for an edge is none's.
 pub fn certificates_are_spelled()
@@ -32,5 +32,5 @@ pub fn certificates_are_refused()
 pub fn documents_are_read()
     ensures { ReadsDocument two_models two_vertices dropping one_vertex }
 {
-    one_fault_is_told();
+    accepted_or_one_fault();
 }

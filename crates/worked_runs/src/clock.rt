@@ -4,7 +4,7 @@ ghost use Rattle.std.specs.Prelude.{◌≡◌, ℕ, pos, true, false, [], ◌∷
 ghost use Rattle.sig_base.specs.declared.fault.FaultKind.{FaultKind};
 ghost use Rattle.sig_base.specs.declared.fault.FaultKind.TheVariants as faults;
 ghost use Rattle.model_core.specs.Run.Machine.{At, On, Ended, Stopped, Faulted, Going, finished};
-ghost use Rattle.model_core.specs.Run.History.{at_note, leave_for, completed, start, look};
+ghost use Rattle.model_core.specs.Run.History.{at_note, noting_before_event, completed, start, look};
 ghost use Rattle.worked_runs.specs.Building.{scalars, showing};
 ghost use Rattle.worked_runs.specs.Models.{clock, strict_clock, loop, backwards, cells, at_two};
 ghost use Rattle.worked_runs.specs.Moments.{counted_to, standing_so};
@@ -61,9 +61,9 @@ pub fn notes_tell_what_is_new()
 /// The clock leaves its time where the next event is later, and what it leaves is what the next note is compared with,
 /// also where no note came.
 pub fn the_clock_leaves_its_time()
-    ensures later { leave_for clock (counted_to 5 2 1) 6 ≡ record { notes = At 5 (scalars (2 ∷ [])) ∷ []; noted = Some (scalars (2 ∷ [])) } }
-    ensures now { leave_for clock (counted_to 5 2 1) 5 ≡ record { notes = []; noted = Some (scalars (1 ∷ [])) } }
-    ensures nothing_new { leave_for clock (counted_to 5 2 2) 6 ≡ record { notes = []; noted = Some (scalars (2 ∷ [])) } }
+    ensures later { noting_before_event clock (counted_to 5 2 1) 6 ≡ record { notes = At 5 (scalars (2 ∷ [])) ∷ []; noted = Some (scalars (2 ∷ [])) } }
+    ensures now { noting_before_event clock (counted_to 5 2 1) 5 ≡ record { notes = []; noted = Some (scalars (1 ∷ [])) } }
+    ensures nothing_new { noting_before_event clock (counted_to 5 2 2) 6 ≡ record { notes = []; noted = Some (scalars (2 ∷ [])) } }
 {}
 
 /// The note of an event that is completed has its vertex's place in the watch list, and the values and the clock after

@@ -11,7 +11,7 @@ ghost use Rattle.model_core.specs.Run.LeftByFaults.{left_by_delay};
 ghost use Rattle.model_core.specs.Run.Machine.{At, On, Ended, Stopped, Faulted};
 ghost use Rattle.model_core.specs.Run.History.{look};
 ghost use Rattle.model_core.specs.Text.Canonical.{canonical};
-ghost use Rattle.model_core.specs.Static.ModelFaults.{told_fault};
+ghost use Rattle.model_core.specs.Static.ModelFaults.{first_fault};
 ghost use Rattle.model_core.specs.Rules.Conditions.{first_failed};
 ghost use Rattle.model_core.specs.Rules.Merge.{merge_conditions};
 ghost use Rattle.model_core.specs.Rules.Needed.{unneeded};
@@ -73,9 +73,9 @@ pub fn streams_of_delays_are_needed()
 
 /// A drawn delay needs version 2 of a text, is refused at its word `draw` in any other, and is always printed.
 pub fn drawn_delays_need_a_version()
-    ensures none { told_fault (drawn_in None) ≡ Some (static_fault rules.VersionNeeded 140) }
-    ensures first { told_fault (drawn_in (Some (figure 1 8))) ≡ Some (static_fault rules.VersionNeeded 140) }
-    ensures second { told_fault (drawn_in second) ≡ None }
+    ensures none { first_fault (drawn_in None) ≡ Some (static_fault rules.VersionNeeded 140) }
+    ensures first { first_fault (drawn_in (Some (figure 1 8))) ≡ Some (static_fault rules.VersionNeeded 140) }
+    ensures second { first_fault (drawn_in second) ≡ None }
     ensures bounds { canonical (arriving (after_draw 0 one_to_six ∷ []))
         ≡ codes "version 2;\nmodel DELAY;\nvar N : 0..9 clip = 0;\ntable T { 8 : 1; 2 : 1; }\nwatch N, A, B;\nvertex RUN {\n  set N := N + 1;\n  schedule RUN after draw from 54 in 1..6;\n}\nvertex A {\n}\nvertex B {\n}\nend\n" }
     ensures table { canonical (arriving (only_if (Truth false) (after_draw 1 (ByTable 0)) ∷ []))

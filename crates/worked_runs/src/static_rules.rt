@@ -10,7 +10,7 @@ ghost use Rattle.model_core.specs.Static.FaultOrder.{rule_row, earliest_fault};
 ghost use Rattle.model_core.specs.Static.Kinds.{operand_kind, result_kind};
 ghost use Rattle.model_core.specs.Static.RuleTable.{name_too_long, literal_too_large, stream_outside, draw_outside, too_many};
 ghost use Rattle.model_core.specs.Static.PartFaults.{size_faults, priority_faults};
-ghost use Rattle.model_core.specs.Static.ModelFaults.{faults_of_counts, faults_of_parts, or_too_long, model_faults, told_fault};
+ghost use Rattle.model_core.specs.Static.ModelFaults.{faults_of_counts, faults_of_parts, or_too_long, model_faults, first_fault};
 ghost use Rattle.worked_runs.specs.Texts.{desk};
 ghost use Rattle.worked_runs.specs.WrittenParts.{spelled, figure, huge, plain_figure, minus_figure, static_fault};
 ghost use Rattle.worked_runs.specs.WrittenModels as texts;
@@ -20,7 +20,7 @@ pub fn names_are_short()
     ensures declared { model_faults texts.long_name ≡ static_fault rules.NameTooLong 16 ∷ [] }
     ensures own { model_faults texts.long_own_name ≡ static_fault rules.NameTooLong 6 ∷ [] }
     ensures used { model_faults texts.long_unknown_name ≡ static_fault rules.NameTooLong 26 ∷ static_fault rules.UnknownName 26 ∷ [] }
-    ensures first_of_the_table { told_fault texts.long_unknown_name ≡ Some (static_fault rules.NameTooLong 26) }
+    ensures first_of_the_table { first_fault texts.long_unknown_name ≡ Some (static_fault rules.NameTooLong 26) }
     ensures as_long_as_may_be { name_too_long (spelled (codes "A2345678901234567890123456789012") 0) ≡ [] }
 {}
 
@@ -63,10 +63,10 @@ pub fn kinds_match()
         ∷ static_fault rules.KindMismatch 266 ∷ [] }
     ensures cells { model_faults texts.kinds_of_cells ≡ static_fault rules.KindMismatch 73 ∷ static_fault rules.KindMismatch 84 ∷ [] }
     ensures kind_of_else { model_faults texts.kind_of_else ≡ static_fault rules.UnknownName 80 ∷ static_fault rules.KindMismatch 70 ∷ [] }
-    ensures before_its_operand { told_fault texts.kind_of_else ≡ Some (static_fault rules.KindMismatch 70) }
+    ensures before_its_operand { first_fault texts.kind_of_else ≡ Some (static_fault rules.KindMismatch 70) }
     ensures kind_of_result { model_faults texts.kind_of_result
         ≡ static_fault rules.UnknownName 70 ∷ static_fault rules.KindMismatch 74 ∷ static_fault rules.KindMismatch 70 ∷ [] }
-    ensures unknown_first { told_fault texts.kind_of_result ≡ Some (static_fault rules.UnknownName 70) }
+    ensures unknown_first { first_fault texts.kind_of_result ≡ Some (static_fault rules.UnknownName 70) }
 {}
 
 /// Operators that count take and give whole numbers, those that compare give truth values, and both sides of `=` and
@@ -101,7 +101,7 @@ pub fn numbers_are_within_limits()
     ensures empty_range { model_faults texts.bounds_exchanged ≡ static_fault rules.EmptyRange 17 ∷ static_fault rules.InitialOutside 24 ∷ [] }
     ensures initial { model_faults texts.initial_before_unknown ≡ static_fault rules.InitialOutside 24 ∷ static_fault rules.UnknownName 44 ∷ [] }
     ensures large_initial { model_faults texts.large_initial ≡ static_fault rules.LiteralTooLarge 42 ∷ static_fault rules.InitialOutside 42 ∷ [] }
-    ensures size { told_fault texts.no_cells ≡ Some (static_fault rules.SizeOutside 15) }
+    ensures size { first_fault texts.no_cells ≡ Some (static_fault rules.SizeOutside 15) }
     ensures least_size { size_faults (figure 1 15) ≡ [] }
     ensures last_size { size_faults (figure 65536 15) ≡ [] }
     ensures size_beyond { size_faults (figure 65537 15) ≡ static_fault rules.SizeOutside 15 ∷ [] }
@@ -130,9 +130,9 @@ pub fn draws_are_within_limits()
 pub fn numbers_beyond_are_compared()
     ensures bounds { model_faults texts.far_below
         ≡ static_fault rules.LiteralTooLarge 20 ∷ static_fault rules.EmptyRange 17 ∷ static_fault rules.InitialOutside 44 ∷ [] }
-    ensures bounds_told { told_fault texts.far_below ≡ Some (static_fault rules.EmptyRange 17) }
+    ensures bounds_told { first_fault texts.far_below ≡ Some (static_fault rules.EmptyRange 17) }
     ensures uniform { model_faults texts.far_uniform ≡ static_fault rules.LiteralTooLarge 60 ∷ static_fault rules.DrawOutside 57 ∷ [] }
-    ensures uniform_told { told_fault texts.far_uniform ≡ Some (static_fault rules.DrawOutside 57) }
+    ensures uniform_told { first_fault texts.far_uniform ≡ Some (static_fault rules.DrawOutside 57) }
     ensures size { size_faults (huge 15) ≡ static_fault rules.LiteralTooLarge 15 ∷ static_fault rules.SizeOutside 15 ∷ [] }
     ensures size_told { earliest_fault None (size_faults (huge 15)) ≡ Some (static_fault rules.LiteralTooLarge 15) }
 {}
@@ -156,11 +156,11 @@ pub fn rules_have_rows()
 
 /// Of several faults the one with the least place is reported.
 pub fn the_least_place_is_told()
-    ensures initial_before_unknown { told_fault texts.initial_before_unknown ≡ Some (static_fault rules.InitialOutside 24) }
-    ensures empty_before_initial { told_fault texts.bounds_exchanged ≡ Some (static_fault rules.EmptyRange 17) }
-    ensures unknown_before_twice { told_fault texts.unknown_watched_twice ≡ Some (static_fault rules.UnknownName 15) }
-    ensures first_of_three { told_fault texts.too_few_values ≡ Some (static_fault rules.ValueCount 74) }
-    ensures none { told_fault texts.plain_text ≡ None }
+    ensures initial_before_unknown { first_fault texts.initial_before_unknown ≡ Some (static_fault rules.InitialOutside 24) }
+    ensures empty_before_initial { first_fault texts.bounds_exchanged ≡ Some (static_fault rules.EmptyRange 17) }
+    ensures unknown_before_twice { first_fault texts.unknown_watched_twice ≡ Some (static_fault rules.UnknownName 15) }
+    ensures first_of_three { first_fault texts.too_few_values ≡ Some (static_fault rules.ValueCount 74) }
+    ensures none { first_fault texts.plain_text ≡ None }
 {}
 
 /// The first item beyond a limit is reported.

@@ -5,7 +5,7 @@ ghost use Rattle.model_core.specs.declared.static_kind.StaticKind.TheVariants as
 ghost use Rattle.model_core.specs.Text.Canonical.{canonical};
 ghost use Rattle.model_core.specs.Text.VersionNeeded.{needs_version_two};
 ghost use Rattle.model_core.specs.Static.VersionFaults.{is_version_two, number_faults, cells_faults, version_faults};
-ghost use Rattle.model_core.specs.Static.ModelFaults.{told_fault};
+ghost use Rattle.model_core.specs.Static.ModelFaults.{first_fault};
 ghost use Rattle.worked_runs.specs.Building.{whole, schedule, urgent};
 ghost use Rattle.worked_runs.specs.DrawnModels.{after_draw, one_to_six};
 ghost use Rattle.worked_runs.specs.LargeTexts.{of_targets, of_parameters, everything, parts_behind};
@@ -23,17 +23,17 @@ pub fn versions_are_known()
     ensures not_the_third { is_version_two (Some (figure 3 8)) ≡ false }
     ensures not_too_large { is_version_two (Some (huge 8)) ≡ false }
     ensures zero { number_faults (figure 0 8) ≡ static_fault rules.VersionUnknown 8 ∷ [] }
-    ensures third { told_fault (saying (Some (figure 3 8)) []) ≡ Some (static_fault rules.VersionUnknown 8) }
-    ensures too_large { told_fault (saying (Some (huge 8)) []) ≡ Some (static_fault rules.LiteralTooLarge 8) }
+    ensures third { first_fault (saying (Some (figure 3 8)) []) ≡ Some (static_fault rules.VersionUnknown 8) }
+    ensures too_large { first_fault (saying (Some (huge 8)) []) ≡ Some (static_fault rules.LiteralTooLarge 8) }
 {}
 
 /// Only a text of version 2 has the greater limits; one of an unknown version has those of version 1.
 pub fn versions_have_their_limits()
-    ensures first { told_fault (saying None (array_at 9 4096 ∷ [])) ≡ None }
-    ensures beyond_the_first { told_fault (saying None (array_at 9 4097 ∷ [])) ≡ Some (static_fault rules.SizeOutside 15) }
-    ensures said_to_be_the_first { told_fault (saying (Some (figure 1 8)) (array_at 20 4097 ∷ [])) ≡ Some (static_fault rules.SizeOutside 26) }
-    ensures second { told_fault (saying second (array_at 20 65536 ∷ [])) ≡ None }
-    ensures beyond_the_second { told_fault (saying second (array_at 20 65537 ∷ [])) ≡ Some (static_fault rules.SizeOutside 26) }
+    ensures first { first_fault (saying None (array_at 9 4096 ∷ [])) ≡ None }
+    ensures beyond_the_first { first_fault (saying None (array_at 9 4097 ∷ [])) ≡ Some (static_fault rules.SizeOutside 15) }
+    ensures said_to_be_the_first { first_fault (saying (Some (figure 1 8)) (array_at 20 4097 ∷ [])) ≡ Some (static_fault rules.SizeOutside 26) }
+    ensures second { first_fault (saying second (array_at 20 65536 ∷ [])) ≡ None }
+    ensures beyond_the_second { first_fault (saying second (array_at 20 65537 ∷ [])) ≡ Some (static_fault rules.SizeOutside 26) }
     ensures unknown { version_faults (saying (Some (figure 3 8)) (array_at 20 4097 ∷ [])) ≡ static_fault rules.VersionUnknown 8 ∷ static_fault rules.SizeOutside 26 ∷ [] }
 {}
 

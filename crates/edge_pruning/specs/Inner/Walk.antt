@@ -7,8 +7,8 @@ abbrev pub targets_of : List EventEdge → List ℕ
 targets_of es = map (λ (e : EventEdge). e.target) es
 
 -- for each vertex where its edges lead
-abbrev pub targets_behind : List EventVertex → List (List ℕ)
-targets_behind vs = map (λ (v : EventVertex). targets_of v.edges) vs
+abbrev pub targets_by_vertex : List EventVertex → List (List ℕ)
+targets_by_vertex vs = map (λ (v : EventVertex). targets_of v.edges) vs
 
 -- the vertices of a watch list
 abbrev pub watched_vertices : List Watched → List ℕ

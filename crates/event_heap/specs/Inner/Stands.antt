@@ -31,22 +31,22 @@ pub record IsFork (nodes : List Node) (i : ℕ) (x : Item) (l r : Tree) : Type 0
   pub left_rank_is : (node_at nodes i).left_rank ≡ leftist_rank l
 
 -- from the node at the place on, the nodes are the tree
-abbrev pub StandsFrom : List Node → Tree → Option ℕ → Type 0
-StandsFrom nodes Leaf None = Unit {0}
-StandsFrom nodes Leaf (Some i) = ⊥
-StandsFrom nodes (Fork p x l r) None = ⊥
-StandsFrom nodes (Fork p x l r) (Some i) = (i ≡ p) × IsFork nodes p x l r × StandsFrom nodes l (node_at nodes p).left × StandsFrom nodes r (node_at nodes p).right
+abbrev pub IsTreeFrom : List Node → Tree → Option ℕ → Type 0
+IsTreeFrom nodes Leaf None = Unit {0}
+IsTreeFrom nodes Leaf (Some i) = ⊥
+IsTreeFrom nodes (Fork p x l r) None = ⊥
+IsTreeFrom nodes (Fork p x l r) (Some i) = (i ≡ p) × IsFork nodes p x l r × IsTreeFrom nodes l (node_at nodes p).left × IsTreeFrom nodes r (node_at nodes p).right
 
 -- the nodes from two places on are two trees that have no node in common
-pub record StandApart (nodes : List Node) (s t : Tree) (a b : Option ℕ) : Type 0 where
-  pub one : StandsFrom nodes s a
-  pub other : StandsFrom nodes t b
+pub record TreesApart (nodes : List Node) (s t : Tree) (a b : Option ℕ) : Type 0 where
+  pub one : IsTreeFrom nodes s a
+  pub other : IsTreeFrom nodes t b
   pub apart : (p : ℕ) → times_in p s + times_in p t ≤ 1
   pub ranks : leftist_rank s + leftist_rank t < 2 ^ 32
 
 -- the nodes from the place on are the tree, all others are as they were, and each node keeps its event
 pub record IsRebuilt (old new : List Node) (t : Tree) (root : Option ℕ) : Type 0 where
-  pub stands : StandsFrom new t root
+  pub stands : IsTreeFrom new t root
   pub others : (p : ℕ) → times_in p t ≡ 0 → node_at new p ≡ node_at old p
   pub count : length new ≡ length old
   pub items : items_of new ≡ items_of old

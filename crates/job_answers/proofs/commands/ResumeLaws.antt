@@ -15,38 +15,38 @@ use Rattle.run_snapshot.specs.ResumedRun.{ResumedRun}
 use Rattle.watch_trace.specs.Tracing.{Tracing, moment_of}
 use Rattle.answer_delivery.specs.declared.answer.Answer.{Answer}
 use Rattle.answer_delivery.specs.declared.answer.Answer.TheVariants.{Refused}
-use Rattle.answer_delivery.specs.declared.delivering.Said.{Said}
-use Rattle.answer_delivery.specs.declared.delivering.Said.TheVariants as said
+use Rattle.answer_delivery.specs.declared.delivering.DeliveryOutcome.{DeliveryOutcome}
+use Rattle.answer_delivery.specs.declared.delivering.DeliveryOutcome.TheVariants as said
 use Rattle.answer_delivery.specs.declared.status.Failure.{Failure}
 use Rattle.answer_delivery.specs.declared.status.Refusal.TheVariants as refusals
 use Rattle.job_answers.specs.AnswerLaws.{KeepsAnswerLaws}
 use Rattle.answer_delivery.specs.Delivery.{DeliversSome}
-use Rattle.job_answers.specs.RunAnswer.{told_of, refused_or}
+use Rattle.job_answers.specs.RunAnswer.{answer_of_look, refused_or}
 use Rattle.job_answers.specs.ResumeAnswer.{resume_refusal, resume_answer, ResumedExceedsRoom}
 use Rattle.answer_delivery.specs.Statuses.{status_of_answer}
 use Rattle.job_answers.specs.Inner.RunSteps.{DeliversHistory}
 use Rattle.job_answers.proofs.HistoryLaws.{told_has_bytes, told_unrefused}
 
 module _ {K : Type 0} (sight : K → Outlet) (g : EventGraph) (s : SavedRun) (o : ResumeOptions) where
-  abbrev pub DeliversResumed : Result Said Failure → K → K → Type 0
+  abbrev pub DeliversResumed : Result DeliveryOutcome Failure → K → K → Type 0
   DeliversResumed r p q = DeliversSome sight (λ a. a ≡ resume_answer g s o.until o.events) (ResumedExceedsRoom g s o) r p q
 
   -- it can't go on as it is asked to
   pub resume_refused : (line : List ℕ) (p : K) → Some line ≡ resume_refusal s o.until o.events → DeliversResumed (Ok (said.Refused refusals.BadStart line)) p p
   resume_refused line p is = inl (record {
     answer = Refused refusals.BadStart line;
-    holds = ap (λ x. refused_or x (told_of g o.until o.events (history_from g s o.until o.events))) is;
+    holds = ap (λ x. refused_or x (answer_of_look g o.until o.events (history_from g s o.until o.events))) is;
     delivers = (refl, refl, refl);
     short = λ e. absurd cc;
   })
 
 -- The history of a run that was resumed is what `resume` answers.
-pub resume_delivered : {K : Type 0} (sight : K → Outlet) (m : Model) (s : SavedRun) (o : ResumeOptions) (r : Running) (t : Tracing) (result : Result Said Failure) (p q : K) → resume_refusal s o.until o.events ≡ None → ResumedRun m s o.room r t
+pub resume_delivered : {K : Type 0} (sight : K → Outlet) (m : Model) (s : SavedRun) (o : ResumeOptions) (r : Running) (t : Tracing) (result : Result DeliveryOutcome Failure) (p q : K) → resume_refusal s o.until o.events ≡ None → ResumedRun m s o.room r t
     → ((room : ℕ) → room ≤ r.spare + length r.now.pending → DeliversHistory sight (graph_of r.model) o.until r.seed o.events (moment_of r t) room result p q) → DeliversResumed sight (graph_of m) s o result p q
 resume_delivered sight m s o r t result p q allowed resumed delivers =
     let room = max o.room (length s.pending) in
     let here = saved_moment (graph_of m) s in
-    subst (λ (x : Answer). DeliversSome sight (λ a. a ≡ x) (ResumedExceedsRoom (graph_of m) s o) result p q) (ap (λ x. refused_or x (told_of (graph_of m) o.until o.events (history_from (graph_of m) s o.until o.events))) (sym allowed))
+    subst (λ (x : Answer). DeliversSome sight (λ a. a ≡ x) (ResumedExceedsRoom (graph_of m) s o) result p q) (ap (λ x. refused_or x (answer_of_look (graph_of m) o.until o.events (history_from (graph_of m) s o.until o.events))) (sym allowed))
     (subst (λ (n : Model). DeliversHistory sight (graph_of n) o.until s.seed o.events here room result p q) resumed.model
     (subst (λ (seed : ℕ). DeliversHistory sight (graph_of r.model) o.until seed o.events here room result p q) resumed.seeded
     (subst (λ (here : Moment). DeliversHistory sight (graph_of r.model) o.until r.seed o.events here room result p q) resumed.stands (delivers room resumed.roomy))))

@@ -14,11 +14,11 @@ use Rattle.run_control.specs.Beginning.{BegunRun}
 use Rattle.run_control.specs.Running.{Running}
 use Rattle.watch_trace.specs.Tracing.{Tracing, moment_of}
 use Rattle.answer_delivery.specs.declared.answer.Answer.{Answer}
-use Rattle.answer_delivery.specs.declared.delivering.Said.{Said}
+use Rattle.answer_delivery.specs.declared.delivering.DeliveryOutcome.{DeliveryOutcome}
 use Rattle.answer_delivery.specs.declared.status.Failure.{Failure}
 use Rattle.job_answers.specs.AnswerLaws.{KeepsAnswerLaws}
 use Rattle.answer_delivery.specs.Delivery.{DeliversSome}
-use Rattle.job_answers.specs.RunAnswer.{told_of, refused_or, run_answer, ExceedsRoom}
+use Rattle.job_answers.specs.RunAnswer.{answer_of_look, refused_or, run_answer, ExceedsRoom}
 use Rattle.job_answers.specs.StartingValues.{start_refusal}
 use Rattle.answer_delivery.specs.Statuses.{status_of_answer}
 use Rattle.job_answers.specs.Inner.RunSteps.{DeliversHistory}
@@ -36,14 +36,14 @@ at_start g starts r t now noted =
 -- ---- the answer
 
 -- The history of a run from its beginning is what `run` answers.
-pub run_delivered : {K : Type 0} (sight : K → Outlet) (m : Model) (until seed events room : ℕ) (starts : List ℤ) (r : Running) (t : Tracing) (result : Result Said Failure) (o p : K) → BegunRun m seed starts room r → t.noted ≡ None
+pub run_delivered : {K : Type 0} (sight : K → Outlet) (m : Model) (until seed events room : ℕ) (starts : List ℤ) (r : Running) (t : Tracing) (result : Result DeliveryOutcome Failure) (o p : K) → BegunRun m seed starts room r → t.noted ≡ None
     → ((room : ℕ) → room ≤ r.spare + length r.now.pending → DeliversHistory sight (graph_of r.model) until r.seed events (moment_of r t) room result o p)
     → DeliversSome sight (λ a. a ≡ run_answer (graph_of m) until seed events starts) (ExceedsRoom (graph_of m) until seed events starts room) result o p
 run_delivered sight m until seed events room starts r t result o p begun noted delivers =
     let roomy : room ≤ r.spare + length r.now.pending = omega (arith, begun.roomy) in
     let here : moment_of r t ≡ start (graph_of r.model) starts = at_start (graph_of r.model) starts r t (begun.now ∙ ap (λ n. (start (graph_of n) starts).now) (sym begun.model)) noted in
-    let told : told_of (graph_of m) until events (look (graph_of m) seed starts until events) ≡ run_answer (graph_of m) until seed events starts =
-    ap (λ s. refused_or s (told_of (graph_of m) until events (look (graph_of m) seed starts until events))) (sym (taken_start (graph_of m) starts begun.accepted)) in
+    let told : answer_of_look (graph_of m) until events (look (graph_of m) seed starts until events) ≡ run_answer (graph_of m) until seed events starts =
+    ap (λ s. refused_or s (answer_of_look (graph_of m) until events (look (graph_of m) seed starts until events))) (sym (taken_start (graph_of m) starts begun.accepted)) in
     subst (λ (x : Answer). DeliversSome sight (λ a. a ≡ x) (ExceedsRoom (graph_of m) until seed events starts room) result o p) told
     (subst (λ (s : ℕ). DeliversHistory sight (graph_of m) until s events (start (graph_of m) starts) room result o p) begun.seeded
     (subst (λ (n : Model). DeliversHistory sight (graph_of n) until r.seed events (start (graph_of n) starts) room result o p) begun.model

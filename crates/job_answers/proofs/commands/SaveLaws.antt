@@ -9,7 +9,7 @@ use Rattle.command_words.specs.declared.save_options.SaveOptions.{SaveOptions}
 use Rattle.model_core.specs.declared.model.Model.{Model}
 use Rattle.model_core.specs.EventGraph.{EventGraph}
 use Rattle.model_core.specs.Code.Views.{graph_of}
-use Rattle.model_core.specs.Run.Machine.{Note, Standing, Ended, Stopped, Faulted, Going, Look, Reached}
+use Rattle.model_core.specs.Run.Machine.{Note, RunStatus, Ended, Stopped, Faulted, Going, Look, Reached}
 use Rattle.model_core.specs.Run.History.{Moment, start, allowed, look, look_from, reached_from}
 use Rattle.model_core.specs.Run.Step.{Configuration}
 use Rattle.model_core.specs.Text.Canonical.{canonical}
@@ -22,7 +22,7 @@ use Rattle.run_control.specs.Running.{Running}
 use Rattle.watch_trace.specs.declared.outcome.Outcome.{Outcome}
 use Rattle.watch_trace.specs.declared.outcome.Outcome.TheVariants as outcomes
 use Rattle.watch_trace.specs.Tracing.{Tracing, moment_of}
-use Rattle.watch_trace.specs.Following.{outcome_of, seen_from, Completes, Stands}
+use Rattle.watch_trace.specs.Following.{outcome_of, run_look, Completes, StepsLead}
 use Rattle.answer_delivery.specs.declared.answer.Answer.{Answer}
 use Rattle.answer_delivery.specs.declared.answer.Answer.TheVariants.{Given, Refused}
 use Rattle.answer_delivery.specs.declared.status.End.{End}
@@ -43,25 +43,25 @@ use Rattle.job_answers.proofs.StartLaws.{taken_start}
 
 -- ---- what is saved of a run that was followed
 
-going_so : (s : Standing) → outcomes.Budget ≡ outcome_of s → s ≡ Going
+going_so : (s : RunStatus) → outcomes.Budget ≡ outcome_of s → s ≡ Going
 going_so Going e = refl
 going_so (Ended t) e = absurd cc
 going_so Stopped e = absurd cc
 going_so (Faulted t kind) e = absurd cc
 
-not_going : (s : Standing) (outcome : Outcome) → outcome ≡ outcome_of s → (outcome ≡ outcomes.Budget → ⊥) → s ≡ Going → ⊥
+not_going : (s : RunStatus) (outcome : Outcome) → outcome ≡ outcome_of s → (outcome ≡ outcomes.Budget → ⊥) → s ≡ Going → ⊥
 not_going s outcome is other going = other (is ∙ ap outcome_of going)
 
 module _ (m : Model) (until seed events room : ℕ) (starts : List ℤ) (r : Running) (t : Tracing) (begun : BegunRun m seed starts room r) (noted : t.noted ≡ None) where
   -- the look from the moment of the run is that at the run
-  seen_is : seen_from until events r t ≡ look (graph_of m) seed starts until events
+  seen_is : run_look until events r t ≡ look (graph_of m) seed starts until events
   seen_is =
       let here : moment_of r t ≡ start (graph_of r.model) starts = at_start (graph_of r.model) starts r t (begun.now ∙ ap (λ n. (start (graph_of n) starts).now) (sym begun.model)) noted in
       let seen : Model → ℕ → Look = λ n s. look (graph_of n) s starts until events in
       ap (look_from (graph_of r.model) r.seed until events) here ∙ ap₂ seen begun.model begun.seeded
 
   -- it goes on after so many events, and this is saved of it then
-  pub is_saved : (later : Running) (after : Tracing) (rest : List Note) (s : SavedRun) → Completes (seen_from until events r t) rest outcomes.Budget → Stands until events r t outcomes.Budget later after
+  pub is_saved : (later : Running) (after : Tracing) (rest : List Note) (s : SavedRun) → Completes (run_look until events r t) rest outcomes.Budget → StepsLead until events r t outcomes.Budget later after
       → s ≡ saved seed later.turns (moment_of later after) → SavedOrFinished (graph_of m) until seed events starts (Some s)
   is_saved later after rest s completes h is =
       let g = graph_of r.model in
@@ -74,11 +74,11 @@ module _ (m : Model) (until seed events room : ℕ) (starts : List ℤ) (r : Run
       let reach : Model → ℕ → ℕ → Option (Reached Moment) = λ n k steps. reached_from (graph_of n) k until steps (start (graph_of n) starts) in
       let leads : reached_from (graph_of m) seed until events (start (graph_of m) starts) ≡ Some h.here =
       sym (ap (reached_from g r.seed until h.steps) here ∙ ap₂ (λ n k. reach n k h.steps) begun.model begun.seeded ∙ ap (reach m seed) all) ∙ h.lead in
-      (ap (λ (l : Look). l.standing) (sym seen_is) ∙ going_so (seen_from until events r t).standing completes.0, (h.here, leads, is ∙ ap₂ (saved seed) turns there))
+      (ap (λ (l : Look). l.standing) (sym seen_is) ∙ going_so (run_look until events r t).standing completes.0, (h.here, leads, is ∙ ap₂ (saved seed) turns there))
 
   -- it doesn't go on
-  pub is_finished : (outcome : Outcome) → outcome ≡ outcome_of (seen_from until events r t).standing → (outcome ≡ outcomes.Budget → ⊥) → SavedOrFinished (graph_of m) until seed events starts None
-  is_finished outcome completes other = λ going. not_going (seen_from until events r t).standing outcome completes other (ap (λ (l : Look). l.standing) seen_is ∙ going)
+  pub is_finished : (outcome : Outcome) → outcome ≡ outcome_of (run_look until events r t).standing → (outcome ≡ outcomes.Budget → ⊥) → SavedOrFinished (graph_of m) until seed events starts None
+  is_finished outcome completes other = λ going. not_going (run_look until events r t).standing outcome completes other (ap (λ (l : Look). l.standing) seen_is ∙ going)
 
 -- ---- the answer
 
@@ -96,23 +96,23 @@ module _ (g : EventGraph) (o : SaveOptions) where
       let same : m ≡ r.moment = ap (λ (x : Reached Moment). x.moment) (same_Some _ _ (sym goes.reaches ∙ leads)) in
       subst (IsGood g) (ap (saved o.seed o.events) same ∙ sym is) goes_on.good
 
-  pub saved_told : (s : SavedRun) → SavedOrFinished g o.until o.seed o.events o.starts (Some s) → unless_too_long (canonical g ++ snapshot_text g s) ≡ saving_answer g o
-  saved_told s (going, (r, leads, is)) =
+  pub saved_answer : (s : SavedRun) → SavedOrFinished g o.until o.seed o.events o.starts (Some s) → unless_too_long (canonical g ++ snapshot_text g s) ≡ saving_answer g o
+  saved_answer s (going, (r, leads, is)) =
       ap (λ x. unless_too_long (canonical g ++ snapshot_text g x)) is ∙ ap (λ x. unless_too_long (document_reached g o.seed o.events x)) (sym leads)
       ∙ ap (λ x. unless_finished x (unless_too_long (document_reached g o.seed o.events (reached_from g o.seed o.until o.events (start g o.starts))))) (sym going)
 
-  finished_so : (s : Standing) (a : Answer) → (s ≡ Going → ⊥) → Refused refusals.Finished run_finished ≡ unless_finished s a
+  finished_so : (s : RunStatus) (a : Answer) → (s ≡ Going → ⊥) → Refused refusals.Finished run_finished ≡ unless_finished s a
   finished_so Going a other = absurd (other refl)
   finished_so (Ended t) a other = refl
   finished_so Stopped a other = refl
   finished_so (Faulted t kind) a other = refl
 
-  pub finished_told : SavedOrFinished g o.until o.seed o.events o.starts None → Refused refusals.Finished run_finished ≡ saving_answer g o
-  finished_told none = finished_so (look g o.seed o.starts o.until o.events).standing _ none
+  pub finished_answer : SavedOrFinished g o.until o.seed o.events o.starts None → Refused refusals.Finished run_finished ≡ saving_answer g o
+  finished_answer none = finished_so (look g o.seed o.starts o.until o.events).standing _ none
 
   -- a run that begins isn't refused
-  pub begun_told : IsTrue (allowed g o.starts) → saving_answer g o ≡ save_answer g o
-  begun_told taken = ap (λ s. refused_or s (saving_answer g o)) (sym (taken_start g o.starts taken))
+  pub begun_answer : IsTrue (allowed g o.starts) → saving_answer g o ≡ save_answer g o
+  begun_answer taken = ap (λ s. refused_or s (saving_answer g o)) (sym (taken_start g o.starts taken))
 
 -- ---- its laws
 
@@ -139,7 +139,7 @@ module _ (led : GoingIsLed) (g : EventGraph) (o : SaveOptions) where
   reached_has_bytes : (x : Option (Reached Moment)) → (r : Reached Moment) × (x ≡ Some r) → 0 < length (document_reached g o.seed o.events x)
   reached_has_bytes x (r, is) = subst (λ (y : Option (Reached Moment)). 0 < length (document_reached g o.seed o.events y)) (sym is) (canonical_has_bytes g (snapshot_text g (saved o.seed o.events r.moment)))
 
-  saving_has_bytes : (s : Standing) → (look g o.seed o.starts o.until o.events).standing ≡ s → (end : End) (bytes : List ℕ)
+  saving_has_bytes : (s : RunStatus) → (look g o.seed o.starts o.until o.events).standing ≡ s → (end : End) (bytes : List ℕ)
       → Given end bytes ≡ unless_finished s (unless_too_long (document_reached g o.seed o.events (reached_from g o.seed o.until o.events (start g o.starts)))) → 0 < length bytes
   saving_has_bytes Going going end bytes e =
       document_has_bytes (document_reached g o.seed o.events (reached_from g o.seed o.until o.events (start g o.starts))) (reached_has_bytes _ (led g o.seed o.until o.events (start g o.starts) going)) end bytes e
@@ -151,7 +151,7 @@ module _ (led : GoingIsLed) (g : EventGraph) (o : SaveOptions) where
   save_has_bytes (Some line) end bytes e = absurd (given_is_no_refusal e)
   save_has_bytes None end bytes e = saving_has_bytes (look g o.seed o.starts o.until o.events).standing refl end bytes e
 
-  finished_unrefused : (s : Standing) (document : List ℕ) → status_of_answer (unless_finished s (unless_too_long document)) ≡ statuses.Refused → ⊥
+  finished_unrefused : (s : RunStatus) (document : List ℕ) → status_of_answer (unless_finished s (unless_too_long document)) ≡ statuses.Refused → ⊥
   finished_unrefused Going document e = document_unrefused document e
   finished_unrefused (Ended t) document e = cc
   finished_unrefused Stopped document e = cc

@@ -8,7 +8,7 @@ use Rattle.command_words.specs.declared.reading.Reading.TheVariants.{Model as Of
 use Rattle.command_words.specs.declared.save_options.SaveOptions.{SaveOptions}
 use Rattle.command_words.specs.KeptLimits.{KeepsLimits}
 use Rattle.model_core.specs.EventGraph.{EventGraph}
-use Rattle.model_core.specs.Run.Machine.{Standing, Ended, Stopped, Faulted, Going}
+use Rattle.model_core.specs.Run.Machine.{RunStatus, Ended, Stopped, Faulted, Going}
 use Rattle.model_core.specs.Run.History.{Moment, start, allowed, look, reached_from}
 use Rattle.model_core.specs.Text.Written.{WrittenModel}
 use Rattle.model_core.specs.Text.Canonical.{canonical}
@@ -28,7 +28,7 @@ use Rattle.answer_delivery.specs.declared.status.End.{End}
 use Rattle.answer_delivery.specs.declared.status.Refusal.TheVariants as refusals
 use Rattle.answer_delivery.specs.AnswerForms.{done}
 use Rattle.job_answers.specs.Answers.{Responds, Answers}
-use Rattle.job_answers.specs.RunAnswer.{told_of, refused_or}
+use Rattle.job_answers.specs.RunAnswer.{answer_of_look, refused_or}
 use Rattle.job_answers.specs.ResumeAnswer.{below_clock_line, too_many_events, resume_refusal}
 use Rattle.job_answers.specs.SaveAnswer.{snapshot_too_long, saved_document, document_reached, unless_too_long, unless_finished, saving_answer}
 use Rattle.job_answers.specs.SavedAndResumed.{IsResumed, SavesTheRun}
@@ -54,7 +54,7 @@ not_refused s until more soon few =
     ap (λ b. cond b (Some (below_clock_line s.clock)) (cond (nat_lt EVENTS_MAX (s.events + more)) (Some too_many_events) None)) early ∙ ap (λ b. cond b (Some too_many_events) None) enough
 
 is_resumed : (g : EventGraph) (s : SavedRun) → IsResumed g s
-is_resumed g s until more room soon few a is = is ∙ ap (λ x. refused_or x (told_of g until more (history_from g s until more))) (not_refused s until more soon few)
+is_resumed g s until more room soon few a is = is ∙ ap (λ x. refused_or x (answer_of_look g until more (history_from g s until more))) (not_refused s until more soon few)
 
 -- ---- from the answer to the run
 
@@ -71,7 +71,7 @@ module _ (facts : SavedFacts) (o : SaveOptions) (limits : KeepsLimits (OfModel (
       let short : length whole ≤ DOCUMENT_MAX = grind (arith, nat_tests, e) in
       (subst (λ (d : List ℕ). length d ≤ DOCUMENT_MAX) (sym same) short, same)
 
-  by_standing : (end : End) (document : List ℕ) (s : Standing) → (look g o.seed o.starts o.until o.events).standing ≡ s
+  by_standing : (end : End) (document : List ℕ) (s : RunStatus) → (look g o.seed o.starts o.until o.events).standing ≡ s
       → Given end document ≡ unless_finished s (unless_too_long (document_reached g o.seed o.events (reached_from g o.seed o.until o.events (start g o.starts)))) → KeptRun document
   by_standing end document Going going h =
       let (fits, is) = by_length end document (document_reached g o.seed o.events (reached_from g o.seed o.until o.events (start g o.starts))) _ refl h in

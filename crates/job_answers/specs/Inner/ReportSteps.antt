@@ -6,15 +6,15 @@ use Rattle.model_core.specs.EventGraph.{EventGraph}
 use Rattle.tally_report.specs.ReportText.{total_rows}
 use Rattle.tally_report.specs.Totalling.{RunTotals, with_run}
 use Rattle.job_answers.specs.ReplicateAnswer.{tally_numbered, rows_numbered}
-use Rattle.job_answers.specs.Inner.WritingSteps.{InPieces}
+use Rattle.job_answers.specs.Inner.WritingSteps.{WritesPieces}
 
 -- the rest of a report after the runs of these totals: so many runs from this number on, and the totals
-abbrev pub left_from : EventGraph → ReplicateOptions → RunTotals → ℕ → ℕ → List ℕ
-left_from g o totals number zero = total_rows g totals
-left_from g o totals number (suc n) = rows_numbered g o number ++ left_from g o (with_run totals (tally_numbered g o number)) (number + 1) n
+abbrev pub rest_of_report : EventGraph → ReplicateOptions → RunTotals → ℕ → ℕ → List ℕ
+rest_of_report g o totals number zero = total_rows g totals
+rest_of_report g o totals number (suc n) = rows_numbered g o number ++ rest_of_report g o (with_run totals (tally_numbered g o number)) (number + 1) n
 
 -- all of the bytes were written but these, which are left
 pub record IsWrittenUpTo (left bytes : List ℕ) (o p : Outlet) : Type 0 where
   pub front : List ℕ
   pub parts : front ++ left ≡ bytes
-  pub written : InPieces front (Ok tt) o p
+  pub written : WritesPieces front (Ok tt) o p

@@ -5,13 +5,13 @@ use Rattle.model_core.specs.EventGraph.{EventGraph}
 use Rattle.model_core.specs.Run.History.{Moment, look_from}
 use Rattle.watch_trace.specs.declared.outcome.Outcome.{Outcome}
 use Rattle.watch_trace.specs.declared.outcome.Outcome.TheVariants as outcomes
-use Rattle.answer_delivery.specs.declared.delivering.Said.{Said}
+use Rattle.answer_delivery.specs.declared.delivering.DeliveryOutcome.{DeliveryOutcome}
 use Rattle.answer_delivery.specs.declared.status.End.{End}
 use Rattle.answer_delivery.specs.declared.status.End.TheVariants as ends
 use Rattle.answer_delivery.specs.declared.status.Failure.{Failure}
 use Rattle.answer_delivery.specs.declared.status.Failure.TheVariants as failures
 use Rattle.answer_delivery.specs.Delivery.{DeliversSome}
-use Rattle.job_answers.specs.RunAnswer.{told_of, ExceedsRoomFrom}
+use Rattle.job_answers.specs.RunAnswer.{answer_of_look, ExceedsRoomFrom}
 
 -- how a job ends, by the outcome of its run
 abbrev pub ending : Outcome → Result End Failure
@@ -23,6 +23,6 @@ ending outcomes.WriteFault = Err failures.WriteFault
 ending outcomes.NoMemory = Err failures.NoMemory
 
 -- The history from this moment on is delivered. Memory may be refused after a front of it where this room is exceeded.
-abbrev pub DeliversHistory : {K : Type 0} → (K → Outlet) → EventGraph → ℕ → ℕ → ℕ → Moment → ℕ → Result Said Failure → K → K → Type 0
+abbrev pub DeliversHistory : {K : Type 0} → (K → Outlet) → EventGraph → ℕ → ℕ → ℕ → Moment → ℕ → Result DeliveryOutcome Failure → K → K → Type 0
 DeliversHistory seen g until seed events m room r o p =
-    DeliversSome seen (λ a. a ≡ told_of g until events (look_from g seed until events m)) (ExceedsRoomFrom g until seed events m room) r o p
+    DeliversSome seen (λ a. a ≡ answer_of_look g until events (look_from g seed until events m)) (ExceedsRoomFrom g until seed events m room) r o p

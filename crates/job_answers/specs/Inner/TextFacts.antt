@@ -9,7 +9,7 @@ use Rattle.model_core.specs.Text.FirstWrong.{IsUnexpectedAt}
 use Rattle.model_core.specs.Text.Openings.{too_deep_at, HasFewOpenings}
 use Rattle.model_core.specs.Text.ModelText.{SpellsText}
 use Rattle.model_core.specs.Static.FaultOrder.{StaticFault}
-use Rattle.model_core.specs.Static.ModelFaults.{IsTold, told_fault, Accepted}
+use Rattle.model_core.specs.Static.ModelFaults.{IsFirstFault, first_fault, Accepted}
 
 -- the facts that the layers below give
 pub record TextFacts : Type 0 where
@@ -18,7 +18,7 @@ pub record TextFacts : Type 0 where
   pub one_place : (text : List ℕ) (tokens : List Lexeme) (i j : ℕ) → IsUnexpectedAt text tokens i → IsUnexpectedAt text tokens j → i ≡ j
   pub none_deep : (tokens : List Lexeme) → too_deep_at OPENINGS_MAX tokens ≡ None → HasFewOpenings OPENINGS_MAX tokens
   pub few_openings : (tokens : List Lexeme) → HasFewOpenings OPENINGS_MAX tokens → too_deep_at OPENINGS_MAX tokens ≡ None
-  pub told : (m : WrittenModel) (f : StaticFault) → told_fault m ≡ Some f → IsTold m f.kind f.at
-  pub told_back : (m : WrittenModel) (f : StaticFault) → IsTold m f.kind f.at → told_fault m ≡ Some f
-  pub accepted : (m : WrittenModel) → told_fault m ≡ None → (g : EventGraph) × Accepted m g
-  pub accepted_has_no_fault : (m : WrittenModel) → ((g : EventGraph) × Accepted m g) → told_fault m ≡ None
+  pub told : (m : WrittenModel) (f : StaticFault) → first_fault m ≡ Some f → IsFirstFault m f.kind f.at
+  pub told_back : (m : WrittenModel) (f : StaticFault) → IsFirstFault m f.kind f.at → first_fault m ≡ Some f
+  pub accepted : (m : WrittenModel) → first_fault m ≡ None → (g : EventGraph) × Accepted m g
+  pub accepted_has_no_fault : (m : WrittenModel) → ((g : EventGraph) × Accepted m g) → first_fault m ≡ None

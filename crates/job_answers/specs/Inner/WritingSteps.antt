@@ -8,16 +8,16 @@ use Rattle.answer_delivery.specs.declared.status.Failure.TheVariants as failures
 use Rattle.answer_delivery.specs.FrontWritten.{GrowsByFront}
 
 -- what writing bytes piece by piece did, where memory may be refused after a front of them
-abbrev pub InPieces : List ℕ → Result Unit Failure → Outlet → Outlet → Type 0
-InPieces bytes (Ok done) o p = GrowsBy o.written p.written bytes × (0 < length bytes → p.settled ≡ false) × (p.faults ≡ o.faults) × (bytes ≡ [] → p.settled ≡ o.settled)
-InPieces bytes (Err failures.WriteFault) o p = GrowsByFront o p bytes × (p.settled ≡ false) × HasRisen o.faults p.faults
-InPieces bytes (Err failures.NoMemory) o p = GrowsByFront o p bytes × (p.faults ≡ o.faults)
-InPieces bytes (Err e) o p = ⊥
+abbrev pub WritesPieces : List ℕ → Result Unit Failure → Outlet → Outlet → Type 0
+WritesPieces bytes (Ok done) o p = GrowsBy o.written p.written bytes × (0 < length bytes → p.settled ≡ false) × (p.faults ≡ o.faults) × (bytes ≡ [] → p.settled ≡ o.settled)
+WritesPieces bytes (Err failures.WriteFault) o p = GrowsByFront o p bytes × (p.settled ≡ false) × HasRisen o.faults p.faults
+WritesPieces bytes (Err failures.NoMemory) o p = GrowsByFront o p bytes × (p.faults ≡ o.faults)
+WritesPieces bytes (Err e) o p = ⊥
 
 -- What writing bytes as they come did; how the job ends is known at last. Memory may be refused after a front of them
 -- where `Short` holds.
-abbrev pub Streamed : {K : Type 0} → (K → Outlet) → End → List ℕ → Type 0 → Result End Failure → K → K → Type 0
-Streamed seen end bytes Short (Ok e) o p = (e ≡ end) × GrowsBy (seen o).written (seen p).written bytes × ((seen p).settled ≡ false) × ((seen p).faults ≡ (seen o).faults)
-Streamed seen end bytes Short (Err failures.WriteFault) o p = GrowsByFront (seen o) (seen p) bytes × ((seen p).settled ≡ false) × HasRisen (seen o).faults (seen p).faults
-Streamed seen end bytes Short (Err failures.NoMemory) o p = ((p ≡ o) ⊎ (Short × GrowsByFront (seen o) (seen p) bytes)) × ((seen p).faults ≡ (seen o).faults)
-Streamed seen end bytes Short (Err e) o p = ⊥
+abbrev pub StreamsBytes : {K : Type 0} → (K → Outlet) → End → List ℕ → Type 0 → Result End Failure → K → K → Type 0
+StreamsBytes seen end bytes Short (Ok e) o p = (e ≡ end) × GrowsBy (seen o).written (seen p).written bytes × ((seen p).settled ≡ false) × ((seen p).faults ≡ (seen o).faults)
+StreamsBytes seen end bytes Short (Err failures.WriteFault) o p = GrowsByFront (seen o) (seen p) bytes × ((seen p).settled ≡ false) × HasRisen (seen o).faults (seen p).faults
+StreamsBytes seen end bytes Short (Err failures.NoMemory) o p = ((p ≡ o) ⊎ (Short × GrowsByFront (seen o) (seen p) bytes)) × ((seen p).faults ≡ (seen o).faults)
+StreamsBytes seen end bytes Short (Err e) o p = ⊥

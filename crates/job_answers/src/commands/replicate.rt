@@ -9,11 +9,11 @@ ghost use Rattle.tally_report.specs.Totalling.{with_run};
 ghost use Rattle.tally_report.specs.ReportText.{run_rows};
 ghost use Rattle.job_answers.specs.ReplicateAnswer.{seed_of_run, tally_numbered, report, replicate_answer};
 ghost use Rattle.answer_delivery.specs.Delivery.{DeliversSome};
-ghost use Rattle.job_answers.specs.Inner.ReportSteps.{left_from};
-ghost use Rattle.job_answers.specs.Inner.WritingSteps.{InPieces};
+ghost use Rattle.job_answers.specs.Inner.ReportSteps.{rest_of_report};
+ghost use Rattle.job_answers.specs.Inner.WritingSteps.{WritesPieces};
 
 use crate::beginning::refuse_start;
-use answer_delivery::{End, Failure, Said, close, write_all};
+use answer_delivery::{DeliveryOutcome, End, Failure, close, write_all};
 use command_words::ReplicateOptions;
 use model_core::Model;
 use round_trip::validity_is_by_parts;
@@ -57,7 +57,7 @@ fn tally_numbered(
 }
 
 /// Writes the rows of a run, and adds it to the totals.
-fn tell_run<K: Sink>(
+fn write_run_rows<K: Sink>(
     alloc: Global,
     model: &Model,
     number: u64,
@@ -68,7 +68,7 @@ fn tell_run<K: Sink>(
 ) -> Result<(), Failure>
     requires few { totals.old.runs < RUNS_MAX }
     requires small { All (IsOfRuns 1) tally.now.items }
-    ensures written { InPieces (run_rows (graph_of model.now) number seed tally.now) result (K.seen output.old) (K.seen output.new) }
+    ensures written { WritesPieces (run_rows (graph_of model.now) number seed tally.now) result (K.seen output.old) (K.seen output.new) }
     ensures added { IfOk result (λ done. totals.new ≡ with_run totals.old tally.now) }
 {
     let rows = run_csv(alloc, model, number, seed, tally)?;
@@ -78,7 +78,7 @@ fn tell_run<K: Sink>(
 }
 
 /// Writes the rows of the runs, and those of the totals.
-fn tell_runs<K: Sink>(
+fn write_all_runs<K: Sink>(
     alloc: Global,
     model: &Model,
     options: &ReplicateOptions,
@@ -90,7 +90,7 @@ fn tell_runs<K: Sink>(
     requires budget { options.now.events ≤ 2 ^ 40 }
     requires few { options.now.runs ≤ RUNS_MAX }
     requires none { totals.runs ≡ 0 }
-    ensures { InPieces (left_from (graph_of model.now) options.now totals 1 options.now.runs) result (K.seen output.old) (K.seen output.new) }
+    ensures { WritesPieces (rest_of_report (graph_of model.now) options.now totals 1 options.now.runs) result (K.seen output.old) (K.seen output.new) }
 {
     let mut totals = totals;
     for number in 1..options.runs + 1 {
@@ -100,13 +100,13 @@ fn tell_runs<K: Sink>(
             Err(_) => return Err(Failure::NoMemory),
         };
         let seed = seed_of_run(options.seed, number);
-        tell_run(alloc, model, number, seed, &tally, &mut totals, output)?;
+        write_run_rows(alloc, model, number, seed, &tally, &mut totals, output)?;
     }
     write_all(output, totals_csv(alloc, model, &totals)?.as_slice())
 }
 
 /// Writes the report of a model that takes the starting values.
-fn tell_report<K: Sink>(
+fn write_report<K: Sink>(
     alloc: Global,
     model: &Model,
     options: &ReplicateOptions,
@@ -116,11 +116,11 @@ fn tell_report<K: Sink>(
     requires soon { options.now.until ≤ 2 ^ 48 }
     requires budget { options.now.events ≤ 2 ^ 40 }
     requires few { options.now.runs ≤ RUNS_MAX }
-    ensures { InPieces (report (graph_of model.now) options.now) result (K.seen output.old) (K.seen output.new) }
+    ensures { WritesPieces (report (graph_of model.now) options.now) result (K.seen output.old) (K.seen output.new) }
 {
     let totals = Totals::begin(alloc, model)?;
     write_all(output, header_csv(alloc)?.as_slice())?;
-    tell_runs(alloc, model, options, totals, output)
+    write_all_runs(alloc, model, options, totals, output)
 }
 
 /// Writes the report of the runs, each run's rows as it is done.
@@ -129,7 +129,7 @@ pub fn replicate<K: Sink>(
     model: &Model,
     options: &ReplicateOptions,
     output: &mut K,
-) -> Result<Said, Failure>
+) -> Result<DeliveryOutcome, Failure>
     requires valid { IsValid (graph_of model.now) }
     requires soon { options.now.until ≤ 2 ^ 48 }
     requires budget { options.now.events ≤ 2 ^ 40 }
@@ -141,7 +141,7 @@ pub fn replicate<K: Sink>(
     kept_models_can_be_run();
     match check_starts(model, options.starts.as_slice()) {
         Ok(()) => {
-            tell_report(alloc, model, options, output)?;
+            write_report(alloc, model, options, output)?;
             close(output, End::Done)
         }
         Err(error) => refuse_start(alloc, error),

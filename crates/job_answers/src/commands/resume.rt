@@ -16,8 +16,8 @@ ghost use Rattle.job_answers.specs.PlainKinds.{plain_kinds};
 ghost use Rattle.job_answers.specs.ResumeAnswer.{below_clock_line, too_many_events, resume_refusal, resume_answer, ResumedExceedsRoom};
 ghost use Rattle.answer_delivery.specs.Delivery.{DeliversSome};
 
-use crate::history_telling::tell_from;
-use answer_delivery::{Failure, Refusal, Said};
+use crate::history_telling::write_history_from;
+use answer_delivery::{DeliveryOutcome, Failure, Refusal};
 use command_words::ResumeOptions;
 use event_heap::HeapPending;
 use event_list::Pending;
@@ -77,7 +77,7 @@ fn resume_over<P: Pending + Drop, K: Sink>(
     snapshot: &Snapshot,
     options: &ResumeOptions,
     output: &mut K,
-) -> Result<Said, Failure>
+) -> Result<DeliveryOutcome, Failure>
     requires valid { IsValid (graph_of model.now) }
     requires good { IsGood (graph_of model.now) snapshot.now }
     requires few { length snapshot.now.pending < 2 ^ 61 }
@@ -95,7 +95,7 @@ fn resume_over<P: Pending + Drop, K: Sink>(
         Ok(resumed) => resumed,
         Err(_) => return Err(Failure::NoMemory),
     };
-    tell_from(
+    write_history_from(
         resumed.run,
         resumed.tracer,
         options.until,
@@ -111,7 +111,7 @@ pub fn resume<K: Sink>(
     snapshot: &Snapshot,
     options: &ResumeOptions,
     output: &mut K,
-) -> Result<Said, Failure>
+) -> Result<DeliveryOutcome, Failure>
     requires valid { IsValid (graph_of model.now) }
     requires good { IsGood (graph_of model.now) snapshot.now }
     requires soon { options.now.until ≤ 2 ^ 48 }
@@ -120,7 +120,7 @@ pub fn resume<K: Sink>(
         (ResumedExceedsRoom (graph_of model.now) snapshot.now options.now) result output.old output.new }
 {
     match resume_refusal(alloc, snapshot, options) {
-        Ok(Some(line)) => return Ok(Said::Refused(Refusal::BadStart, line)),
+        Ok(Some(line)) => return Ok(DeliveryOutcome::Refused(Refusal::BadStart, line)),
         Ok(None) => {}
         Err(_) => return Err(Failure::NoMemory),
     }

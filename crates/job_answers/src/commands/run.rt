@@ -7,8 +7,8 @@ ghost use Rattle.job_answers.specs.RunAnswer.{run_answer, ExceedsRoom};
 ghost use Rattle.answer_delivery.specs.Delivery.{DeliversSome};
 
 use crate::beginning::{begin, refuse_start};
-use crate::history_telling::tell_from;
-use answer_delivery::{Failure, Said};
+use crate::history_telling::write_history_from;
+use answer_delivery::{DeliveryOutcome, Failure};
 use command_words::RunOptions;
 use model_core::Model;
 use sig_base::Sink;
@@ -22,7 +22,7 @@ pub fn run<K: Sink>(
     model: &Model,
     options: &RunOptions,
     output: &mut K,
-) -> Result<Said, Failure>
+) -> Result<DeliveryOutcome, Failure>
     requires valid { IsValid (graph_of model.now) }
     requires soon { options.now.until ≤ 2 ^ 48 }
     requires budget { options.now.events ≤ 2 ^ 40 }
@@ -35,7 +35,7 @@ pub fn run<K: Sink>(
         Err(error) => return refuse_start(alloc, error),
     };
     match Tracer::begin(alloc, model) {
-        Ok(tracer) => tell_from(run, tracer, options.until, options.events, output),
+        Ok(tracer) => write_history_from(run, tracer, options.until, options.events, output),
         Err(_) => {
             forget(run);
             Err(Failure::NoMemory)

@@ -21,7 +21,7 @@ ghost use Rattle.job_answers.specs.Inner.SaveSteps.{SavedOrFinished};
 
 use crate::beginning::{begin, refuse_start};
 use crate::notes_dropped::NotesDropped;
-use answer_delivery::{Answer, End, Failure, Refusal, Said, deliver};
+use answer_delivery::{Answer, DeliveryOutcome, End, Failure, Refusal, deliver};
 use command_words::SaveOptions;
 use event_list::Pending;
 use model_core::Model;
@@ -131,7 +131,7 @@ pub fn save<K: Sink>(
     model: &Model,
     options: &SaveOptions,
     output: &mut K,
-) -> Result<Said, Failure>
+) -> Result<DeliveryOutcome, Failure>
     requires valid { IsValid (graph_of model.now) }
     requires soon { options.now.until ≤ 2 ^ 48 }
     requires wide { options.now.seed < 2 ^ 64 }

@@ -13,7 +13,7 @@ use Rattle.model_core.specs.Code.Views.{edge_of}
 use Rattle.model_core.specs.Rules.MarkedPlaces.{is_among}
 use Rattle.model_core.specs.Rules.Uses.{edge_reads}
 use Rattle.use_analysis.specs.UseNumbers.{changed_where, raised_at, lowered_at, CanLower}
-use Rattle.merge_rules.specs.Inner.ReadingEdges.{reads_it, reads_one_of, counted, uncounted, told_by_counts}
+use Rattle.merge_rules.specs.Inner.ReadingEdges.{reads_it, reads_one_of, counted, uncounted, is_read_by_counts}
 use Rattle.merge_rules.proofs.OneStepForTwo.MergeHolds.{is_below}
 
 -- ---- one number
@@ -186,7 +186,7 @@ swapped vs [] = none_asked vs
 swapped vs (e ∷ es) = either (λ v. reads_it v e) (λ v. list_any (reads_it v) es) vs ∙ ap (λ b. list_any (is_among (edge_reads e)) vs || b) (swapped vs es)
 
 module _ (variables : ℕ) (before behind : List EventEdge) (ns : List ℕ) (many : variables ≤ length ns) (none : (v : ℕ) → slice_index ns v ≡ 0) where
-  told_there : (v : ℕ) → told_by_counts variables (all_counted before behind ns) before behind v ≡ list_any (reads_it v) (before ++ behind)
+  told_there : (v : ℕ) → is_read_by_counts variables (all_counted before behind ns) before behind v ≡ list_any (reads_it v) (before ++ behind)
   told_there v = by_place (list_any (reads_it v) before || list_any (reads_it v) behind) refl (nat_lt v variables) refl ∙ sym (list_any-append (reads_it v) before behind) where
     by_place : (walked : Bool) → (list_any (reads_it v) before || list_any (reads_it v) behind) ≡ walked → (b : Bool) → nat_lt v variables ≡ b → cond (nat_lt v variables) (nat_lt 0 (slice_index (all_counted before behind ns) v)) walked ≡ walked
     by_place walked told true is =
@@ -196,7 +196,7 @@ module _ (variables : ℕ) (before behind : List EventEdge) (ns : List ℕ) (man
         ∙ told
     by_place walked told false is = ap (λ b. cond b (nat_lt 0 (slice_index (all_counted before behind ns) v)) walked) is
 
-  pub counts_tell : (writes : List ℕ) → list_any (told_by_counts variables (all_counted before behind ns) before behind) writes ≡ list_any (reads_one_of writes) (before ++ behind)
+  pub counts_tell : (writes : List ℕ) → list_any (is_read_by_counts variables (all_counted before behind ns) before behind) writes ≡ list_any (reads_one_of writes) (before ++ behind)
   counts_tell writes = any_alike _ _ told_there writes ∙ swapped writes (before ++ behind)
 
 -- ---- one edge more of the code's

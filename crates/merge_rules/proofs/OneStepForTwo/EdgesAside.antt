@@ -6,7 +6,7 @@ use Rattle.model_core.specs.EventGraph.{EventGraph, EventEdge, EdgeKind, Schedul
 use Rattle.model_core.specs.Run.State.{State}
 use Rattle.model_core.specs.Run.Value.{OrFault, ◌>>=◌, in_turn, value_of, is_one}
 use Rattle.model_core.specs.Run.Pending.{Entry, is_of, is_with, same_values, without_next}
-use Rattle.model_core.specs.Run.Edges.{Planned, delay_of, carried_values, act, treat}
+use Rattle.model_core.specs.Run.Edges.{EdgeState, delay_of, carried_values, act, treat_edge}
 use Rattle.std.specs.List.{AllByRecursion}
 use Rattle.model_core.proofs.EachOne.{every-append}
 use Rattle.model_core.proofs.Alongside.{Alongside, both_go, bind-alongside-same, in_turn-alongside}
@@ -23,14 +23,14 @@ Aside vertex target CancelAll = (vertex == target) ≡ false
 
 -- the edge doesn't fault
 abbrev pub Calm : EventGraph → ℕ → State → ℕ → EventEdge → Type 0
-Calm g seed s clk e = (p : Planned) → (q : Planned) × (treat g seed s clk e p ≡ Ok q)
+Calm g seed s clk e = (p : EdgeState) → (q : EdgeState) × (treat_edge g seed s clk e p ≡ Ok q)
 
 -- the event that is due at once
 abbrev pub urgent_entry : ℕ → ℕ → List ℤ → Entry
 urgent_entry clk vertex values = record { time = clk; priority = 0; vertex = vertex; values = values }
 
 -- the second list is the first one with that event put in, and it is due before all others. The same words were taken
-pub record Pair (b : Entry) (p q : Planned) : Type 0 where
+pub record Pair (b : Entry) (p q : EdgeState) : Type 0 where
   pub taken : p.taken ≡ q.taken
   pub inserted : Inserted b p.pending q.pending
   pub due : AllByRecursion (DueBefore b) p.pending
@@ -58,27 +58,27 @@ module _ (g : EventGraph) (seed : ℕ) (s : State) (clk vertex : ℕ) (values : 
   act-pair e CancelAll aside xs ys taken i due =
       both_go (record { taken = refl; inserted = without_all-inserted b (is_of e.target) aside i; due = without_all-every (DueBefore b) (is_of e.target) xs due })
 
-  acts-or-not : (e : EventEdge) → Aside vertex e.target e.kind → (c : Bool) (xs ys : List Entry) (taken : List ℕ) → Inserted b xs ys → AllByRecursion (DueBefore b) xs → (let p : Planned = record { pending = xs; taken = taken } in let q : Planned = record { pending = ys; taken = taken } in Alongside (Pair b) (cond c (act g seed s clk e e.kind p) (Ok p)) (cond c (act g seed s clk e e.kind q) (Ok q)))
+  acts-or-not : (e : EventEdge) → Aside vertex e.target e.kind → (c : Bool) (xs ys : List Entry) (taken : List ℕ) → Inserted b xs ys → AllByRecursion (DueBefore b) xs → (let p : EdgeState = record { pending = xs; taken = taken } in let q : EdgeState = record { pending = ys; taken = taken } in Alongside (Pair b) (cond c (act g seed s clk e e.kind p) (Ok p)) (cond c (act g seed s clk e e.kind q) (Ok q)))
   acts-or-not e aside true xs ys taken i due = act-pair e e.kind aside xs ys taken i due
   acts-or-not e aside false xs ys taken i due = both_go (record { taken = refl; inserted = i; due = due })
 
-  treat-pair : (e : EventEdge) → Aside vertex e.target e.kind → (p q : Planned) → Pair b p q → Alongside (Pair b) (treat g seed s clk e p) (treat g seed s clk e q)
-  treat-pair e aside p q pair =
-      subst (λ taken. Alongside (Pair b) (treat g seed s clk e p) (treat g seed s clk e (record q { taken = taken }))) pair.taken
+  treat_edge-pair : (e : EventEdge) → Aside vertex e.target e.kind → (p q : EdgeState) → Pair b p q → Alongside (Pair b) (treat_edge g seed s clk e p) (treat_edge g seed s clk e q)
+  treat_edge-pair e aside p q pair =
+      subst (λ taken. Alongside (Pair b) (treat_edge g seed s clk e p) (treat_edge g seed s clk e (record q { taken = taken }))) pair.taken
       (bind-alongside-same (Pair b) (value_of g s clk e.condition) _ _ (λ c a. acts-or-not e aside (is_one c) p.pending q.pending p.taken pair.inserted pair.due))
 
-  pub edges-pair : (es : List EventEdge) → AllByRecursion (λ (e : EventEdge). Aside vertex e.target e.kind) es → (p q : Planned) → Pair b p q → Alongside (Pair b) (in_turn (treat g seed s clk) es p) (in_turn (treat g seed s clk) es q)
+  pub edges-pair : (es : List EventEdge) → AllByRecursion (λ (e : EventEdge). Aside vertex e.target e.kind) es → (p q : EdgeState) → Pair b p q → Alongside (Pair b) (in_turn (treat_edge g seed s clk) es p) (in_turn (treat_edge g seed s clk) es q)
   edges-pair es aside p q pair =
-      subst (λ (fs : List EventEdge). Alongside (Pair b) (in_turn (treat g seed s clk) es p) (in_turn (treat g seed s clk) fs q)) (map-id es)
-      (in_turn-alongside (λ (e : EventEdge). Aside vertex e.target e.kind) (λ e. e) (Pair b) (treat g seed s clk) (treat g seed s clk) treat-pair es aside p q pair)
+      subst (λ (fs : List EventEdge). Alongside (Pair b) (in_turn (treat_edge g seed s clk) es p) (in_turn (treat_edge g seed s clk) fs q)) (map-id es)
+      (in_turn-alongside (λ (e : EventEdge). Aside vertex e.target e.kind) (λ e. e) (Pair b) (treat_edge g seed s clk) (treat_edge g seed s clk) treat_edge-pair es aside p q pair)
 
 -- edges that don't fault
-pub edges-calm : (g : EventGraph) (seed : ℕ) (s : State) (clk : ℕ) (es : List EventEdge) → AllByRecursion (Calm g seed s clk) es → (p : Planned) → (q : Planned) × (in_turn (treat g seed s clk) es p ≡ Ok q)
+pub edges-calm : (g : EventGraph) (seed : ℕ) (s : State) (clk : ℕ) (es : List EventEdge) → AllByRecursion (Calm g seed s clk) es → (p : EdgeState) → (q : EdgeState) × (in_turn (treat_edge g seed s clk) es p ≡ Ok q)
 edges-calm g seed s clk [] calm p = (p, refl)
 edges-calm g seed s clk (e ∷ es) (now, calm) p =
     let (q, first) = now p in
     let (r, later) = edges-calm g seed s clk es calm q in
-    (r, ap (λ (r : OrFault Planned). r >>= in_turn (treat g seed s clk) es) first ∙ later)
+    (r, ap (λ (r : OrFault EdgeState). r >>= in_turn (treat_edge g seed s clk) es) first ∙ later)
 
 -- the plain urgent edge
 abbrev pub urgent_edge : ℕ → List Expression → EventEdge

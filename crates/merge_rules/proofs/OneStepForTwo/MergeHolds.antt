@@ -18,7 +18,7 @@ use Rattle.model_core.proofs.BothTrue.{and_first, and_second}
 use Rattle.model_core.proofs.AllHold.{every-holds}
 use Rattle.static_laws.proofs.StaticTwins.DeclaredNames.{every_item}
 use Rattle.bound_laws.proofs.Soundness.NumberRows.{not_true}
-use Rattle.model_core.proofs.EachOne.{every-map, every-front, every-behind, every-joined, either_false}
+use Rattle.model_core.proofs.EachOne.{every-map, every-front, every-after, every-joined, either_false}
 use Rattle.merge_rules.proofs.OneStepForTwo.EdgesAside.{Aside, urgent_edge}
 use Rattle.merge_rules.proofs.SingleUrgentModels.UrgentEvents.{PriorityOk}
 use Rattle.merge_rules.proofs.SingleUrgentModels.SingleUrgent.{at_each_place, edges_keep}
@@ -68,10 +68,10 @@ aside_of second target CancelAll some calm apart = grind (arith, nat_tests)
 -- ---- lists
 
 pub without_one : {A : Type 0} (P : A → Type 0) (before : List A) (x : A) (after : List A) → AllByRecursion P (before ++ x ∷ after) → AllByRecursion P (before ++ after)
-without_one P before x after all = every-joined P before after (every-front P before (x ∷ after) all) (every-behind P before (x ∷ after) all).1
+without_one P before x after all = every-joined P before after (every-front P before (x ∷ after) all) (every-after P before (x ∷ after) all).1
 
 pub the_one : {A : Type 0} (P : A → Type 0) (before : List A) (x : A) (after : List A) → AllByRecursion P (before ++ x ∷ after) → P x
-the_one P before x after all = (every-behind P before (x ∷ after) all).0
+the_one P before x after all = (every-after P before (x ∷ after) all).0
 
 lower : (j k : ℕ) → nat_lt (suc j) (suc k) ≡ true → nat_lt j k ≡ true
 lower j k e = grind (arith, nat_tests)

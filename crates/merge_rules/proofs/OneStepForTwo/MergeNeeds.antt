@@ -7,9 +7,9 @@ use Rattle.sig_base.specs.declared.fault.FaultKind.{FaultKind}
 use Rattle.model_core.specs.EventGraph.{EventGraph, EventVertex, EventEdge, StateChange, Watched, WatchedVariable, WatchedVertex, has_drawn_delay}
 use Rattle.model_core.specs.Run.State.{State, in_range}
 use Rattle.model_core.specs.Run.Value.{OrFault, ◌>>=◌, each, in_turn, value_of}
-use Rattle.model_core.specs.Run.Changes.{Changed, make_change}
-use Rattle.model_core.specs.Run.Pending.{TakenOff}
-use Rattle.model_core.specs.Run.Edges.{Planned, treat}
+use Rattle.model_core.specs.Run.Changes.{ChangeState, make_change}
+use Rattle.model_core.specs.Run.Pending.{EntryAndRest}
+use Rattle.model_core.specs.Run.Edges.{EdgeState, treat_edge}
 use Rattle.model_core.specs.Run.Step.{Configuration, vertex_at, receive, occur}
 use Rattle.model_core.specs.Run.History.{watches}
 use Rattle.model_core.specs.Static.OwnRules.{KeepsEdge, KeepsChange, KeepsParts, parameters_of}
@@ -24,7 +24,7 @@ use Rattle.model_core.proofs.Results.{bind_ok}
 use Rattle.model_core.proofs.PlacesChanged.{apart-turned}
 use Rattle.run_laws.proofs.Keeping.{received}
 use Rattle.bound_laws.proofs.Soundness.NumberRows.{not_true}
-use Rattle.model_core.proofs.EachOne.{every-map, every-front, every-behind, every-both, every-passes, every-fails, either_false}
+use Rattle.model_core.proofs.EachOne.{every-map, every-front, every-after, every-both, every-passes, every-fails, either_false}
 use Rattle.run_laws.proofs.Spared.WordsApart.{undrawn}
 use Rattle.merge_rules.proofs.OneStepForTwo.UndrawnEdges.{Undrawn}
 use Rattle.merge_rules.proofs.OneStepForTwo.EdgesAside.{Aside, Calm, edges-calm, urgent_edge}
@@ -48,8 +48,8 @@ none_among (v ∷ reads) writes apart = (
 
 -- quiet changes and edges have no fault
 pub record QuietParts (g : EventGraph) : Type 0 where
-  pub change : (seed clk : ℕ) (c : StateChange) (d : Changed) → KeepsChange g.variables (length g.tables) (parameters_of g) c → IsTrue (in_range g d.state) → clk ≤ 2 ^ 48 → quiet_change g c ≡ true → (e : Changed) × (make_change g seed clk c d ≡ Ok e) × IsTrue (in_range g e.state)
-  pub edge : (seed clk : ℕ) (s : State) (e : EventEdge) (p : Planned) → KeepsEdge g.variables (length g.tables) (parameters_of g) e → IsTrue (in_range g s) → clk ≤ 2 ^ 48 → quiet_edge g e ≡ true → (q : Planned) × (treat g seed s clk e p ≡ Ok q)
+  pub change : (seed clk : ℕ) (c : StateChange) (d : ChangeState) → KeepsChange g.variables (length g.tables) (parameters_of g) c → IsTrue (in_range g d.state) → clk ≤ 2 ^ 48 → quiet_change g c ≡ true → (e : ChangeState) × (make_change g seed clk c d ≡ Ok e) × IsTrue (in_range g e.state)
+  pub edge : (seed clk : ℕ) (s : State) (e : EventEdge) (p : EdgeState) → KeepsEdge g.variables (length g.tables) (parameters_of g) e → IsTrue (in_range g s) → clk ≤ 2 ^ 48 → quiet_edge g e ≡ true → (q : EdgeState) × (treat_edge g seed s clk e p ≡ Ok q)
 
 module _ (g : EventGraph) (keeps : KeepsParts g) (never : NeverBoth g) (quiet : QuietParts g) where
   abbrev Inside : State → Type 0
@@ -61,12 +61,12 @@ module _ (g : EventGraph) (keeps : KeepsParts g) (never : NeverBoth g) (quiet : 
   abbrev Changes : StateChange → Type 0
   Changes c = KeepsChange g.variables (length g.tables) (parameters_of g) c
 
-  changes_fine : (seed clk : ℕ) → clk ≤ 2 ^ 48 → (cs : List StateChange) → AllByRecursion Changes cs → AllByRecursion (λ c. quiet_change g c ≡ true) cs → (d : Changed) → Inside d.state → (e : Changed) × (in_turn (make_change g seed clk) cs d ≡ Ok e) × Inside e.state
+  changes_fine : (seed clk : ℕ) → clk ≤ 2 ^ 48 → (cs : List StateChange) → AllByRecursion Changes cs → AllByRecursion (λ c. quiet_change g c ≡ true) cs → (d : ChangeState) → Inside d.state → (e : ChangeState) × (in_turn (make_change g seed clk) cs d ≡ Ok e) × Inside e.state
   changes_fine seed clk early [] keep calm d inside = (d, refl, inside)
   changes_fine seed clk early (c ∷ cs) (here, keep) (now, calm) d inside =
       let (e, first, there) = quiet.change seed clk c d here inside early now in
       let (f, later, end) = changes_fine seed clk early cs keep calm e there in
-      (f, ap (λ (r : OrFault Changed). r >>= in_turn (make_change g seed clk) cs) first ∙ later, end)
+      (f, ap (λ (r : OrFault ChangeState). r >>= in_turn (make_change g seed clk) cs) first ∙ later, end)
 
   all_calm : (seed : ℕ) (s : State) → Inside s → (clk : ℕ) → clk ≤ 2 ^ 48 → (es : List EventEdge) → AllByRecursion Keeps es → AllByRecursion (λ e. quiet_edge g e ≡ true) es → AllByRecursion (Calm g seed s clk) es
   all_calm seed s inside clk early es keep quiet_ones = every-both Keeps (λ e. quiet_edge g e ≡ true) (Calm g seed s clk) (λ e keeps calm. λ p. quiet.edge seed clk s e p keeps inside early calm) es keep quiet_ones
@@ -121,11 +121,11 @@ module _ (g : EventGraph) (keeps : KeepsParts g) (never : NeverBoth g) (quiet : 
     receives seed clk early s inside values are calm =
         let (e, done, end) = changes_fine seed clk early (set_parameters b.parameters h.edge.values) (set_keeps_rules g keeps first second h) (every-passes (quiet_change g) (set_parameters b.parameters h.edge.values) calm) (record { state = s; taken = [] }) inside in
         let given = sym (set_parameters-receives g seed clk b.parameters h.edge.values (values_none g keeps first second h) (record { state = s; taken = [] })) ∙ done in
-        let so = sym (ap (λ (r : OrFault (List ℤ)). r >>= λ values. receive g b.parameters values s >>= λ t. Ok (let d : Changed = record { state = t; taken = [] } in d)) are) ∙ given in
+        let so = sym (ap (λ (r : OrFault (List ℤ)). r >>= λ values. receive g b.parameters values s >>= λ t. Ok (let d : ChangeState = record { state = t; taken = [] } in d)) are) ∙ given in
         let (t, is, tail) = bind_ok (receive g b.parameters values s) _ e so in
         (t, is)
 
-    never_faults : happens_unseen g b h.edge.values ≡ true → (seed : ℕ) (n : TakenOff) (s : State) (taken : List ℕ) (k : FaultKind) → Inside s → n.entry.time ≤ 2 ^ 48 → each (value_of g s n.entry.time) h.edge.values ≡ Ok n.entry.values → occur g seed b n s taken ≡ Err k → ⊥
+    never_faults : happens_unseen g b h.edge.values ≡ true → (seed : ℕ) (n : EntryAndRest) (s : State) (taken : List ℕ) (k : FaultKind) → Inside s → n.entry.time ≤ 2 ^ 48 → each (value_of g s n.entry.time) h.edge.values ≡ Ok n.entry.values → occur g seed b n s taken ≡ Err k → ⊥
     never_faults unseen seed n s taken k inside due are faults =
         let three = and_first (list_all (is_unwatched (vertex_writes b)) g.watch && list_all (quiet_change g) (set_parameters b.parameters h.edge.values) && list_all (quiet_change g) b.changes) _ unseen in
         let two = and_first (list_all (is_unwatched (vertex_writes b)) g.watch && list_all (quiet_change g) (set_parameters b.parameters h.edge.values)) _ three in
@@ -156,8 +156,8 @@ module _ (g : EventGraph) (keeps : KeepsParts g) (never : NeverBoth g) (quiet : 
       edges = h.edge.whole;
       none = values_none g keeps first second h;
       aside_before = every-front (λ (e : EventEdge). Aside second e.target e.kind) h.edge.before h.edge.after rest_aside;
-      aside_after = every-behind (λ (e : EventEdge). Aside second e.target e.kind) h.edge.before h.edge.after rest_aside;
-      calm = λ seed s inside clk early. (every-front (Calm g seed s clk) h.edge.before h.edge.after (rest_calm seed s inside clk early), every-behind (Calm g seed s clk) h.edge.before h.edge.after (rest_calm seed s inside clk early));
+      aside_after = every-after (λ (e : EventEdge). Aside second e.target e.kind) h.edge.before h.edge.after rest_aside;
+      calm = λ seed s inside clk early. (every-front (Calm g seed s clk) h.edge.before h.edge.after (rest_calm seed s inside clk early), every-after (Calm g seed s clk) h.edge.before h.edge.after (rest_calm seed s inside clk early));
       undrawn = rest_undrawn;
       unread = rest_unread;
       priorities = priorities_above_zero g keeps;

@@ -6,13 +6,13 @@ use Rattle.sig_base.specs.declared.fault.FaultKind.{FaultKind}
 use Rattle.model_core.specs.EventGraph.{EventGraph, EventVertex, EventEdge, Expression, Watched, WatchedVariable, WatchedVertex}
 use Rattle.model_core.specs.Run.State.{State, initial_state, variable_at}
 use Rattle.model_core.specs.Run.Value.{each, in_turn, value_of}
-use Rattle.model_core.specs.Run.Changes.{Changed, make_change}
-use Rattle.model_core.specs.Run.Pending.{TakenOff, next_entry}
-use Rattle.model_core.specs.Run.Edges.{treat}
+use Rattle.model_core.specs.Run.Changes.{ChangeState, make_change}
+use Rattle.model_core.specs.Run.Pending.{EntryAndRest, next_entry}
+use Rattle.model_core.specs.Run.Edges.{treat_edge}
 use Rattle.model_core.specs.Run.Step.{Configuration, no_vertex, vertex_at, receive, occur}
 use Rattle.model_core.specs.Run.Machine.{On}
 use Rattle.model_core.specs.Run.History.{watches, completed, watched_values}
-use Rattle.model_core.specs.Run.Same.{Same, thing, parameter, VertexNamed}
+use Rattle.model_core.specs.Run.Same.{Same, watched_name_of, parameter, VertexNamed}
 use Rattle.model_core.specs.Rules.PlacedEdges.{with_place}
 use Rattle.model_core.specs.Rules.Uses.{edge_reads}
 use Rattle.model_core.proofs.Results.{bind_ok}
@@ -23,7 +23,7 @@ use Rattle.model_core.proofs.EachOne.{every-map, every-both}
 use Rattle.mark_laws.proofs.EntailedMarks.{same-place}
 use Rattle.model_core.proofs.PlacesChanged.{placed-elsewhere}
 use Rattle.run_laws.proofs.Spared.HeldValues.{Holds}
-use Rattle.run_laws.proofs.Spared.HeldEdges.{treat-held}
+use Rattle.run_laws.proofs.Spared.HeldEdges.{treat_edge-held}
 use Rattle.merge_rules.proofs.OneStepForTwo.UndrawnEdges.{Undrawn}
 use Rattle.merge_rules.proofs.SingleUrgentModels.InsertedEntry.{DueBefore}
 use Rattle.merge_rules.proofs.OneStepForTwo.EdgesAside.{Aside, Calm, urgent_entry, urgent_edge}
@@ -44,7 +44,7 @@ VariableUnwritten b (WatchedVertex v) = Unit {0}
 abbrev pub Discreet : EventGraph → (State → Type 0) → ℕ → ℕ → List Expression → Type 0
 Discreet g Q first second rights =
     (position (watches first) g.watch ≡ None)
-    ⊎ (AllByRecursion (VariableUnwritten (vertex_at g second)) g.watch × ((seed : ℕ) (n : TakenOff) (s : State) (taken : List ℕ) (k : FaultKind) → Q s → n.entry.time ≤ 2 ^ 48 → each (value_of g s n.entry.time) rights ≡ Ok n.entry.values → occur g seed (vertex_at g second) n s taken ≡ Err k → ⊥))
+    ⊎ (AllByRecursion (VariableUnwritten (vertex_at g second)) g.watch × ((seed : ℕ) (n : EntryAndRest) (s : State) (taken : List ℕ) (k : FaultKind) → Q s → n.entry.time ≤ 2 ^ 48 → each (value_of g s n.entry.time) rights ≡ Ok n.entry.values → occur g seed (vertex_at g second) n s taken ≡ Err k → ⊥))
 
 -- the conditions, as facts of the states of which Q holds
 pub record MergeFacts (g : EventGraph) (Q : State → Type 0) (first second : ℕ) (before after : List EventEdge) (rights : List Expression) : Type 0 where
@@ -68,19 +68,19 @@ place-here f zero (y ∷ xs) d x there = refl
 place-here f (suc i) (y ∷ xs) d x there = place-here f i xs d x there
 
 -- what a step that goes on has made
-record Made (g : EventGraph) (seed : ℕ) (v : EventVertex) (n : TakenOff) (s : State) (taken : List ℕ) (c : Configuration) : Type 0 where
+record Made (g : EventGraph) (seed : ℕ) (v : EventVertex) (n : EntryAndRest) (s : State) (taken : List ℕ) (c : Configuration) : Type 0 where
   at_receive : State
-  at_changes : Changed
+  at_changes : ChangeState
   is_received : receive g v.parameters n.entry.values s ≡ Ok at_receive
   is_changed : in_turn (make_change g seed n.entry.time) v.changes (record { state = at_receive; taken = taken }) ≡ Ok at_changes
   state_is : at_changes.state ≡ c.state
   clock_is : n.entry.time ≡ c.clock
 
-made : (g : EventGraph) (seed : ℕ) (v : EventVertex) (n : TakenOff) (s : State) (taken : List ℕ) (c : Configuration) → occur g seed v n s taken ≡ Ok c → Made g seed v n s taken c
+made : (g : EventGraph) (seed : ℕ) (v : EventVertex) (n : EntryAndRest) (s : State) (taken : List ℕ) (c : Configuration) → occur g seed v n s taken ≡ Ok c → Made g seed v n s taken c
 made g seed v n s taken c goes_on =
     let (t, at_receive, after_receive) = bind_ok (receive g v.parameters n.entry.values s) _ c goes_on in
     let (d, at_changes, after_changes) = bind_ok (in_turn (make_change g seed n.entry.time) v.changes (record { state = t; taken = taken })) _ c after_receive in
-    let (p, at_edges, at_end) = bind_ok (in_turn (treat g seed d.state n.entry.time) v.edges (record { pending = n.others; taken = d.taken })) _ c after_changes in
+    let (p, at_edges, at_end) = bind_ok (in_turn (treat_edge g seed d.state n.entry.time) v.edges (record { pending = n.others; taken = d.taken })) _ c after_changes in
     let same : record { clock = n.entry.time; state = d.state; taken = p.taken; pending = p.pending } ≡ c = cc in
     record { at_receive = t; at_changes = d; is_received = at_receive; is_changed = at_changes; state_is = ap (λ (c : Configuration). c.state) same; clock_is = ap (λ (c : Configuration). c.clock) same }
 
@@ -99,13 +99,13 @@ module _ (g : EventGraph) (Q : State → Type 0) (first second : ℕ) (before af
   abbrev Inv : Configuration → Type 0
   Inv c = NoneEarlier c.clock c.pending × OneUrgent c.clock c.pending × Q c.state
 
-  known : (seed : ℕ) (s : State) → Q s → (n : TakenOff) → n.entry.time ≤ 2 ^ 48 → (taken : List ℕ) → CalmAfterChanges g seed second (vertex_at g first) before after rights n.entry.time n.entry.values s taken
+  known : (seed : ℕ) (s : State) → Q s → (n : EntryAndRest) → n.entry.time ≤ 2 ^ 48 → (taken : List ℕ) → CalmAfterChanges g seed second (vertex_at g first) before after rights n.entry.time n.entry.values s taken
   known seed s q n due taken t d got made =
       let qd : Q d.state = changed g Q ok.kept seed n.entry.time (vertex_at g first).changes (record { state = t; taken = taken }) d (received g Q ok.kept (vertex_at g first).parameters n.entry.values s t q got) made in
       let (calm_before, calm_after) = ok.calm seed d.state qd n.entry.time due in
-      (calm_before, calm_after, λ values t2 d2 got2 made2. every-map (λ e. AllByRecursion (UnwrittenBy b) (edge_reads e)) _ (λ e reads. treat-held g seed d.state d2.state n.entry.time e (every-map (UnwrittenBy b) (Holds d.state d2.state) (λ v unwritten. unwritten-holds g seed n.entry.time b v unwritten values d.state t2 d.taken d2 got2 made2) (edge_reads e) reads)) (before ++ after) ok.unread)
+      (calm_before, calm_after, λ values t2 d2 got2 made2. every-map (λ e. AllByRecursion (UnwrittenBy b) (edge_reads e)) _ (λ e reads. treat_edge-held g seed d.state d2.state n.entry.time e (every-map (UnwrittenBy b) (Holds d.state d2.state) (λ v unwritten. unwritten-holds g seed n.entry.time b v unwritten values d.state t2 d.taken d2 got2 made2) (edge_reads e) reads)) (before ++ after) ok.unread)
 
-  splits : (seed : ℕ) (c : Configuration) (n : TakenOff) → Inv c → next_entry c.pending ≡ Some n → n.entry.time ≤ 2 ^ 48 → (n.entry.vertex == first) ≡ true → Split g seed second rights n.entry.time (occur g seed (vertex_at g n.entry.vertex) n c.state c.taken) (occur g seed (slice_index_or vertices n.entry.vertex no_vertex) n c.state c.taken)
+  splits : (seed : ℕ) (c : Configuration) (n : EntryAndRest) → Inv c → next_entry c.pending ≡ Some n → n.entry.time ≤ 2 ^ 48 → (n.entry.vertex == first) ≡ true → Split g seed second rights n.entry.time (occur g seed (vertex_at g n.entry.vertex) n c.state c.taken) (occur g seed (slice_index_or vertices n.entry.vertex no_vertex) n c.state c.taken)
   splits seed c n (late, urgent, q) next due is_first =
       let waits : AllByRecursion (DueBefore (urgent_entry n.entry.time second [])) n.others =
       every-both (λ x. n.entry.time ≤ x.time) NotUrgent (DueBefore (urgent_entry n.entry.time second [])) (λ x from some. due-first (urgent_entry n.entry.time second []) n.entry.time (refl, refl) x from some) n.others
@@ -119,7 +119,7 @@ module _ (g : EventGraph) (Q : State → Type 0) (first second : ℕ) (before af
       subst (λ (w : EventVertex). Split g seed second rights n.entry.time (occur g seed (vertex_at g first) n c.state c.taken) (occur g seed w n c.state c.taken)) (sym (place-here (λ v. joined_vertex v (before ++ after) rights (vertex_at g second)) first g.vertices no_vertex v there)) with_joined in
       subst (λ k. Split g seed second rights n.entry.time (occur g seed (vertex_at g k) n c.state c.taken) (occur g seed (slice_index_or vertices k no_vertex) n c.state c.taken)) first_is at_first
 
-  keeps : (seed : ℕ) (c : Configuration) (n : TakenOff) (d : Configuration) → Inv c → next_entry c.pending ≡ Some n → n.entry.time ≤ 2 ^ 48 → occur g seed (vertex_at g n.entry.vertex) n c.state c.taken ≡ Ok d → Inv d
+  keeps : (seed : ℕ) (c : Configuration) (n : EntryAndRest) (d : Configuration) → Inv c → next_entry c.pending ≡ Some n → n.entry.time ≤ 2 ^ 48 → occur g seed (vertex_at g n.entry.vertex) n c.state c.taken ≡ Ok d → Inv d
   keeps seed c n d (late, urgent, q) next due done =
       let v = vertex_at g n.entry.vertex in (
         (occur-on_time g seed v c d n next done).1,
@@ -132,7 +132,7 @@ module _ (g : EventGraph) (Q : State → Type 0) (first second : ℕ) (before af
   silent_none : (k : ℕ) (c : Configuration) → position (watches k) g.watch ≡ None → completed g k c ≡ []
   silent_none k c none = ap (λ o. option_to_list (option_map (λ place. On c.clock place (watched_values g.watch c.state)) o)) none
 
-  shows : (seed vertex : ℕ) (c : Configuration) (n : TakenOff) (d : Configuration) → (vertex == first) ≡ true → n.entry.time ≡ c.clock → occur g seed b n c.state c.taken ≡ Ok d → Discreet g Q first second rights → completed g vertex c ≡ completed g vertex d
+  shows : (seed vertex : ℕ) (c : Configuration) (n : EntryAndRest) (d : Configuration) → (vertex == first) ≡ true → n.entry.time ≡ c.clock → occur g seed b n c.state c.taken ≡ Ok d → Discreet g Q first second rights → completed g vertex c ≡ completed g vertex d
   shows seed vertex c n d is_first at_clock done (inl none) =
       let none_here : position (watches vertex) g.watch ≡ None = subst (λ k. position (watches k) g.watch ≡ None) (sym (same-place vertex first is_first)) none in
       silent_none vertex c none_here ∙ sym (silent_none vertex d none_here)
@@ -141,7 +141,7 @@ module _ (g : EventGraph) (Q : State → Type 0) (first second : ℕ) (before af
       let holds : (v : ℕ) → UnwrittenBy b v → Holds c.state d.state v = λ v free. subst (λ t. Holds c.state t v) m.state_is (unwritten-holds g seed n.entry.time b v free n.entry.values c.state m.at_receive c.taken m.at_changes m.is_received m.is_changed) in
       ap₂ (λ (clk : ℕ) (values : List (List ℤ)). option_to_list (option_map (λ place. On clk place values) (position (watches vertex) g.watch))) (sym at_clock ∙ m.clock_is) (sym (values-same b c.state d.state holds g.watch unwritten))
 
-  is_silent : (seed vertex : ℕ) (c : Configuration) (n : TakenOff) (k : FaultKind) → (vertex == first) ≡ true → Q c.state → each (value_of g c.state c.clock) rights ≡ Ok n.entry.values → n.entry.time ≡ c.clock → n.entry.time ≤ 2 ^ 48 → occur g seed b n c.state c.taken ≡ Err k → Discreet g Q first second rights → completed g vertex c ≡ []
+  is_silent : (seed vertex : ℕ) (c : Configuration) (n : EntryAndRest) (k : FaultKind) → (vertex == first) ≡ true → Q c.state → each (value_of g c.state c.clock) rights ≡ Ok n.entry.values → n.entry.time ≡ c.clock → n.entry.time ≤ 2 ^ 48 → occur g seed b n c.state c.taken ≡ Err k → Discreet g Q first second rights → completed g vertex c ≡ []
   is_silent seed vertex c n k is_first q carried at_clock due done (inl none) = silent_none vertex c (subst (λ k. position (watches k) g.watch ≡ None) (sym (same-place vertex first is_first)) none)
   is_silent seed vertex c n k is_first q carried at_clock due done (inr (unwritten, quiet)) =
       absurd (quiet seed n c.state c.taken k q due (subst (λ t. each (value_of g c.state t) rights ≡ Ok n.entry.values) (sym at_clock) carried) done)
@@ -166,9 +166,9 @@ module _ (g : EventGraph) (Q : State → Type 0) (first second : ℕ) (before af
       subst (λ k. ((vertex_at g k).name ≡ (slice_index_or vertices k no_vertex).name) × ((vertex_at g k).parameters ≡ (slice_index_or vertices k no_vertex).parameters)) (sym (same-place k first is))
       (ap (λ (v : EventVertex). v.name) (sym e), ap (λ (v : EventVertex). v.parameters) (sym e))
 
-  things-same : (watch : List Watched) → map (thing g) watch ≡ map (thing (with_vertices g vertices)) watch
+  things-same : (watch : List Watched) → map (watched_name_of g) watch ≡ map (watched_name_of (with_vertices g vertices)) watch
   things-same [] = refl
-  things-same (WatchedVariable v ∷ watch) = ap (λ ts. thing g (WatchedVariable v) ∷ ts) (things-same watch)
+  things-same (WatchedVariable v ∷ watch) = ap (λ ts. watched_name_of g (WatchedVariable v) ∷ ts) (things-same watch)
   things-same (WatchedVertex v ∷ watch) = ap₂ (λ t ts. t ∷ ts) (ap VertexNamed (names-same v (v == first) refl).0) (things-same watch)
 
   -- the merged graph is the same

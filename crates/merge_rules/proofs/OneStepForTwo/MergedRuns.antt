@@ -5,10 +5,10 @@ use Rattle.std.proofs.lemmas.Bool.Decides.{nat_tests}
 use Rattle.sig_base.specs.declared.fault.FaultKind.{FaultKind}
 use Rattle.model_core.specs.EventGraph.{EventGraph, EventVertex, Expression}
 use Rattle.model_core.specs.Run.Value.{OrFault, each, value_of}
-use Rattle.model_core.specs.Run.Pending.{TakenOff, next_entry}
+use Rattle.model_core.specs.Run.Pending.{EntryAndRest, next_entry}
 use Rattle.model_core.specs.Run.Step.{Configuration, no_vertex, vertex_at, occur, faulted_at, step}
 use Rattle.model_core.specs.Run.Machine.{Note, Ended, Stopped, Faulted, Move, Rests, Fails, Goes}
-use Rattle.model_core.specs.Run.History.{Moment, Noting, leave, leave_for, completed, stepped, comes, next_move, start, look}
+use Rattle.model_core.specs.Run.History.{Moment, Noting, leave, noting_before_event, completed, stepped, comes, next_move, start, look}
 use Rattle.model_core.specs.Run.Same.{SameLooks}
 use Rattle.run_laws.proofs.Simulation.{rests, fails, goes, Joined, one, two_fail, two_go, two_for_one}
 use Rattle.run_laws.proofs.EdgesAlike.{with_vertices}
@@ -16,12 +16,12 @@ use Rattle.merge_rules.proofs.OneStepForTwo.TwoInOne.{Split, faults, goes_on}
 
 -- what of the two models makes two steps into one
 pub record Merging (g : EventGraph) (seed first second : ℕ) (rights : List Expression) (vertices : List EventVertex) (Inv : Configuration → Type 0) : Type 0 where
-  pub kept : (c : Configuration) (n : TakenOff) (d : Configuration) → Inv c → next_entry c.pending ≡ Some n → n.entry.time ≤ 2 ^ 48 → occur g seed (vertex_at g n.entry.vertex) n c.state c.taken ≡ Ok d → Inv d
+  pub kept : (c : Configuration) (n : EntryAndRest) (d : Configuration) → Inv c → next_entry c.pending ≡ Some n → n.entry.time ≤ 2 ^ 48 → occur g seed (vertex_at g n.entry.vertex) n c.state c.taken ≡ Ok d → Inv d
   pub elsewhere : (k : ℕ) → (k == first) ≡ false → slice_index_or vertices k no_vertex ≡ vertex_at g k
-  pub split : (c : Configuration) (n : TakenOff) → Inv c → next_entry c.pending ≡ Some n → n.entry.time ≤ 2 ^ 48 → (n.entry.vertex == first) ≡ true → Split g seed second rights n.entry.time (occur g seed (vertex_at g n.entry.vertex) n c.state c.taken) (occur g seed (slice_index_or vertices n.entry.vertex no_vertex) n c.state c.taken)
+  pub split : (c : Configuration) (n : EntryAndRest) → Inv c → next_entry c.pending ≡ Some n → n.entry.time ≤ 2 ^ 48 → (n.entry.vertex == first) ≡ true → Split g seed second rights n.entry.time (occur g seed (vertex_at g n.entry.vertex) n c.state c.taken) (occur g seed (slice_index_or vertices n.entry.vertex no_vertex) n c.state c.taken)
   pub unwatched : (c : Configuration) → completed g second c ≡ []
-  pub shown : (vertex : ℕ) (c : Configuration) (n : TakenOff) (d : Configuration) → (vertex == first) ≡ true → Inv c → each (value_of g c.state c.clock) rights ≡ Ok n.entry.values → next_entry c.pending ≡ Some n → n.entry.time ≡ c.clock → n.entry.time ≤ 2 ^ 48 → occur g seed (vertex_at g second) n c.state c.taken ≡ Ok d → completed g vertex c ≡ completed g vertex d
-  pub silent : (vertex : ℕ) (c : Configuration) (n : TakenOff) (k : FaultKind) → (vertex == first) ≡ true → Inv c → each (value_of g c.state c.clock) rights ≡ Ok n.entry.values → next_entry c.pending ≡ Some n → n.entry.time ≡ c.clock → n.entry.time ≤ 2 ^ 48 → occur g seed (vertex_at g second) n c.state c.taken ≡ Err k → completed g vertex c ≡ []
+  pub shown : (vertex : ℕ) (c : Configuration) (n : EntryAndRest) (d : Configuration) → (vertex == first) ≡ true → Inv c → each (value_of g c.state c.clock) rights ≡ Ok n.entry.values → next_entry c.pending ≡ Some n → n.entry.time ≡ c.clock → n.entry.time ≤ 2 ^ 48 → occur g seed (vertex_at g second) n c.state c.taken ≡ Ok d → completed g vertex c ≡ completed g vertex d
+  pub silent : (vertex : ℕ) (c : Configuration) (n : EntryAndRest) (k : FaultKind) → (vertex == first) ≡ true → Inv c → each (value_of g c.state c.clock) rights ≡ Ok n.entry.values → next_entry c.pending ≡ Some n → n.entry.time ≡ c.clock → n.entry.time ≤ 2 ^ 48 → occur g seed (vertex_at g second) n c.state c.taken ≡ Err k → completed g vertex c ≡ []
 
 on_time : (until t : ℕ) → nat_lt until t ≡ false → t ≤ until
 on_time until t e = grind (arith, nat_tests)
@@ -40,12 +40,12 @@ module _ (g : EventGraph) (seed first second : ℕ) (rights : List Expression) (
   f m = next_move g seed until m
 
   -- the second event is next, at the same clock
-  second-next : (c : Configuration) (n : TakenOff) (noted : Option (List (List ℤ))) → next_entry c.pending ≡ Some n → n.entry.vertex ≡ second → n.entry.time ≡ c.clock → nat_lt until n.entry.time ≡ false → (r : OrFault Configuration) → occur g seed (vertex_at g second) n c.state c.taken ≡ r → f (record { now = c; noted = noted }) ≡ stepped g second (record { notes = []; noted = noted }) (faulted_at n.entry.time r)
+  second-next : (c : Configuration) (n : EntryAndRest) (noted : Option (List (List ℤ))) → next_entry c.pending ≡ Some n → n.entry.vertex ≡ second → n.entry.time ≡ c.clock → nat_lt until n.entry.time ≡ false → (r : OrFault Configuration) → occur g seed (vertex_at g second) n c.state c.taken ≡ r → f (record { now = c; noted = noted }) ≡ stepped g second (record { notes = []; noted = noted }) (faulted_at n.entry.time r)
   second-next c n noted next vertex time in_time r is =
       let m : Moment = record { now = c; noted = noted } in
       let left : Noting = record { notes = []; noted = noted } in
       ap (comes g seed until m) next ∙
-      (ap (λ b. cond b (Rests (leave g m).notes Stopped) (stepped g n.entry.vertex (leave_for g m n.entry.time) (step g seed c n))) in_time ∙
+      (ap (λ b. cond b (Rests (leave g m).notes Stopped) (stepped g n.entry.vertex (noting_before_event g m n.entry.time) (step g seed c n))) in_time ∙
       (ap (λ b. stepped g n.entry.vertex (cond b (leave g m) left) (step g seed c n)) (not_below c.clock n.entry.time (sym time)) ∙
       (ap (λ v. stepped g v left (faulted_at n.entry.time (occur g seed (vertex_at g v) n c.state c.taken))) vertex ∙
       ap (λ (r : OrFault Configuration). stepped g second left (faulted_at n.entry.time r)) is)))
@@ -82,7 +82,7 @@ module _ (g : EventGraph) (seed first second : ℕ) (rights : List Expression) (
   same-joined vertex t left (Ok c) inv = one (goes (left.notes ++ completed g vertex c) (refl, inv c refl))
   same-joined vertex t left (Err k) inv = one (fails left.notes (Faulted t k))
 
-  occurs-joined : (m : Moment) → Inv m.now → (n : TakenOff) → next_entry m.now.pending ≡ Some n → nat_lt until n.entry.time ≡ false → (b : Bool) → (n.entry.vertex == first) ≡ b → Joined f Level (stepped g n.entry.vertex (leave_for g m n.entry.time) (step g seed m.now n)) (stepped h n.entry.vertex (leave_for h m n.entry.time) (step h seed m.now n))
+  occurs-joined : (m : Moment) → Inv m.now → (n : EntryAndRest) → next_entry m.now.pending ≡ Some n → nat_lt until n.entry.time ≡ false → (b : Bool) → (n.entry.vertex == first) ≡ b → Joined f Level (stepped g n.entry.vertex (noting_before_event g m n.entry.time) (step g seed m.now n)) (stepped h n.entry.vertex (noting_before_event h m n.entry.time) (step h seed m.now n))
   occurs-joined m inv n next in_time b is =
       chosen b is where
         due : n.entry.time ≤ 2 ^ 48
@@ -91,16 +91,16 @@ module _ (g : EventGraph) (seed first second : ℕ) (rights : List Expression) (
         keeps : (c : Configuration) → occur g seed (vertex_at g n.entry.vertex) n m.now.state m.now.taken ≡ Ok c → Inv c
         keeps c done = ok.kept m.now n c inv next due done
 
-        chosen : (b : Bool) → (n.entry.vertex == first) ≡ b → Joined f Level (stepped g n.entry.vertex (leave_for g m n.entry.time) (step g seed m.now n)) (stepped h n.entry.vertex (leave_for h m n.entry.time) (step h seed m.now n))
-        chosen true is = split-joined n.entry.vertex n.entry.time is in_time (leave_for g m n.entry.time) _ _ (ok.split m.now n inv next due is) keeps
+        chosen : (b : Bool) → (n.entry.vertex == first) ≡ b → Joined f Level (stepped g n.entry.vertex (noting_before_event g m n.entry.time) (step g seed m.now n)) (stepped h n.entry.vertex (noting_before_event h m n.entry.time) (step h seed m.now n))
+        chosen true is = split-joined n.entry.vertex n.entry.time is in_time (noting_before_event g m n.entry.time) _ _ (ok.split m.now n inv next due is) keeps
         chosen false is =
-            subst (λ (v : EventVertex). Joined f Level (stepped g n.entry.vertex (leave_for g m n.entry.time) (step g seed m.now n)) (stepped h n.entry.vertex (leave_for h m n.entry.time) (faulted_at n.entry.time (occur g seed v n m.now.state m.now.taken)))) (sym (ok.elsewhere n.entry.vertex is))
-            (same-joined n.entry.vertex n.entry.time (leave_for g m n.entry.time) (occur g seed (vertex_at g n.entry.vertex) n m.now.state m.now.taken) keeps)
+            subst (λ (v : EventVertex). Joined f Level (stepped g n.entry.vertex (noting_before_event g m n.entry.time) (step g seed m.now n)) (stepped h n.entry.vertex (noting_before_event h m n.entry.time) (faulted_at n.entry.time (occur g seed v n m.now.state m.now.taken)))) (sym (ok.elsewhere n.entry.vertex is))
+            (same-joined n.entry.vertex n.entry.time (noting_before_event g m n.entry.time) (occur g seed (vertex_at g n.entry.vertex) n m.now.state m.now.taken) keeps)
 
-  comes-joined : (m : Moment) → Inv m.now → (o : Option TakenOff) → next_entry m.now.pending ≡ o → Joined f Level (comes g seed until m o) (comes h seed until m o)
+  comes-joined : (m : Moment) → Inv m.now → (o : Option EntryAndRest) → next_entry m.now.pending ≡ o → Joined f Level (comes g seed until m o) (comes h seed until m o)
   comes-joined m inv None next = one (rests (leave g m).notes (Ended m.now.clock))
   comes-joined m inv (Some n) next = in_time (nat_lt until n.entry.time) refl where
-    in_time : (b : Bool) → nat_lt until n.entry.time ≡ b → Joined f Level (cond b (Rests (leave g m).notes Stopped) (stepped g n.entry.vertex (leave_for g m n.entry.time) (step g seed m.now n))) (cond b (Rests (leave h m).notes Stopped) (stepped h n.entry.vertex (leave_for h m n.entry.time) (step h seed m.now n)))
+    in_time : (b : Bool) → nat_lt until n.entry.time ≡ b → Joined f Level (cond b (Rests (leave g m).notes Stopped) (stepped g n.entry.vertex (noting_before_event g m n.entry.time) (step g seed m.now n))) (cond b (Rests (leave h m).notes Stopped) (stepped h n.entry.vertex (noting_before_event h m n.entry.time) (step h seed m.now n)))
     in_time true late = one (rests (leave g m).notes Stopped)
     in_time false early_enough = occurs-joined m inv n next early_enough (n.entry.vertex == first) refl
 

@@ -3,7 +3,7 @@ use Rattle.std.proofs.Common.{◌≡◌, ℕ, ◌==◌, ℤ, false, List, [], Ok
 use Rattle.model_core.specs.EventGraph.{EventGraph, EventVertex}
 use Rattle.model_core.specs.Run.State.{State}
 use Rattle.model_core.specs.Run.Value.{in_turn}
-use Rattle.model_core.specs.Run.Changes.{Changed, make_change}
+use Rattle.model_core.specs.Run.Changes.{ChangeState, make_change}
 use Rattle.model_core.specs.Run.Step.{receive}
 use Rattle.model_core.specs.Rules.MarkedPlaces.{is_among}
 use Rattle.model_core.specs.Rules.Uses.{vertex_writes}
@@ -17,7 +17,7 @@ abbrev pub UnwrittenBy : EventVertex → ℕ → Type 0
 UnwrittenBy b v = is_among (vertex_writes b) v ≡ false
 
 -- what the event leaves of it
-pub unwritten-holds : (g : EventGraph) (seed clk : ℕ) (b : EventVertex) (v : ℕ) → UnwrittenBy b v → (values : List ℤ) (s t : State) (taken : List ℕ) (d : Changed) → receive g b.parameters values s ≡ Ok t → in_turn (make_change g seed clk) b.changes (record { state = t; taken = taken }) ≡ Ok d → Holds s d.state v
+pub unwritten-holds : (g : EventGraph) (seed clk : ℕ) (b : EventVertex) (v : ℕ) → UnwrittenBy b v → (values : List ℤ) (s t : State) (taken : List ℕ) (d : ChangeState) → receive g b.parameters values s ≡ Ok t → in_turn (make_change g seed clk) b.changes (record { state = t; taken = taken }) ≡ Ok d → Holds s d.state v
 unwritten-holds g seed clk b v unwritten values s t taken d received changed =
     let apart = every-fails (λ w. w == v) (vertex_writes b) unwritten in
     let (variables, streams) = changes-written g seed clk b (record { state = t; taken = taken }) d changed in

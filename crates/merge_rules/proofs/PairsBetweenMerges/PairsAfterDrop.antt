@@ -16,12 +16,12 @@ use Rattle.model_core.proofs.EachOne.{either_false, every-map}
 use Rattle.model_core.proofs.Images.{at-map}
 use Rattle.mark_laws.proofs.Marks.{Marked, rank-apart, rank-within, marked-placed, old_place}
 use Rattle.static_laws.proofs.StaticTwins.DeclaredNames.{every_item}
-use Rattle.run_laws.proofs.MappedVertices.{WatchedTold}
+use Rattle.run_laws.proofs.MappedVertices.{WatchedAreApart}
 use Rattle.model_core.specs.Text.Canonical.{vertex_name}
 use Rattle.merge_rules.specs.PairStanding.{target_at_once, acts_unseen, pair_fits}
 use Rattle.merge_rules.specs.Growth.{growth, pair_growth}
 use Rattle.merge_rules.specs.declared.growth.Growth.{Growth}
-use Rattle.merge_rules.specs.KeptPairs.{edges_leading, edges_to, has_incoming, TellsFit, IsPair, ArePairs, no_pair}
+use Rattle.merge_rules.specs.KeptPairs.{edges_leading, edges_to, has_incoming, FitIsRight, PairIsRight, PairsAreRight, no_pair}
 use Rattle.merge_rules.specs.Inner.PairMoves.{with_fewer, edges_taken, moved_up}
 use Rattle.merge_rules.specs.declared.kept_pairs.KeptPair.{KeptPair}
 use Rattle.merge_rules.proofs.SingleUrgentModels.SingleUrgent.{edges_keep}
@@ -91,7 +91,7 @@ module _ (g : EventGraph) (keeps : KeepsParts g) (gone : ℕ) (there : gone < le
   targets-live : (k : ℕ) → AllByRecursion (λ (e : EventEdge). Live e.target) (vertex_at g k).edges
   targets-live k = both-live (vertex_at g k).edges (targets-there k) (none-lead-at g.vertices gone k unled)
 
-  watch-live : (watch : List Watched) → AllByRecursion (IsWatchable (length g.variables) n) watch → list_any (watches gone) watch ≡ false → AllByRecursion (WatchedTold Live) watch
+  watch-live : (watch : List Watched) → AllByRecursion (IsWatchable (length g.variables) n) watch → list_any (watches gone) watch ≡ false → AllByRecursion (WatchedAreApart Live) watch
   watch-live [] all none = tt
   watch-live (WatchedVariable v ∷ watch) all none = (tt, watch-live watch all.1 none)
   watch-live (WatchedVertex v ∷ watch) all none =
@@ -161,7 +161,7 @@ module _ (g : EventGraph) (keeps : KeepsParts g) (gone : ℕ) (there : gone < le
 
   -- ---- what is kept
 
-  module _ (pairs : List KeptPair) (are : ArePairs g pairs) where
+  module _ (pairs : List KeptPair) (are : PairsAreRight g pairs) where
     abbrev taken : List KeptPair
     taken = edges_taken (vertex_at g gone).edges pairs
 
@@ -181,7 +181,7 @@ module _ (g : EventGraph) (keeps : KeepsParts g) (gone : ℕ) (there : gone < le
     new_target None below = refl
     new_target (Some t) below = ap Some (sym (rank-but n gone t (below t refl)))
 
-    pair-after : (k : ℕ) → Live k → k < n → IsPair h (f k) (slice_index_or after (f k) no_pair)
+    pair-after : (k : ℕ) → Live k → k < n → PairIsRight h (f k) (slice_index_or after (f k) no_pair)
     pair-after k live below =
         let was = are.each k below in
         let p = slice_index_or pairs k no_pair in
@@ -189,19 +189,19 @@ module _ (g : EventGraph) (keeps : KeepsParts g) (gone : ℕ) (there : gone < le
         mapped-there (moved_up gone) (remove taken gone) (f k) no_pair (omega (arith, left_long, within k live below))
         ∙ ap (moved_up gone)
         (ap (λ ps. slice_index_or ps (f k) no_pair) left ∙ marked-placed marks taken k no_pair live ∙ taken-at (vertex_at g gone).edges pairs k (omega (arith, below, are.long))) in
-        subst (IsPair h (f k)) (sym at) (record {
+        subst (PairIsRight h (f k)) (sym at) (record {
           target =
               ap (option_map (place_without gone)) was.target
               ∙ new_target (target_at_once (vertex_at g k)) (λ t is. at-once (λ t. t < n) (vertex_at g k) t (targets-there k) is)
               ∙ sym (target-alike f (vertex_at g k)) ∙ sym (ap target_at_once (placed k live));
-          standing = subst (TellsFit p.standing) (sym (pair-growth-after k live below)) was.standing;
+          standing = subst (FitIsRight p.standing) (sym (pair-growth-after k live below)) was.standing;
           unseen = still_told p.unseen g h _ _ (acts-after k live) was.unseen;
           incoming = ap (λ m. m - edges_leading (vertex_at g gone).edges k) was.incoming ∙ sym (edges-counted k live);
         })
 
-    pub are-dropped : ArePairs (dropped g (gone ∷ [])) after
-    are-dropped = subst (λ (h : EventGraph). ArePairs h after) (sym dropped-is) (record { long = length-map (remove taken gone) (moved_up gone) ∙ left_long; each = each }) where
-      each : (i : ℕ) → i < length h.vertices → IsPair h i (slice_index_or after i no_pair)
+    pub are-dropped : PairsAreRight (dropped g (gone ∷ [])) after
+    are-dropped = subst (λ (h : EventGraph). PairsAreRight h after) (sym dropped-is) (record { long = length-map (remove taken gone) (moved_up gone) ∙ left_long; each = each }) where
+      each : (i : ℕ) → i < length h.vertices → PairIsRight h i (slice_index_or after i no_pair)
       each i below =
           let (k, live, is, old) = old_place marks g.vertices i (omega (arith, below, long)) in
-          subst (λ i. IsPair h i (slice_index_or after i no_pair)) is (pair-after k live old)
+          subst (λ i. PairIsRight h i (slice_index_or after i no_pair)) is (pair-after k live old)

@@ -12,15 +12,15 @@ use Rattle.model_core.specs.Rules.UrgentEdges.{plain_urgent}
 use Rattle.model_core.specs.Rules.Merge.{merge_conditions, merged_with, merged}
 use Rattle.model_core.proofs.PlacesChanged.{length_placed, shown_placed, placed-there, placed-elsewhere}
 use Rattle.mark_laws.proofs.EntailedMarks.{same-place}
-use Rattle.run_laws.proofs.MappedVertices.{WatchedTold}
+use Rattle.run_laws.proofs.MappedVertices.{WatchedAreApart}
 use Rattle.model_core.specs.Text.Canonical.{vertex_name}
 use Rattle.merge_rules.specs.PairStanding.{target_at_once, acts_unseen, pair_conditions, pair_fits}
 use Rattle.merge_rules.specs.Growth.{growth, pair_growth}
 use Rattle.merge_rules.specs.declared.growth.Growth.{Growth}
-use Rattle.merge_rules.specs.KeptPairs.{edges_leading, edges_to, TellsFit, IsPair, ArePairs, no_pair}
-use Rattle.merge_rules.specs.Inner.PairMoves.{with_more, with_fewer, edges_added, asked_again, led_nowhere, pairs_merged}
+use Rattle.merge_rules.specs.KeptPairs.{edges_leading, edges_to, FitIsRight, PairIsRight, PairsAreRight, no_pair}
+use Rattle.merge_rules.specs.Inner.PairMoves.{with_more, with_fewer, edges_added, standing_forgotten, target_removed, pairs_merged}
 use Rattle.merge_rules.specs.declared.kept_pairs.KeptPair.{KeptPair}
-use Rattle.merge_rules.specs.declared.kept_pairs.Standing.TheVariants as standings
+use Rattle.merge_rules.specs.declared.kept_pairs.PairAnswer.TheVariants as standings
 use Rattle.merge_rules.specs.UrgentVertices.{has_plain}
 use Rattle.merge_rules.proofs.OneStepForTwo.MergeHolds.{Mergeable, conditions_hold, is_below}
 use Rattle.merge_rules.proofs.OneStepForTwo.MergeResult.{joined_is}
@@ -45,7 +45,7 @@ edges-same (e ∷ es) = ap (λ es. e ∷ es) (edges-same es)
 vertex-same : (v : EventVertex) → vertex_renumbered (λ k. k) v ≡ v
 vertex-same v = ap (λ es. record v { edges = es }) (edges-same v.edges)
 
-all-told : (watch : List Watched) → AllByRecursion (WatchedTold (λ k. Unit {0})) watch
+all-told : (watch : List Watched) → AllByRecursion (WatchedAreApart (λ k. Unit {0})) watch
 all-told [] = tt
 all-told (WatchedVariable v ∷ watch) = (tt, all-told watch)
 all-told (WatchedVertex v ∷ watch) = (tt, all-told watch)
@@ -121,7 +121,7 @@ module _ (g : EventGraph) (first second : ℕ) (none : first_failed (merge_condi
       ap (λ (v : EventVertex). edges_leading v.edges k) (joined_is a b second p) ∙ ap (λ (es : List EventEdge). edges_leading (es ++ b.edges) k) (sym p.rest) ∙ leading-joined (remove a.edges p.place) b.edges k in
       omega (arith, placed, rest, joined)
 
-  module _ (pairs : List KeptPair) (are : ArePairs g pairs) where
+  module _ (pairs : List KeptPair) (are : PairsAreRight g pairs) where
     abbrev counted : List KeptPair
     counted = with_place (with_fewer 1) second (edges_added b.edges pairs)
 
@@ -140,42 +140,42 @@ module _ (g : EventGraph) (first second : ℕ) (none : first_failed (merge_condi
         ∙ ap (with_fewer (cond (second == k) 1 0)) (added-at b.edges pairs k below)
 
     after-long : length after ≡ length h.vertices
-    after-long = length_placed led_nowhere first (map (asked_again first) counted) ∙ length-map counted (asked_again first) ∙ counted-long ∙ are.long ∙ sym long
+    after-long = length_placed target_removed first (map (standing_forgotten first) counted) ∙ length-map counted (standing_forgotten first) ∙ counted-long ∙ are.long ∙ sym long
 
-    asked-at : (k : ℕ) → k < length pairs → slice_index_or (map (asked_again first) counted) k no_pair ≡ asked_again first (with_fewer (cond (second == k) 1 0) (with_more (edges_leading b.edges k) (slice_index_or pairs k no_pair)))
-    asked-at k below = mapped-there (asked_again first) counted k no_pair (omega (arith, below, counted-long)) ∙ ap (asked_again first) (counted-at k below)
+    asked-at : (k : ℕ) → k < length pairs → slice_index_or (map (standing_forgotten first) counted) k no_pair ≡ standing_forgotten first (with_fewer (cond (second == k) 1 0) (with_more (edges_leading b.edges k) (slice_index_or pairs k no_pair)))
+    asked-at k below = mapped-there (standing_forgotten first) counted k no_pair (omega (arith, below, counted-long)) ∙ ap (standing_forgotten first) (counted-at k below)
 
     -- what is known of the other stays known, but where its plain urgent edge leads to the one that has changed
-    still-tells : (k : ℕ) → (k == first) ≡ false → (p : KeptPair) → p.target ≡ target_at_once (vertex_at g k) → TellsFit p.standing (pair_growth g k) → TellsFit (asked_again first p).standing (pair_growth h k)
+    still-tells : (k : ℕ) → (k == first) ≡ false → (p : KeptPair) → p.target ≡ target_at_once (vertex_at g k) → FitIsRight p.standing (pair_growth g k) → FitIsRight (standing_forgotten first p).standing (pair_growth h k)
     still-tells k apart p target tells = by p.target refl where
-      by : (o : Option ℕ) → p.target ≡ o → TellsFit (cond (option_map_or (λ target. target == first) o false) standings.Unknown p.standing) (pair_growth h k)
-      by None is = subst (TellsFit p.standing) (sym (pair-growth-elsewhere k apart (λ t leads. let no : None ≡ Some t = sym is ∙ target ∙ leads in cc))) tells
+      by : (o : Option ℕ) → p.target ≡ o → FitIsRight (cond (option_map_or (λ target. target == first) o false) standings.Unknown p.standing) (pair_growth h k)
+      by None is = subst (FitIsRight p.standing) (sym (pair-growth-elsewhere k apart (λ t leads. let no : None ≡ Some t = sym is ∙ target ∙ leads in cc))) tells
       by (Some t) is = chosen (t == first) refl where
-        chosen : (c : Bool) → (t == first) ≡ c → TellsFit (cond c standings.Unknown p.standing) (pair_growth h k)
+        chosen : (c : Bool) → (t == first) ≡ c → FitIsRight (cond c standings.Unknown p.standing) (pair_growth h k)
         chosen true same = tt
         chosen false other =
-            subst (TellsFit p.standing)
+            subst (FitIsRight p.standing)
             (sym (pair-growth-elsewhere k apart (λ u leads. let both : Some t ≡ Some u = sym is ∙ target ∙ leads in let e : t ≡ u = cc in subst (λ v. (v == first) ≡ false) e other))) tells
 
-    pair-elsewhere : (k : ℕ) → k < length g.vertices → (k == first) ≡ false → IsPair h k (slice_index_or after k no_pair)
+    pair-elsewhere : (k : ℕ) → k < length g.vertices → (k == first) ≡ false → PairIsRight h k (slice_index_or after k no_pair)
     pair-elsewhere k below apart =
         let p = slice_index_or pairs k no_pair in
         let was = are.each k below in
         let within : k < length pairs = omega (arith, below, are.long) in
-        subst (IsPair h k) (sym (placed-elsewhere led_nowhere first k (map (asked_again first) counted) no_pair apart ∙ asked-at k within)) (record {
+        subst (PairIsRight h k) (sym (placed-elsewhere target_removed first k (map (standing_forgotten first) counted) no_pair apart ∙ asked-at k within)) (record {
           target = was.target ∙ sym (ap target_at_once (elsewhere k apart));
           standing = still-tells k apart (with_fewer (cond (second == k) 1 0) (with_more (edges_leading b.edges k) p)) was.target was.standing;
           unseen = still_told p.unseen g h _ _ (acts-elsewhere k apart) was.unseen;
           incoming = ap (λ n. n + edges_leading b.edges k - cond (second == k) 1 0) was.incoming ∙ sym (edges-counted k);
         })
 
-    pair-here : IsPair h first (slice_index_or after first no_pair)
+    pair-here : PairIsRight h first (slice_index_or after first no_pair)
     pair-here =
         let was = are.each first there in
         let within : first < length pairs = omega (arith, there, are.long) in
         let leads : target_at_once (vertex_at h first) ≡ None = ap target_at_once here ∙ no-plain (merged_with b a) (plain_gone g first second none) in
-        subst (IsPair h first)
-        (sym (placed-there led_nowhere first (map (asked_again first) counted) no_pair (omega (arith, within, length-map counted (asked_again first), counted-long)) ∙ ap led_nowhere (asked-at first within)))
+        subst (PairIsRight h first)
+        (sym (placed-there target_removed first (map (standing_forgotten first) counted) no_pair (omega (arith, within, length-map counted (standing_forgotten first), counted-long)) ∙ ap target_removed (asked-at first within)))
         (record {
           target = sym leads;
           standing = ap (λ (o : Option ℕ). cond (option_map_or (λ second. is_none (first_failed (pair_conditions h first second))) o false) (Some (growth h first)) None) leads;
@@ -183,10 +183,10 @@ module _ (g : EventGraph) (first second : ℕ) (none : first_failed (merge_condi
           incoming = ap (λ n. n + edges_leading b.edges first - cond (second == first) 1 0) was.incoming ∙ sym (edges-counted first);
         })
 
-    pub are-merged : ArePairs h after
+    pub are-merged : PairsAreRight h after
     are-merged = record { long = after-long; each = each } where
-      each : (k : ℕ) → k < length h.vertices → IsPair h k (slice_index_or after k no_pair)
+      each : (k : ℕ) → k < length h.vertices → PairIsRight h k (slice_index_or after k no_pair)
       each k below = by (k == first) refl where
-        by : (c : Bool) → (k == first) ≡ c → IsPair h k (slice_index_or after k no_pair)
-        by true same = subst (λ j. IsPair h j (slice_index_or after j no_pair)) (sym (same-place k first same)) pair-here
+        by : (c : Bool) → (k == first) ≡ c → PairIsRight h k (slice_index_or after k no_pair)
+        by true same = subst (λ j. PairIsRight h j (slice_index_or after j no_pair)) (sym (same-place k first same)) pair-here
         by false apart = pair-elsewhere k (omega (arith, below, long)) apart

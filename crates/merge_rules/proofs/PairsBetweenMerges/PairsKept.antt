@@ -12,21 +12,21 @@ use Rattle.model_core.proofs.PlacesChanged.{set-with_place, length_placed, place
 use Rattle.mark_laws.proofs.EntailedMarks.{same-place}
 use Rattle.merge_rules.specs.PairStanding.{acts_unseen}
 use Rattle.merge_rules.specs.Growth.{pair_growth}
-use Rattle.merge_rules.specs.KeptPairs.{edges_to, has_incoming, TellsFit, IsPair, ArePairs, no_pair}
-use Rattle.merge_rules.specs.Inner.PairMoves.{unasked, with_more, all_edges_added}
+use Rattle.merge_rules.specs.KeptPairs.{edges_to, has_incoming, FitIsRight, PairIsRight, PairsAreRight, no_pair}
+use Rattle.merge_rules.specs.Inner.PairMoves.{fresh_pair, with_more, all_edges_added}
 use Rattle.merge_rules.specs.declared.kept_pairs.KeptPair.{KeptPair}
-use Rattle.merge_rules.specs.declared.kept_pairs.Standing.{Standing}
+use Rattle.merge_rules.specs.declared.kept_pairs.PairAnswer.{PairAnswer}
 use Rattle.merge_rules.proofs.PairsBetweenMerges.LedPlaces.{all_added-long, all_added-at, some-lead, none-lead}
 
 -- ---- at the beginning
 
-pub are-unasked : (g : EventGraph) → ArePairs g (all_edges_added g.vertices (map unasked g.vertices))
-are-unasked g = record {
-  long = all_added-long g.vertices (map unasked g.vertices) ∙ length-map g.vertices unasked;
+pub are-fresh_pair : (g : EventGraph) → PairsAreRight g (all_edges_added g.vertices (map fresh_pair g.vertices))
+are-fresh_pair g = record {
+  long = all_added-long g.vertices (map fresh_pair g.vertices) ∙ length-map g.vertices fresh_pair;
   each = λ k below.
-      subst (IsPair g k)
-      (sym (all_added-at g.vertices (map unasked g.vertices) k (omega (arith, below, length-map g.vertices unasked)) ∙ ap (with_more (edges_to g.vertices k)) (at-map unasked g.vertices k no_vertex)))
-      (let p : IsPair g k (with_more (edges_to g.vertices k) (unasked (vertex_at g k))) = record { target = refl; standing = tt; unseen = tt; incoming = omega arith } in p);
+      subst (PairIsRight g k)
+      (sym (all_added-at g.vertices (map fresh_pair g.vertices) k (omega (arith, below, length-map g.vertices fresh_pair)) ∙ ap (with_more (edges_to g.vertices k)) (at-map fresh_pair g.vertices k no_vertex)))
+      (let p : PairIsRight g k (with_more (edges_to g.vertices k) (fresh_pair (vertex_at g k))) = record { target = refl; standing = tt; unseen = tt; incoming = omega arith } in p);
 }
 
 -- ---- one of them
@@ -36,31 +36,31 @@ at-is [] k x d below is = absurd (omega (arith, below))
 at-is (y ∷ xs) zero x d below is = sym is
 at-is (y ∷ xs) (suc k) x d below is = at-is xs k x d (omega (arith, below)) is
 
-module _ (g : EventGraph) (pairs : List KeptPair) (are : ArePairs g pairs) (k : ℕ) (x : KeptPair) (below : k < length g.vertices) (at : x ≡ get_or pairs k x) where
+module _ (g : EventGraph) (pairs : List KeptPair) (are : PairsAreRight g pairs) (k : ℕ) (x : KeptPair) (below : k < length g.vertices) (at : x ≡ get_or pairs k x) where
   within : k < length pairs
   within = omega (arith, below, are.long)
 
-  pub pair-at : IsPair g k x
-  pair-at = subst (IsPair g k) (at-is pairs k x no_pair within at) (are.each k below)
+  pub pair-at : PairIsRight g k x
+  pair-at = subst (PairIsRight g k) (at-is pairs k x no_pair within at) (are.each k below)
 
   -- something else is kept of it that is right
-  module _ (y : KeptPair) (here : IsPair g k y) where
-    each : (j : ℕ) → j < length g.vertices → IsPair g j (slice_index_or (with_place (λ p. y) k pairs) j no_pair)
+  module _ (y : KeptPair) (here : PairIsRight g k y) where
+    each : (j : ℕ) → j < length g.vertices → PairIsRight g j (slice_index_or (with_place (λ p. y) k pairs) j no_pair)
     each j below = by (j == k) refl where
-      by : (c : Bool) → (j == k) ≡ c → IsPair g j (slice_index_or (with_place (λ p. y) k pairs) j no_pair)
+      by : (c : Bool) → (j == k) ≡ c → PairIsRight g j (slice_index_or (with_place (λ p. y) k pairs) j no_pair)
       by true same =
-          subst (λ j. IsPair g j (slice_index_or (with_place (λ p. y) k pairs) j no_pair)) (sym (same-place j k same))
-          (subst (IsPair g k) (sym (placed-there (λ p. y) k pairs no_pair within)) here)
-      by false apart = subst (IsPair g j) (sym (placed-elsewhere (λ p. y) k j pairs no_pair apart)) (are.each j below)
+          subst (λ j. PairIsRight g j (slice_index_or (with_place (λ p. y) k pairs) j no_pair)) (sym (same-place j k same))
+          (subst (PairIsRight g k) (sym (placed-there (λ p. y) k pairs no_pair within)) here)
+      by false apart = subst (PairIsRight g j) (sym (placed-elsewhere (λ p. y) k j pairs no_pair apart)) (are.each j below)
 
-    still-are : ArePairs g (slice_set pairs k y)
-    still-are = subst (ArePairs g) (sym (set-with_place (λ p. y) pairs k x y within at refl)) (record { long = length_placed (λ p. y) k pairs ∙ are.long; each = each })
+    still-are : PairsAreRight g (slice_set pairs k y)
+    still-are = subst (PairsAreRight g) (sym (set-with_place (λ p. y) pairs k x y within at refl)) (record { long = length_placed (λ p. y) k pairs ∙ are.long; each = each })
 
   -- its standing is known now, or whether it acts unseen
-  pub are-asked : (s : Standing) → TellsFit s (pair_growth g k) → ArePairs g (slice_set pairs k (let y : KeptPair = record x { standing = s } in y))
+  pub are-asked : (s : PairAnswer) → FitIsRight s (pair_growth g k) → PairsAreRight g (slice_set pairs k (let y : KeptPair = record x { standing = s } in y))
   are-asked s tells = let was = pair-at in still-are (record x { standing = s }) (record { target = was.target; standing = tells; unseen = was.unseen; incoming = was.incoming })
 
-  pub are-seen : (unseen : Bool) → unseen ≡ acts_unseen g (vertex_at g k) → ArePairs g (slice_set pairs k (let y : KeptPair = record x { unseen = Some unseen } in y))
+  pub are-seen : (unseen : Bool) → unseen ≡ acts_unseen g (vertex_at g k) → PairsAreRight g (slice_set pairs k (let y : KeptPair = record x { unseen = Some unseen } in y))
   are-seen unseen is = let was = pair-at in still-are (record x { unseen = Some unseen }) (record { target = was.target; standing = was.standing; unseen = is; incoming = was.incoming })
 
   -- whether an edge leads there

@@ -17,8 +17,8 @@ use Rattle.model_core.specs.Rules.Uses.{vertex_writes}
 use Rattle.model_core.specs.Rules.UrgentEdges.{is_urgent, is_plain, plain_urgent, plain_urgent_edge}
 use Rattle.model_core.specs.Rules.Merge.{cancels, is_cancelling, is_watched_vertex, reads_none_of, is_unwatched, happens_unseen, set_parameters, values_at_once, other_edges, merged_vertex, has_few_parts, merged_with}
 use Rattle.model_core.proofs.Images.{map-remove}
-use Rattle.run_laws.proofs.MappedVertices.{with_mapped, WatchedTold}
-use Rattle.merge_rules.specs.KeptPairs.{TellsUnseen}
+use Rattle.run_laws.proofs.MappedVertices.{with_mapped, WatchedAreApart}
+use Rattle.merge_rules.specs.KeptPairs.{UnseenIsRight}
 use Rattle.merge_rules.specs.PairStanding.{target_at_once, acts_unseen, pair_conditions, pair_fits}
 
 -- ---- tests of lists
@@ -41,7 +41,7 @@ get-map f (x ∷ xs) zero = refl
 get-map f (x ∷ xs) (suc k) = get-map f xs k
 
 -- an answer that says whether one vertex acts unseen is right of another that acts unseen where the first does
-pub still_told : (told : Option Bool) (g h : EventGraph) (v w : EventVertex) → acts_unseen h w ≡ acts_unseen g v → TellsUnseen told g v → TellsUnseen told h w
+pub still_told : (told : Option Bool) (g h : EventGraph) (v w : EventVertex) → acts_unseen h w ≡ acts_unseen g v → UnseenIsRight told g v → UnseenIsRight told h w
 still_told None g h v w same tells = tt
 still_told (Some unseen) g h v w same tells = tells ∙ sym same
 
@@ -139,10 +139,10 @@ module _ (g : EventGraph) (f : ℕ → ℕ) (vertices : List EventVertex) where
       && all-same (quiet_change g) (quiet_change h) change-quiet v.changes i
       && all-alike (edge_renumbered f) (quiet_edge g) (quiet_edge h) edge-quiet v.edges i
 
-  module _ (Live : ℕ → Type 0) (apart : (x y : ℕ) → Live x → Live y → (f x == f y) ≡ (x == y)) (watched : AllByRecursion (WatchedTold Live) g.watch) where
+  module _ (Live : ℕ → Type 0) (apart : (x y : ℕ) → Live x → Live y → (f x == f y) ≡ (x == y)) (watched : AllByRecursion (WatchedAreApart Live) g.watch) where
     watched-alike : (x : ℕ) → Live x → is_watched_vertex h (f x) ≡ is_watched_vertex g x
-    watched-alike x live = any-alike (watched_renumbered f) (WatchedTold Live) (watches x) (watches (f x)) one g.watch watched where
-      one : (w : Watched) → WatchedTold Live w → watches (f x) (watched_renumbered f w) ≡ watches x w
+    watched-alike x live = any-alike (watched_renumbered f) (WatchedAreApart Live) (watches x) (watches (f x)) one g.watch watched where
+      one : (w : Watched) → WatchedAreApart Live w → watches (f x) (watched_renumbered f w) ≡ watches x w
       one (WatchedVariable v) told = refl
       one (WatchedVertex v) told = apart v x told live
 

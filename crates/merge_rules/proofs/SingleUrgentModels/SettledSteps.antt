@@ -2,7 +2,7 @@
 use Rattle.std.proofs.Common.{◌≡◌, ℕ, ◌^◌, ◌≤◌, ℤ, true, List, Some, Ok}
 use Rattle.model_core.specs.EventGraph.{EventGraph}
 use Rattle.model_core.specs.Run.State.{in_range}
-use Rattle.model_core.specs.Run.Pending.{TakenOff, next_entry}
+use Rattle.model_core.specs.Run.Pending.{EntryAndRest, next_entry}
 use Rattle.model_core.specs.Run.Step.{Configuration, vertex_at, occur, step}
 use Rattle.model_core.specs.Run.History.{start}
 use Rattle.model_core.specs.Static.OwnRules.{KeepsParts}
@@ -24,7 +24,7 @@ begins_settled g keeps starts = record {
 }
 
 -- what a step leaves
-pub step_settled : (g : EventGraph) → KeepsParts g → NeverBoth g → single_urgent g ≡ true → (seed : ℕ) (c d : Configuration) (n : TakenOff) → IsSettled g c → next_entry c.pending ≡ Some n → n.entry.time ≤ 2 ^ 48 → step g seed c n ≡ Ok d → IsSettled g d
+pub step_settled : (g : EventGraph) → KeepsParts g → NeverBoth g → single_urgent g ≡ true → (seed : ℕ) (c d : Configuration) (n : EntryAndRest) → IsSettled g c → next_entry c.pending ≡ Some n → n.entry.time ≤ 2 ^ 48 → step g seed c n ≡ Ok d → IsSettled g d
 step_settled g keeps never single seed c d n settled next due done =
     let v = vertex_at g n.entry.vertex in
     let occurs : occur g seed v n c.state c.taken ≡ Ok d = faulted-ok n.entry.time _ d done in

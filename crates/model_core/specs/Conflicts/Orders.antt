@@ -6,7 +6,7 @@ use Rattle.model_core.specs.Run.Pending.{Entry, is_with}
 use Rattle.model_core.specs.Run.Step.{Configuration, Fault}
 use Rattle.model_core.specs.Rules.MarkedPlaces.{is_among, place_without}
 use Rattle.model_core.specs.Conflicts.Priorities.{priorities_of}
-use Rattle.model_core.specs.Conflicts.Perform.{perform, place_then}
+use Rattle.model_core.specs.Conflicts.Perform.{perform, place_after_first}
 
 -- the entry's priority is one of its vertex's
 abbrev pub HasOwnPriority : EventGraph → Entry → Type 0
@@ -27,15 +27,15 @@ abbrev pub same_entry : Entry → Entry → Bool
 same_entry a b = (a.time == b.time) && (a.priority == b.priority) && is_with a.vertex a.values b
 
 -- how often a list holds an entry
-abbrev pub times_held : Entry → List Entry → ℕ
-times_held e pending = count_by (same_entry e) pending
+abbrev pub times_pending : Entry → List Entry → ℕ
+times_pending e pending = count_by (same_entry e) pending
 
 -- the same but for the order of what is pending: each entry is held equally often
 pub record SameButForOrder (c d : Configuration) : Type 0 where
   pub clocks : c.clock ≡ d.clock
   pub states : c.state ≡ d.state
   pub words : c.taken ≡ d.taken
-  pub held : (e : Entry) → times_held e c.pending ≡ times_held e d.pending
+  pub held : (e : Entry) → times_pending e c.pending ≡ times_pending e d.pending
 
 -- both orders fault, or both give the same but for the order of what is pending
 pub data Commute : Option (Result Configuration Fault) → Option (Result Configuration Fault) → Type 0 where
@@ -45,5 +45,5 @@ pub data Commute : Option (Result Configuration Fault) → Option (Result Config
 -- While the first event occurs, which gives d, the second one, e, stays pending, at its place then. Apart from it the
 -- first gives what it gives where the second isn't pending.
 pub record StaysPending (g : EventGraph) (seed : ℕ) (c : Configuration) (first second : ℕ) (e : Entry) (d : Configuration) : Type 0 where
-  pub there : slice_get d.pending (place_then c.pending first second e.vertex d.pending) ≡ Some e
-  pub unseen : perform g seed (record c { pending = remove c.pending second }) (place_without second first) ≡ Some (Ok (record d { pending = remove d.pending (place_then c.pending first second e.vertex d.pending) }))
+  pub there : slice_get d.pending (place_after_first c.pending first second e.vertex d.pending) ≡ Some e
+  pub unseen : perform g seed (record c { pending = remove c.pending second }) (place_without second first) ≡ Some (Ok (record d { pending = remove d.pending (place_after_first c.pending first second e.vertex d.pending) }))

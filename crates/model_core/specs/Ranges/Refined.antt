@@ -45,20 +45,20 @@ where_holds op None v = v
 where_holds op (Some n) v = cond (is_number_scalar v) (unless_empty v (numbers_left op n (declared_range v))) v
 
 -- the ranges that a comparison, which is true or false, leaves for the variable on its left
-abbrev pub refined_by : Operator → Expression → Expression → Bool → List Variable → List Variable
-refined_by op (Scalar v) right b ranges =
+abbrev pub ranges_refined_by : Operator → Expression → Expression → Bool → List Variable → List Variable
+ranges_refined_by op (Scalar v) right b ranges =
     slice_set ranges v (where_holds (cond b op (opposite_comparison op)) (literal_number right) (ranged_at ranges v))
-refined_by op left right b ranges = ranges
+ranges_refined_by op left right b ranges = ranges
 
 -- an `and` that is true, or an `or` that is false: both operands have that truth value
-abbrev pub tells_of_both : Operator → Bool → Bool
-tells_of_both And b = b
-tells_of_both Or b = not b
-tells_of_both op b = false
+abbrev pub refines_both : Operator → Bool → Bool
+refines_both And b = b
+refines_both Or b = not b
+refines_both op b = false
 
 -- the ranges where an expression is true, or is false
 abbrev pub refined : Guard
 refined (Not a) b ranges = refined a (not b) ranges
 refined (Binary op left right) b ranges =
-    cond (tells_of_both op b) (refined right b (refined left b ranges)) (refined_by op left right b ranges)
+    cond (refines_both op b) (refined right b (refined left b ranges)) (ranges_refined_by op left right b ranges)
 refined e b ranges = ranges

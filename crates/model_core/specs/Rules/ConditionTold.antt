@@ -4,6 +4,6 @@ use Rattle.model_core.specs.declared.rule_error.RuleError.{RuleError}
 use Rattle.model_core.specs.declared.rule_error.RuleError.TheVariants as errors
 
 -- a refusal names the condition that fails first; want of memory names none
-abbrev pub TellsCondition : RuleError → Option ℕ → Type 0
-TellsCondition (errors.Refused condition) failed = failed ≡ Some condition
-TellsCondition errors.NoMemory failed = Unit {0}
+abbrev pub NamesCondition : RuleError → Option ℕ → Type 0
+NamesCondition (errors.Refused condition) failed = failed ≡ Some condition
+NamesCondition errors.NoMemory failed = Unit {0}

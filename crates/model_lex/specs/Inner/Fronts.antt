@@ -9,9 +9,9 @@ use Rattle.model_lex.specs.declared.lex_error.LexError.{LexError}
 use Rattle.model_lex.specs.declared.lex_error.LexError.TheVariants as errors
 
 -- the front that a length and a symbol represent
-abbrev pub symbol_seen : Option (ℕ × Symbol) → Front
-symbol_seen None = Neither
-symbol_seen (Some (n, s)) = Longest n (Mark s)
+abbrev pub symbol_as_front : Option (ℕ × Symbol) → Front
+symbol_as_front None = Neither
+symbol_as_front (Some (n, s)) = Longest n (Mark s)
 
 -- The front at a place is passed over: the tokens before and after that, and the place after it. A byte that begins no
 -- token is not passed over.

@@ -72,7 +72,7 @@ module _ (means : List ℕ → Option Meaning) (taken : List (List (Option Kind)
     pub alike : AllBeginAlike parts.written expected
 
 -- the vertices of a model whose declarations are known
-pub record ReadBehind (m : WrittenModel) (before after : List Lexeme) (t0 t1 : Option StaticFault) (g : EventGraph) : Type 0 where
+pub record ReadVerticesAfter (m : WrittenModel) (before after : List Lexeme) (t0 t1 : Option StaticFault) (g : EventGraph) : Type 0 where
   pub vertices : List WrittenVertex
   pub read : language_reader (at_least_one vertex_format) before ≡ took vertices after
   pub checked : (end_at : ℕ) → Checked t0 t1 (faults_of_parts (with_vertices m vertices end_at)) (numbered (with_vertices m vertices end_at) ≡ Some g)

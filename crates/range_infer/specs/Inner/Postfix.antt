@@ -10,7 +10,7 @@ use Rattle.model_core.specs.Code.Views.{operator_of}
 use Rattle.model_core.specs.Rules.BoundsTable.{number_bounds, truth_bounds, variable_bounds, quiet_index, negative_bounds, opposite, operator_bounds, chosen_bounds}
 use Rattle.model_core.specs.Rules.BoundsOf.{ranged_at}
 use Rattle.model_core.specs.Rules.Exclusive.{number_literal}
-use Rattle.model_core.specs.Ranges.Refined.{opposite_comparison, where_holds, tells_of_both}
+use Rattle.model_core.specs.Ranges.Refined.{opposite_comparison, where_holds, refines_both}
 use Rattle.range_infer.specs.declared.postfix.PostfixItem.{PostfixItem}
 use Rattle.range_infer.specs.declared.postfix.PostfixItem.TheVariants as items
 
@@ -54,12 +54,12 @@ compared_items op left right b = []
 -- what is left where an expression has this value
 abbrev pub left_items : Expression → Bool → List PostfixItem
 left_items (Not a) b = left_items a (not b)
-left_items (Binary op a c) b = cond (tells_of_both op b) (left_items a b ++ left_items c b) (compared_items op a c b)
+left_items (Binary op a c) b = cond (refines_both op b) (left_items a b ++ left_items c b) (compared_items op a c b)
 left_items e b = []
 
 abbrev pub tells_both : Operator → Option Bool → Bool
 tells_both op None = false
-tells_both op (Some b) = tells_of_both op b
+tells_both op (Some b) = refines_both op b
 
 abbrev pub left_by : Operator → Expression → Expression → Option Bool → List PostfixItem
 left_by op a c None = []

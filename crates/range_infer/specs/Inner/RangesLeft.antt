@@ -23,7 +23,7 @@ pub record StaysLeft (old new : RangesLeft) : Type 0 where
   pub replaced : new.replaced.items ≡ old.replaced.items
 
 -- what was replaced since leads back
-pub record LeadsBack (old new : RangesLeft) : Type 0 where
+pub record RestoresTo (old new : RangesLeft) : Type 0 where
   pub model : new.model.now ≡ old.model.now
   pub before : take (length old.replaced.items) new.replaced.items ≡ old.replaced.items
   pub back : put_back new.ranges.items (drop (length old.replaced.items) new.replaced.items) ≡ old.ranges.items

@@ -35,20 +35,20 @@ pub record LeavesEdges : Type 0 where
 
 -- The application is made and noted, if there is one: whether it was, the graphs before and after it, and the applications
 -- that were noted before and after it.
-abbrev pub Made : Option RuleApplication → Bool → EventGraph → EventGraph → List RuleApplication → List RuleApplication → Type 0
-Made one true g h before after = (a : RuleApplication) × (one ≡ Some a) × (applied g a ≡ Some h) × (after ≡ before ++ a ∷ [])
-Made one false g h before after = (one ≡ None) × (h ≡ g) × (after ≡ before)
+abbrev pub MadeAndNoted : Option RuleApplication → Bool → EventGraph → EventGraph → List RuleApplication → List RuleApplication → Type 0
+MadeAndNoted one true g h before after = (a : RuleApplication) × (one ≡ Some a) × (applied g a ≡ Some h) × (after ≡ before ++ a ∷ [])
+MadeAndNoted one false g h before after = (one ≡ None) × (h ≡ g) × (after ≡ before)
 
 -- the drop of the vertices that can't be reached is made and noted as well, or nothing more is
-pub data MaybeDropped (g h : EventGraph) (before after : List RuleApplication) : Type 0 where
-  nothing_more : h ≡ g → after ≡ before → MaybeDropped g h before after
-  dropped_too : Made (drop_of g (unreached g)) true g h before after → MaybeDropped g h before after
+pub data DropMayFollow (g h : EventGraph) (before after : List RuleApplication) : Type 0 where
+  nothing_more : h ≡ g → after ≡ before → DropMayFollow g h before after
+  dropped_too : MadeAndNoted (drop_of g (unreached g)) true g h before after → DropMayFollow g h before after
 
 -- The application that the rule gives is made and noted, if there is one, and maybe the drop after it.
-abbrev pub MadeOn : (EventGraph → Option RuleApplication) → Bool → EventGraph → EventGraph → List RuleApplication → List RuleApplication → Type 0
-MadeOn rule true g h before after = (next : EventGraph) × (between : List RuleApplication) × Made (rule g) true g next before between × MaybeDropped next h between after
-MadeOn rule false g h before after = Made (rule g) false g h before after
+abbrev pub MadeThenDrop : (EventGraph → Option RuleApplication) → Bool → EventGraph → EventGraph → List RuleApplication → List RuleApplication → Type 0
+MadeThenDrop rule true g h before after = (next : EventGraph) × (between : List RuleApplication) × MadeAndNoted (rule g) true g next before between × DropMayFollow next h between after
+MadeThenDrop rule false g h before after = MadeAndNoted (rule g) false g h before after
 
 -- the strategy's applications are made and noted
-abbrev pub Finished : EventGraph → EventGraph → List RuleApplication → List RuleApplication → Type 0
-Finished g h before after = (later : List RuleApplication) × (after ≡ before ++ later) × Strategy g later h
+abbrev pub IsStrategyNoted : EventGraph → EventGraph → List RuleApplication → List RuleApplication → Type 0
+IsStrategyNoted g h before after = (later : List RuleApplication) × (after ≡ before ++ later) × Strategy g later h

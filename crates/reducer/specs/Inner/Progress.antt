@@ -4,31 +4,31 @@ use Rattle.model_core.specs.EventGraph.{EventGraph}
 use Rattle.model_core.specs.Rules.Conditions.{first_failed}
 use Rattle.model_core.specs.Rules.Reached.{unreached}
 use Rattle.model_core.specs.Rules.Merge.{merge_conditions, merged}
-use Rattle.merge_rules.specs.Known.{IsKnown}
+use Rattle.merge_rules.specs.FactsOfModel.{FactsAreRight}
 use Rattle.merge_rules.specs.NothingCounted.{NothingCounted}
-use Rattle.merge_rules.specs.KeptPairs.{has_incoming, ArePairs}
+use Rattle.merge_rules.specs.KeptPairs.{has_incoming, PairsAreRight}
 use Rattle.reducer.specs.declared.progress.Progress.{Progress}
 
 -- one vertex alone can't be reached, and no edge leads to it
-pub record OneAlone (g : EventGraph) (gone : ℕ) : Type 0 where
+pub record OnlyUnreached (g : EventGraph) (gone : ℕ) : Type 0 where
   pub alone : unreached g ≡ gone ∷ []
   pub unled : has_incoming g gone ≡ false
 
 -- this vertex is the only one that can't be reached, or all can be
-abbrev pub TellsAlone : EventGraph → ℕ → Bool → Type 0
-TellsAlone g gone true = OneAlone g gone
-TellsAlone g gone false = unreached g ≡ []
+abbrev pub AloneIsRight : EventGraph → ℕ → Bool → Type 0
+AloneIsRight g gone true = OnlyUnreached g gone
+AloneIsRight g gone false = unreached g ≡ []
 
 -- all that is known is right
 pub record IsProgress (g : EventGraph) (p : Progress) : Type 0 where
-  pub known : IsKnown g p.known
+  pub known : FactsAreRight g p.known
   pub counts : NothingCounted (length g.variables) p.counts
   pub reached : p.all_reached ≡ true → unreached g ≡ []
-  pub pairs : ArePairs g p.pairs
+  pub pairs : PairsAreRight g p.pairs
 
 -- two vertices may be merged, and what is kept of pairs is that of the result already
 pub record IsMerging (g : EventGraph) (first second : ℕ) (p : Progress) : Type 0 where
   pub holds : first_failed (merge_conditions g first second) ≡ None
-  pub known : IsKnown g p.known
+  pub known : FactsAreRight g p.known
   pub counts : NothingCounted (length g.variables) p.counts
-  pub pairs : ArePairs (merged g first second) p.pairs
+  pub pairs : PairsAreRight (merged g first second) p.pairs

@@ -14,18 +14,18 @@ abbrev pub BeginsWithDrop : List ℕ → List RuleApplication → Type 0
 BeginsWithDrop name later = (rest : List RuleApplication) × (later ≡ Drop (name ∷ []) ∷ rest)
 
 -- these applications have one result on both graphs, and the two have the same names and as many variables
-pub record Serves (later : List RuleApplication) (g h : EventGraph) : Type 0 where
+pub record HaveOneResult (later : List RuleApplication) (g h : EventGraph) : Type 0 where
   pub bad : first_bad g later ≡ first_bad h later
   pub reached : graph_reached g later ≡ graph_reached h later
   pub names : names_of_vertices g.vertices ≡ names_of_vertices h.vertices
   pub variables : length g.variables ≡ length h.variables
 
 -- an application can be made, and the graph h serves for its result, or it can't
-abbrev pub MadeFor : List RuleApplication → EventGraph → RuleApplication → Bool → EventGraph → Type 0
-MadeFor later g a true h = (next : EventGraph) × (applied g a ≡ Some next) × Serves later next h
-MadeFor later g a false h = applied g a ≡ None
+abbrev pub MadeInEffect : List RuleApplication → EventGraph → RuleApplication → Bool → EventGraph → Type 0
+MadeInEffect later g a true h = (next : EventGraph) × (applied g a ≡ Some next) × HaveOneResult later next h
+MadeInEffect later g a false h = applied g a ≡ None
 
 -- a merge can be made, and h is its result with this left of the second vertex, or it can't
-abbrev pub MergedLeaving : SecondVertex → EventGraph → List ℕ → List ℕ → Bool → EventGraph → Type 0
-MergedLeaving second g name target true h = (first last : ℕ) × (two_vertices_named g name target ≡ Some (first, last)) × (first_failed (merge_conditions g first last) ≡ None) × (h ≡ merged_leaving second g first last)
-MergedLeaving second g name target false h = applied g (Merge name target) ≡ None
+abbrev pub MergeIsMade : SecondVertex → EventGraph → List ℕ → List ℕ → Bool → EventGraph → Type 0
+MergeIsMade second g name target true h = (first last : ℕ) × (two_vertices_named g name target ≡ Some (first, last)) × (first_failed (merge_conditions g first last) ≡ None) × (h ≡ merged_leaving second g first last)
+MergeIsMade second g name target false h = applied g (Merge name target) ≡ None

@@ -2,14 +2,14 @@
 use Rattle.std.specs.Prelude.{◌≡◌, ℕ, ◌+◌, ◌≤◌, ◌<◌, ◌^◌, length}
 use Rattle.model_core.specs.EventGraph.{EventGraph}
 use Rattle.model_core.specs.Run.Changes.{taken_from}
-use Rattle.model_core.specs.Run.Edges.{Planned}
+use Rattle.model_core.specs.Run.Edges.{EdgeState}
 use Rattle.run_control.specs.SoundRun.{Known}
 
 -- the seed of the run; the pending list and the words taken; and for how many events more the list has room, how many were
 -- ever scheduled in it, and for how many vertices it was made
 pub record Planning : Type 0 where
   pub seed : ℕ
-  pub planned : Planned
+  pub planned : EdgeState
   pub spare : ℕ
   pub numbered : ℕ
   pub vertices : ℕ

@@ -6,9 +6,9 @@ use Rattle.model_core.specs.EventGraph.{EventGraph, EventEdge, Delay, Fixed, Dra
 use Rattle.model_core.specs.Run.State.{State}
 use Rattle.model_core.specs.Run.Value.{OrFault, ◌>>=◌, is_one}
 use Rattle.model_core.specs.Run.Pending.{is_with, without_next}
-use Rattle.model_core.specs.Run.Edges.{Planned, Waiting, delay_ticks, delay_of, scheduled, act, treat}
+use Rattle.model_core.specs.Run.Edges.{EdgeState, Waiting, delay_ticks, delay_of, scheduled, act, treat_edge}
 use Rattle.model_core.specs.Rules.Uses.{variables_in, delay_reads, edge_reads}
-use Rattle.model_core.proofs.EachOne.{every-front, every-behind, every-flat_map}
+use Rattle.model_core.proofs.EachOne.{every-front, every-after, every-flat_map}
 use Rattle.run_laws.proofs.Spared.HeldValues.{Holds, value-held, values-held}
 
 module _ (g : EventGraph) (seed : ℕ) (s t : State) (clk : ℕ) where
@@ -20,18 +20,18 @@ module _ (g : EventGraph) (seed : ℕ) (s t : State) (clk : ℕ) where
       ap (λ (r : OrFault ℤ). r >>= λ wait. delay_ticks wait >>= λ n. let q : OrFault Waiting = Ok (record { ticks = n; taken = taken }) in q) (value-held g s t clk e reads)
   delay-held (Drawn stream choice) reads taken = refl
 
-  act-held : (e : EventEdge) (kind : EdgeKind) → AllHold (option_map_or delay_reads (delay_given kind) []) → AllByRecursion (λ e. AllHold (variables_in e)) e.values → (p : Planned) → act g seed s clk e kind p ≡ act g seed t clk e kind p
+  act-held : (e : EventEdge) (kind : EdgeKind) → AllHold (option_map_or delay_reads (delay_given kind) []) → AllByRecursion (λ e. AllHold (variables_in e)) e.values → (p : EdgeState) → act g seed s clk e kind p ≡ act g seed t clk e kind p
   act-held e (Schedule delay priority) reads values p =
-      ap₂ (λ (d : OrFault Waiting) (vs : OrFault (List ℤ)). d >>= λ wait. vs >>= λ values. let q : OrFault Planned = Ok (record { pending = scheduled (clk + wait.ticks) priority e.target p.pending values; taken = wait.taken }) in q) (delay-held delay reads p.taken) (values-held g s t clk e.values values)
+      ap₂ (λ (d : OrFault Waiting) (vs : OrFault (List ℤ)). d >>= λ wait. vs >>= λ values. let q : OrFault EdgeState = Ok (record { pending = scheduled (clk + wait.ticks) priority e.target p.pending values; taken = wait.taken }) in q) (delay-held delay reads p.taken) (values-held g s t clk e.values values)
   act-held e Urgent reads values p =
-      ap (λ (vs : OrFault (List ℤ)). vs >>= λ values. let q : OrFault Planned = Ok (record p { pending = scheduled clk 0 e.target p.pending values }) in q) (values-held g s t clk e.values values)
+      ap (λ (vs : OrFault (List ℤ)). vs >>= λ values. let q : OrFault EdgeState = Ok (record p { pending = scheduled clk 0 e.target p.pending values }) in q) (values-held g s t clk e.values values)
   act-held e CancelNext reads values p = refl
   act-held e CancelEqual reads values p =
-      ap (λ (vs : OrFault (List ℤ)). vs >>= λ values. let q : OrFault Planned = Ok (record p { pending = without_next (is_with e.target values) p.pending }) in q) (values-held g s t clk e.values values)
+      ap (λ (vs : OrFault (List ℤ)). vs >>= λ values. let q : OrFault EdgeState = Ok (record p { pending = without_next (is_with e.target values) p.pending }) in q) (values-held g s t clk e.values values)
   act-held e CancelAll reads values p = refl
 
-  pub treat-held : (e : EventEdge) → AllHold (edge_reads e) → (p : Planned) → treat g seed s clk e p ≡ treat g seed t clk e p
-  treat-held e reads p =
+  pub treat_edge-held : (e : EventEdge) → AllHold (edge_reads e) → (p : EdgeState) → treat_edge g seed s clk e p ≡ treat_edge g seed t clk e p
+  treat_edge-held e reads p =
       let front = every-front (Holds s t) (variables_in e.condition ++ option_map_or delay_reads (delay_given e.kind) []) (flat_map variables_in e.values) reads in
-      let values = every-flat_map (Holds s t) variables_in e.values (every-behind (Holds s t) (variables_in e.condition ++ option_map_or delay_reads (delay_given e.kind) []) (flat_map variables_in e.values) reads) in
-      ap₂ (λ (c : OrFault ℤ) (a : OrFault Planned). c >>= λ c. cond (is_one c) a (Ok p)) (value-held g s t clk e.condition (every-front (Holds s t) (variables_in e.condition) (option_map_or delay_reads (delay_given e.kind) []) front)) (act-held e e.kind (every-behind (Holds s t) (variables_in e.condition) (option_map_or delay_reads (delay_given e.kind) []) front) values p)
+      let values = every-flat_map (Holds s t) variables_in e.values (every-after (Holds s t) (variables_in e.condition ++ option_map_or delay_reads (delay_given e.kind) []) (flat_map variables_in e.values) reads) in
+      ap₂ (λ (c : OrFault ℤ) (a : OrFault EdgeState). c >>= λ c. cond (is_one c) a (Ok p)) (value-held g s t clk e.condition (every-front (Holds s t) (variables_in e.condition) (option_map_or delay_reads (delay_given e.kind) []) front)) (act-held e e.kind (every-after (Holds s t) (variables_in e.condition) (option_map_or delay_reads (delay_given e.kind) []) front) values p)

@@ -7,7 +7,7 @@ use Rattle.model_core.specs.Run.Value.{OrFault, ◌>>=◌, each, exact, decided,
 use Rattle.model_core.specs.Rules.Uses.{variables_in, index_reads, location_reads}
 use Rattle.model_core.proofs.Results.{bind_ok, bind_same}
 use Rattle.run_laws.proofs.PlaceVariables.{indexed-variable}
-use Rattle.model_core.proofs.EachOne.{every-front, every-behind}
+use Rattle.model_core.proofs.EachOne.{every-front, every-after}
 
 -- the two states hold the same there
 abbrev pub Holds : State → State → ℕ → Type 0
@@ -30,11 +30,11 @@ module _ (g : EventGraph) (s t : State) (clk : ℕ) where
   value-held (Negative e) reads = ap (λ (r : OrFault ℤ). r >>= λ a. exact (neg_ℤ a)) (value-held e reads)
   value-held (Not e) reads = ap (λ (r : OrFault ℤ). r >>= λ a. Ok (pos 1 -ℤ a)) (value-held e reads)
   value-held (Binary op a b) reads =
-      ap₂ (λ (x y : OrFault ℤ). x >>= λ v. cond (decided op v) (Ok v) (y >>= operate op v)) (value-held a (every-front (Holds s t) (variables_in a) (variables_in b) reads)) (value-held b (every-behind (Holds s t) (variables_in a) (variables_in b) reads))
+      ap₂ (λ (x y : OrFault ℤ). x >>= λ v. cond (decided op v) (Ok v) (y >>= operate op v)) (value-held a (every-front (Holds s t) (variables_in a) (variables_in b) reads)) (value-held b (every-after (Holds s t) (variables_in a) (variables_in b) reads))
   value-held (If c a b) reads =
       let front = every-front (Holds s t) (variables_in c ++ variables_in a) (variables_in b) reads in
-      ap₂ (λ (r x : OrFault ℤ). r >>= λ v. cond (is_one v) x (value_of g s clk b)) (value-held c (every-front (Holds s t) (variables_in c) (variables_in a) front)) (value-held a (every-behind (Holds s t) (variables_in c) (variables_in a) front)) ∙
-      ap (λ (y : OrFault ℤ). value_of g t clk c >>= λ v. cond (is_one v) (value_of g t clk a) y) (value-held b (every-behind (Holds s t) (variables_in c ++ variables_in a) (variables_in b) reads))
+      ap₂ (λ (r x : OrFault ℤ). r >>= λ v. cond (is_one v) x (value_of g s clk b)) (value-held c (every-front (Holds s t) (variables_in c) (variables_in a) front)) (value-held a (every-after (Holds s t) (variables_in c) (variables_in a) front)) ∙
+      ap (λ (y : OrFault ℤ). value_of g t clk c >>= λ v. cond (is_one v) (value_of g t clk a) y) (value-held b (every-after (Holds s t) (variables_in c ++ variables_in a) (variables_in b) reads))
 
   pub values-held : (es : List Expression) → AllByRecursion (λ e. AllHold (variables_in e)) es → each (value_of g s clk) es ≡ each (value_of g t clk) es
   values-held [] reads = refl

@@ -6,8 +6,8 @@ use Rattle.sig_base.specs.Stream.{word}
 use Rattle.model_core.specs.EventGraph.{EventGraph, EventEdge, Delay, Fixed, Drawn, EdgeKind, Schedule, Urgent, CancelNext, CancelEqual, CancelAll, delay_given, is_drawn, has_drawn_delay}
 use Rattle.model_core.specs.Run.State.{State}
 use Rattle.model_core.specs.Run.Value.{OrFault, ◌>>=◌, value_of, is_one}
-use Rattle.model_core.specs.Run.Changes.{taken_from, picked}
-use Rattle.model_core.specs.Run.Edges.{Planned, Waiting, delay_ticks, delay_of, carried_values, scheduled, act, treat}
+use Rattle.model_core.specs.Run.Changes.{taken_from, drawn_value}
+use Rattle.model_core.specs.Run.Edges.{EdgeState, Waiting, delay_ticks, delay_of, carried_values, scheduled, act, treat_edge}
 use Rattle.model_core.specs.Rules.Uses.{delay_streams, edge_streams}
 use Rattle.run_laws.proofs.Spared.InTurn.{result_by, bind-after, bind-within}
 
@@ -21,7 +21,7 @@ module _ (u : List ℕ → List ℕ) where
   abbrev pub wait_changed : Waiting → Waiting
   wait_changed w = record w { taken = u w.taken }
 
-  abbrev pub words_changed : Planned → Planned
+  abbrev pub words_changed : EdgeState → EdgeState
   words_changed p = record p { taken = u p.taken }
 
 module _ (g : EventGraph) (seed : ℕ) (s : State) (clk : ℕ) (u : List ℕ → List ℕ) where
@@ -30,13 +30,13 @@ module _ (g : EventGraph) (seed : ℕ) (s : State) (clk : ℕ) (u : List ℕ →
       bind-within (wait_changed u) (value_of g s clk e) _ _ (λ wait a.
       bind-within (wait_changed u) (delay_ticks wait) _ _ (λ n b. refl))
   delay-apart (Drawn stream choice) (apart, none) taken =
-      ap (λ (k : ℕ). delay_ticks (picked g choice (word seed stream k)) >>= λ n. let r : OrFault Waiting = Ok (record { ticks = n; taken = slice_set (u taken) stream (k + 1) }) in r) (apart.taken_from_it taken) ∙
-      bind-within (wait_changed u) (delay_ticks (picked g choice (word seed stream (taken_from taken stream)))) _ _ (λ n is.
+      ap (λ (k : ℕ). delay_ticks (drawn_value g choice (word seed stream k)) >>= λ n. let r : OrFault Waiting = Ok (record { ticks = n; taken = slice_set (u taken) stream (k + 1) }) in r) (apart.taken_from_it taken) ∙
+      bind-within (wait_changed u) (delay_ticks (drawn_value g choice (word seed stream (taken_from taken stream)))) _ _ (λ n is.
       ap (λ (t : List ℕ). let r : OrFault Waiting = Ok (record { ticks = n; taken = t }) in r) (apart.set_after taken (taken_from taken stream + 1)))
 
-  act-apart : (e : EventEdge) (kind : EdgeKind) → AllByRecursion (WordsApart u) (option_map_or delay_streams (delay_given kind) []) → (p : Planned) → act g seed s clk e kind (words_changed u p) ≡ result_by (words_changed u) (act g seed s clk e kind p)
+  act-apart : (e : EventEdge) (kind : EdgeKind) → AllByRecursion (WordsApart u) (option_map_or delay_streams (delay_given kind) []) → (p : EdgeState) → act g seed s clk e kind (words_changed u p) ≡ result_by (words_changed u) (act g seed s clk e kind p)
   act-apart e (Schedule delay priority) streams p =
-      let next : Waiting → OrFault Planned = λ wait. carried_values g s clk e >>= λ values. Ok (record { pending = scheduled (clk + wait.ticks) priority e.target p.pending values; taken = wait.taken }) in
+      let next : Waiting → OrFault EdgeState = λ wait. carried_values g s clk e >>= λ values. Ok (record { pending = scheduled (clk + wait.ticks) priority e.target p.pending values; taken = wait.taken }) in
       ap (λ (r : OrFault Waiting). r >>= next) (delay-apart delay streams p.taken) ∙
       bind-after (wait_changed u) (words_changed u) (delay_of g seed s clk delay p.taken) next next (λ wait a.
       bind-within (words_changed u) (carried_values g s clk e) _ _ (λ values b. refl))
@@ -45,8 +45,8 @@ module _ (g : EventGraph) (seed : ℕ) (s : State) (clk : ℕ) (u : List ℕ →
   act-apart e CancelEqual streams p = bind-within (words_changed u) (carried_values g s clk e) _ _ (λ values b. refl)
   act-apart e CancelAll streams p = refl
 
-  pub treat-apart : (e : EventEdge) → AllByRecursion (WordsApart u) (edge_streams e) → (p : Planned) → treat g seed s clk e (words_changed u p) ≡ result_by (words_changed u) (treat g seed s clk e p)
-  treat-apart e streams p = bind-within (words_changed u) (value_of g s clk e.condition) _ _ (λ c is. tested (is_one c)) where
+  pub treat_edge-apart : (e : EventEdge) → AllByRecursion (WordsApart u) (edge_streams e) → (p : EdgeState) → treat_edge g seed s clk e (words_changed u p) ≡ result_by (words_changed u) (treat_edge g seed s clk e p)
+  treat_edge-apart e streams p = bind-within (words_changed u) (value_of g s clk e.condition) _ _ (λ c is. tested (is_one c)) where
     tested : (b : Bool) → cond b (act g seed s clk e e.kind (words_changed u p)) (Ok (words_changed u p)) ≡ result_by (words_changed u) (cond b (act g seed s clk e e.kind p) (Ok p))
     tested true = act-apart e e.kind streams p
     tested false = refl

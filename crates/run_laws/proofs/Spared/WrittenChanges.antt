@@ -6,7 +6,7 @@ use Rattle.sig_base.specs.Stream.{word}
 use Rattle.model_core.specs.EventGraph.{EventGraph, EventVertex, Location, StateChange, Set, Draw}
 use Rattle.model_core.specs.Run.State.{State, Place, scalar, variable_at, cells_of, with_cell}
 use Rattle.model_core.specs.Run.Value.{each, in_turn, value_of, place_of}
-use Rattle.model_core.specs.Run.Changes.{Changed, kept, store, set_all, taken_from, one_more, picked, make_change}
+use Rattle.model_core.specs.Run.Changes.{ChangeState, kept, store, set_all, taken_from, one_more, drawn_value, make_change}
 use Rattle.model_core.specs.Run.Step.{receive}
 use Rattle.model_core.specs.Rules.Uses.{change_writes, vertex_writes, change_streams, edge_streams, vertex_streams}
 use Rattle.model_core.proofs.Results.{bind_ok}
@@ -17,7 +17,7 @@ use Rattle.run_laws.proofs.Spared.NamedVariables.{OfPlaces, stores-named, parame
 use Rattle.run_laws.proofs.Spared.InTurn.{in_turn-written}
 
 -- state and words after a change
-pub record ChangeWritten (c : StateChange) (d e : Changed) : Type 0 where
+pub record ChangeWritten (c : StateChange) (d e : ChangeState) : Type 0 where
   pub variables : ChangedWithin (change_writes c) d.state e.state
   pub streams : ChangedWithin (change_streams c) d.taken e.taken
 
@@ -36,7 +36,7 @@ module _ (g : EventGraph) where
       stores-written parameters (map scalar parameters) values (parameters-named (λ v. Among v parameters) parameters (each-among (λ p. Among p parameters) parameters (λ p there. there))) s t done
 
   module _ (seed clk : ℕ) where
-    change-written : (c : StateChange) (d e : Changed) → make_change g seed clk c d ≡ Ok e → ChangeWritten c d e
+    change-written : (c : StateChange) (d e : ChangeState) → make_change g seed clk c d ≡ Ok e → ChangeWritten c d e
     change-written (Set targets rights) d e done =
         let (s, is_set, at_end) = bind_ok (set_all g clk targets rights d.state) (λ s. Ok (record d { state = s })) e done in
         let (values, at_values, after_values) = bind_ok (each (value_of g d.state clk) rights) _ s is_set in
@@ -48,7 +48,7 @@ module _ (g : EventGraph) where
           streams = written-none [] d.taken d.taken refl;
         })
     change-written (Draw target stream choice) d e done =
-        let x = picked g choice (word seed stream (taken_from d.taken stream)) in
+        let x = drawn_value g choice (word seed stream (taken_from d.taken stream)) in
         let (p, at_place, after_place) = bind_ok (place_of g d.state clk target) _ e done in
         let (s, stored, at_end) = bind_ok (store g (p, x) d.state) (λ s. Ok (record { state = s; taken = one_more d.taken stream })) e after_place in
         let same : record { state = s; taken = one_more d.taken stream } ≡ e = cc in
@@ -63,11 +63,11 @@ module _ (g : EventGraph) where
   parameters-written v values s t done =
       written-more v.parameters (vertex_writes v) s t (λ k h. among-front v.parameters (flat_map change_writes v.changes) k h) (receive-written v.parameters values s t done)
 
-  pub changes-written : (seed clk : ℕ) (v : EventVertex) (d e : Changed) → in_turn (make_change g seed clk) v.changes d ≡ Ok e → ChangedWithin (vertex_writes v) d.state e.state × ChangedWithin (vertex_streams v) d.taken e.taken
+  pub changes-written : (seed clk : ℕ) (v : EventVertex) (d e : ChangeState) → in_turn (make_change g seed clk) v.changes d ≡ Ok e → ChangedWithin (vertex_writes v) d.state e.state × ChangedWithin (vertex_streams v) d.taken e.taken
   changes-written seed clk v d e done =
       let all = each-among (λ c. Among c v.changes) v.changes (λ c there. there) in (
-        in_turn-written (vertex_writes v) (λ (d : Changed). d.state) (λ c. Among c v.changes) (make_change g seed clk) (λ c there d e made.
+        in_turn-written (vertex_writes v) (λ (d : ChangeState). d.state) (λ c. Among c v.changes) (make_change g seed clk) (λ c there d e made.
             written-more (change_writes c) (vertex_writes v) d.state e.state (λ k h. among-back v.parameters (flat_map change_writes v.changes) k (among-flat_map change_writes v.changes c k there h)) (change-written seed clk c d e made).variables) v.changes all d e done,
-        in_turn-written (vertex_streams v) (λ (d : Changed). d.taken) (λ c. Among c v.changes) (make_change g seed clk) (λ c there d e made.
+        in_turn-written (vertex_streams v) (λ (d : ChangeState). d.taken) (λ c. Among c v.changes) (make_change g seed clk) (λ c there d e made.
             written-more (change_streams c) (vertex_streams v) d.taken e.taken (λ k h. among-front (flat_map change_streams v.changes) (flat_map edge_streams v.edges) k (among-flat_map change_streams v.changes c k there h)) (change-written seed clk c d e made).streams) v.changes all d e done,
       )

@@ -7,5 +7,5 @@ use Rattle.model_core.specs.Saved.Cells.{watched_sizes, cut_up}
 abbrev pub FitWatched : EventGraph → Option (List ℤ) → Type 0
 FitWatched g noted = IfSome noted (λ values. length values ≡ sum (watched_sizes g g.watch))
 
-abbrev pub noted_so : EventGraph → Option (List ℤ) → Option (List (List ℤ))
-noted_so g noted = option_map (cut_up (watched_sizes g g.watch)) noted
+abbrev pub noted_as_cells : EventGraph → Option (List ℤ) → Option (List (List ℤ))
+noted_as_cells g noted = option_map (cut_up (watched_sizes g g.watch)) noted

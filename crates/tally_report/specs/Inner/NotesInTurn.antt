@@ -2,11 +2,11 @@
 use Rattle.std.proofs.Common.{◌≡◌, List, [], ◌∷◌, ◌++◌, ap, sym, ◌∙◌, refl}
 use Rattle.model_core.specs.EventGraph.{EventGraph}
 use Rattle.model_core.specs.Run.Machine.{Note}
-use Rattle.tally_report.specs.Inner.Sums.{Tallied, behind_note, behind_notes}
+use Rattle.tally_report.specs.Inner.Sums.{Tallied, after_note, after_notes}
 
-behind-append : (g : EventGraph) (a b : List Note) (t : Tallied) → behind_notes g (a ++ b) t ≡ behind_notes g b (behind_notes g a t)
+behind-append : (g : EventGraph) (a b : List Note) (t : Tallied) → after_notes g (a ++ b) t ≡ after_notes g b (after_notes g a t)
 behind-append g [] b t = refl
-behind-append g (note ∷ a) b t = behind-append g a b (behind_note g note t)
+behind-append g (note ∷ a) b t = behind-append g a b (after_note g note t)
 
-pub behind_both : (g : EventGraph) (a b : List Note) (s t u : Tallied) → t ≡ behind_notes g a s → u ≡ behind_notes g b t → u ≡ behind_notes g (a ++ b) s
-behind_both g a b s t u p q = q ∙ ap (behind_notes g b) p ∙ sym (behind-append g a b s)
+pub after_both : (g : EventGraph) (a b : List Note) (s t u : Tallied) → t ≡ after_notes g a s → u ≡ after_notes g b t → u ≡ after_notes g (a ++ b) s
+after_both g a b s t u p q = q ∙ ap (after_notes g b) p ∙ sym (behind-append g a b s)

@@ -52,13 +52,13 @@ pub record Tallied : Type 0 where
   pub since : ℕ
   pub latest : ℕ
 
-abbrev pub behind_note : EventGraph → Note → Tallied → Tallied
-behind_note g (At time values) t = record { sums = map (sum_at g values t.since (max t.since time)) t.sums; since = max t.since time; latest = time }
-behind_note g (On time place values) t = record t { sums = map (sum_on place) t.sums; latest = time }
+abbrev pub after_note : EventGraph → Note → Tallied → Tallied
+after_note g (At time values) t = record { sums = map (sum_at g values t.since (max t.since time)) t.sums; since = max t.since time; latest = time }
+after_note g (On time place values) t = record t { sums = map (sum_on place) t.sums; latest = time }
 
-abbrev pub behind_notes : EventGraph → List Note → Tallied → Tallied
-behind_notes g [] t = t
-behind_notes g (note ∷ notes) t = behind_notes g notes (behind_note g note t)
+abbrev pub after_notes : EventGraph → List Note → Tallied → Tallied
+after_notes g [] t = t
+after_notes g (note ∷ notes) t = after_notes g notes (after_note g note t)
 
 -- ---- the sums of a run that hasn't begun
 
@@ -79,5 +79,5 @@ sums_from g place (w ∷ watch) = sums_at g place w ++ sums_from g (suc place) w
 -- ---- the tally of a run
 
 -- the tally of a run that came to this end at this time
-abbrev pub tally_told : RunEnd → ℕ → Tallied → RunTally
-tally_told end time t = record { end = end; time = time; items = map (λ (s : Sum). held_until t.since (max t.since time) s.item) t.sums }
+abbrev pub tally_of_sums : RunEnd → ℕ → Tallied → RunTally
+tally_of_sums end time t = record { end = end; time = time; items = map (λ (s : Sum). held_until t.since (max t.since time) s.item) t.sums }

@@ -3,7 +3,7 @@ use Rattle.std.proofs.Common.{◌≡◌, true, [], refl}
 use Rattle.model_core.specs.Text.Expressions.{Level, Whole, Disjunction, Conjunction, Negation, Comparison, Sum, Product, Unary, Primary, level_format}
 use Rattle.model_core.specs.Text.Language.{signed_format, literal_format, kind_format, variable_format, row_format, table_format, watch_format, target_format, choice_format, source_format, change_format, values_format, when_format, delay_format, timing_format, schedule_format, urgent_format, cancelled_format, cancel_format, edge_format, vertex_format, version_format, text_format}
 use Rattle.model_core.specs.Text.CertificateText.{plain_name_format, edge_number_format, prune_format, settle_format, drop_format, merge_format, slice_format, application_format, certificate_format}
-use Rattle.text_laws.specs.FirstTokens.{stop_sorts, fine, fine_rule, AreFine}
+use Rattle.text_laws.specs.FirstTokens.{stop_sorts, fine, fine_rule, AreDecided}
 use Rattle.text_laws.specs.LanguageReader.{level_lookahead}
 
 each-fine : (r : Level) → fine_rule level_lookahead level_format r ≡ true
@@ -18,7 +18,7 @@ each-fine Product = refl
 each-fine Unary = refl
 each-fine Primary = refl
 
-pub levels-fine : AreFine level_lookahead level_format
+pub levels-fine : AreDecided level_lookahead level_format
 levels-fine = record { each = each-fine }
 
 pub text-fine : fine level_lookahead text_format ≡ true

@@ -5,7 +5,7 @@ use Rattle.std.proofs.lemmas.Bool.{ltb-true, not-true, and_parts}
 use Rattle.model_core.specs.Text.Lexing.{Lexeme}
 use Rattle.model_core.specs.Text.Grammar.{many}
 use Rattle.model_core.specs.Text.Format.{TokenSort, Format, Yields, Single, Apply, Either, Many, ByRule, nested, by_rule, Spells}
-use Rattle.text_laws.specs.FirstTokens.{begins_among, apart, subset, Lookahead, nullable, first_sorts, stop_sorts, head_rank, fine, AreFine}
+use Rattle.text_laws.specs.FirstTokens.{begins_among, apart, subset, Lookahead, nullable, first_sorts, stop_sorts, head_rank, fine, AreDecided}
 use Rattle.text_laws.specs.FormatReader.{Parse, Parser, took, and_next, many_within, many_at, reads, read_within, rule_at, format_at}
 use Rattle.text_laws.proofs.Formats.TokenSorts.{begins-subset, stops-subset}
 use Rattle.text_laws.proofs.Formats.FormatLaws.{Sound, Begins, Complete, Shorter, reads-sound, derives-begins, reads-shorter, reads-complete}
@@ -20,7 +20,7 @@ pub record Checked {R V : Type 0} (t : Lookahead R) (rules : R → Format R V V)
   pub ranked : head_rank t (rules r) ≤ t.rank r
   pub low : suc (t.rank r) ≤ 16
 
-pub checked : {R V : Type 0} (t : Lookahead R) (rules : R → Format R V V) → AreFine t rules → (r : R) → Checked t rules r
+pub checked : {R V : Type 0} (t : Lookahead R) (rules : R → Format R V V) → AreDecided t rules → (r : R) → Checked t rules r
 checked t rules ok r =
     let a = and_parts ((fine t (rules r) && not (nullable (rules r))) && (subset (first_sorts t (rules r)) (t.first_of r) && subset (stop_sorts t (rules r)) (t.stops_of r))) (nat_lt (head_rank t (rules r)) (suc (t.rank r)) && nat_lt (t.rank r) 16) (ok.each r) in
     let b = and_parts (fine t (rules r) && not (nullable (rules r))) (subset (first_sorts t (rules r)) (t.first_of r) && subset (stop_sorts t (rules r)) (t.stops_of r)) a.0 in
@@ -103,16 +103,16 @@ reads-agree t a b most low shorter same (ByRule r) ok tokens few = same r tokens
 
 -- ---- the rules
 
-pub within-shorter : {R V : Type 0} (t : Lookahead R) (rules : R → Format R V V) → AreFine t rules → (n : ℕ) (r : R) → Shorter (read_within t rules n r) false
+pub within-shorter : {R V : Type 0} (t : Lookahead R) (rules : R → Format R V V) → AreDecided t rules → (n : ℕ) (r : R) → Shorter (read_within t rules n r) false
 unfolding read_within
 within-shorter t rules ok zero r tokens x left e = absurd cc
 within-shorter t rules ok (suc n) r tokens x left e = subst (λ (b : Bool). length left + cond b 0 1 ≤ length tokens) (checked t rules ok r).some (reads-shorter t (read_within t rules n) (within-shorter t rules ok n) (rules r) tokens x left e)
 
-pub rule-shorter : {R V : Type 0} (t : Lookahead R) (rules : R → Format R V V) → AreFine t rules → (r : R) → Shorter (rule_at t rules r) false
+pub rule-shorter : {R V : Type 0} (t : Lookahead R) (rules : R → Format R V V) → AreDecided t rules → (r : R) → Shorter (rule_at t rules r) false
 unfolding rule_at
 rule-shorter t rules ok r tokens x left e = within-shorter t rules ok (length tokens * 16 + suc (t.rank r)) r tokens x left e
 
-pub enough : {R V : Type 0} (t : Lookahead R) (rules : R → Format R V V) → AreFine t rules → (m n : ℕ) (r : R) (tokens : List Lexeme) → length tokens * 16 + suc (t.rank r) ≤ m → length tokens * 16 + suc (t.rank r) ≤ n → read_within t rules m r tokens ≡ read_within t rules n r tokens
+pub enough : {R V : Type 0} (t : Lookahead R) (rules : R → Format R V V) → AreDecided t rules → (m n : ℕ) (r : R) (tokens : List Lexeme) → length tokens * 16 + suc (t.rank r) ≤ m → length tokens * 16 + suc (t.rank r) ≤ n → read_within t rules m r tokens ≡ read_within t rules n r tokens
 unfolding read_within
 enough t rules ok zero n r tokens few many = absurd (omega arith)
 enough t rules ok (suc m) zero r tokens few many = absurd (omega arith)
@@ -122,7 +122,7 @@ enough t rules ok (suc m) (suc n) r tokens few many =
     (λ s others less. enough t rules ok m n s others (omega arith) (omega arith)) (rules r) c.fine tokens (let k = c.ranked in omega arith)
 
 -- a rule is read as its format is
-pub rule-is : {R V : Type 0} (t : Lookahead R) (rules : R → Format R V V) → AreFine t rules → (r : R) (tokens : List Lexeme) → rule_at t rules r tokens ≡ format_at t rules (rules r) tokens
+pub rule-is : {R V : Type 0} (t : Lookahead R) (rules : R → Format R V V) → AreDecided t rules → (r : R) (tokens : List Lexeme) → rule_at t rules r tokens ≡ format_at t rules (rules r) tokens
 unfolding rule_at read_within
 rule-is t rules ok r tokens =
     let c = checked t rules ok r in
@@ -136,7 +136,7 @@ unfolding read_within
 within-sound t rules zero r tokens x left e = absurd cc
 within-sound t rules (suc n) r tokens x left e = reads-sound t (nested rules n) (read_within t rules n) (within-sound t rules n) (rules r) tokens x left e
 
-within-begins : {R V : Type 0} (t : Lookahead R) (rules : R → Format R V V) → AreFine t rules → (n : ℕ) (r : R) → Begins (nested rules n r) (t.first_of r) false
+within-begins : {R V : Type 0} (t : Lookahead R) (rules : R → Format R V V) → AreDecided t rules → (n : ℕ) (r : R) → Begins (nested rules n r) (t.first_of r) false
 within-begins t rules ok zero r tokens x left d = absurd d
 within-begins t rules ok (suc n) r tokens x left d =
     let c = checked t rules ok r in
@@ -145,7 +145,7 @@ within-begins t rules ok (suc n) r tokens x left d =
       | inr w ↦ absurd (let e = w.0 in let f = c.some in cc)
     ]
 
-within-complete : {R V : Type 0} (t : Lookahead R) (rules : R → Format R V V) → AreFine t rules → (n : ℕ) (r : R) → Complete (nested rules n r) (rule_at t rules r) (t.stops_of r)
+within-complete : {R V : Type 0} (t : Lookahead R) (rules : R → Format R V V) → AreDecided t rules → (n : ℕ) (r : R) → Complete (nested rules n r) (rule_at t rules r) (t.stops_of r)
 within-complete t rules ok zero r tokens x left h d = absurd d
 within-complete t rules ok (suc n) r tokens x left h d =
     let c = checked t rules ok r in
@@ -158,5 +158,5 @@ pub sound : {R V A : Type 0} (t : Lookahead R) (rules : R → Format R V V) (f :
 unfolding rule_at
 sound t rules f = reads-sound t (by_rule rules) (rule_at t rules) (λ r tokens x left e. (length tokens * 16 + suc (t.rank r), within-sound t rules (length tokens * 16 + suc (t.rank r)) r tokens x left e)) f
 
-pub complete : {R V A : Type 0} (t : Lookahead R) (rules : R → Format R V V) → AreFine t rules → (f : Format R V A) → fine t f ≡ true → Complete (Spells rules f) (format_at t rules f) (stop_sorts t f)
+pub complete : {R V A : Type 0} (t : Lookahead R) (rules : R → Format R V V) → AreDecided t rules → (f : Format R V A) → fine t f ≡ true → Complete (Spells rules f) (format_at t rules f) (stop_sorts t f)
 complete t rules ok f is = reads-complete t (by_rule rules) (rule_at t rules) (λ r tokens x left d. within-begins t rules ok d.0 r tokens x left d.1) (rule-shorter t rules ok) (λ r tokens x left h d. within-complete t rules ok d.0 r tokens x left h d.1) f is

@@ -5,7 +5,7 @@ use Rattle.std.proofs.lemmas.Bool.{not-true, and_parts}
 use Rattle.model_core.specs.Text.Lexing.{Lexeme}
 use Rattle.model_core.specs.Text.Grammar.{Grammar, many}
 use Rattle.model_core.specs.Text.Format.{TokenSort, sort_as, Format, Yields, Single, Apply, Either, Many, ByRule, derives, nested, by_rule, Spells, single}
-use Rattle.text_laws.specs.FirstTokens.{same_sort, begins_among, apart, Lookahead, nullable, first_sorts, stop_sorts, fine, AreFine}
+use Rattle.text_laws.specs.FirstTokens.{same_sort, begins_among, apart, Lookahead, nullable, first_sorts, stop_sorts, fine, AreDecided}
 use Rattle.text_laws.specs.FormatReader.{Parse, Parser, took, stuck, and_next, single_at, many_within, many_at, reads, read_within, rule_at, format_at}
 use Rattle.text_laws.proofs.Formats.TokenSorts.{chosen, same_reading}
 use Rattle.text_laws.proofs.Formats.FormatLaws.{Sound, Shorter, reads-sound, reads-shorter}
@@ -137,7 +137,7 @@ reads-local t reader short shorter h (Many p) ok k these those u =
     repeated_at-local (reads t reader p) (reads-left t reader short p) (reads-local t reader short shorter h p c.0) (subst (λ (n : Bool). Shorter (reads t reader p) n) solid (reads-shorter t reader shorter p)) (first_sorts t p) k these those u
 reads-local t reader short shorter h (ByRule r) ok k these those u = h r k these those u
 
-within-local : {R V : Type 0} (t : Lookahead R) (rules : R → Format R V V) → AreFine t rules → (n : ℕ) (r : R) → Local (read_within t rules n r)
+within-local : {R V : Type 0} (t : Lookahead R) (rules : R → Format R V V) → AreDecided t rules → (n : ℕ) (r : R) → Local (read_within t rules n r)
 unfolding read_within
 within-local t rules ok zero r k these those u = inr (inl (u, refl, refl))
 within-local t rules ok (suc n) r k these those u = reads-local t (read_within t rules n) (within-left t rules n) (within-shorter t rules ok n) (within-local t rules ok n) (rules r) (checked t rules ok r).fine k these those u
@@ -146,7 +146,7 @@ rule-left : {R V : Type 0} (t : Lookahead R) (rules : R → Format R V V) (r : R
 unfolding rule_at
 rule-left t rules r tokens = within-left t rules (length tokens * 16 + suc (t.rank r)) r tokens
 
-rule-local : {R V : Type 0} (t : Lookahead R) (rules : R → Format R V V) → AreFine t rules → (r : R) → Local (rule_at t rules r)
+rule-local : {R V : Type 0} (t : Lookahead R) (rules : R → Format R V V) → AreDecided t rules → (r : R) → Local (rule_at t rules r)
 unfolding rule_at
 rule-local t rules ok r k these those u =
     let a : ℕ = length (u ++ (k ∷ these)) * 16 + suc (t.rank r) in
@@ -164,7 +164,7 @@ one_only t these those x left (inr (inl h)) = absurd (let e = h.2 in cc)
 one_only t these those x left (inr (inr h)) = absurd (omega arith)
 
 -- Where the reader stops at a token, nothing is spelled by tokens that are the same up to and with it.
-pub stuck-there : {R V A : Type 0} (t : Lookahead R) (rules : R → Format R V V) → AreFine t rules → (f : Format R V A) → fine t f ≡ true
+pub stuck-there : {R V A : Type 0} (t : Lookahead R) (rules : R → Format R V V) → AreDecided t rules → (f : Format R V A) → fine t f ≡ true
     → (u : List Lexeme) (k : Lexeme) (rest : List Lexeme) → format_at t rules f (u ++ (k ∷ rest)) ≡ stuck (k ∷ rest)
     → (others : List Lexeme) (x : A) (left : List Lexeme) → begins_among (stop_sorts t f) left ≡ false → Spells rules f (u ++ (k ∷ others)) x left → ⊥
 stuck-there t rules ok f is u k rest e others x left follow d =
@@ -182,7 +182,7 @@ took_whole t these those x y (inr (inl h)) = absurd (let e = h.2 in cc)
 took_whole t these those x y (inr (inr h)) = absurd (omega arith)
 
 -- Where the reader takes a value and leaves a token, no whole list that begins so, up to and with that token, can be spelled.
-pub left-there : {R V A : Type 0} (t : Lookahead R) (rules : R → Format R V V) → AreFine t rules → (f : Format R V A) → fine t f ≡ true
+pub left-there : {R V A : Type 0} (t : Lookahead R) (rules : R → Format R V V) → AreDecided t rules → (f : Format R V A) → fine t f ≡ true
     → (u : List Lexeme) (k : Lexeme) (rest : List Lexeme) (x : A) → format_at t rules f (u ++ (k ∷ rest)) ≡ took x (k ∷ rest)
     → (others : List Lexeme) (y : A) → begins_among (stop_sorts t f) [] ≡ false → Spells rules f (u ++ (k ∷ others)) y [] → ⊥
 left-there t rules ok f is u k rest x e others y follow d =

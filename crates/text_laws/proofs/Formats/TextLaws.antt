@@ -6,7 +6,7 @@ use Rattle.model_core.specs.Text.Written.{WrittenModel}
 use Rattle.model_core.specs.Text.Format.{Spells, by_rule}
 use Rattle.model_core.specs.Text.Expressions.{LanguageFormat, level_format}
 use Rattle.model_core.specs.Text.Language.{text_format, BeginsWithText, IsText}
-use Rattle.model_core.specs.Text.FirstWrong.{CanBegin, CantGoOn, FirstWrong, told_place, IsWrongAt, IsUnexpectedAt}
+use Rattle.model_core.specs.Text.FirstWrong.{CanBegin, CantGoOn, FirstWrong, wrong_place, IsWrongAt, IsUnexpectedAt}
 use Rattle.model_core.specs.Text.ModelText.{SpellsText}
 use Rattle.text_laws.specs.FirstTokens.{begins_among, fine, stop_sorts}
 use Rattle.text_laws.specs.FormatReader.{Parse, took, stuck, and_next, whole_read}
@@ -89,7 +89,7 @@ stuck_or_left f ok tokens rest (Err others) e g = subst (λ (l : List Lexeme). F
 none_spelled : {A : Type 0} (f : LanguageFormat A) → fine level_lookahead f ≡ true → (tokens rest : List Lexeme) (x : A) → and_next whole_read (language_reader f tokens) ≡ stuck rest → Spells level_format f tokens x [] → ⊥
 none_spelled f ok tokens rest x e d = let g : and_next whole_read (language_reader f tokens) ≡ took x [] = spelled-is_all f ok tokens x d in absurd cc
 
-pub all-is_wrong : {A : Type 0} (f : LanguageFormat A) → fine level_lookahead f ≡ true → (text : List ℕ) (tokens rest : List Lexeme) → and_next whole_read (language_reader f tokens) ≡ stuck rest → IsWrongAt f text tokens (told_place text rest)
+pub all-is_wrong : {A : Type 0} (f : LanguageFormat A) → fine level_lookahead f ≡ true → (text : List ℕ) (tokens rest : List Lexeme) → and_next whole_read (language_reader f tokens) ≡ stuck rest → IsWrongAt f text tokens (wrong_place text rest)
 all-is_wrong f ok text tokens rest e = record { none = λ x d. none_spelled f ok tokens rest x e d; rest = rest; wrong = stuck_or_left f ok tokens rest (language_reader f tokens) refl e; told = refl }
 
 pub spelled_or_wrong : {A : Type 0} (f : LanguageFormat A) → fine level_lookahead f ≡ true → (text : List ℕ) (tokens : List Lexeme) → ((x : A) × Spells level_format f tokens x []) ⊎ ((at : ℕ) × IsWrongAt f text tokens at)
@@ -97,14 +97,14 @@ spelled_or_wrong {A} f ok text tokens = go (and_next whole_read (language_reader
   where
     go : (r : Parse A) → and_next whole_read (language_reader f tokens) ≡ r → ((x : A) × Spells level_format f tokens x []) ⊎ ((at : ℕ) × IsWrongAt f text tokens at)
     go (Ok r) e = inl (r.0, all-is_spelled f tokens r.0 r.1 e)
-    go (Err rest) e = inr (told_place text rest, all-is_wrong f ok text tokens rest e)
+    go (Err rest) e = inr (wrong_place text rest, all-is_wrong f ok text tokens rest e)
 
 -- ---- all tokens are one text, or not
 
 pub whole-is_spelled : (tokens : List Lexeme) (m : WrittenModel) (left : List Lexeme) → text_read tokens ≡ took m left → IsText tokens m
 whole-is_spelled tokens m left e = all-is_spelled text_format tokens m left e
 
-pub refused-is_unexpected : (text : List ℕ) (tokens rest : List Lexeme) → text_read tokens ≡ stuck rest → IsUnexpectedAt text tokens (told_place text rest)
+pub refused-is_unexpected : (text : List ℕ) (tokens rest : List Lexeme) → text_read tokens ≡ stuck rest → IsUnexpectedAt text tokens (wrong_place text rest)
 refused-is_unexpected text tokens rest e = all-is_wrong text_format text-fine text tokens rest e
 
 pub spelled_or_unexpected : (text : List ℕ) (tokens : List Lexeme) → ((m : WrittenModel) × IsText tokens m) ⊎ ((at : ℕ) × IsUnexpectedAt text tokens at)
@@ -145,7 +145,7 @@ one_first_wrong f tokens r s a b = elim (two_fronts a.front r b.front s (sym a.w
 ]
 
 pub one_wrong_place : {A : Type 0} (f : LanguageFormat A) (text : List ℕ) (tokens : List Lexeme) (i j : ℕ) → IsWrongAt f text tokens i → IsWrongAt f text tokens j → i ≡ j
-one_wrong_place f text tokens i j a b = sym a.told ∙ ap (told_place text) (one_first_wrong f tokens a.rest b.rest a.wrong b.wrong) ∙ b.told
+one_wrong_place f text tokens i j a b = sym a.told ∙ ap (wrong_place text) (one_first_wrong f tokens a.rest b.rest a.wrong b.wrong) ∙ b.told
 
 pub one_place : (text : List ℕ) (tokens : List Lexeme) (i j : ℕ) → IsUnexpectedAt text tokens i → IsUnexpectedAt text tokens j → i ≡ j
 one_place text tokens i j a b = one_wrong_place text_format text tokens i j a b

@@ -23,7 +23,7 @@ measure_line name until events m =
     name ++ codes " " ++ standing_text until events m.outcome ++ codes " events " ++ decimal m.events ++ codes " notes " ++ decimal m.notes ++ codes "\n"
 
 -- it has the standing of the run of the graph, how many steps it made, and how many notes there are
-pub record Tells (g : EventGraph) (seed until events : ℕ) (m : RunMeasure) : Type 0 where
+pub record IsMeasureOf (g : EventGraph) (seed until events : ℕ) (m : RunMeasure) : Type 0 where
   pub outcome : m.outcome ≡ outcome_of (look g seed [] until events).standing
   pub made : m.events ≡ steps_of_run g seed [] until events
   pub noted : m.notes ≡ length (look g seed [] until events).history

@@ -8,7 +8,7 @@ use Rattle.model_core.specs.Rules.Conditions.{first_failed}
 use Rattle.model_core.specs.Rules.Merge.{leads_to}
 use Rattle.model_core.specs.Rules.Fuse.{same_changes, same_edges_for, fuse_conditions}
 use Rattle.twin_rules.specs.Inner.MarkedVertices.{is_barred}
-use Rattle.twin_rules.specs.declared.asked.Asked.{Asked}
+use Rattle.twin_rules.specs.declared.asked.PairSearch.{PairSearch}
 
 -- the two vertices meet all conditions but that on the limits
 abbrev pub are_alike : EventGraph → ℕ → ℕ → Bool
@@ -29,20 +29,20 @@ is_before_pair keep gone x y = nat_lt x keep || (x == keep) && nat_lt y gone
 abbrev pub has_changed : List Bool → ℕ → Bool
 has_changed changed v = slice_index_or changed v true
 
-abbrev pub was_asked : Asked → ℕ → ℕ → Bool
-was_asked a x y = is_before_pair a.keep a.gone x y && not (has_changed a.changed x) && not (has_changed a.changed y)
+abbrev pub was_compared : PairSearch → ℕ → ℕ → Bool
+was_compared a x y = is_before_pair a.keep a.gone x y && not (has_changed a.changed x) && not (has_changed a.changed y)
 
 -- a place no further than the next vertex, from this one on, that has changed
-abbrev pub next_changed : Asked → ℕ → ℕ
+abbrev pub next_changed : PairSearch → ℕ → ℕ
 next_changed a v = slice_index_or a.next v v
 
 -- the vertices between a place and that one haven't changed
-abbrev pub SkipsUnchanged : Asked → Type 0
+abbrev pub SkipsUnchanged : PairSearch → Type 0
 SkipsUnchanged a = (v k : ℕ) → v ≤ k → k < next_changed a v → has_changed a.changed k ≡ false
 
 -- no pair that was asked is alike
-abbrev pub NoneAlike : EventGraph → Asked → Type 0
-NoneAlike g a = (x y : ℕ) → was_asked a x y ≡ true → are_alike g x y ≡ false
+abbrev pub NoneAlike : EventGraph → PairSearch → Type 0
+NoneAlike g a = (x y : ℕ) → was_compared a x y ≡ true → are_alike g x y ≡ false
 
 -- no pair before this one is alike
 abbrev pub NoneAlikeBefore : EventGraph → Option (ℕ × ℕ) → Type 0

@@ -11,89 +11,89 @@ unfoldable pub half : ℕ → ℕ
 half print = mixed print 0 / 2 ^ 32
 
 -- a print with the words of a list in it
-abbrev pub list_print_on : ℕ → List ℕ → ℕ
-list_print_on print [] = print
-list_print_on print (word ∷ words) = list_print_on (mixed print word) words
+abbrev pub list_fingerprint_on : ℕ → List ℕ → ℕ
+list_fingerprint_on print [] = print
+list_fingerprint_on print (word ∷ words) = list_fingerprint_on (mixed print word) words
 
 -- the print of a list, by the words of its parts
-abbrev pub list_print : List ℕ → ℕ
-list_print words = list_print_on 0 words
+abbrev pub list_fingerprint : List ℕ → ℕ
+list_fingerprint words = list_fingerprint_on 0 words
 
 -- the print of a truth value
-abbrev pub truth_print : Bool → ℕ
-truth_print true = 1
-truth_print false = 0
+abbrev pub truth_fingerprint : Bool → ℕ
+truth_fingerprint true = 1
+truth_fingerprint false = 0
 
 -- the print of an operator
-abbrev pub operator_print : Operator → ℕ
-operator_print Add = 11
-operator_print Subtract = 12
-operator_print Multiply = 13
-operator_print Divide = 14
-operator_print Remainder = 15
-operator_print Least = 16
-operator_print Greatest = 17
-operator_print Equal = 18
-operator_print NotEqual = 19
-operator_print Below = 20
-operator_print AtMost = 21
-operator_print Above = 22
-operator_print AtLeast = 23
-operator_print And = 24
-operator_print Or = 25
+abbrev pub operator_fingerprint : Operator → ℕ
+operator_fingerprint Add = 11
+operator_fingerprint Subtract = 12
+operator_fingerprint Multiply = 13
+operator_fingerprint Divide = 14
+operator_fingerprint Remainder = 15
+operator_fingerprint Least = 16
+operator_fingerprint Greatest = 17
+operator_fingerprint Equal = 18
+operator_fingerprint NotEqual = 19
+operator_fingerprint Below = 20
+operator_fingerprint AtMost = 21
+operator_fingerprint Above = 22
+operator_fingerprint AtLeast = 23
+operator_fingerprint And = 24
+operator_fingerprint Or = 25
 
 -- the print of an expression
-abbrev pub expression_print : Expression → ℕ
-expression_print (Number n) = mixed (unsigned_abs n) 1
-expression_print (Truth b) = mixed (truth_print b) 2
-expression_print Clock = 3
-expression_print (Scalar v) = mixed v 4
-expression_print (Cell v i) = mixed (mixed (expression_print i) v) 5
-expression_print (Negative a) = mixed (expression_print a) 6
-expression_print (Not a) = mixed (expression_print a) 7
-expression_print (Binary op a b) = mixed (mixed (expression_print a) (expression_print b)) (operator_print op)
-expression_print (If c a b) = mixed (mixed (mixed (expression_print c) (expression_print a)) (expression_print b)) 8
+abbrev pub expression_fingerprint : Expression → ℕ
+expression_fingerprint (Number n) = mixed (unsigned_abs n) 1
+expression_fingerprint (Truth b) = mixed (truth_fingerprint b) 2
+expression_fingerprint Clock = 3
+expression_fingerprint (Scalar v) = mixed v 4
+expression_fingerprint (Cell v i) = mixed (mixed (expression_fingerprint i) v) 5
+expression_fingerprint (Negative a) = mixed (expression_fingerprint a) 6
+expression_fingerprint (Not a) = mixed (expression_fingerprint a) 7
+expression_fingerprint (Binary op a b) = mixed (mixed (expression_fingerprint a) (expression_fingerprint b)) (operator_fingerprint op)
+expression_fingerprint (If c a b) = mixed (mixed (mixed (expression_fingerprint c) (expression_fingerprint a)) (expression_fingerprint b)) 8
 
 -- the print of an index, if there is one
-abbrev pub index_print : Option Expression → ℕ
-index_print None = 0
-index_print (Some i) = mixed (expression_print i) 1
+abbrev pub index_fingerprint : Option Expression → ℕ
+index_fingerprint None = 0
+index_fingerprint (Some i) = mixed (expression_fingerprint i) 1
 
 -- the print of what takes a value
-abbrev pub location_print : Location → ℕ
-location_print l = mixed (index_print l.index) l.variable
+abbrev pub location_fingerprint : Location → ℕ
+location_fingerprint l = mixed (index_fingerprint l.index) l.variable
 
 -- the print of what a draw takes its value from
-abbrev pub choice_print : Choice → ℕ
-choice_print (Uniform lo hi) = mixed (mixed (unsigned_abs lo) (unsigned_abs hi)) 1
-choice_print (ByTable table) = mixed table 2
+abbrev pub choice_fingerprint : Choice → ℕ
+choice_fingerprint (Uniform lo hi) = mixed (mixed (unsigned_abs lo) (unsigned_abs hi)) 1
+choice_fingerprint (ByTable table) = mixed table 2
 
 -- the print of a change
-abbrev pub change_print : StateChange → ℕ
-change_print (Set targets values) = mixed (list_print (map location_print targets)) (list_print (map expression_print values))
-change_print (Draw target stream choice) = mixed (mixed (location_print target) stream) (choice_print choice)
+abbrev pub change_fingerprint : StateChange → ℕ
+change_fingerprint (Set targets values) = mixed (list_fingerprint (map location_fingerprint targets)) (list_fingerprint (map expression_fingerprint values))
+change_fingerprint (Draw target stream choice) = mixed (mixed (location_fingerprint target) stream) (choice_fingerprint choice)
 
 -- the print of a delay
-abbrev pub delay_print : Delay → ℕ
-delay_print (Fixed e) = mixed (expression_print e) 1
-delay_print (Drawn stream choice) = mixed (choice_print choice) stream
+abbrev pub delay_fingerprint : Delay → ℕ
+delay_fingerprint (Fixed e) = mixed (expression_fingerprint e) 1
+delay_fingerprint (Drawn stream choice) = mixed (choice_fingerprint choice) stream
 
 -- the print of what an edge does
-abbrev pub kind_print : EdgeKind → ℕ
-kind_print (Schedule delay priority) = mixed (delay_print delay) priority
-kind_print Urgent = 1
-kind_print CancelNext = 2
-kind_print CancelEqual = 3
-kind_print CancelAll = 4
+abbrev pub kind_fingerprint : EdgeKind → ℕ
+kind_fingerprint (Schedule delay priority) = mixed (delay_fingerprint delay) priority
+kind_fingerprint Urgent = 1
+kind_fingerprint CancelNext = 2
+kind_fingerprint CancelEqual = 3
+kind_fingerprint CancelAll = 4
 
 -- the print of an edge, whose target is left out
-abbrev pub edge_print : EventEdge → ℕ
-edge_print e = mixed (mixed (kind_print e.kind) (expression_print e.condition)) (list_print (map expression_print e.values))
+abbrev pub edge_fingerprint : EventEdge → ℕ
+edge_fingerprint e = mixed (mixed (kind_fingerprint e.kind) (expression_fingerprint e.condition)) (list_fingerprint (map expression_fingerprint e.values))
 
 -- the print of what a vertex does: of its parameters, changes and edges
-abbrev pub vertex_print : EventVertex → ℕ
-vertex_print v = mixed (mixed (list_print (map (λ p. p) v.parameters)) (list_print (map change_print v.changes))) (list_print (map edge_print v.edges))
+abbrev pub vertex_fingerprint : EventVertex → ℕ
+vertex_fingerprint v = mixed (mixed (list_fingerprint (map (λ p. p) v.parameters)) (list_fingerprint (map change_fingerprint v.changes))) (list_fingerprint (map edge_fingerprint v.edges))
 
 -- the print of the targets of edges, by the number of each
-abbrev pub aims_print : (ℕ → ℕ) → List EventEdge → ℕ
-aims_print number es = list_print (map (λ (e : EventEdge). number e.target) es)
+abbrev pub targets_fingerprint : (ℕ → ℕ) → List EventEdge → ℕ
+targets_fingerprint number es = list_fingerprint (map (λ (e : EventEdge). number e.target) es)

@@ -35,5 +35,5 @@ abbrev pub nothing_stamped : ℕ → List Stamped
 nothing_stamped count = replicate count (record { number = 0; stamp = 0 })
 
 -- a number whose stamp is taken away
-abbrev pub wiped : Stamped → Stamped
-wiped s = record s { stamp = 0 }
+abbrev pub without_stamp : Stamped → Stamped
+without_stamp s = record s { stamp = 0 }

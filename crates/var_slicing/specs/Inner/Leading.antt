@@ -19,5 +19,5 @@ abbrev pub leaders_of : ℕ → List (ℕ × ℕ) → List (ℕ × ℕ)
 leaders_of count draws = leaders_after count [] draws
 
 -- the pairs from a draw's variable to its leader and back
-abbrev pub led_pairs : List (ℕ × ℕ) → ℕ × ℕ → List (ℕ × ℕ)
-led_pairs leaders (s, v) = option_map_or (λ l. (l, v) ∷ (v, l) ∷ []) (leader leaders s) []
+abbrev pub leader_pairs : List (ℕ × ℕ) → ℕ × ℕ → List (ℕ × ℕ)
+leader_pairs leaders (s, v) = option_map_or (λ l. (l, v) ∷ (v, l) ∷ []) (leader leaders s) []

@@ -9,6 +9,6 @@ no_lists count = map (λ k. []) (range_with_len 0 count)
 abbrev pub with_behind : ℕ → List ℕ → List ℕ
 with_behind k ks = ks ++ k ∷ []
 
-abbrev pub linked : List (ℕ × ℕ) → List (List ℕ) → List (List ℕ)
-linked [] next = next
-linked ((j, k) ∷ pairs) next = linked pairs (with_place (with_behind k) j next)
+abbrev pub lists_of_pairs : List (ℕ × ℕ) → List (List ℕ) → List (List ℕ)
+lists_of_pairs [] next = next
+lists_of_pairs ((j, k) ∷ pairs) next = lists_of_pairs pairs (with_place (with_behind k) j next)

@@ -115,5 +115,5 @@ with_all_pairs known g n =
     record changed { pairs = with_value_pairs known g g.vertices changed.pairs }
 
 -- all that is collected from a graph
-abbrev pub collected : EventGraph → Collected
-collected g = with_drawn (with_all_pairs (known_at_once g) g (collected_at_once g))
+abbrev pub all_needs : EventGraph → Collected
+all_needs g = with_drawn (with_all_pairs (known_at_once g) g (collected_at_once g))

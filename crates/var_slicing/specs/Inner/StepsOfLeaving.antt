@@ -3,15 +3,15 @@ use Rattle.std.specs.Prelude.{ℕ, Bool, List, [], map, slice_index_or}
 use Rattle.std.specs.List.{flat_map}
 use Rattle.model_core.specs.EventGraph.{EventEdge, EventVertex}
 use Rattle.model_core.specs.Rules.MarkedPlaces.{rank}
-use Rattle.model_core.specs.Rules.Slice.{expression_renumbered, values_left, parameters_left, change_left, kind_left}
+use Rattle.model_core.specs.Rules.Slice.{expression_renumbered, sliced_values, sliced_parameters, sliced_change, sliced_kind}
 
 -- an edge to one of the vertices that have these parameters
 abbrev pub edge_left_in : List (List ℕ) → List Bool → EventEdge → EventEdge
 edge_left_in parameters marks e = record {
   target = e.target;
-  values = values_left marks (slice_index_or parameters e.target []) e.values;
+  values = sliced_values marks (slice_index_or parameters e.target []) e.values;
   condition = expression_renumbered (rank marks) e.condition;
-  kind = kind_left marks e.kind;
+  kind = sliced_kind marks e.kind;
 }
 
 -- first, the edges of a vertex
@@ -20,4 +20,4 @@ edges_left_in parameters marks v = record v { edges = map (edge_left_in paramete
 
 -- then its parameters and changes
 abbrev pub own_parts_left : List Bool → EventVertex → EventVertex
-own_parts_left marks v = record v { parameters = parameters_left marks v.parameters; changes = flat_map (change_left marks) v.changes }
+own_parts_left marks v = record v { parameters = sliced_parameters marks v.parameters; changes = flat_map (sliced_change marks) v.changes }

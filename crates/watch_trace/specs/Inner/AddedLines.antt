@@ -3,7 +3,7 @@ use Rattle.std.proofs.Common.{◌≡◌, ℕ, Bool, List, [], ◌∷◌, ◌++�
 use Rattle.sig_base.specs.Faults.{HasRisen}
 use Rattle.sig_base.specs.Sink.{GrowsBy}
 use Rattle.sig_base.proofs.SinkLemmas.{GrowsBy-append}
-use Rattle.watch_trace.specs.Following.{settled_behind}
+use Rattle.watch_trace.specs.Following.{settled_after}
 use Rattle.std.proofs.lemmas.Grind.{flat_map-append}
 use Rattle.model_core.specs.EventGraph.{EventGraph}
 use Rattle.model_core.specs.Run.Machine.{Note}
@@ -16,10 +16,10 @@ GrowsBy-nothing None = tt
 GrowsBy-nothing (Some x) = ap Some (sym (append-nil x))
 
 -- after bytes, and then others
-settled-both : (a b : List ℕ) (x y z : Bool) → y ≡ settled_behind a x → z ≡ settled_behind b y → z ≡ settled_behind (a ++ b) x
-settled-both a b x y z p q = q ∙ ap (settled_behind b) p ∙ by a b
+settled-both : (a b : List ℕ) (x y z : Bool) → y ≡ settled_after a x → z ≡ settled_after b y → z ≡ settled_after (a ++ b) x
+settled-both a b x y z p q = q ∙ ap (settled_after b) p ∙ by a b
   where
-    by : (a b : List ℕ) → settled_behind b (settled_behind a x) ≡ settled_behind (a ++ b) x
+    by : (a b : List ℕ) → settled_after b (settled_after a x) ≡ settled_after (a ++ b) x
     by [] b = refl
     by (c ∷ cs) [] = refl
     by (c ∷ cs) (d ∷ ds) = refl

@@ -17,5 +17,5 @@ returns-clause-done c =
     ap₂ (λ (a b : List ℕ). lists_exactly a b) (sym c.as_slice-2.ensures) (sym (c.as_slice-3.ensures ∙ others)) ∙ none_unequal _ c.if-ne.ensures in
     let some = some_given vertices (λ none. c.if-len-eq0.false (c.len.ensures ∙ none)) in (
       both_conditions vertices (unreached g) some exactly,
-      c.in_ok-leave_marked.ensures.done ∙ ap (only_marked g) c.in_ok-marks.ensures ∙ sym (without_unreached g) ∙ ap (dropped g) (sym (exactly-equal vertices (unreached g) exactly)),
+      c.in_ok-keep_marked_vertices.ensures.done ∙ ap (only_marked g) c.in_ok-marks.ensures ∙ sym (without_unreached g) ∙ ap (dropped g) (sym (exactly-equal vertices (unreached g) exactly)),
     )

@@ -8,7 +8,7 @@ use Rattle.model_core.specs.EventGraph.{EventVertex}
 use Rattle.model_core.specs.Rules.Entailed.{entailed_marks}
 use Rattle.model_core.specs.Code.Views.{graph_of, vertex_of, watched_of}
 use Rattle.mark_laws.specs.PlacePairs.{pairs_from}
-use Rattle.edge_pruning.specs.Inner.Walk.{targets_of, targets_behind, watched_vertices}
+use Rattle.edge_pruning.specs.Inner.Walk.{targets_of, targets_by_vertex, watched_vertices}
 use Rattle.edge_pruning.proofs.ReachedMarks.{reached_marks-entailed}
 use Rattle.edge_pruning.proofs.walk.reached.Goals as goal
 
@@ -17,10 +17,10 @@ returns c =
     let g = graph_of c.args.model.now in
     let first : c.as_slice-3.result.now ≡ 0 ∷ watched_vertices g.watch =
     c.as_slice-3.ensures.value ∙ c.in_ok-first.ensures ∙ ap (λ (ws : List Watch). 0 ∷ watched_vertices (map watched_of ws)) c.as_slice.ensures in
-    let targets : targets_behind (map vertex_of c.as_slice-2.result.now) ≡ targets_behind g.vertices = ap (λ (vs : List Vertex). targets_behind (map vertex_of vs)) c.as_slice-2.ensures in
+    let targets : targets_by_vertex (map vertex_of c.as_slice-2.result.now) ≡ targets_by_vertex g.vertices = ap (λ (vs : List Vertex). targets_by_vertex (map vertex_of vs)) c.as_slice-2.ensures in
     IfOk-weaker c.entailed.result _ _
     (λ marks found. found
     ∙ ap₂ (λ (first : List ℕ) (next : List (List ℕ)). entailed_marks (length next) first (pairs_from 0 next)) first targets
-    ∙ ap (λ (n : ℕ). entailed_marks n (0 ∷ watched_vertices g.watch) (pairs_from 0 (targets_behind g.vertices))) (length-map g.vertices (λ (v : EventVertex). targets_of v.edges))
+    ∙ ap (λ (n : ℕ). entailed_marks n (0 ∷ watched_vertices g.watch) (pairs_from 0 (targets_by_vertex g.vertices))) (length-map g.vertices (λ (v : EventVertex). targets_of v.edges))
     ∙ sym (reached_marks-entailed g))
     c.entailed.ensures

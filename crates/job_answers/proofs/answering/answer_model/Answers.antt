@@ -5,22 +5,22 @@ use Rattle.command_words.specs.declared.reading.ModelJob.{ModelJob}
 use Rattle.command_words.specs.declared.reading.ModelJob.TheVariants as models
 use Rattle.model_core.specs.EventGraph.{EventGraph}
 use Rattle.model_core.specs.Code.Views.{graph_of}
-use Rattle.answer_delivery.specs.declared.delivering.Said.{Said}
+use Rattle.answer_delivery.specs.declared.delivering.DeliveryOutcome.{DeliveryOutcome}
 use Rattle.answer_delivery.specs.declared.status.Failure.{Failure}
 use Rattle.answer_delivery.specs.Delivery.{DeliversSome}
-use Rattle.job_answers.specs.Answers.{AnswersModel, MayFallShort}
+use Rattle.job_answers.specs.Answers.{AnswersModel, MayLackMemory}
 use Rattle.job_answers.proofs.Streaming.{delivered}
 use Rattle.job_answers.proofs.answering.answer_model.Goals.{in-Check, in-Print, in-Uses, in-Conflicts, in-Describe, in-Run, in-Replicate, in-Save}
 use Rattle.job_answers.proofs.answering.answer_model.Goals as goal
 
 module _ {K : Type 0} (seen : K → Outlet) (g : EventGraph) (o : K) where
-  abbrev DeliversOf : ModelJob → Result Said Failure → K → Type 0
-  DeliversOf job r p = DeliversSome seen (AnswersModel job g) (MayFallShort job g) r o p
+  abbrev DeliversOf : ModelJob → Result DeliveryOutcome Failure → K → Type 0
+  DeliversOf job r p = DeliversSome seen (AnswersModel job g) (MayLackMemory job g) r o p
 
   -- the facts of an arm
-  in_branch : (job this : ModelJob) (r s : Result Said Failure) (p q : K) → job ≡ this → r ≡ s → p ≡ q → DeliversOf this s q → DeliversOf job r p
+  in_branch : (job this : ModelJob) (r s : Result DeliveryOutcome Failure) (p q : K) → job ≡ this → r ≡ s → p ≡ q → DeliversOf this s q → DeliversOf job r p
   in_branch job this r s p q is said output h =
-      subst (λ (j : ModelJob). DeliversOf j r p) (sym is) (subst (λ (x : Result Said Failure). DeliversOf this x p) (sym said) (subst (λ (x : K). DeliversOf this s x) (sym output) h))
+      subst (λ (j : ModelJob). DeliversOf j r p) (sym is) (subst (λ (x : Result DeliveryOutcome Failure). DeliversOf this x p) (sym said) (subst (λ (x : K). DeliversOf this s x) (sym output) h))
 
 pub returns : goal.returns
 returns g c = elim c.match-job.branch [

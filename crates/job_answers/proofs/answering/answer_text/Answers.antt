@@ -13,13 +13,13 @@ use Rattle.model_core.specs.Static.Reading.{Reads, ReadsDocument}
 use Rattle.model_core.specs.Code.Views.{graph_of, application_of}
 use Rattle.answer_delivery.specs.declared.answer.Answer.{Answer}
 use Rattle.answer_delivery.specs.declared.complaint.Complaint.{Complaint}
-use Rattle.answer_delivery.specs.declared.delivering.Said.{Said}
+use Rattle.answer_delivery.specs.declared.delivering.DeliveryOutcome.{DeliveryOutcome}
 use Rattle.answer_delivery.specs.declared.status.Failure.{Failure}
 use Rattle.answer_delivery.specs.Complaints.{IsComplaint}
 use Rattle.answer_delivery.specs.Delivery.{DeliversSome}
 use Rattle.job_answers.specs.declared.reading_error.ReadingError.{ReadingError}
 use Rattle.job_answers.specs.declared.reading_error.ReadingError.TheVariants as readings
-use Rattle.job_answers.specs.Answers.{AnswersModel, AnswersDocument, AnswersSaved, MayFallShort, SavedMayFallShort, IsRefused, Responds, MayStopShort}
+use Rattle.job_answers.specs.Answers.{AnswersModel, AnswersDocument, AnswersSaved, MayLackMemory, SavedMayLackMemory, IsRefused, Responds, MayStopShort}
 use Rattle.job_answers.specs.DocumentComplaints.{IsDocumentComplaint}
 use Rattle.job_answers.specs.SavedComplaints.{IsSavedComplaint}
 use Rattle.job_answers.specs.SavedReading.{ReadsSaved}
@@ -27,7 +27,7 @@ use Rattle.job_answers.specs.Inner.Refusals.{Complains}
 use Rattle.job_answers.proofs.SavedModels.{saved_model_valid}
 use Rattle.job_answers.proofs.answering.answer_text.Goals as goal
 
-module _ {K : Type 0} (seen : K → Outlet) (text : List ℕ) (r : Result Said Failure) (o p : K) where
+module _ {K : Type 0} (seen : K → Outlet) (text : List ℕ) (r : Result DeliveryOutcome Failure) (o p : K) where
   abbrev DeliversReply : Reading → Type 0
   DeliversReply reading = DeliversSome seen (Responds reading text) (MayStopShort reading text) r o p
 
@@ -42,8 +42,8 @@ module _ {K : Type 0} (seen : K → Outlet) (text : List ℕ) (r : Result Said F
   })
   replies reading P Short answers short (inr none) = inr none
 
-  of_model : (job : ModelJob) (g : EventGraph) → Reads text g → DeliversSome seen (AnswersModel job g) (MayFallShort job g) r o p → DeliversReply (Model job)
-  of_model job g reads = replies (Model job) (AnswersModel job g) (MayFallShort job g) (λ a is. inr (g, reads, is)) (λ short. (g, reads, short))
+  of_model : (job : ModelJob) (g : EventGraph) → Reads text g → DeliversSome seen (AnswersModel job g) (MayLackMemory job g) r o p → DeliversReply (Model job)
+  of_model job g reads = replies (Model job) (AnswersModel job g) (MayLackMemory job g) (λ a is. inr (g, reads, is)) (λ short. (g, reads, short))
 
   of_document : (job : DocumentJob) (g : EventGraph) (applications : List RuleApplication) (h : EventGraph) → ReadsDocument text g applications h
       → DeliversSome seen (AnswersDocument job g applications h) ⊥ r o p → DeliversReply (Document job)
@@ -51,9 +51,9 @@ module _ {K : Type 0} (seen : K → Outlet) (text : List ℕ) (r : Result Said F
       replies (Document job) (AnswersDocument job g applications h) ⊥
       (λ a is. inr (record { original = g; applications = applications; reduced = h; reads = reads; told = is })) (λ never. absurd never)
 
-  of_saved : (job : SavedJob) (g : EventGraph) (s : SavedRun) → ReadsSaved text g s → DeliversSome seen (AnswersSaved job g s) (SavedMayFallShort job g s) r o p → DeliversReply (Saved job)
+  of_saved : (job : SavedJob) (g : EventGraph) (s : SavedRun) → ReadsSaved text g s → DeliversSome seen (AnswersSaved job g s) (SavedMayLackMemory job g s) r o p → DeliversReply (Saved job)
   of_saved job g s reads =
-      replies (Saved job) (AnswersSaved job g s) (SavedMayFallShort job g s)
+      replies (Saved job) (AnswersSaved job g s) (SavedMayLackMemory job g s)
       (λ a is. inr (record { model = g; run = s; reads = reads; told = is })) (λ short. (g, s, reads, short))
 
   -- ---- what couldn't be read
@@ -63,6 +63,7 @@ module _ {K : Type 0} (seen : K → Outlet) (text : List ℕ) (r : Result Said F
   complained reading IsSo refuses (readings.At what at) is h =
       replies reading _ ⊥ (λ a told. refuses a (record { what = what; at = at; complaint = is what at refl; told = told })) (λ never. absurd never) h
   complained reading IsSo refuses readings.NoMemory is h = inr h
+
   -- ---- the reading that is asked for
 
   of_reading : (reading this : Reading) → reading ≡ this → DeliversReply this → DeliversReply reading

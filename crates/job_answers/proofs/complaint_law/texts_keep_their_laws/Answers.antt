@@ -4,7 +4,7 @@ pub returns : goal.returns
 returns c =
     let texts = c.texts_have_one_reading.ensures in
     let openings = c.openings_have_a_limit.ensures in
-    let faults = c.one_fault_is_told.ensures in
+    let faults = c.accepted_or_one_fault.ensures in
     record {
       one_model = texts.one_model;
       spelled_or_not = texts.spelled_or_unexpected;

@@ -4,7 +4,7 @@ use Rattle.job_answers.proofs.document_law.documents_have_one_complaint.Goals as
 
 pub returns : goal.returns
 returns c =
-    let fault = c.one_fault_is_told.ensures in
+    let fault = c.accepted_or_one_fault.ensures in
     let faults : FaultLaws = record { told = fault.told; accepted = fault.accepted } in
     record {
       one = λ text what other at place p q. one_document_complaint faults text what other at place p q;

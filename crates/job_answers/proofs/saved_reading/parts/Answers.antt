@@ -7,9 +7,9 @@ use Rattle.answer_delivery.specs.declared.complaint.Complaint.TheVariants as com
 use Rattle.job_answers.specs.declared.reading_error.ReadingError.TheVariants.{At}
 use Rattle.job_answers.specs.DocumentComplaints.{IsFrontComplaint}
 use Rattle.job_answers.specs.SavedComplaints.{IsSavedComplaint, in_model, in_snapshot, of_saved_tokens}
-use Rattle.job_answers.specs.Inner.Refusals.{unread}
+use Rattle.job_answers.specs.Inner.Refusals.{parsing_complaint}
 use Rattle.job_answers.proofs.PassedOn.{one_error, same_error}
-use Rattle.job_answers.proofs.ToldErrors.{of_unread, same_complaint}
+use Rattle.job_answers.proofs.ToldErrors.{parsing_complaint_is, same_complaint}
 use Rattle.job_answers.proofs.saved_reading.parts.Goals as goal
 
 pub returns-in_err-model-clause-complaint : goal.returns-in_err-model-clause-complaint
@@ -20,8 +20,8 @@ returns-in_err-model-clause-complaint c = λ what at e.
     let p = err_from_is_err_and c.from_residual.result c.from_residual.ensures.1 in
     of_saved_tokens (pieces_lexemes pieces) pieces.are_its
     (in_model
-    (of_unread (IsFrontComplaint pieces.text.now (pieces_lexemes pieces)) error (λ i is. told.unexpected i (ap (λ x. Err x) is)) (λ i is. told.too_deep i (ap (λ x. Err x) is))
-    what at (same_error c.from_residual.result p.0 (unread error) (At what at) p.1 p.2 e)))
+    (parsing_complaint_is (IsFrontComplaint pieces.text.now (pieces_lexemes pieces)) error (λ i is. told.unexpected i (ap (λ x. Err x) is)) (λ i is. told.too_deep i (ap (λ x. Err x) is))
+    what at (same_error c.from_residual.result p.0 (parsing_complaint error) (At what at) p.1 p.2 e)))
 
 pub returns-in-Some-clause-complaint : goal.returns-in-Some-clause-complaint
 returns-in-Some-clause-complaint c = λ what at e.

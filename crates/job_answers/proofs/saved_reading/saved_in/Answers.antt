@@ -9,7 +9,7 @@ use Rattle.job_answers.specs.declared.reading_error.ReadingError.TheVariants.{At
 use Rattle.job_answers.specs.SavedComplaints.{IsSavedComplaint, of_model, of_snapshot}
 use Rattle.job_answers.proofs.PassedOn.{one_error, passed_on}
 use Rattle.job_answers.proofs.SavedModels.{few_parameters}
-use Rattle.job_answers.proofs.ToldErrors.{of_unaccepted, same_complaint}
+use Rattle.job_answers.proofs.ToldErrors.{static_complaint_is, same_complaint}
 use Rattle.job_answers.proofs.saved_reading.saved_in.Goals as goal
 
 pub read_snapshot_pieces-requires-clause-few : goal.read_snapshot_pieces-requires-clause-few
@@ -24,7 +24,7 @@ pub returns-in-Err-clause-complaint : goal.returns-in-Err-clause-complaint
 returns-in-Err-clause-complaint c = λ what at e.
     let pieces = c.args.pieces.now in
     let snapshot = c.in_ok-raw.ensures.ends in
-    of_unaccepted (IsSavedComplaint pieces.text.now) c.in-Err.error
+    static_complaint_is (IsSavedComplaint pieces.text.now) c.in-Err.error
     (λ kind i is. of_model (written_model c.in_ok-raw.raw) snapshot.0 (record { tokens = pieces_lexemes pieces; cut = pieces.are_its; behind = drop c.in_ok-raw.behind (pieces_lexemes pieces); begins = c.in_ok-raw.ensures.begins; ends = snapshot.1 }) kind refl
     (c.in-Err.ensures.told kind i (ap (λ x. Err x) is)))
     what at (sym c.from.ensures ∙ one_error c.from.result (At what at) e)

@@ -11,7 +11,7 @@ use Rattle.model_core.specs.Rules.UrgentEdges.{plain_urgent, plain_urgent_edge, 
 use Rattle.model_core.specs.Rules.Conditions.{first_failed}
 use Rattle.model_core.specs.Rules.Merge.{leads_to, merge_conditions}
 use Rattle.model_core.specs.Code.Views.{graph_of, vertex_of}
-use Rattle.merge_rules.specs.KeptPairs.{TellsUnseen}
+use Rattle.merge_rules.specs.KeptPairs.{UnseenIsRight}
 use Rattle.merge_rules.proofs.OneStepForTwo.MergeHolds.{is_below}
 use Rattle.merge_rules.proofs.conditions.failed_before_limits.Goals as goal
 use Rattle.merge_rules.proofs.conditions.failed_before_limits.Goals.{then-first-second-via-then-first-second, then-first-second-via-else-first-second+then-not-leads_at_once}
@@ -140,6 +140,6 @@ failed_later-requires-clause-second t c = there c.args.model.now c.as_slice-vert
 pub failed_later-requires-clause-unseen : goal.failed_later-requires-clause-unseen
 failed_later-requires-clause-unseen t c =
     let g = graph_of c.args.model.now in
-    subst (TellsUnseen c.args.unseen g)
+    subst (UnseenIsRight c.args.unseen g)
     (sym (there c.args.model.now c.as_slice-vertices.result.now c.args.second c.in-Some-get.b.now c.as_slice-vertices.ensures c.in-Some-get.ensures.lookup.0 c.in-Some-get.ensures.lookup.1))
     c.requires.unseen

@@ -6,10 +6,10 @@ use Rattle.model_core.specs.EventGraph.{EventVertex, Truth}
 use Rattle.model_core.specs.Run.Step.{no_vertex, vertex_at}
 use Rattle.model_core.specs.Rules.Exclusive.{exclusive}
 use Rattle.model_core.specs.Rules.PlacedEdges.{with_place}
-use Rattle.model_core.specs.Rules.Settle.{unconditional}
+use Rattle.model_core.specs.Rules.Settle.{with_true_condition}
 use Rattle.model_core.specs.Rules.UrgentEdges.{each_pair, urgent_conditions, single_urgent}
 use Rattle.model_core.specs.Code.Views.{graph_of, vertex_of, edge_of}
-use Rattle.merge_rules.specs.Known.{TellsSingle}
+use Rattle.merge_rules.specs.FactsOfModel.{SingleIsRight}
 use Rattle.merge_rules.proofs.OneStepForTwo.MergeHolds.{read_at}
 use Rattle.merge_rules.proofs.SingleUrgentModels.SingleKept.{apart_at}
 use Rattle.merge_rules.proofs.MergedText.LimitsTold.{seen_at}
@@ -20,7 +20,7 @@ pub returns-then-may_take_any_condition-clause-tells : goal.returns-then-may_tak
 returns-then-may_take_any_condition-clause-tells c =
     let g = graph_of c.args.model.now in
     let vertex = c.in_ok-get.field-0.now in
-    let told : c.in_ok-single.field-0 ≡ single_urgent g = subst (TellsSingle g) c.in_ok-single.was c.requires in
+    let told : c.in_ok-single.field-0 ≡ single_urgent g = subst (SingleIsRight g) c.in_ok-single.was c.requires in
     let single : single_urgent g ≡ true = sym told ∙ c.if-branch.true in
     let below : c.args.vertex < length c.as_slice.result.now = grind (arith, nat_tests, c.in_ok-get.ensures.lookup.0) in
     let there : vertex_at g c.args.vertex ≡ vertex_of vertex
@@ -29,4 +29,4 @@ returns-then-may_take_any_condition-clause-tells c =
     let edges : map edge_of c.as_slice-edges.result.now ≡ (vertex_at g c.args.vertex).edges = ap (map edge_of) c.as_slice-edges.ensures ∙ ap (λ (v : EventVertex). v.edges) (sym there) in
     let pairs : each_pair (exclusive g) (urgent_conditions (map edge_of c.as_slice-edges.result.now)) ≡ true = ap (λ es. each_pair (exclusive g) (urgent_conditions es)) edges ∙ apart_at g g.vertices c.args.vertex single in
     sym (settled_single g c.args.vertex c.args.edge single
-    (ap (λ es. each_pair (exclusive g) (urgent_conditions (with_place unconditional c.args.edge es))) (sym edges) ∙ c.may_take_any_condition.ensures.serves c.if-may_take_any_condition.true (Truth true) pairs))
+    (ap (λ es. each_pair (exclusive g) (urgent_conditions (with_place with_true_condition c.args.edge es))) (sym edges) ∙ c.may_take_any_condition.ensures.serves c.if-may_take_any_condition.true (Truth true) pairs))

@@ -9,7 +9,7 @@ use Rattle.model_core.specs.Rules.Merge.{merged_with}
 use Rattle.model_core.specs.Rules.PlacedEdges.{with_place, with_vertex}
 use Rattle.model_core.specs.Code.Views.{graph_of, vertex_of}
 use Rattle.model_core.proofs.PlacesChanged.{placed-elsewhere}
-use Rattle.merge_rules.specs.Hollowed.{second_left}
+use Rattle.merge_rules.specs.Hollowed.{second_after_merge}
 use Rattle.merge_rules.proofs.HollowedText.{set_is, left_set}
 use Rattle.merge_rules.proofs.PairsBetweenMerges.PairsKept.{edges-read}
 use Rattle.merge_rules.proofs.taking_over.put_together.Goals as goal
@@ -56,7 +56,7 @@ returns-in-Ok-clause-done c =
     c.in-Ok.ensures.done
     ∙ ap (with_vertex (merged_with (vertex_of c.replace_at-other.result)) first) c.replace_at-other.ensures.put
     ∙ ap (λ (b : EventVertex). record g { vertices = with_place (merged_with b) first (slice_set g.vertices target left) }) c.replace_at-other.ensures.given
-    ∙ left_set c.args.second g first target left c.requires.apart (c.in_ok-left.ensures ∙ ap (second_left c.args.second) (sym here))
+    ∙ left_set c.args.second g first target left c.requires.apart (c.in_ok-left.ensures ∙ ap (second_after_merge c.args.second) (sym here))
 
 pub returns-in-Err-clause-unchanged : goal.returns-in-Err-clause-unchanged
 returns-in-Err-clause-unchanged c =

@@ -3,7 +3,7 @@ use Rattle.std.proofs.Common.{◌≡◌, ◌∙◌, ◌-◌, ◌^◌, length, mi
 use Rattle.model_core.specs.Text.Canonical.{canonical}
 use Rattle.model_core.specs.Rules.Prune.{pruned}
 use Rattle.model_core.specs.Code.Views.{graph_of}
-use Rattle.merge_rules.specs.Known.{IsMeasured}
+use Rattle.merge_rules.specs.FactsOfModel.{TextLengthIsRight}
 use Rattle.merge_rules.specs.Growth.{bytes_gone, capped}
 use Rattle.merge_rules.proofs.MergedText.LimitsTold.{first_among, urgent_there, gone_within, without_here, part_taken}
 use Rattle.merge_rules.proofs.within_limits.length_without.Goals as goal
@@ -11,7 +11,7 @@ use Rattle.merge_rules.proofs.within_limits.length_without.Goals as goal
 pub overflow_sub-result : goal.overflow_sub-result
 overflow_sub-result c =
     let g = graph_of c.args.model.now in
-    let exact : c.in-Some.bytes ≡ length (canonical g) = subst (IsMeasured g) c.in-Some.is c.requires.measured in
+    let exact : c.in-Some.bytes ≡ length (canonical g) = subst (TextLengthIsRight g) c.in-Some.is c.requires.measured in
     let within = gone_within g c.args.first c.args.second c.requires.holds in
     let gone : c.args.gone ≡ min (bytes_gone g c.args.first) (2 ^ 64 - 1) = c.requires.gone in
     omega (arith, exact, within, gone)
@@ -26,7 +26,7 @@ returns-in-None c =
 pub returns-in-Some : goal.returns-in-Some
 returns-in-Some c =
     let g = graph_of c.args.model.now in
-    let exact : c.in-Some.bytes ≡ length (canonical g) = subst (IsMeasured g) c.in-Some.is c.requires.measured in
+    let exact : c.in-Some.bytes ≡ length (canonical g) = subst (TextLengthIsRight g) c.in-Some.is c.requires.measured in
     part_taken (2 ^ 64 - 1) c.in-Some.bytes (length (canonical g)) (bytes_gone g c.args.first) c.args.gone exact (gone_within g c.args.first c.args.second c.requires.holds) c.requires.gone (omega arith)
 
 pub bounds-as_slice-first : goal.bounds-as_slice-first

@@ -3,7 +3,7 @@ use Rattle.std.proofs.Common.{◌≡◌, ◌∙◌, ap, arith, refl, slice_index
 use Rattle.model_core.specs.Text.Lexing.{Between, Longest, NameOf}
 use Rattle.model_lex.specs.declared.piece.PieceKind.TheVariants.{Number}
 use Rattle.model_lex.specs.PieceViews.{piece_kind}
-use Rattle.model_lex.specs.Inner.Fronts.{front_at, symbol_seen}
+use Rattle.model_lex.specs.Inner.Fronts.{front_at, symbol_as_front}
 use Rattle.model_lex.specs.declared.classes.Class.TheVariants as classes
 use Rattle.model_lex.proofs.ClassFronts.{class-front, digit_first, letter_first, word_byte_first}
 use Rattle.model_lex.proofs.FrontLemmas.{word_begins}
@@ -28,7 +28,7 @@ word c =
 number : (c : After-digits_length-length) → front_at (bytes_from c.args.text.now c.args.at) ≡ Longest c.digits_length-length.result (piece_kind (take c.digits_length-length.result (bytes_from c.args.text.now c.args.at)) Number)
 number c = rw c.digits_length-length.ensures (sym (class-front _ classes.Digit (has_bytes c.args.text.now c.args.at c.requires.inside) (sym c.in-Digit.is ∙ c.class_of.ensures)))
 
-pair : (c : After-symbol_front) → front_at (bytes_from c.args.text.now c.args.at) ≡ symbol_seen c.symbol_front.result
+pair : (c : After-symbol_front) → front_at (bytes_from c.args.text.now c.args.at) ≡ symbol_as_front c.symbol_front.result
 pair c = sym (c.symbol_front.ensures ∙ class-front _ classes.Pair (has_bytes c.args.text.now c.args.at c.requires.inside) (sym c.in-Pair.is ∙ c.class_of.ensures))
 
 pub overflow_add-result-in-Comment : goal.overflow_add-result-in-Comment
@@ -60,7 +60,7 @@ add-requires-in-Digit-clause-inside c =
 
 pub add-requires-in-Some-clause-inside : goal.add-requires-in-Some-clause-inside
 add-requires-in-Some-clause-inside c =
-    let room = room_from c.args.text.now c.args.at _ c.requires.inside (pair (goal.at.add-requires-in-Some-clause-inside c).After-symbol_front ∙ ap symbol_seen c.in-Some.is) in
+    let room = room_from c.args.text.now c.args.at _ c.requires.inside (pair (goal.at.add-requires-in-Some-clause-inside c).After-symbol_front ∙ ap symbol_as_front c.in-Some.is) in
     let few = c.requires.few in omega (arith, room)
 
 pub returns-in-Blank-clause-passes : goal.returns-in-Blank-clause-passes
@@ -79,10 +79,10 @@ pub returns-in-Digit-clause-passes : goal.returns-in-Digit-clause-passes
 returns-in-Digit-clause-passes c = passes_token c.args.text.now c.args.at c.digits_length-length.result _ c.args.list.now.items _ _ (number (goal.at.returns-in-Digit-clause-passes c).After-digits_length-length) c.add-in-Digit.ensures.added
 
 pub returns-in-Some-clause-passes : goal.returns-in-Some-clause-passes
-returns-in-Some-clause-passes c = passes_token c.args.text.now c.args.at c.in-Some.length _ c.args.list.now.items _ _ (pair (goal.at.returns-in-Some-clause-passes c).After-symbol_front ∙ ap symbol_seen c.in-Some.is) c.add-in-Some.ensures.added
+returns-in-Some-clause-passes c = passes_token c.args.text.now c.args.at c.in-Some.length _ c.args.list.now.items _ _ (pair (goal.at.returns-in-Some-clause-passes c).After-symbol_front ∙ ap symbol_as_front c.in-Some.is) c.add-in-Some.ensures.added
 
 pub returns-in-None-clause-bad_byte : goal.returns-in-None-clause-bad_byte
-returns-in-None-clause-bad_byte c = λ place e. (cc, none_from c.args.text.now c.args.at (pair (goal.at.returns-in-None-clause-bad_byte c).After-symbol_front ∙ ap symbol_seen c.in-None.is))
+returns-in-None-clause-bad_byte c = λ place e. (cc, none_from c.args.text.now c.args.at (pair (goal.at.returns-in-None-clause-bad_byte c).After-symbol_front ∙ ap symbol_as_front c.in-None.is))
 
 pub returns-in-Alone-clause-passes : goal.returns-in-Alone-clause-passes
 returns-in-Alone-clause-passes c =

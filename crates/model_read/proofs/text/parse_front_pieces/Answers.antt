@@ -13,7 +13,7 @@ use Rattle.model_lex.specs.PiecesOfText.{pieces_lexemes}
 use Rattle.model_lex.specs.declared.parse_error.ParseError.TheVariants as errors
 use Rattle.model_read.proofs.WholeText.{deep-place, front-left, front-ok, front-counted, same-error, error-unexpected, error-never_deep}
 use Rattle.model_read.proofs.PiecesFrom.{cut-is_dropped}
-use Rattle.model_read.proofs.PlacedReads.{placed-tells}
+use Rattle.model_read.proofs.PlacedReads.{placed-names}
 use Rattle.model_read.proofs.text.parse_front_pieces.Goals as goal
 
 pub returns-in-Some-clause-too_deep : goal.returns-in-Some-clause-too_deep
@@ -26,7 +26,7 @@ overflow_sub-result c =
     let text = c.args.pieces.now.text.now in
     let all = pieces_lexemes c.args.pieces.now in
     let are : c.new-cursor.result ≡ drop c.args.from all = c.new-cursor.ensures ∙ cut-is_dropped text c.as_slice.result.now c.args.pieces.now.list c.args.from c.as_slice.ensures in
-    let tells = placed-tells written_model text c.model-read.result c.model-read.new.cursor (text_and_rest (drop c.args.from all)) (Ok c.in_ok-model.model) (c.in_ok-model.ensures text refl) (rw are at c.model-read.ensures) in
+    let tells = placed-names written_model text c.model-read.result c.model-read.new.cursor (text_and_rest (drop c.args.from all)) (Ok c.in_ok-model.model) (c.in_ok-model.ensures text refl) (rw are at c.model-read.ensures) in
     rw (c.len-left.ensures, c.len.ensures) (front-left all c.model-read.new.cursor c.args.from _ (written_model c.in_ok-model.model) (sym (length-map c.args.pieces.now.list (piece_of text))) c.requires tells)
 
 pub returns-clause-ok : goal.returns-clause-ok
@@ -34,7 +34,7 @@ returns-clause-ok c =
     let text = c.args.pieces.now.text.now in
     let all = pieces_lexemes c.args.pieces.now in
     let are : c.new-cursor.result ≡ drop c.args.from all = c.new-cursor.ensures ∙ cut-is_dropped text c.as_slice.result.now c.args.pieces.now.list c.args.from c.as_slice.ensures in
-    let tells = placed-tells written_model text c.model-read.result c.model-read.new.cursor (text_and_rest (drop c.args.from all)) (Ok c.in_ok-model.model) (c.in_ok-model.ensures text refl) (rw are at c.model-read.ensures) in
+    let tells = placed-names written_model text c.model-read.result c.model-read.new.cursor (text_and_rest (drop c.args.from all)) (Ok c.in_ok-model.model) (c.in_ok-model.ensures text refl) (rw are at c.model-read.ensures) in
     let counted = front-counted text c.as_slice.result.now c.args.pieces.now.list c.args.from c.front_length.result OPENINGS_MAX c.first_too_deep.result c.as_slice.ensures (c.first_too_deep.ensures text) (c.front_length.ensures.front text) in
     rw (c.len-left.ensures, c.len.ensures) (front-ok all c.model-read.new.cursor c.args.from _ OPENINGS_MAX (written_model c.in_ok-model.model) (sym (length-map c.args.pieces.now.list (piece_of text))) c.requires tells
     (none-is_few OPENINGS_MAX (front_to_end (drop c.args.from all)) (sym counted ∙ c.in_default.is)))
@@ -44,7 +44,7 @@ returns-in_err-model c =
     let text = c.args.pieces.now.text.now in
     let tokens = drop c.args.from (pieces_lexemes c.args.pieces.now) in
     let are : c.new-cursor.result ≡ tokens = c.new-cursor.ensures ∙ cut-is_dropped text c.as_slice.result.now c.args.pieces.now.list c.args.from c.as_slice.ensures in
-    let tells = placed-tells written_model text c.model-read.result c.model-read.new.cursor (text_and_rest tokens) (Err c.in_err-model.field-0.0) (c.in_err-model.ensures text refl) (rw are at c.model-read.ensures) in
+    let tells = placed-names written_model text c.model-read.result c.model-read.new.cursor (text_and_rest tokens) (Err c.in_err-model.field-0.0) (c.in_err-model.ensures text refl) (rw are at c.model-read.ensures) in
     let counted = front-counted text c.as_slice.result.now c.args.pieces.now.list c.args.from c.front_length.result OPENINGS_MAX c.first_too_deep.result c.as_slice.ensures (c.first_too_deep.ensures text) (c.front_length.ensures.front text) in
     let p = err_from_is_err_and c.from_residual.result c.from_residual.ensures.1 in
     record {

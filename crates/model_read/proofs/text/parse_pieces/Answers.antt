@@ -7,7 +7,7 @@ use Rattle.text_laws.specs.LanguageReader.{text_read}
 use Rattle.text_laws.proofs.OpeningLaws.{none-is_few}
 use Rattle.model_lex.specs.PiecesOfText.{pieces_lexemes}
 use Rattle.model_read.proofs.WholeText.{deep-place, whole-ok, whole-unexpected, never_deep}
-use Rattle.model_read.proofs.PlacedReads.{placed-tells}
+use Rattle.model_read.proofs.PlacedReads.{placed-names}
 use Rattle.model_read.proofs.text.parse_pieces.Goals as goal
 
 pub returns-in-Some-clause-too_deep : goal.returns-in-Some-clause-too_deep
@@ -19,7 +19,7 @@ returns c =
     let tokens = pieces_lexemes c.args.pieces.now in
     let are : c.new-cursor.result ≡ tokens = c.new-cursor.ensures ∙ ap (map (piece_of text)) c.as_slice-list.ensures in
     let none = sym (rw c.as_slice-list.ensures at (c.first_too_deep.ensures text)) ∙ c.in_default.is in
-    let tells = placed-tells written_model text c.whole-read.result c.whole-read.new.cursor (text_read tokens) c.placed.result (c.placed.ensures text refl) (rw are at c.whole-read.ensures) in
+    let tells = placed-names written_model text c.whole-read.result c.whole-read.new.cursor (text_read tokens) c.placed.result (c.placed.ensures text refl) (rw are at c.whole-read.ensures) in
     record {
       ok = whole-ok text tokens c.whole-read.new.cursor OPENINGS_MAX c.placed.result tells (none-is_few OPENINGS_MAX tokens none);
       unexpected = λ at e. (none, whole-unexpected text tokens c.whole-read.new.cursor c.placed.result at tells e);

@@ -10,6 +10,6 @@ pub returns : goal.returns
 returns c =
     let check = c.source-source.ensures in
     let told = rw c.new-told.ensures at check.told in
-    let none = none_told (source_faults (meaning_of c.args.names.now) (written_number c.args.raw.now.stream) (written_choice c.args.raw.now.choice)) (sym told ∙ c.in_ok-refuse_told.ensures.untold) in
+    let none = none_told (source_faults (meaning_of c.args.names.now) (written_number c.args.raw.now.stream) (written_choice c.args.raw.now.choice)) (sym told ∙ c.in_ok-refuse_fault.ensures.untold) in
     let holds = check.unbroken none in
     record { unbroken = none; is_stream = holds.0; numbers = holds.1 }

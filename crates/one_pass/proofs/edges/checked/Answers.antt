@@ -10,5 +10,5 @@ pub returns : goal.returns
 returns c =
     let check = c.in_ok-edge.ensures in
     let told = rw c.new-told.ensures at check.told in
-    let none = none_told (edge_faults (meaning_of c.args.names.now) c.args.taken.now (written_edge c.args.raw.now)) (sym told ∙ c.in_ok-refuse_told.ensures.untold) in
+    let none = none_told (edge_faults (meaning_of c.args.names.now) c.args.taken.now (written_edge c.args.raw.now)) (sym told ∙ c.in_ok-refuse_fault.ensures.untold) in
     rw (c.free.ensures, c.of-edge.ensures) (record { unbroken = none; numbers = check.unbroken none })

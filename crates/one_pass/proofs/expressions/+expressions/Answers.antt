@@ -34,8 +34,8 @@ first_operand-returns-else-is_negated t c = rw c.if-is_negated.false c.unary.ens
 pub operand_under-returns : goal.operand_under-returns
 operand_under-returns t c =
     let begins = c.begins_negation-is_negated in
-    behind_first (meaning_of c.args.names.now) (climb c.args.under c.least_behind-least.result) _ _ c.args.cursor.now c.first_operand.new.cursor c.others.new.cursor c.others.result _ _ _ _
-    (first_comes c.args.under c.args.cursor.now begins.result c.least_behind-least.result c.requires begins.ensures.yes begins.ensures.no c.least_behind-least.ensures) c.in_ok-first_operand.ensures c.others.ensures.reads c.others.ensures.shorter
+    behind_first (meaning_of c.args.names.now) (climb c.args.under c.least_level_after-least.result) _ _ c.args.cursor.now c.first_operand.new.cursor c.others.new.cursor c.others.result _ _ _ _
+    (first_comes c.args.under c.args.cursor.now begins.result c.least_level_after-least.result c.requires begins.ensures.yes begins.ensures.no c.least_level_after-least.ensures) c.in_ok-first_operand.ensures c.others.ensures.reads c.others.ensures.shorter
 
 pub others-returns-in-None-clause-reads : goal.others-returns-in-None-clause-reads
 others-returns-in-None-clause-reads t c = λ e is. record {

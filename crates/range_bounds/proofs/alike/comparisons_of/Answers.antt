@@ -4,7 +4,7 @@ use Rattle.std.proofs.lemmas.List.{drop_all}
 use Rattle.model_core.specs.declared.vertex.Edge.{Edge}
 use Rattle.model_core.specs.Code.Views.{graph_of, edge_of, expression_of}
 use Rattle.range_bounds.specs.Inner.ComparedAlike.{live_conditions}
-use Rattle.range_bounds.proofs.ToldByNumbers.{all_compared}
+use Rattle.range_bounds.proofs.ExcludedByNumbers.{all_compared}
 use Rattle.range_bounds.proofs.alike.comparisons_of.Goals as goal
 
 pub returns-clause-found : goal.returns-clause-found

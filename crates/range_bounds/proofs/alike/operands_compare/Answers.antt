@@ -7,7 +7,7 @@ use Rattle.model_core.specs.Rules.Exclusive.{same_expression, literal_number, Co
 use Rattle.model_core.specs.Code.Views.{expression_of, operator_of}
 use Rattle.model_core.proofs.SignedBits.{signed_bits}
 use Rattle.model_core.proofs.SameExpressions.{same_itself}
-use Rattle.range_bounds.proofs.ToldByNumbers.{comparison_told, short_told}
+use Rattle.range_bounds.proofs.ExcludedByNumbers.{comparison_told, short_told}
 use Rattle.range_bounds.proofs.alike.operands_compare.Goals as goal
 
 pub returns : goal.returns

@@ -5,7 +5,7 @@ use Rattle.std.proofs.lemmas.List.{take_rest}
 use Rattle.model_core.specs.declared.vertex.Edge.{Edge}
 use Rattle.model_core.specs.Code.Views.{graph_of, edge_of}
 use Rattle.range_bounds.specs.LiveEdges.{is_live}
-use Rattle.range_bounds.proofs.ToldByNumbers.{another_told}
+use Rattle.range_bounds.proofs.ExcludedByNumbers.{another_told}
 use Rattle.range_bounds.proofs.urgency.another_is_live.Goals as goal
 
 pub returns-then-one_is_live : goal.returns-then-one_is_live

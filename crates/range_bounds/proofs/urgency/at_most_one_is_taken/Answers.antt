@@ -4,7 +4,7 @@ use Rattle.model_core.specs.Rules.UrgentEdges.{each_pair}
 use Rattle.model_core.specs.Code.Views.{graph_of, edge_of}
 use Rattle.range_bounds.specs.declared.alike.Compared.{Compared}
 use Rattle.range_bounds.specs.Inner.ComparedAlike.{never_both}
-use Rattle.range_bounds.proofs.ToldByNumbers.{alike_told}
+use Rattle.range_bounds.proofs.ExcludedByNumbers.{alike_told}
 use Rattle.range_bounds.proofs.urgency.at_most_one_is_taken.Goals as goal
 
 pub returns-in-Some : goal.returns-in-Some

@@ -3,7 +3,7 @@ use Rattle.std.proofs.Common.{◌∙◌, not, ◌||◌, map, sym, ap, ap₂}
 use Rattle.std.specs.List.{list_any, remove}
 use Rattle.model_core.specs.Code.Views.{graph_of, edge_of}
 use Rattle.range_bounds.specs.LiveEdges.{is_live}
-use Rattle.range_bounds.proofs.ToldByNumbers.{any_condition_serves}
+use Rattle.range_bounds.proofs.ExcludedByNumbers.{any_condition_serves}
 use Rattle.range_bounds.proofs.urgency.may_take_any_condition.Goals as goal
 
 pub returns-then-not-is_urgent_at-clause-serves : goal.returns-then-not-is_urgent_at-clause-serves

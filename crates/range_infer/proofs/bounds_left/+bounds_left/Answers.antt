@@ -5,7 +5,7 @@ use Rattle.model_core.specs.Code.Views.{expression_of, operator_of}
 use Rattle.model_core.specs.Ranges.Refined.{refined}
 use Rattle.range_infer.specs.Inner.RangesLeft.{variables_left}
 use Rattle.range_infer.proofs.GuardsBeside.{beside_untold, beside_told}
-use Rattle.range_infer.proofs.LedBack.{same_variables, stays-trans, stays-back, back-trans}
+use Rattle.range_infer.proofs.RestoredRanges.{same_variables, stays-trans, stays-back, back-trans}
 use Rattle.range_infer.proofs.bounds_left.+bounds_left.Goals as goal
 
 pub bounds_beside-returns-in-None-clause-left : goal.bounds_beside-returns-in-None-clause-left
@@ -44,5 +44,5 @@ bounds_where-returns-clause-back t c = back-trans c.args.left.now c.bounds_left.
 pub bounds_where-returns-clause-left : goal.bounds_where-returns-clause-left
 bounds_where-returns-clause-left t c = c.in_ok-refine.ensures.left ∙ ap (refined (expression_of c.args.expr.now) c.args.value) (same_variables c.args.left.now c.bounds_left.new.left c.in_ok-bounds.ensures.left)
 
-pub bounds_where-returns-then-tells_of_both-clause-back : goal.bounds_where-returns-then-tells_of_both-clause-back
-bounds_where-returns-then-tells_of_both-clause-back t c = back-trans c.args.left.now c.bounds_where.new.left c.bounds_where-then-tells_of_both.new.left c.in_ok-a.ensures.back c.in_ok-b.ensures.back
+pub bounds_where-returns-then-refines_both-clause-back : goal.bounds_where-returns-then-refines_both-clause-back
+bounds_where-returns-then-refines_both-clause-back t c = back-trans c.args.left.now c.bounds_where.new.left c.bounds_where-then-refines_both.new.left c.in_ok-a.ensures.back c.in_ok-b.ensures.back

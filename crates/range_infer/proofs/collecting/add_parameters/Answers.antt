@@ -5,7 +5,7 @@ use Rattle.model_core.specs.Code.Views.{expression_of}
 use Rattle.range_infer.specs.Inner.RangesLeft.{variables_left}
 use Rattle.range_infer.specs.Inner.LookedAt.{assigned_seen}
 use Rattle.range_infer.proofs.KeptBack.{itself}
-use Rattle.range_infer.proofs.LedBack.{same_variables, stays-trans}
+use Rattle.range_infer.proofs.RestoredRanges.{same_variables, stays-trans}
 use Rattle.range_infer.proofs.AssignedBeside.{one_seen, all_given}
 use Rattle.range_infer.proofs.collecting.add_parameters.Goals as goal
 

@@ -7,7 +7,7 @@ use Rattle.model_core.specs.Code.Views.{location_of, expression_of}
 use Rattle.range_infer.specs.Inner.RangesLeft.{variables_left}
 use Rattle.range_infer.specs.Inner.LookedAt.{looks_at_value, assigned_seen}
 use Rattle.range_infer.proofs.KeptBack.{itself}
-use Rattle.range_infer.proofs.LedBack.{same_variables, stays-trans}
+use Rattle.range_infer.proofs.RestoredRanges.{same_variables, stays-trans}
 use Rattle.range_infer.proofs.AssignedBeside.{nothing_seen, one_seen, all_given, target_at, many_targets}
 use Rattle.range_infer.proofs.collecting.add_targets.Goals as goal
 

@@ -39,15 +39,15 @@ returns-then-same_ranges c =
     let stays = sym c.as_slice-after.ensures.value ∙ (c.same_ranges.ensures.0 c.if-same_ranges.true ∙ c.as_slice-before.ensures.value) in
     subst (IsInferred g) (sym c.from_vec.ensures) (inferred g keeps turn.rounds turn.ranges.items turn.takes.items turn.invariant c.in_ok-next.next.items made stays)
 
-pub taken_again-requires-clause-many_old : goal.taken_again-requires-clause-many_old
-taken_again-requires-clause-many_old c =
+pub taken_by_moved_readers-requires-clause-many_old : goal.taken_by_moved_readers-requires-clause-many_old
+taken_by_moved_readers-requires-clause-many_old c =
     let g = graph_of c.args.model.now in
     let keeps = ((c.validity_is_by_parts.ensures.by_parts g).0 c.requires.valid).0.parts in
     let turn = c.loop-takes in
     ap length c.as_slice-before.ensures.value ∙ (as_many g keeps turn.rounds turn.ranges.items turn.takes.items turn.invariant ∙ length-map c.args.model.now.vars variable_of)
 
-pub taken_again-requires-clause-many : goal.taken_again-requires-clause-many
-taken_again-requires-clause-many c =
+pub taken_by_moved_readers-requires-clause-many : goal.taken_by_moved_readers-requires-clause-many
+taken_by_moved_readers-requires-clause-many c =
     let g = graph_of c.args.model.now in
     ap length (c.as_slice-after.ensures.value ∙ c.in_ok-next.ensures) ∙ (variables_given g _ ∙ length-map c.args.model.now.vars variable_of)
 

@@ -13,4 +13,4 @@ returns-in_default c = λ first w stands.
 
 pub returns-in-Some : goal.returns-in-Some
 returns-in-Some c = λ first w stands.
-    last_back first c.args.left.now c.forget.new.left c.args.kept.now.items c.pop.new.self.items c.in-Some.count w c.in-Some.ensures.items c.forget.ensures stands
+    last_back first c.args.left.now c.restore_ranges.new.left c.args.kept.now.items c.pop.new.self.items c.in-Some.count w c.in-Some.ensures.items c.restore_ranges.ensures stands

@@ -1,6 +1,6 @@
 -- Nothing is replaced.
 use Rattle.range_infer.proofs.KeptBack.{itself}
-use Rattle.range_infer.proofs.LedBack.{stays-back}
+use Rattle.range_infer.proofs.RestoredRanges.{stays-back}
 use Rattle.range_infer.proofs.refinement.+refine.Goals as goal
 
 pub returns-in-Int-clause-back : goal.returns-in-Int-clause-back

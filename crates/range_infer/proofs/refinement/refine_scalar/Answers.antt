@@ -7,7 +7,7 @@ use Rattle.model_core.specs.Code.Views.{operator_of, variable_of}
 use Rattle.model_core.specs.declared.var_range.VarRange.{VarRange}
 use Rattle.model_core.specs.Ranges.OtherRanges.{with_range, no_range}
 use Rattle.model_core.specs.Ranges.Refined.{where_holds}
-use Rattle.range_infer.proofs.LedBack.{one_replaced}
+use Rattle.range_infer.proofs.RestoredRanges.{one_replaced}
 use Rattle.range_infer.proofs.VariablesOfModel.{refined_found, refined_past}
 use Rattle.range_infer.proofs.refinement.refine_scalar.Goals as goal
 

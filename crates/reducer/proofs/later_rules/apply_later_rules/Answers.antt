@@ -2,7 +2,7 @@
 use Rattle.std.proofs.Common.{List, map, subst, sym}
 use Rattle.model_core.specs.declared.application.Application.{Application}
 use Rattle.model_core.specs.Code.Views.{graph_of, application_of}
-use Rattle.reducer.specs.Inner.LaterRules.{Finished}
+use Rattle.reducer.specs.Inner.LaterRules.{IsStrategyNoted}
 use Rattle.reducer.proofs.RuleByRule.{led_further, leaves_less, led_to_the_end}
 use Rattle.reducer.proofs.later_rules.apply_later_rules.Goals as goal
 
@@ -18,5 +18,5 @@ loop-underway-preserved c = record {
 pub returns : goal.returns
 returns c =
     let left = graph_of c.apply_one.new.self.model in
-    subst (λ (noted : List Application). Finished (graph_of c.args.model) left (map application_of c.args.applications.items) (map application_of noted)) (sym c.from_vec.ensures)
+    subst (λ (noted : List Application). IsStrategyNoted (graph_of c.args.model) left (map application_of c.args.applications.items) (map application_of noted)) (sym c.from_vec.ensures)
     (led_to_the_end _ _ _ _ _ _ _ c.if-branch.false c.loop-underway.invariant.led c.in_ok-apply_one.ensures.made)

@@ -9,7 +9,7 @@ returns-then-second-eq0 c = λ g first all none are. c.merging_leaves_vertices_r
 
 pub returns : goal.returns
 returns c = λ g first all none are.
-    let is = c.is_led_to.ensures (merged g first c.args.second) are in
-    told_alone (merged g first c.args.second) c.args.second c.is_led_to.result is
+    let is = c.has_incoming_edge.ensures (merged g first c.args.second) are in
+    told_alone (merged g first c.args.second) c.args.second c.has_incoming_edge.result is
     (λ led. c.merging_leaves_vertices_reached.ensures.led g first c.args.second all none (sym is ∙ led))
     (λ unled. c.merging_leaves_vertices_reached.ensures.unled g first c.args.second all none c.if-second-eq0.false (sym is ∙ unled))

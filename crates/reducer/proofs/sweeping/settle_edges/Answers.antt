@@ -3,10 +3,10 @@ use Rattle.std.proofs.Common.{◌≡◌, ◌∙◌, ◌<◌, cond, ap, map, leng
 use Rattle.std.proofs.lemmas.List.{take_at}
 use Rattle.model_core.specs.declared.vertex.Edge.{Edge}
 use Rattle.model_core.specs.Code.Views.{graph_of, edge_of}
-use Rattle.model_core.specs.Rules.Settle.{unconditional}
+use Rattle.model_core.specs.Rules.Settle.{with_true_condition}
 use Rattle.sig_base.proofs.Lists.{ChangedTo-at, ChangedTo-step, ChangedTo-all, ChangedTo-length}
 use Rattle.edge_pruning.specs.declared.finding.EdgeRule.TheVariants as edge_rules
-use Rattle.edge_pruning.specs.EdgeRules.{test_of}
+use Rattle.edge_pruning.specs.EdgeRules.{edge_test}
 use Rattle.reducer.specs.Inner.Sweep.{settled_if_proved}
 use Rattle.reducer.proofs.SweepCode.{one_noted, one_further}
 use Rattle.reducer.proofs.sweeping.settle_edges.Goals as goal
@@ -23,10 +23,10 @@ loop-edge-preserved c =
     let below : i < length ys = omega (arith, same_length, c.loop-edge-test.true) in
     let there : get_or ys i e ≡ get_or xs i e = ChangedTo-at edge_of f i xs ys e c.loop-edge.invariant.settled in
     let same : get_or ys i e ≡ get_or xs i (get_or ys i e) = there ∙ ap (get_or xs i) (c.edge-item.is) in
-    let test : c.can_apply-proved.result ≡ test_of edge_rules.Settle g (edge_of (get_or ys i e)) = c.can_apply-proved.ensures in
+    let test : c.can_apply-proved.result ≡ edge_test edge_rules.Settle g (edge_of (get_or ys i e)) = c.can_apply-proved.ensures in
     record {
       counted = omega (arith, c.loop-edge.invariant.counted);
-      settled = rw add-one (ChangedTo-step edge_of f i xs ys e _ below (c.settle_edge.ensures ∙ ap (λ b. cond b (unconditional (edge_of (get_or ys i e))) (edge_of (get_or ys i e))) test) c.loop-edge.invariant.settled);
+      settled = rw add-one (ChangedTo-step edge_of f i xs ys e _ below (c.settle_edge.ensures ∙ ap (λ b. cond b (with_true_condition (edge_of (get_or ys i e))) (edge_of (get_or ys i e))) test) c.loop-edge.invariant.settled);
       noted = one_noted edge_rules.Settle g c.args.vertex.now c.loop-edge.before _ i xs (get_or ys i e) c.can_apply-proved.result _ _ _ c.loop-edge-test.true same test
           (one_further c.loop-edge.before c.can_apply-proved.result) c.in_ok-note_edge.ensures c.loop-edge.invariant.noted;
     }

@@ -17,11 +17,11 @@ loop-place-preserved c =
     let left = map application_of (drop c.loop-place.place c.args.applications.now) in
     let later = map application_of (drop (c.loop-place.place + 1) c.args.applications.now) in
     let is = remaining_more application_of c.args.applications.now c.loop-place.place c.index-applications-place.result c.loop-place-test.true c.index-applications-place.is in
-    let (next, made, serves) = was_made later g a _ (graph_of c.apply_before.new.model) c.if-not-branch.false c.in_ok-apply_before.ensures.made in
+    let (next, made, serves) = was_made later g a _ (graph_of c.apply_with_next.new.model) c.if-not-branch.false c.in_ok-apply_with_next.ensures.made in
     record {
-      listed = c.in_ok-list_anew.ensures g next made serves.names c.loop-place.invariant.listed;
-      known = c.in_ok-apply_before.ensures.known;
-      counts = counts_serve c.loop-place.model c.apply_before.new.model _ _ (fewer serves.variables (c.applications_add_no_variables.ensures g next a made)) c.in_ok-apply_before.ensures.counts c.loop-place.invariant.counts;
+      listed = c.in_ok-find_places_anew.ensures g next made serves.names c.loop-place.invariant.listed;
+      known = c.in_ok-apply_with_next.ensures.known;
+      counts = counts_serve c.loop-place.model c.apply_with_next.new.model _ _ (fewer serves.variables (c.applications_add_no_variables.ensures g next a made)) c.in_ok-apply_with_next.ensures.counts c.loop-place.invariant.counts;
       bad = bad_later g a left later is next made _ c.loop-place.place c.loop-place.invariant.bad ∙ ap (option_map (λ k. k + (c.loop-place.place + 1))) serves.bad;
       reached = reached_later g a left later is next made _ c.loop-place.invariant.reached ∙ serves.reached;
     }
@@ -33,7 +33,7 @@ returns-then-not-branch-clause-bad c =
     let left = map application_of (drop c.loop-place.place c.args.applications.now) in
     let later = map application_of (drop (c.loop-place.place + 1) c.args.applications.now) in
     let is = remaining_more application_of c.args.applications.now c.loop-place.place c.index-applications-place.result c.loop-place-test.true c.index-applications-place.is in
-    bad_here g a left later is (was_refused later g a _ (graph_of c.apply_before.new.model) c.if-not-branch.true c.in_ok-apply_before.ensures.made) _ c.loop-place.place c.loop-place.invariant.bad
+    bad_here g a left later is (was_refused later g a _ (graph_of c.apply_with_next.new.model) c.if-not-branch.true c.in_ok-apply_with_next.ensures.made) _ c.loop-place.place c.loop-place.invariant.bad
 
 never_none : (n : ℕ) → ◌≡◌ {A = Result (Option ℕ) NoMemory} (Ok (Some n)) (Ok None) → ⊥
 never_none n e = cc

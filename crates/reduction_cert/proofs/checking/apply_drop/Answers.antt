@@ -5,9 +5,9 @@ use Rattle.model_core.specs.Code.Views.{graph_of}
 use Rattle.model_core.specs.Rules.Conditions.{first_failed}
 use Rattle.model_core.specs.Rules.Drop.{drop_conditions, dropped}
 use Rattle.model_core.specs.Rules.Reduction.{vertices_named, unless_failed}
-use Rattle.merge_rules.specs.Known.{IsKnown}
+use Rattle.merge_rules.specs.FactsOfModel.{FactsAreRight}
 use Rattle.reduction_cert.proofs.PlacesByTable.{all_by_table}
-use Rattle.reduction_cert.proofs.ToldByRules.{told_answer, told_holds, told_result, kept_known, drop_named}
+use Rattle.reduction_cert.proofs.ToldByRules.{told_answer, told_holds, told_result, facts_kept, drop_named}
 use Rattle.reduction_cert.proofs.checking.apply_drop.Goals as goal
 
 pub returns-clause-made : goal.returns-clause-made
@@ -20,7 +20,7 @@ returns-clause-made c =
     let told : unless_failed failed (dropped g vs) ≡ cond c.in_ok-made.made (Some h) None
     = subst (λ (answer : Result Bool NoMemory). IfOk answer (λ made. unless_failed failed (dropped g vs) ≡ cond made (Some h) None)) c.in_ok-made.was
     (told_answer (dropped g vs) h failed c.drop_vertices.result c.drop_vertices.ensures.done c.drop_vertices.ensures.refused c.was_made.result c.was_made.ensures.made c.was_made.ensures.refused) in
-    drop_named g c.args.names.now vs named ∙ told ∙ ap (λ made. cond made (Some h) None) (sym c.keep_where_made.ensures.is)
+    drop_named g c.args.names.now vs named ∙ told ∙ ap (λ made. cond made (Some h) None) (sym c.keep_facts_if_made.ensures.is)
 
 pub returns-clause-known : goal.returns-clause-known
 returns-clause-known c =
@@ -28,11 +28,11 @@ returns-clause-known c =
     let h = graph_of c.drop_vertices.new.model in
     let vs = c.in-Some.dropped in
     let failed = first_failed (drop_conditions g vs) in
-    let told : failed ≡ None → IsKnown (dropped g vs) c.know_without.new.known = subst (λ (vs : List ℕ). first_failed (drop_conditions g vs) ≡ None → IsKnown (dropped g vs) c.know_without.new.known) c.as_slice.ensures c.know_without.ensures.known in
-    kept_known (dropped g vs) h failed c.in_ok-made.made c.know_without.new.known c.keep_where_made.new.known
+    let told : failed ≡ None → FactsAreRight (dropped g vs) c.keep_after_drop.new.known = subst (λ (vs : List ℕ). first_failed (drop_conditions g vs) ≡ None → FactsAreRight (dropped g vs) c.keep_after_drop.new.known) c.as_slice.ensures c.keep_after_drop.ensures.known in
+    facts_kept (dropped g vs) h failed c.in_ok-made.made c.keep_after_drop.new.known c.keep_facts_if_made.new.known
     (λ is.
     let ok = c.was_made.ensures.made (c.in_ok-made.was ∙ ap Ok is) in (
       told_holds (dropped g vs) h failed c.drop_vertices.result c.drop_vertices.ensures.done c.drop_vertices.ensures.refused ok,
       told_result (dropped g vs) h failed c.drop_vertices.result c.drop_vertices.ensures.done c.drop_vertices.ensures.refused ok,
     ))
-    told c.keep_where_made.ensures.kept c.keep_where_made.ensures.forgotten
+    told c.keep_facts_if_made.ensures.kept c.keep_facts_if_made.ensures.forgotten

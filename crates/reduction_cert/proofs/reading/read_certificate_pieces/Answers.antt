@@ -2,7 +2,7 @@
 use Rattle.std.proofs.Common.{◌≡◌, ◌∙◌, drop, map, refl, sym}
 use Rattle.model_core.specs.Code.Views.{application_of}
 use Rattle.model_core.specs.Text.CertificateText.{certificate_format}
-use Rattle.model_core.specs.Text.FirstWrong.{told_place}
+use Rattle.model_core.specs.Text.FirstWrong.{wrong_place}
 use Rattle.text_laws.specs.FormatReader.{and_next, whole_read}
 use Rattle.text_laws.specs.LanguageReader.{language_reader}
 use Rattle.model_lex.specs.PiecesOfText.{pieces_lexemes}
@@ -17,9 +17,9 @@ returns c =
     let left = c.whole-read.new.cursor in
     let are : c.from_place-cursor.result ≡ tokens = c.from_place-cursor.ensures in
     let read : Returned (map application_of) c.whole-read.result left (and_next whole_read (language_reader certificate_format tokens)) = rw are at c.whole-read.ensures in
-    let placed : c.placed.result ≡ placed_at (told_place text left) c.whole-read.result = c.placed.ensures text refl in
+    let placed : c.placed.result ≡ placed_at (wrong_place text left) c.whole-read.result = c.placed.ensures text refl in
     record {
-      ok = rw placed (certificate-ok tokens left (told_place text left) c.whole-read.result read);
+      ok = rw placed (certificate-ok tokens left (wrong_place text left) c.whole-read.result read);
       unexpected = λ at e. certificate-unexpected text tokens left c.whole-read.result at read (sym placed ∙ e);
-      never_too_deep = λ at e. certificate-never_deep (told_place text left) c.whole-read.result at (sym placed ∙ e);
+      never_too_deep = λ at e. certificate-never_deep (wrong_place text left) c.whole-read.result at (sym placed ∙ e);
     }

@@ -5,8 +5,8 @@ use Rattle.model_core.specs.Run.Step.{no_vertex, vertex_at}
 use Rattle.model_core.specs.Rules.Conditions.{first_failed}
 use Rattle.model_core.specs.Rules.Drop.{drop_conditions, dropped}
 use Rattle.merge_rules.specs.Growth.{body_lines}
-use Rattle.merge_rules.specs.Known.{AreBodies}
-use Rattle.reduction_cert.specs.KnownWithout.{bodies_without}
+use Rattle.merge_rules.specs.FactsOfModel.{BodiesAreRight}
+use Rattle.reduction_cert.specs.KnownWithout.{bodies_after_drop}
 use Rattle.reduction_cert.proofs.BodiesLeft.{only, none-without, bodies-left}
 use Rattle.reduction_cert.proofs.without_vertices.keep_bodies_without.Goals as goal
 
@@ -15,18 +15,18 @@ returns-then-vertices-eq1-clause-are c = λ g are holds.
     let vs = c.args.vertices.now in
     let gone = get_or vs 0 0 in
     let one : vs ≡ gone ∷ [] = only vs c.if-vertices-eq1.true in
-    subst (AreBodies (dropped g vs)) (sym c.take_away.ensures)
+    subst (BodiesAreRight (dropped g vs)) (sym c.take_away.ensures)
     (bodies-left g (dropped g vs) gone c.args.bodies.now
     (λ k. subst (λ (ks : List ℕ). body_lines (dropped g ks) (vertex_at (dropped g ks) k) ≡ body_lines g (slice_index_or (remove g.vertices gone) k no_vertex)) (sym one)
     (c.dropping_one_leaves_lines.ensures g gone k (subst (λ (ks : List ℕ). first_failed (drop_conditions g ks) ≡ None) one holds)))
     are)
 
 pub returns-else-vertices-eq1-clause-are : goal.returns-else-vertices-eq1-clause-are
-returns-else-vertices-eq1-clause-are c = λ g are holds. subst (AreBodies (dropped g c.args.vertices.now)) (sym c.forget.ensures) (λ k. tt)
+returns-else-vertices-eq1-clause-are c = λ g are holds. subst (BodiesAreRight (dropped g c.args.vertices.now)) (sym c.forget.ensures) (λ k. tt)
 
 -- one alone goes
 pub returns-then-vertices-eq1-clause-is : goal.returns-then-vertices-eq1-clause-is
-returns-then-vertices-eq1-clause-is c = c.take_away.ensures ∙ sym (ap (bodies_without c.args.bodies.now) (only c.args.vertices.now c.if-vertices-eq1.true))
+returns-then-vertices-eq1-clause-is c = c.take_away.ensures ∙ sym (ap (bodies_after_drop c.args.bodies.now) (only c.args.vertices.now c.if-vertices-eq1.true))
 
 pub returns-else-vertices-eq1-clause-is : goal.returns-else-vertices-eq1-clause-is
 returns-else-vertices-eq1-clause-is c = c.forget.ensures ∙ sym (none-without c.args.bodies.now c.args.vertices.now c.if-vertices-eq1.false)

@@ -4,10 +4,10 @@ use Rattle.model_core.specs.EventGraph.{EventGraph}
 use Rattle.model_core.specs.Text.VersionNeeded.{needs_version_two}
 use Rattle.model_core.specs.Code.Views.{graph_of}
 use Rattle.model_core.specs.Rules.Drop.{dropped}
-use Rattle.merge_rules.specs.Known.{TellsVersion}
+use Rattle.merge_rules.specs.FactsOfModel.{VersionIsRight}
 use Rattle.reduction_cert.proofs.without_vertices.version_without.Goals as goal
 
-as_before : (g h : EventGraph) (two : Option Bool) → needs_version_two h ≡ needs_version_two g → TellsVersion g two → TellsVersion h two
+as_before : (g h : EventGraph) (two : Option Bool) → needs_version_two h ≡ needs_version_two g → VersionIsRight g two → VersionIsRight h two
 as_before g h None same tells = tt
 as_before g h (Some two) same tells = tells ∙ sym same
 

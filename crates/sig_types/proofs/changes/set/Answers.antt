@@ -8,4 +8,4 @@ use Rattle.sig_types.proofs.changes.set.Goals as goal
 pub returns : goal.returns
 returns c =
     set_checked (meaning_of c.args.names.now) _ _ _ _ c.args.at (map written_target c.args.targets.now) (map written_expression c.args.raws.now) _
-    (simp length-map c.note.ensures) c.tell_too_many.ensures c.in_ok-change.ensures
+    (simp length-map c.note.ensures) c.report_too_many.ensures c.in_ok-change.ensures

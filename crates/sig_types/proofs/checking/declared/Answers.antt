@@ -12,4 +12,4 @@ returns-clause-told c =
     let m = written_model c.args.raw.now in
     let again = repeated_names [] (map declared_name (declarations m)) in
     told_both _ c.names_of.new.told _ (name_too_long m.name ++ again) (faults_of_counts m)
-    (told_both _ c.tell_long_name.new.told c.names_of.new.told (name_too_long m.name) again c.tell_long_name.ensures c.in_ok-names.ensures.told) c.tell_counts.ensures
+    (told_both _ c.report_long_name.new.told c.names_of.new.told (name_too_long m.name) again c.report_long_name.ensures c.in_ok-names.ensures.told) c.report_counts.ensures

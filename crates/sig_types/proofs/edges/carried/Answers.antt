@@ -26,9 +26,9 @@ returns-in-Some c =
     let kinds = c.in-Some.kinds.now in
     let some : taken_by c.args.taken.now c.args.target ≡ Some kinds = sym c.taken_at.ensures ∙ ap (option_map _) c.in-Some.is in
     let given : length (written_items e.values) ≡ length (written_items c.args.raw.now.values) = rw (← map-items written_expression c.args.raw.now.values) (simp length-map) in
-    let counted = rw (c.as_slice-kinds.ensures, c.items-raws.ensures, ← given) at c.tell_count.ensures in
+    let counted = rw (c.as_slice-kinds.ensures, c.items-raws.ensures, ← given) at c.report_value_count.ensures in
     rw some
     (IfOk-weaker c.values-in-Some.result _ _
     (λ es checked. behind c.args.told.now (count_faults e.kind (length kinds) (length (written_items e.values)) e.target.at) counted
-    (values_left_out (meaning_of c.args.names.now) c.args.taken.now c.tell_count.new.told c.values-in-Some.new.told kinds e.values (map expression_of es) checked))
+    (values_left_out (meaning_of c.args.names.now) c.args.taken.now c.report_value_count.new.told c.values-in-Some.new.told kinds e.values (map expression_of es) checked))
     (rw (c.as_slice-kinds.ensures, c.items-raws.ensures, map-items written_expression c.args.raw.now.values) at c.values-in-Some.ensures))

@@ -12,5 +12,5 @@ returns c =
     let t = written_table c.args.raw.now in
     let long = name_too_long t.name in
     let many = too_many ROWS_MAX (map (λ (r : WrittenRow). r.at) t.rows) in
-    let told = told_both c.args.told.now c.tell_long_name.new.told c.tell_too_many.new.told long many c.tell_long_name.ensures (rw c.as_slice.ensures at c.tell_too_many.ensures) in
+    let told = told_both c.args.told.now c.report_long_name.new.told c.report_too_many.new.told long many c.report_long_name.ensures (rw c.as_slice.ensures at c.report_too_many.ensures) in
     IfOk-weaker c.rows.result _ _ (λ rows checked. behind c.args.told.now (long ++ many) told (rw c.as_slice-2.ensures at checked)) c.rows.ensures

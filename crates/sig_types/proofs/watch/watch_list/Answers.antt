@@ -5,4 +5,4 @@ use Rattle.static_laws.proofs.Checks.{before}
 use Rattle.sig_types.proofs.watch.watch_list.Goals as goal
 
 pub returns : goal.returns
-returns c = before _ (repeated_names [] (map written_name c.args.raws.now)) c.in_ok-watch.ensures c.in_ok-tell_repeated.ensures
+returns c = before _ (repeated_names [] (map written_name c.args.raws.now)) c.in_ok-watch.ensures c.in_ok-report_repeats.ensures

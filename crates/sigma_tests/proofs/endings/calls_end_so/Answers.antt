@@ -12,7 +12,7 @@ use Rattle.command_words.specs.declared.job.Job.TheVariants as jobs
 use Rattle.command_words.specs.declared.run_options.TheConstants.{ROOM_USUAL}
 use Rattle.answer_delivery.specs.declared.complaint.Complaint.TheVariants as complaints
 use Rattle.answer_delivery.specs.declared.status.End.TheVariants as ends
-use Rattle.job_answers.specs.RunAnswer.{refused_or, told_of}
+use Rattle.job_answers.specs.RunAnswer.{refused_or, answer_of_look}
 use Rattle.job_answers.specs.CertifyAnswer.{answer_of_verdict}
 use Rattle.sigma_tests.proofs.endings.calls_end_so.Goals as goal
 
@@ -172,7 +172,7 @@ returns-clause-bad_start c = λ text line g reads is. (
     jobs.Run 10 0 5 (pos 7 ∷ []) ROOM_USUAL,
     refl,
     record {
-      answer = record { text = text; told = refl; answers = inr (reads.fits, inr (g, reads, sym (ap (λ o. refused_or o (told_of g 10 5 (look g 0 (pos 7 ∷ []) 10 5))) is))) };
+      answer = record { text = text; told = refl; answers = inr (reads.fits, inr (g, reads, sym (ap (λ o. refused_or o (answer_of_look g 10 5 (look g 0 (pos 7 ∷ []) 10 5))) is))) };
       input_read = nothing_past TEXT_MAX text reads.fits;
       input_steady = refl;
       output_untouched = refl;

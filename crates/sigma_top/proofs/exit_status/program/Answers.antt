@@ -48,4 +48,4 @@ if_ok (Err e) P Q each h = tt
 
 pub returns-clause-promises : goal.returns-clause-promises
 returns-clause-promises g c =
-    if_ok c.args.words _ _ (λ w. at_exit _ _ c.work-status.result _ _ _ _ c.from.ensures c.number.ensures) c.work-status.ensures.promises
+    if_ok c.args.words _ _ (λ w. at_exit _ _ c.program_status-status.result _ _ _ _ c.from.ensures c.number.ensures) c.program_status-status.ensures.promises

@@ -1,7 +1,7 @@
 -- Each exit has what is known of the bytes that were taken.
 use Rattle.std.proofs.Common.{◌≡◌, ◌∙◌, Option, ℕ, Ok, Err, ap, sym, subst}
 use Rattle.sig_base.specs.declared.take_error.TakeError.TheVariants as errors
-use Rattle.sigma_top.specs.declared.text_taking.Taken.TheVariants as taken
+use Rattle.sigma_top.specs.declared.text_taking.TakenText.TheVariants as taken
 use Rattle.answer_delivery.specs.declared.status.Failure.TheVariants as failures
 use Rattle.sigma_top.specs.Inner.CallSteps.{TakesText}
 use Rattle.sigma_top.proofs.InputRead.{no_error, other_error, all_taken, taken_to_end, long_taken, taken_past, taken_in_part}

@@ -6,7 +6,7 @@ use Rattle.model_core.specs.Text.SnapshotGrammar.{WrittenPending}
 use Rattle.model_core.specs.Saved.GoodSnapshots.{first_bad_part, pending_part, saved_entry}
 use Rattle.snapshot_text.specs.declared.parts.RawPending.{RawPending}
 use Rattle.snapshot_text.specs.Inner.RawParts.{written_pending}
-use Rattle.snapshot_text.proofs.JudgedParts.{one_part_more, one_part_told}
+use Rattle.snapshot_text.proofs.JudgedParts.{one_part_more, one_part_reported}
 use Rattle.snapshot_text.proofs.events.pending_of.Goals as goal
 
 pub loop-raw-preserved : goal.loop-raw-preserved
@@ -26,7 +26,7 @@ returns-in_default c =
     let g = graph_of c.args.model.now in
     let raws = c.args.raws.now in
     let left = sym (ap (map written_pending) (one_left raws c.loop-raw.raw-index c.raw-item.result c.loop-raw-test.true c.raw-item.is)) in
-    one_part_told (pending_part g) (saved_entry g c.args.clock) (written_pending c.raw-item.result) (map written_pending (drop (c.loop-raw.raw-index + 1) raws)) _ c.in_default.ensures
+    one_part_reported (pending_part g) (saved_entry g c.args.clock) (written_pending c.raw-item.result) (map written_pending (drop (c.loop-raw.raw-index + 1) raws)) _ c.in_default.ensures
     (ap (λ (l : List WrittenPending). first_bad_part (map (pending_part g) l)) left ∙ c.loop-raw.invariant.0)
 
 pub returns : goal.returns

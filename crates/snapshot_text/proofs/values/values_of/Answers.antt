@@ -9,7 +9,7 @@ use Rattle.model_core.specs.Text.SnapshotGrammar.{WrittenValue}
 use Rattle.model_core.specs.Saved.GoodSnapshots.{first_bad_part, value_parts, signed_values}
 use Rattle.snapshot_text.specs.declared.parts.RawValue.{RawValue}
 use Rattle.snapshot_text.specs.Inner.RawParts.{written_value}
-use Rattle.snapshot_text.proofs.JudgedParts.{one_value_more, one_value_told}
+use Rattle.snapshot_text.proofs.JudgedParts.{one_value_more, one_value_reported}
 use Rattle.snapshot_text.proofs.values.values_of.Goals as goal
 
 first_variable : (i : ℕ) (items vars : List Var) (var : Var) → items ≡ vars → i < length items → var ≡ get_or items i var → variable_of var ∷ map variable_of (drop (i + 1) vars) ≡ map variable_of (drop i vars)
@@ -41,7 +41,7 @@ returns-then-not-branch c =
     let found = c.in-Some.ensures.lookup in
     let variables = first_variable i c.as_slice.result.now vars var c.as_slice.ensures found.3.0 found.1 in
     let written = sym (ap (map written_value) (one_left values i value c.loop-place-test.true c.index-values-place.is)) in
-    one_value_told (variable_of var) (map variable_of (drop (i + 1) vars)) (written_value value) (map written_value (drop (i + 1) values)) _ (sym c.if-not-branch.true ∙ c.in_ok-add_value.ensures.all)
+    one_value_reported (variable_of var) (map variable_of (drop (i + 1) vars)) (written_value value) (map written_value (drop (i + 1) values)) _ (sym c.if-not-branch.true ∙ c.in_ok-add_value.ensures.all)
     (ap₂ (λ (vs : List Variable) (ws : List WrittenValue). first_bad_part (value_parts vs ws)) variables written ∙ c.loop-place.invariant.0)
 
 pub returns : goal.returns

@@ -5,7 +5,7 @@ use Rattle.tally_report.specs.declared.run_tally.RunTally.{RunTally}
 use Rattle.tally_report.specs.SmallAreas.{IsOfRuns}
 use Rattle.tally_report.specs.Inner.Sums.{IsSmall}
 use Rattle.tally_report.specs.Inner.RunEnds.{time_reached}
-use Rattle.tally_report.specs.Inner.Sums.{tally_told}
+use Rattle.tally_report.specs.Inner.Sums.{tally_of_sums}
 use Rattle.tally_report.proofs.RunTallied.{tallied_from_beginning, FewCounted, all_of_one_run}
 use Rattle.tally_report.proofs.tallying.follow.Goals as goal
 
@@ -15,7 +15,7 @@ returns-clause-told c =
     let shows = seen.ensures.takes in
     let told = tallied_from_beginning c.args.model.now c.requires.begun.0 c.requires.begun.1 c.args.until c.args.events c.args.run.now c.in_ok-tracer.tracer c.in_ok-taker.taker seen.new.taker seen.result shows.notes shows.rest
     c.requires.begun.2 (ap (λ t. t.noted) c.in_ok-tracer.ensures) c.in_ok-taker.ensures c.requires.budget c.in_default.not-WriteFault c.in_default.not-NoMemory shows.splits shows.completes shows.taken in
-    let same = ap₂ (λ (e : RunEnd) (n : ℕ). tally_told e n seen.new.taker) c.end_reached.ensures (c.time_reached.ensures ∙ ap (λ (n : ℕ). time_reached seen.result c.args.until n) c.latest.ensures) in
+    let same = ap₂ (λ (e : RunEnd) (n : ℕ). tally_of_sums e n seen.new.taker) c.end_reached.ensures (c.time_reached.ensures ∙ ap (λ (n : ℕ). time_reached seen.result c.args.until n) c.latest.ensures) in
     subst (λ (run : RunTally). IfOk c.tally.result (λ tally. tally ≡ run)) (same ∙ told.0) c.tally.ensures.told
 
 pub returns-clause-small : goal.returns-clause-small
@@ -24,7 +24,7 @@ returns-clause-small c =
     let shows = seen.ensures.takes in
     let told = tallied_from_beginning c.args.model.now c.requires.begun.0 c.requires.begun.1 c.args.until c.args.events c.args.run.now c.in_ok-tracer.tracer c.in_ok-taker.taker seen.new.taker seen.result shows.notes shows.rest
     c.requires.begun.2 (ap (λ t. t.noted) c.in_ok-tracer.ensures) c.in_ok-taker.ensures c.requires.budget c.in_default.not-WriteFault c.in_default.not-NoMemory shows.splits shows.completes shows.taken in
-    let same = ap₂ (λ (e : RunEnd) (n : ℕ). tally_told e n seen.new.taker) c.end_reached.ensures (c.time_reached.ensures ∙ ap (λ (n : ℕ). time_reached seen.result c.args.until n) c.latest.ensures) in
+    let same = ap₂ (λ (e : RunEnd) (n : ℕ). tally_of_sums e n seen.new.taker) c.end_reached.ensures (c.time_reached.ensures ∙ ap (λ (n : ℕ). time_reached seen.result c.args.until n) c.latest.ensures) in
     let time : c.time_reached.result ≡ time_reached seen.result c.args.until seen.new.taker.latest = c.time_reached.ensures ∙ ap (λ (n : ℕ). time_reached seen.result c.args.until n) c.latest.ensures in
     let by : max seen.new.taker.since c.time_reached.result ≤ 2 ^ 48 = le_trans (subst (λ (n : ℕ). max seen.new.taker.since n ≤ c.args.until) (sym time) told.1) c.requires.soon in
     small-so c.tally.result (max seen.new.taker.since c.time_reached.result) by (same ∙ told.0) told.2 c.tally.ensures.told c.tally.ensures.small

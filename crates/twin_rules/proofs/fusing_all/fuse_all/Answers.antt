@@ -3,15 +3,15 @@ use Rattle.std.proofs.Common.{◌∙◌, sym, subst, List}
 use Rattle.model_core.specs.EventGraph.{EventGraph}
 use Rattle.model_core.specs.Rules.Fuse.{fused}
 use Rattle.model_core.specs.Code.Views.{graph_of}
-use Rattle.twin_rules.specs.declared.print.Print.{Print}
+use Rattle.twin_rules.specs.declared.print.VertexFingerprint.{VertexFingerprint}
 use Rattle.twin_rules.specs.Inner.ComparedPairs.{NoneAlike, NoneAlikeBefore}
-use Rattle.twin_rules.specs.Inner.KeptFingerprints.{ArePrintsBut}
+use Rattle.twin_rules.specs.Inner.KeptFingerprints.{AreFingerprintsBut}
 use Rattle.twin_rules.specs.Inner.LedTo.{MarksTargets}
 use Rattle.twin_rules.proofs.AlikeVertices.{conditions_say}
 use Rattle.twin_rules.proofs.FirstTwins.{first-are-twins}
 use Rattle.twin_rules.proofs.FusingEnds.{vertex-there, vertex-less}
 use Rattle.twin_rules.proofs.FusedSoFar.{one-more-fused, all-fused}
-use Rattle.twin_rules.proofs.PrintsAfter.{prints-after}
+use Rattle.twin_rules.proofs.FingerprintsAfter.{prints-after}
 use Rattle.twin_rules.proofs.TargetsAfter.{targets-after}
 use Rattle.twin_rules.proofs.fusing_all.fuse_all.Goals as goal
 
@@ -33,8 +33,8 @@ renew-requires c =
     let gone = c.in-Some.gone in
     let are = (conditions_say g keep gone (first-are-twins g keep gone (sym c.first_twins_in.ensures.found ∙ c.in-Some.is))).alike in
     let changed = c.fuse.new.self.changed in
-    subst (λ (h : EventGraph). ArePrintsBut h c.forget.new.self changed) (sym c.fuse_at.ensures)
-    (subst (λ (known : List Print). ArePrintsBut (fused g keep gone) known changed) (sym c.forget.ensures)
+    subst (λ (h : EventGraph). AreFingerprintsBut h c.forget.new.self changed) (sym c.fuse_at.ensures)
+    (subst (λ (known : List VertexFingerprint). AreFingerprintsBut (fused g keep gone) known changed) (sym c.forget.ensures)
     (prints-after g keep gone are c.loop-keep.prints changed c.loop-keep.invariant.prints c.fuse.ensures.changed))
 
 pub loop-keep-smaller : goal.loop-keep-smaller

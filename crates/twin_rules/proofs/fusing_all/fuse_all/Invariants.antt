@@ -1,7 +1,7 @@
 use Rattle.std.proofs.Common.{length}
 use Rattle.model_core.specs.Code.Views.{graph_of}
 use Rattle.twin_rules.specs.Inner.ComparedPairs.{NoneAlike, SkipsUnchanged}
-use Rattle.twin_rules.specs.Inner.KeptFingerprints.{ArePrints}
+use Rattle.twin_rules.specs.Inner.KeptFingerprints.{AreFingerprints}
 use Rattle.twin_rules.specs.Inner.LedTo.{MarksTargets}
 use Rattle.twin_rules.proofs.FusedSoFar.{FusedSoFar}
 use Rattle.twin_rules.proofs.fusing_all.fuse_all.Given as goal
@@ -11,7 +11,7 @@ invariant-loop-keep l = record {
   fused : FusedSoFar (graph_of l.fn.model) (graph_of l.model) l.short;
   asked : NoneAlike (graph_of l.model) l.asked;
   skips : SkipsUnchanged l.asked;
-  prints : ArePrints (graph_of l.model) l.prints;
+  prints : AreFingerprints (graph_of l.model) l.prints;
   targets : MarksTargets (graph_of l.model) l.led;
 }
 

@@ -6,4 +6,4 @@ use Rattle.twin_rules.proofs.row.may_do_the_same.Goals as goal
 
 pub returns-in-Some-Some : goal.returns-in-Some-Some
 returns-in-Some-Some c = λ g prints unfit.
-    told-apart g c.args.keep c.args.gone c.args.prints.now prints c.in-Some-Some.own c.in-Some-Some.other (sym c.at.ensures ∙ c.in-Some-Some.is-0) (sym c.at-2.ensures ∙ c.in-Some-Some.is-1) true (λ e. absurd (false≢true (sym e))) (sym c.prints_agree.ensures ∙ unfit)
+    told-apart g c.args.keep c.args.gone c.args.prints.now prints c.in-Some-Some.own c.in-Some-Some.other (sym c.at.ensures ∙ c.in-Some-Some.is-0) (sym c.at-2.ensures ∙ c.in-Some-Some.is-1) true (λ e. absurd (false≢true (sym e))) (sym c.fingerprints_agree.ensures ∙ unfit)

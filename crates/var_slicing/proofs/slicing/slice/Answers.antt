@@ -23,5 +23,5 @@ returns-clause-done c =
     ap₂ (λ (a b : List ℕ). lists_exactly a b) (sym c.as_slice-2.ensures) (sym (c.as_slice-3.ensures ∙ others)) ∙ none_unequal _ c.if-ne.ensures in
     let some = some_given vars (λ none. c.if-len-eq0.false (c.len.ensures ∙ none)) in (
       both_conditions vars (unneeded g) some exactly,
-      c.leave.ensures ∙ ap (of_marked_variables g) (c.in_ok-staying.ensures ∙ c.in_ok-marks.ensures) ∙ sym (without_unneeded g) ∙ ap (sliced g) (sym (exactly-equal vars (unneeded g) exactly)),
+      c.keep_and_renumber.ensures ∙ ap (of_marked_variables g) (c.in_ok-staying.ensures ∙ c.in_ok-marks.ensures) ∙ sym (without_unneeded g) ∙ ap (sliced g) (sym (exactly-equal vars (unneeded g) exactly)),
     )

@@ -2,7 +2,7 @@ use Rattle.std.proofs.Common.{arith}
 use Rattle.model_core.specs.declared.model.Watch.TheVariants as things
 use Rattle.model_core.specs.Code.Views.{watched_of}
 use Rattle.watch_trace.specs.Inner.KeptNotes.{values_watched}
-use Rattle.watch_trace.proofs.ValuesTaken.{none_taken, place_fits, one_taken, whole_taken, whole_told}
+use Rattle.watch_trace.proofs.ValuesTaken.{none_taken, place_fits, one_taken, whole_taken, whole_is_new}
 use Rattle.watch_trace.proofs.watched_cells.take_values.Goals as goal
 
 pub loop-watched-init : goal.loop-watched-init
@@ -21,4 +21,4 @@ pub returns-clause-taken : goal.returns-clause-taken
 returns-clause-taken c = whole_taken (values_watched c.args.state.now) watched_of c.args.watch.now c.loop-watched.watched-index c.loop-watched.from c.args.values.now c.loop-watched.values c.loop-watched.new (omega (arith, c.loop-watched-test.false)) c.loop-watched.invariant
 
 pub returns-clause-new : goal.returns-clause-new
-returns-clause-new c = whole_told (values_watched c.args.state.now) watched_of c.args.watch.now c.loop-watched.watched-index c.loop-watched.from c.args.values.now c.loop-watched.values c.loop-watched.new (omega (arith, c.loop-watched-test.false)) c.loop-watched.invariant
+returns-clause-new c = whole_is_new (values_watched c.args.state.now) watched_of c.args.watch.now c.loop-watched.watched-index c.loop-watched.from c.args.values.now c.loop-watched.values c.loop-watched.new (omega (arith, c.loop-watched-test.false)) c.loop-watched.invariant

@@ -1,5 +1,5 @@
 use Rattle.std.proofs.Common.{[], ◌∷◌, refl, arith}
-use Rattle.model_core.specs.Run.Pending.{TakenOff}
+use Rattle.model_core.specs.Run.Pending.{EntryAndRest}
 use Rattle.model_core.specs.Saved.SavedRun.{saved_moment}
 use Rattle.worked_runs.specs.Models.{clock, ordering}
 use Rattle.worked_runs.specs.SavedExamples.{due}
@@ -7,7 +7,7 @@ use Rattle.worked_reports.specs.AskedOptions.{with_many_pending}
 use Rattle.worked_reports.proofs.RoomOfOneStep.{first_exceeds}
 use Rattle.worked_reports.proofs.saved_answers.saved_runs_have_room_for_themselves.Goals as goal
 
-abbrev first : TakenOff
+abbrev first : EntryAndRest
 first = record { entry = due 10 5 0; others = due 10 5 0 ∷ due 10 5 0 ∷ [] }
 
 pub returns-clause-no_room_asked : goal.returns-clause-no_room_asked

@@ -3,7 +3,7 @@ use Rattle.std.proofs.Common.{◌≡◌, ℕ, pos, Bool, true, false, nat_eq, Li
 use Rattle.std.specs.Ordering.{int_eq}
 use lib.Pointwise.{pointwise}
 use Rattle.model_core.specs.EventGraph.{EventGraph, WatchedVariable, WatchedVertex}
-use Rattle.model_core.specs.Run.Same.{Thing, VariableNamed, VertexNamed, thing, Parameter, first_parameters}
+use Rattle.model_core.specs.Run.Same.{WatchedName, VariableNamed, VertexNamed, watched_name_of, Parameter, first_parameters}
 use Rattle.worked_runs.specs.Building.{ranged}
 use Rattle.worked_runs.specs.Pairs.{Apart, watching, watching_two, asking}
 use Rattle.worked_runs.proofs.Looks.{apart_by_watch, apart_by_parameters}
@@ -23,16 +23,16 @@ told_by test xs ys passes fails e = differs (sym passes ∙ (ap (first_passes te
 abbrev is_name : List ℕ → List ℕ → Bool
 is_name a b = pointwise nat_eq a b
 
-abbrev is_variable : List ℕ → Thing → Bool
+abbrev is_variable : List ℕ → WatchedName → Bool
 is_variable name (VariableNamed n) = is_name n name
 is_variable name (VertexNamed n) = false
 
-abbrev is_vertex : List ℕ → Thing → Bool
+abbrev is_vertex : List ℕ → WatchedName → Bool
 is_vertex name (VariableNamed n) = false
 is_vertex name (VertexNamed n) = is_name n name
 
-told_by_watch : (test : Thing → Bool) (g h : EventGraph) → first_passes test (map (thing g) g.watch) ≡ true → first_passes test (map (thing h) h.watch) ≡ false → Apart g h
-told_by_watch test g h passes fails = apart_by_watch g h (told_by test (map (thing g) g.watch) (map (thing h) h.watch) passes fails)
+told_by_watch : (test : WatchedName → Bool) (g h : EventGraph) → first_passes test (map (watched_name_of g) g.watch) ≡ true → first_passes test (map (watched_name_of h) h.watch) ≡ false → Apart g h
+told_by_watch test g h passes fails = apart_by_watch g h (told_by test (map (watched_name_of g) g.watch) (map (watched_name_of h) h.watch) passes fails)
 
 told_by_parameters : (test : Parameter → Bool) (g h : EventGraph) → first_passes test (first_parameters g) ≡ true → first_passes test (first_parameters h) ≡ false → Apart g h
 told_by_parameters test g h passes fails = apart_by_parameters g h (told_by test (first_parameters g) (first_parameters h) passes fails)

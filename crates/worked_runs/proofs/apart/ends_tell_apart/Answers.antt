@@ -2,7 +2,7 @@
 use Rattle.std.proofs.Common.{◌≡◌, ℕ, zero, suc, pos, Some, IsTrue, [], ◌∷◌, replicate, refl, ap, lit<, lit≤}
 use Rattle.sig_base.specs.declared.fault.FaultKind.TheVariants as faults
 use Rattle.model_core.specs.EventGraph.{EventGraph}
-use Rattle.model_core.specs.Run.Machine.{At, Standing, Ended, Stopped, Faulted, Look, Going, finished}
+use Rattle.model_core.specs.Run.Machine.{At, RunStatus, Ended, Stopped, Faulted, Look, Going, finished}
 use Rattle.model_core.specs.Run.History.{Moment, allowed, next_move, look}
 use Rattle.worked_runs.specs.Building.{showing}
 use Rattle.worked_runs.specs.Pairs.{Apart, ends, stops, goes_on, divides, leaves, ends_at_4, divides_at_4}
@@ -10,10 +10,10 @@ use Rattle.worked_runs.proofs.Looks.{apart_by_ends, apart_by_going_on, circles}
 use Rattle.worked_runs.proofs.apart.ends_tell_apart.Goals as goal
 
 -- the look, where the clock left 0
-abbrev from_five : Standing → Look
+abbrev from_five : RunStatus → Look
 from_five standing = showing (At 0 [] ∷ []) standing
 
-finish_apart : (g h : EventGraph) (a b : Standing) → look g 42 [] 5 2 ≡ from_five a → look h 42 [] 5 2 ≡ from_five b → IsTrue (finished a) → IsTrue (finished b) → (a ≡ b → ⊥) → IsTrue (allowed g []) → IsTrue (allowed h []) → Apart g h
+finish_apart : (g h : EventGraph) (a b : RunStatus) → look g 42 [] 5 2 ≡ from_five a → look h 42 [] 5 2 ≡ from_five b → IsTrue (finished a) → IsTrue (finished b) → (a ≡ b → ⊥) → IsTrue (allowed g []) → IsTrue (allowed h []) → Apart g h
 finish_apart g h a b at_a at_b fin fin_too differ ok ok_too =
     apart_by_ends g h 42 (lit< tt) [] ok ok_too 5 (lit≤ tt) 2 2 (from_five a) (from_five b) at_a at_b fin fin_too (λ e. differ (ap (λ (l : Look). l.standing) e))
 

@@ -15,4 +15,4 @@ unfolding level_format read_within rule_at many_within many_at level_lookahead s
 returns c =
     let size : length two_models ≡ 87 = refl in
     let most : DOCUMENT_MAX ≡ 25165824 = refl in
-    document_read (λ m. (c.one_fault_is_told.ensures.accepted m).0) (omega (arith, size, most)) refl refl refl refl refl refl refl refl refl refl
+    document_read (λ m. (c.accepted_or_one_fault.ensures.accepted m).0) (omega (arith, size, most)) refl refl refl refl refl refl refl refl refl refl

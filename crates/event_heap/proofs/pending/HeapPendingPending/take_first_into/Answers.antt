@@ -31,4 +31,4 @@ copy_first-requires g c =
 pub replay_known-requires-clause-alone : goal.replay_known-requires-clause-alone
 replay_known-requires-clause-alone g c e u other =
     let none : length c.take.new.self.events ≡ 0 = grind (arith, nat_tests) in
-    keyless c.take.new.self c.self.inside.tournament u (rw (c.take.ensures.others u other) (c.self.invariant.games u)) (c.tell.ensures u) none
+    keyless c.take.new.self c.self.inside.tournament u (rw (c.take.ensures.others u other) (c.self.invariant.games u)) (c.show_firsts.ensures u) none

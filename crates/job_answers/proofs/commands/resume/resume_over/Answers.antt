@@ -13,4 +13,4 @@ resume-requires-clause-watch g c = ((c.validity_is_by_parts.ensures.by_parts (gr
 
 pub returns : goal.returns
 returns g c =
-    resume_delivered g.K.Sink.seen c.args.model.now c.args.snapshot.now c.args.options.now c.in-Ok.resumed.run c.in-Ok.resumed.tracer c.tell_from.result c.args.output.now c.tell_from.new.output c.requires.allowed c.in-Ok.ensures c.tell_from.ensures
+    resume_delivered g.K.Sink.seen c.args.model.now c.args.snapshot.now c.args.options.now c.in-Ok.resumed.run c.in-Ok.resumed.tracer c.write_history_from.result c.args.output.now c.write_history_from.new.output c.requires.allowed c.in-Ok.ensures c.write_history_from.ensures

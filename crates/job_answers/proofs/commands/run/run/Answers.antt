@@ -13,5 +13,5 @@ returns-in-Err g c =
 pub returns-in-Ok-begin : goal.returns-in-Ok-begin
 returns-in-Ok-begin g c =
     let options = c.args.options.now in
-    run_delivered g.K.Sink.seen c.args.model.now options.until options.seed options.events options.room options.starts c.in-Ok.run' c.in-Ok-begin.tracer c.tell_from.result c.args.output.now c.tell_from.new.output c.in-Ok.ensures.ok
-    (ap (λ t. t.noted) c.in-Ok-begin.ensures) c.tell_from.ensures
+    run_delivered g.K.Sink.seen c.args.model.now options.until options.seed options.events options.room options.starts c.in-Ok.run' c.in-Ok-begin.tracer c.write_history_from.result c.args.output.now c.write_history_from.new.output c.in-Ok.ensures.ok
+    (ap (λ t. t.noted) c.in-Ok-begin.ensures) c.write_history_from.ensures

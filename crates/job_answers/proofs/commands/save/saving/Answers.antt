@@ -4,7 +4,7 @@ use Rattle.model_core.specs.Code.Views.{graph_of}
 use Rattle.model_core.specs.Saved.SavedRun.{SavedRun}
 use Rattle.answer_delivery.specs.declared.answer.Answer.{Answer}
 use Rattle.job_answers.specs.Inner.SaveSteps.{SavedOrFinished}
-use Rattle.job_answers.proofs.commands.SaveLaws.{saved_is_good, saved_told, finished_told}
+use Rattle.job_answers.proofs.commands.SaveLaws.{saved_is_good, saved_answer, finished_answer}
 use Rattle.job_answers.proofs.commands.save.saving.Goals as goal
 
 -- what is saved of a run that goes on is good
@@ -22,11 +22,11 @@ returns-in-Some g c =
     let graph = graph_of c.args.model.now in
     let o = c.args.options.now in
     subst (λ (answer : Answer). IfOk c.document.result (λ a. a ≡ answer))
-    (saved_told graph o c.in-Some.snapshot (subst (λ (x : Option SavedRun). SavedOrFinished graph o.until o.seed o.events o.starts x) c.in-Some.is c.in_ok-snapshot.ensures)) c.document.ensures
+    (saved_answer graph o c.in-Some.snapshot (subst (λ (x : Option SavedRun). SavedOrFinished graph o.until o.seed o.events o.starts x) c.in-Some.is c.in_ok-snapshot.ensures)) c.document.ensures
 
 pub returns-in-None : goal.returns-in-None
 returns-in-None g c =
     let graph = graph_of c.args.model.now in
     let o = c.args.options.now in
     subst (λ (answer : Answer). IfOk c.finished.result (λ a. a ≡ answer))
-    (finished_told graph o (subst (λ (x : Option SavedRun). SavedOrFinished graph o.until o.seed o.events o.starts x) c.in-None.is c.in_ok-snapshot.ensures)) c.finished.ensures
+    (finished_answer graph o (subst (λ (x : Option SavedRun). SavedOrFinished graph o.until o.seed o.events o.starts x) c.in-None.is c.in_ok-snapshot.ensures)) c.finished.ensures

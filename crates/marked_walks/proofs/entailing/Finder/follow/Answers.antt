@@ -10,14 +10,14 @@ loop-place-smaller g c =
     let marks = c.loop-place.self.marks.items in
     let rest = c.pop.new.self.items in
     let k = c.in-Some.place in
-    let ts = places_behind (g.N.PlacesBehind.lists c.args.next.now) k in
+    let ts = places_behind (g.N.PlaceSuccessors.lists c.args.next.now) k in
     subst (λ (f : Found). left_over f < left_over (found_of c.loop-place.self)) (sym c.in_ok-follow_one.ensures)
     (subst (λ (ks : List ℕ). left_over (find_all (record { marks = marks; waiting = rest }) ts) < left_over (record { marks = marks; waiting = ks })) (sym c.in-Some.ensures.items) (less_left marks rest k ts))
 
 pub loop-place-preserved : goal.loop-place-preserved
 loop-place-preserved g c =
     let first = c.args.first.now in
-    let next = g.N.PlacesBehind.lists c.args.next.now in
+    let next = g.N.PlaceSuccessors.lists c.args.next.now in
     let marks = c.loop-place.self.marks.items in
     let rest = c.pop.new.self.items in
     let k = c.in-Some.place in

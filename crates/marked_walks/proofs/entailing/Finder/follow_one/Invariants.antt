@@ -5,4 +5,4 @@ use Rattle.marked_walks.proofs.entailing.Finder.follow_one.Given as goal
 
 abbrev pub invariant-loop-nth : goal.invariant-loop-nth
 invariant-loop-nth g l =
-    find_all (found_of l.self) (drop l.nth (places_behind (g.N.PlacesBehind.lists l.next) l.place)) ≡ find_all (found_of l.initial.self) (places_behind (g.N.PlacesBehind.lists l.next) l.place)
+    find_all (found_of l.self) (drop l.nth (places_behind (g.N.PlaceSuccessors.lists l.next) l.place)) ≡ find_all (found_of l.initial.self) (places_behind (g.N.PlaceSuccessors.lists l.next) l.place)

@@ -3,7 +3,7 @@ use Rattle.std.specs.List.{remove}
 use Rattle.model_core.specs.EventGraph.{EventEdge}
 use Rattle.model_core.specs.Rules.Drop.{dropped}
 use Rattle.model_core.specs.Code.Views.{edge_of}
-use Rattle.merge_rules.specs.KeptPairs.{ArePairs}
+use Rattle.merge_rules.specs.KeptPairs.{PairsAreRight}
 use Rattle.merge_rules.specs.Inner.PairMoves.{edges_taken, moved_up}
 use Rattle.merge_rules.specs.declared.kept_pairs.KeptPair.{KeptPair}
 use Rattle.merge_rules.proofs.PairsBetweenMerges.LedPlaces.{taken-long}
@@ -20,6 +20,6 @@ returns c = λ g kept valid unled unwatched edges.
     let gone = c.args.gone in
     let there : gone < length g.vertices = omega (arith, c.requires, kept.long) in
     let keeps = ((c.validity_is_by_parts.ensures.by_parts g).0 valid).0.parts in
-    subst (ArePairs (dropped g (gone ∷ [])))
+    subst (PairsAreRight (dropped g (gone ∷ [])))
     (sym (c.move_up.ensures ∙ ap (map (moved_up gone)) (c.remove.ensures.items ∙ ap (λ (ps : List KeptPair). remove ps gone) (c.take_edges.ensures ∙ ap (λ (es : List EventEdge). edges_taken es c.self.inside.pairs.items) edges))))
-    (are-dropped g keeps gone there unled unwatched c.self.inside.pairs.items (subst (ArePairs g) (sym c.self.view_is) kept))
+    (are-dropped g keeps gone there unled unwatched c.self.inside.pairs.items (subst (PairsAreRight g) (sym c.self.view_is) kept))

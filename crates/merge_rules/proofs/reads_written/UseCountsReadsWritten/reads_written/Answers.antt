@@ -6,7 +6,7 @@ use Rattle.std.proofs.lemmas.List.{map-append, length-map}
 use Rattle.model_core.specs.Rules.Uses.{vertex_writes}
 use Rattle.model_core.specs.Code.Views.{edge_of, vertex_of}
 use Rattle.use_analysis.specs.UseNumbers.{UseNumbers}
-use Rattle.merge_rules.specs.Inner.ReadingEdges.{reads_it, reads_one_of, counted, uncounted, told_by_counts}
+use Rattle.merge_rules.specs.Inner.ReadingEdges.{reads_it, reads_one_of, counted, uncounted, is_read_by_counts}
 use Rattle.merge_rules.proofs.ConditionsAsked.CountedEdges.{counted_few, all_counted, half_counted, enough_before, enough_behind, back_again, counts_tell}
 use Rattle.merge_rules.proofs.reads_written.UseCountsReadsWritten.reads_written.Goals as goal
 
@@ -43,7 +43,7 @@ returns-clause-is c =
     let writes = vertex_writes (vertex_of c.args.vertex.now) in
     let is : c.add_edges-2.new.counts.readers ≡ all_counted before behind c.args.self.now.readers = ap readers c.add_edges-2.ensures ∙ ap (counted behind) (ap readers c.add_edges.ensures) in
     c.one_written_passes-read.ensures
-    ∙ ap₂ (λ (n : ℕ) (ns : List ℕ). list_any (told_by_counts n ns before behind) writes) c.len.ensures is
+    ∙ ap₂ (λ (n : ℕ) (ns : List ℕ). list_any (is_read_by_counts n ns before behind) writes) c.len.ensures is
     ∙ counts_tell (length c.args.model.now.vars) before behind c.args.self.now.readers c.requires.enough c.requires.none writes
     ∙ ap (list_any (reads_one_of writes)) (sym (map-append edge_of c.args.before.now c.args.behind.now))
 

@@ -5,4 +5,4 @@ use Rattle.model_read.proofs.vertices.RawVertexPhrase.read.Goals as goal
 
 pub returns : goal.returns
 unfolding vertex_format vertex_beginning
-returns c = rw (c.in_ok-begun_vertex.ensures, c.in_ok-changes.ensures, c.in_ok-edges.ensures, c.in_ok-symbol.ensures.reads, c.free.ensures, c.of-begun.ensures)
+returns c = rw (c.in_ok-read_vertex_beginning.ensures, c.in_ok-changes.ensures, c.in_ok-edges.ensures, c.in_ok-symbol.ensures.reads, c.free.ensures, c.of-begun.ensures)

@@ -1,0 +1,35 @@
+-- Merged and noted are the first two that can be, if there are any.
+use Rattle.std.proofs.Common.{◌≡◌, ℕ, map, length, Some, List, [], ◌∷◌, ◌++◌, refl, sym, ap₂, subst, ◌∙◌}
+use Rattle.model_core.specs.Code.Views.{graph_of, application_of}
+use Rattle.model_core.specs.Rules.Merge.{merged, first_merge}
+use Rattle.model_core.specs.Rules.Reduction.{Merge}
+use Rattle.merge_rules.specs.NothingCounted.{NothingCounted}
+use Rattle.reducer.proofs.FirstLaterRule.{merge_holds, merge_made}
+use Rattle.reducer.proofs.CountsServe.{counts_for_code}
+use Rattle.reducer.proofs.RuleByRule.{noted_more}
+use Rattle.reducer.proofs.later_rules.UnfinishedReduction.merge_first.Goals as goal
+
+pub first_merge-requires-clause-counts : goal.first_merge-requires-clause-counts
+first_merge-requires-clause-counts c = counts_for_code c.args.self.now.model _ c.requires.underway.known.counts
+
+pub note_merge-requires-clause-holds : goal.note_merge-requires-clause-holds
+note_merge-requires-clause-holds c = merge_holds (graph_of c.args.self.now.model) c.in-Some.first c.in-Some.second (sym c.in-Some.ensures.found)
+
+pub merge_pair-requires-clause-merging : goal.merge_pair-requires-clause-merging
+merge_pair-requires-clause-merging c =
+    let g = graph_of c.args.self.now.model in record {
+      holds = merge_holds g c.in-Some.first c.in-Some.second (sym c.in-Some.ensures.found);
+      known = c.first_merge.ensures.known;
+      counts = subst (NothingCounted (length g.variables)) (sym c.first_merge.ensures.counts) c.requires.underway.known.counts;
+      pairs = c.in_ok-note_merge.ensures;
+    }
+
+pub returns : goal.returns
+returns c =
+    let g = graph_of c.args.self.now.model in
+    let is : first_merge g ≡ Some (c.in-Some.first, c.in-Some.second) = sym c.in-Some.ensures.found in
+    let noted = noted_more _ _ _ c.in_ok-push.ensures.items ∙ ap₂ (λ (name other : List ℕ). map application_of c.args.self.now.applications.items ++ Merge name other ∷ []) c.in_ok-vertex.ensures c.in_ok-target.ensures in
+    record {
+      made = (merged g c.in-Some.first c.in-Some.second, _, merge_made g _ _ _ _ _ c.requires.underway.valid is refl noted, c.in_ok-merge_pair.ensures.left);
+      known = c.in_ok-merge_pair.ensures.known;
+    }

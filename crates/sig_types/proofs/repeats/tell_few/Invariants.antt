@@ -1,9 +1,0 @@
-use Rattle.std.proofs.Common.{◌≡◌, [], map, take}
-use Rattle.model_core.specs.Code.WrittenViews.{written_name}
-use Rattle.model_core.specs.Static.FaultOrder.{earliest_fault}
-use Rattle.model_core.specs.Static.PartFaults.{repeated_names}
-use Rattle.sig_types.proofs.repeats.tell_few.Given as goal
-
--- those of the names before this one are reported
-abbrev pub invariant-loop-place : goal.invariant-loop-place
-invariant-loop-place l = l.told ≡ earliest_fault l.fn.told (repeated_names [] (map written_name (take l.place l.raws)))

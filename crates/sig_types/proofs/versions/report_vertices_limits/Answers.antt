@@ -1,0 +1,7 @@
+use Rattle.model_core.specs.Code.WrittenViews.{written_vertex}
+use Rattle.model_core.specs.Static.VersionFaults.{vertex_faults_version_1}
+use Rattle.sig_types.proofs.ToldInTurn.{report_turn}
+use Rattle.sig_types.proofs.versions.report_vertices_limits.Goals as goal
+
+pub loop-raw-preserved : goal.loop-raw-preserved
+loop-raw-preserved c = report_turn written_vertex vertex_faults_version_1 _ _ _ c.args.raws.now c.loop-raw.raw-index c.raw-item.result c.loop-raw-test.true c.raw-item.is c.loop-raw.invariant c.report_vertex_limits.ensures

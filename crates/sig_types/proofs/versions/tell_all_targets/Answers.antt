@@ -1,7 +1,0 @@
-use Rattle.model_core.specs.Code.WrittenViews.{written_change}
-use Rattle.model_core.specs.Static.VersionFaults.{target_faults_version_1}
-use Rattle.sig_types.proofs.ToldInTurn.{told_turn}
-use Rattle.sig_types.proofs.versions.tell_all_targets.Goals as goal
-
-pub loop-raw-preserved : goal.loop-raw-preserved
-loop-raw-preserved c = told_turn written_change target_faults_version_1 _ _ _ c.args.raws.now c.loop-raw.raw-index c.raw-item.result c.loop-raw-test.true c.raw-item.is c.loop-raw.invariant c.tell_targets.ensures
