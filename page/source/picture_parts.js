@@ -1,6 +1,6 @@
 // The parts of a picture as SVG: an ellipse is an event with its changes, a thin arrow schedules, a thick one is
-// urgent, a dashed one cancels. An arrow has the delay, the priority, the condition after a tilde, and the values that
-// it carries in a box.
+// urgent, a dashed one cancels. An arrow has the delay, the priority, the condition after a tilde, and in a box the
+// values that it carries.
 
 const SVG = "http://www.w3.org/2000/svg";
 
