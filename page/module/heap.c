@@ -2,6 +2,8 @@
 // that asks for it. The block that was made last grows where it stands, as long as there is memory.
 #include "memory.h"
 
+#define EXPORT(name) __attribute__((export_name(#name)))
+
 // What stands before each block. A block and its head begin at multiples of 16.
 typedef struct Head {
     size kind;
@@ -89,4 +91,10 @@ Tried rattle_realloc(void *block, size kept, size n, size alignment) {
         rattle_dealloc(block);
     }
     return tried(other);
+}
+
+// A place for n bytes of whoever calls the program, or 0 where there is none.
+EXPORT(room) void *room(size n) {
+    Tried tried = rattle_alloc(n, 16);
+    return tried.found ? tried.block : 0;
 }

@@ -81,6 +81,7 @@ function start_dialogs() {
   at("codemirror-version").textContent = CodeMirror.version;
   const made = JSON.parse(at("made").textContent);
   for (const fact of ["version", "verdict"]) at(fact).textContent = made[fact].trim();
+  at("the-call").textContent = /^function call_once[^]*?^}/m.exec(at("worker").textContent)[0];
 }
 
 // The legend: a sample of each sign, and what it says.

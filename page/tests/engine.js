@@ -21,13 +21,13 @@ for (const most of [0, 1, 1000, whole.written - 1]) {
 }
 equal("not cut where it just fits", (await engine.call("test", words, bank, { most: whole.written })).cut, false);
 
-// Output comes while the program runs, and Stop keeps it.
+// Output comes room by room, and Stop keeps it.
 const endless = "model E;\nvar N : 0..9 = 0;\nwatch N;\nvertex V {\n  set N := if N = 9 then 0 else N + 1;\n  schedule V after 1;\n}\nend\n";
 const endless_words = ["run", "--until", "281474976710656", "--seed", "1", "--events", "1099511627776"];
 let parts = 0, progress = 0;
 const running = engine.call("test", endless_words, endless, { most: 1e12, part: piece => { parts += piece.length; }, progress: n => { progress = n; } }).catch(problem => problem);
 await until(() => parts > 1e6);
-check("output comes as it is written", progress > 0 && parts <= progress + 65536, [parts, progress]);
+check("output comes before the run ends", progress > 0 && parts <= progress + 65536, [parts, progress]);
 check("the lane is busy", engine.busy("test"));
 check("there is something to stop", engine.stop("test"));
 const stopped = await running;

@@ -128,6 +128,10 @@ static void refusal(void) {
     held(!rattle_alloc(9000, 8).found);
     held(rattle_alloc(2000, 8).block == blocks[3]);
     held(!rattle_alloc(5000, 8).found);
+    // A caller's place comes from the same blocks.
+    held(!room(5000));
+    rattle_dealloc(blocks[5]);
+    held(room(5000) == blocks[5]);
 }
 
 int main(void) {
