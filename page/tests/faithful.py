@@ -91,7 +91,7 @@ def test(browser, check, given, shots):
     )
     check("an output of more than 100 MB", len(wanted[0]) > 100000000)
     check("it is the same", got[:3] == [wanted[2], len(wanted[0]), hashlib.sha256(wanted[0]).hexdigest()], got)
-    check("it takes the last room twice, and little more", got[3] < 2**29 + 20000000, got[3])
+    check("it takes less than 1 GiB", got[3] < 2**30, got[3])
 
     got = browser.run(
         """const answer = await engine.call("faithful", values[0], values[1]);
