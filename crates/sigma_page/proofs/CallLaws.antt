@@ -12,7 +12,7 @@ use Rattle.sigma_top.specs.Promises.{KeepsPromises}
 use Rattle.sigma_top.specs.StatusTable.{Ends}
 use Rattle.sigma_page.specs.declared.rooms.Lengths.{Lengths}
 use Rattle.sigma_page.specs.PageCall.{EndsOverBytes, IsLaid, AnswersBytes, inlet_of, outlet_of}
-use Rattle.sigma_page.specs.PageWords.{words_in}
+use Rattle.sigma_page.specs.PageWords.{ended_words}
 use Rattle.sigma_page.proofs.SeenEnds.{ends_as_seen}
 
 -- what is promised of an output is promised of its bytes alone
@@ -72,16 +72,16 @@ without_memory words input = record {
 -- ---- what a caller finds
 
 module _ (words input : List ℕ) (number : ℕ) (lengths : Lengths) (output_room errors_room : List ℕ) where
-  pub answer_laid : (status : Status) (output errors : List ℕ) → number ≡ exit_status_of status → EndsOverBytes (words_in words) input output errors status
+  pub answer_laid : (status : Status) (output errors : List ℕ) → number ≡ exit_status_of status → EndsOverBytes (ended_words words) input output errors status
       → IsLaid output lengths.output output_room → IsLaid errors lengths.errors errors_room → AnswersBytes words input number lengths output_room errors_room
   answer_laid status output errors is ends output_laid errors_laid = inl (status, is, record { output = output; errors = errors; ends = ends; output_laid = output_laid; errors_laid = errors_laid })
 
   nothing_laid : lengths.output ≡ 0 → IsLaid [] lengths.output output_room
   nothing_laid none = (none, λ fits. ap (λ n. take n output_room) none)
 
-  pub failure_laid : (why : Failure) → (why ≡ failures.NoMemory) ⊎ ((why ≡ failures.Usage) × (All IsUtf8 (words_in words) → ⊥)) → number ≡ exit_status_of (status_of_failure why)
+  pub failure_laid : (why : Failure) → (why ≡ failures.NoMemory) ⊎ ((why ≡ failures.Usage) × (All IsUtf8 (ended_words words) → ⊥)) → number ≡ exit_status_of (status_of_failure why)
       → lengths.output ≡ 0 → IsLaid (failure_line why) lengths.errors errors_room → AnswersBytes words input number lengths output_room errors_room
-  failure_laid failures.NoMemory h is none laid = answer_laid statuses.NoMemory [] (failure_line failures.NoMemory) is (without_memory (words_in words) input) (nothing_laid none) laid
+  failure_laid failures.NoMemory h is none laid = answer_laid statuses.NoMemory [] (failure_line failures.NoMemory) is (without_memory (ended_words words) input) (nothing_laid none) laid
   failure_laid failures.Usage (inl other) is none laid = absurd cc
   failure_laid failures.Usage (inr h) is none laid = inr (h.1, is, nothing_laid none, laid)
   failure_laid failures.ReadFault (inl other) is none laid = absurd cc

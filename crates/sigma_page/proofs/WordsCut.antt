@@ -6,15 +6,15 @@ use Rattle.std.specs.Prelude.{slice_index}
 use Rattle.memchr.specs.Find.{is_byte}
 use Rattle.answer_delivery.specs.declared.status.Failure.{Failure}
 use Rattle.answer_delivery.specs.declared.status.Failure.TheVariants as failures
-use Rattle.sigma_page.specs.PageWords.{words_in, onto_first}
+use Rattle.sigma_page.specs.PageWords.{ended_words, onto_first}
 
 -- the byte at this place is 0
 abbrev Ends : List ℕ → ℕ → Type 0
 Ends bytes k = is_byte 0 (slice_index bytes k) ≡ true
 
 pub first_word_ends : (bytes : List ℕ) (end : ℕ) → end < length bytes → Ends bytes end → ((k : ℕ) → k < end → Ends bytes k → ⊥)
-    → words_in bytes ≡ take end bytes ∷ words_in (drop (end + 1) bytes)
-unfolding words_in onto_first
+    → ended_words bytes ≡ take end bytes ∷ ended_words (drop (end + 1) bytes)
+unfolding ended_words onto_first
 first_word_ends [] end within is before = absurd (omega (arith, within))
 first_word_ends (zero ∷ bytes) zero within is before = refl
 first_word_ends (zero ∷ bytes) (suc n) within is before = absurd (before 0 (omega arith) refl)
@@ -22,19 +22,19 @@ first_word_ends (suc b ∷ bytes) zero within is before = let zero_is : suc b �
 first_word_ends (suc b ∷ bytes) (suc n) within is before =
     let one_more : suc (n + 1) ≡ suc n + 1 = omega arith in
     ap (onto_first (suc b)) (first_word_ends bytes n (omega (arith, within)) is (λ k below. before (suc k) (omega (arith, below))))
-    ∙ ap (λ k. (suc b ∷ take n bytes) ∷ words_in (drop k (suc b ∷ bytes))) one_more
+    ∙ ap (λ k. (suc b ∷ take n bytes) ∷ ended_words (drop k (suc b ∷ bytes))) one_more
 
-pub last_word_is_all : (bytes : List ℕ) → 0 < length bytes → ((k : ℕ) → k < length bytes → Ends bytes k → ⊥) → words_in bytes ≡ bytes ∷ []
-unfolding words_in onto_first
+pub last_word_is_all : (bytes : List ℕ) → 0 < length bytes → ((k : ℕ) → k < length bytes → Ends bytes k → ⊥) → ended_words bytes ≡ bytes ∷ []
+unfolding ended_words onto_first
 last_word_is_all [] some none = absurd (omega (arith, some))
 last_word_is_all (zero ∷ bytes) some none = absurd (none 0 some refl)
 last_word_is_all (suc b ∷ []) some none = refl
 last_word_is_all (suc b ∷ c ∷ bytes) some none = ap (onto_first (suc b)) (last_word_is_all (c ∷ bytes) (omega arith) (λ k below. none (suc k) (omega (arith, below))))
 
 -- past all bytes there is no word
-pub no_word_past : (bytes : List ℕ) (n : ℕ) → words_in (take n (drop (length bytes) bytes)) ≡ []
-unfolding words_in
-no_word_past bytes n = ap words_in (ap (take n) (drop_all (length bytes) bytes (omega arith)) ∙ take_all n [] (omega arith))
+pub no_word_past : (bytes : List ℕ) (n : ℕ) → ended_words (take n (drop (length bytes) bytes)) ≡ []
+unfolding ended_words
+no_word_past bytes n = ap ended_words (ap (take n) (drop_all (length bytes) bytes (omega arith)) ∙ take_all n [] (omega arith))
 
 -- ---- words that are taken one by one
 
@@ -47,9 +47,9 @@ word_pushed bytes_of words more word first left others all taken cut is pushed =
     ∙ ap (λ ws. map bytes_of words ++ ws) (sym cut) ∙ taken
 
 -- all words
-pub words_done : (words all : List (List ℕ)) (rest : List ℕ) → rest ≡ [] → words ++ words_in rest ≡ all → words ≡ all
-unfolding words_in
-words_done words all rest none taken = sym (append-nil words) ∙ ap (λ r. words ++ words_in r) (sym none) ∙ taken
+pub words_done : (words all : List (List ℕ)) (rest : List ℕ) → rest ≡ [] → words ++ ended_words rest ≡ all → words ≡ all
+unfolding ended_words
+words_done words all rest none taken = sym (append-nil words) ∙ ap (λ r. words ++ ended_words r) (sym none) ∙ taken
 
 -- one word that isn't UTF-8
 pub one_word_counts : (words : List (List ℕ)) (first : List ℕ) (left others all : List (List ℕ)) → words ++ left ≡ all → left ≡ first ∷ others → (IsUtf8 first → ⊥) → All IsUtf8 all → ⊥
@@ -65,10 +65,10 @@ wrong_word_counts why words first left others all (inr h) taken cut = inr (h.0, 
 
 -- ---- computed: a blank ends no word, a 0 does, and the last word may lack it
 
-words_of_ended : words_in (114 ∷ 0 ∷ 0 ∷ 97 ∷ 32 ∷ 98 ∷ 0 ∷ []) ≡ (114 ∷ []) ∷ [] ∷ (97 ∷ 32 ∷ 98 ∷ []) ∷ []
-unfolding words_in onto_first
+words_of_ended : ended_words (114 ∷ 0 ∷ 0 ∷ 97 ∷ 32 ∷ 98 ∷ 0 ∷ []) ≡ (114 ∷ []) ∷ [] ∷ (97 ∷ 32 ∷ 98 ∷ []) ∷ []
+unfolding ended_words onto_first
 words_of_ended = refl
 
-words_of_unended : words_in (114 ∷ 0 ∷ 97 ∷ []) ≡ (114 ∷ []) ∷ (97 ∷ []) ∷ []
-unfolding words_in onto_first
+words_of_unended : ended_words (114 ∷ 0 ∷ 97 ∷ []) ≡ (114 ∷ []) ∷ (97 ∷ []) ∷ []
+unfolding ended_words onto_first
 words_of_unended = refl

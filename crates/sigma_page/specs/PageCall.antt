@@ -9,7 +9,7 @@ use Rattle.answer_delivery.specs.Statuses.{exit_status_of, failure_line}
 use Rattle.sigma_top.specs.Promises.{KeepsPromises}
 use Rattle.sigma_top.specs.StatusTable.{Ends}
 use Rattle.sigma_page.specs.declared.rooms.Lengths.{Lengths}
-use Rattle.sigma_page.specs.PageWords.{words_in}
+use Rattle.sigma_page.specs.PageWords.{ended_words}
 
 -- an input that has these bytes left
 abbrev pub inlet_of : List ℕ → Inlet
@@ -56,5 +56,5 @@ RefusesWords words number lengths output_room errors_room =
 abbrev pub AnswersBytes : List ℕ → List ℕ → ℕ → Lengths → List ℕ → List ℕ → Type 0
 AnswersBytes words input number lengths output_room errors_room =
     ((status : Status) × (number ≡ exit_status_of status)
-    × LaysAnswer (words_in words) input status lengths output_room errors_room)
-    ⊎ RefusesWords (words_in words) number lengths output_room errors_room
+    × LaysAnswer (ended_words words) input status lengths output_room errors_room)
+    ⊎ RefusesWords (ended_words words) number lengths output_room errors_room

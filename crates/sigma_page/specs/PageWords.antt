@@ -7,7 +7,7 @@ onto_first byte [] = (byte ∷ []) ∷ []
 onto_first byte (word ∷ words) = (byte ∷ word) ∷ words
 
 -- the words of the bytes: each is ended by a byte of 0, which the last one may lack
-unfoldable pub words_in : List ℕ → List (List ℕ)
-words_in [] = []
-words_in (zero ∷ bytes) = [] ∷ words_in bytes
-words_in (suc n ∷ bytes) = onto_first (suc n) (words_in bytes)
+unfoldable pub ended_words : List ℕ → List (List ℕ)
+ended_words [] = []
+ended_words (zero ∷ bytes) = [] ∷ ended_words bytes
+ended_words (suc n ∷ bytes) = onto_first (suc n) (ended_words bytes)

@@ -4,7 +4,7 @@ ghost use Rattle.std.specs.Prelude.{◌≡◌, ◌⊎◌, [], map, All, IsUtf8, 
 ghost use Rattle.std.specs.String.{string_bytes};
 ghost use Rattle.answer_delivery.specs.declared.status.Failure.TheVariants as failures;
 ghost use Rattle.sigma_page.specs.PageCall.{EndsOverBytes, outlet_of};
-ghost use Rattle.sigma_page.specs.PageWords.{words_in};
+ghost use Rattle.sigma_page.specs.PageWords.{ended_words};
 
 use crate::word_list::words_of;
 use answer_delivery::{Failure, Status};
@@ -61,10 +61,10 @@ pub fn call(
     room: usize,
     errors_room: usize,
 ) -> Result<Ended, Failure>
-    ensures ends { IfOk result (λ ended. EndsOverBytes (words_in words.now) input.now
+    ensures ends { IfOk result (λ ended. EndsOverBytes (ended_words words.now) input.now
         ended.output.written ended.errors.written ended.status) }
     ensures missing { IfErr result (λ why. (why ≡ failures.NoMemory)
-        ⊎ ((why ≡ failures.Usage) × (All IsUtf8 (words_in words.now) → ⊥))) }
+        ⊎ ((why ≡ failures.Usage) × (All IsUtf8 (ended_words words.now) → ⊥))) }
 {
     let words = words_of(alloc, words)?;
     Ok(perform(alloc, &words, input, room, errors_room)?)

@@ -3,7 +3,7 @@
 ghost use Rattle.std.specs.Prelude.{◌≡◌, ◌<◌, ◌∷◌, ◌⊎◌, List, length, map, vec_items, All, IsUtf8, IfOk, IfErr};
 ghost use Rattle.std.specs.String.{string_bytes};
 ghost use Rattle.answer_delivery.specs.declared.status.Failure.TheVariants as failures;
-ghost use Rattle.sigma_page.specs.PageWords.{words_in};
+ghost use Rattle.sigma_page.specs.PageWords.{ended_words};
 
 use answer_delivery::Failure;
 use memchr::memchr;
@@ -12,7 +12,7 @@ use std::alloc::Global;
 /// The first word of the bytes, and the bytes past its end.
 fn first_word(bytes: &[u8]) -> (&[u8], &[u8])
     requires { 0 < length bytes.now }
-    ensures words { words_in bytes.now ≡ result.0.now ∷ words_in result.1.now }
+    ensures words { ended_words bytes.now ≡ result.0.now ∷ ended_words result.1.now }
     ensures shorter { length result.1.now < length bytes.now }
 {
     match memchr(0, bytes) {
@@ -39,9 +39,9 @@ fn word_of(alloc: Global, bytes: &[u8]) -> Result<String, Failure>
 /// The words of the bytes, in which each word is ended by a byte of 0. The error is `NoMemory`, or `Usage` where a word
 /// isn't UTF-8.
 pub fn words_of(alloc: Global, bytes: &[u8]) -> Result<Vec<String>, Failure>
-    ensures words { IfOk result (λ words. map string_bytes (vec_items words) ≡ words_in bytes.now) }
+    ensures words { IfOk result (λ words. map string_bytes (vec_items words) ≡ ended_words bytes.now) }
     ensures missing { IfErr result (λ why. (why ≡ failures.NoMemory)
-        ⊎ ((why ≡ failures.Usage) × (All IsUtf8 (words_in bytes.now) → ⊥))) }
+        ⊎ ((why ≡ failures.Usage) × (All IsUtf8 (ended_words bytes.now) → ⊥))) }
 {
     let mut words = Vec::new(alloc);
     let mut rest = bytes;

@@ -3,7 +3,7 @@ use Rattle.std.proofs.Common.{map, string_bytes, vec_items, sym}
 use Rattle.std.proofs.lemmas.Bool.{eqb-true}
 use Rattle.std.proofs.lemmas.List.{nil_from_length}
 use Rattle.std.proofs.lemmas.Result.{err_from_is_err_and}
-use Rattle.sigma_page.specs.PageWords.{words_in}
+use Rattle.sigma_page.specs.PageWords.{ended_words}
 use Rattle.sigma_page.proofs.WordsCut.{words_done, wrong_word_counts}
 use Rattle.sigma_page.proofs.word_list.words_of.Goals as goal
 
@@ -14,5 +14,5 @@ returns-in_err-word-clause-missing c =
 
 pub returns-clause-words : goal.returns-clause-words
 returns-clause-words c =
-    words_done (map string_bytes (vec_items c.loop-rest.words)) (words_in c.args.bytes.now) c.loop-rest.rest.now
+    words_done (map string_bytes (vec_items c.loop-rest.words)) (ended_words c.args.bytes.now) c.loop-rest.rest.now
     (nil_from_length c.loop-rest.rest.now (eqb-true _ _ (sym c.loop-rest-test.ensures))) c.loop-rest.invariant
